@@ -1,0 +1,58 @@
+//! The types on which every other crate stands: a site and its parts, what befalls it and is asked of it, what is kept of it.
+#![tactic(auto)]
+
+mod answer;
+mod buzzer;
+mod change;
+mod combine;
+mod event;
+mod fault_set;
+mod heard;
+mod item;
+mod label;
+mod loop_plan;
+mod marker;
+mod named;
+mod operation;
+mod output;
+mod output_kind;
+mod piece_state;
+mod point;
+mod point_set;
+mod point_state;
+mod requests;
+mod retained;
+mod rule;
+mod site;
+mod supply_kind;
+mod term;
+mod waits;
+mod zone;
+
+pub use answer::Answer;
+pub use buzzer::Buzzer;
+pub use change::Change;
+pub use combine::Combine;
+pub use event::Event;
+pub use fault_set::FaultSet;
+pub use heard::Heard;
+pub use item::Item;
+pub use label::Label;
+pub use loop_plan::LoopPlan;
+pub use marker::Marker;
+pub use named::{Named, Thing};
+pub use operation::Operation;
+pub use output::Output;
+pub use output_kind::OutputKind;
+pub use piece_state::PieceState;
+pub use point::Point;
+pub use point_set::PointSet;
+pub use point_state::PointState;
+pub use requests::Requests;
+pub use retained::Retained;
+pub use rule::Rule;
+pub use site::Site;
+pub use supply_kind::SupplyKind;
+pub use term::Term;
+pub use waits::Waits;
+pub use zone::Zone;
