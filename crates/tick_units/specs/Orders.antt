@@ -86,10 +86,10 @@ task_number Drive = 7
 task_number Keep = 8
 
 abbrev pub is_same_seat : Seat → Seat → Bool
-is_same_seat a b = (a.panel == b.panel) && (task_number a.task == task_number b.task)
+is_same_seat a b = (task_number a.task == task_number b.task) && (a.panel == b.panel)
 
 abbrev pub is_among : Seat → List Seat → Bool
-is_among seat seats = list_any (λ other. is_same_seat other seat) seats
+is_among seat seats = list_any (is_same_seat seat) seats
 
 -- the first of some seats that isn't among others
 abbrev pub first_missing : List Seat → List Seat → Option Seat

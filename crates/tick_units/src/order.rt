@@ -1,5 +1,5 @@
 ghost use Rattle.std.specs.Prelude.{◌≡◌, ◌+◌, ◌*◌, ◌<◌, ◌≤◌, ◌↔◌, [], ◌∷◌, ◌++◌, ℕ, length, IfOk, IfErr, IsOk, MatchResult, Some, None, slice_get};
-ghost use Rattle.tick_units.specs.Orders.{IsPanelCount, IsOrder, IsStrangeAt, IsRepeatedAt, IsFirstMissing, canonical_seats, panel_seats, order_fault, first_missing};
+ghost use Rattle.tick_units.specs.Orders.{IsPanelCount, IsOrder, IsStrangeAt, IsRepeatedAt, IsFirstMissing, canonical_seats, panel_seats, order_fault, first_missing, is_among as among};
 ghost use Rattle.tick_units.specs.declared.seat.Seat.{Seat as SeatOf};
 
 use crate::order_fault::BadOrder;
@@ -42,12 +42,12 @@ impl Order {
         let canonical = Order::canonical(panels);
         let mut order = ArrayVec::new();
         for seat in seats {
-            if !canonical.seats.contains(seat) {
+            if !is_among(seat, &canonical.seats) {
                 return Err(BadOrder::Strange {
                     place: order.len() + 1,
                 });
             }
-            if order.contains(seat) {
+            if is_among(seat, &order) {
                 return Err(BadOrder::Repeated {
                     place: order.len() + 1,
                 });
@@ -97,11 +97,20 @@ impl Order {
     fn first_missing(&self, others: &[Seat]) -> Option<Seat>
         ensures { result ≡ first_missing self.now others.now }
     {
-        self.seats
-            .iter()
-            .find(|seat| !others.contains(*seat))
-            .copied()
+        for seat in self.seats.as_slice() {
+            if !is_among(seat, others) {
+                return Some(*seat);
+            }
+        }
+        None
     }
+}
+
+// Whether a seat is one of some seats.
+fn is_among(seat: &Seat, seats: &[Seat]) -> bool
+    ensures { result ≡ among seat.now seats.now }
+{
+    seats.contains(seat)
 }
 
 // Appends the eight seats of a panel.
