@@ -1,5 +1,5 @@
 ghost use Rattle.std.specs.Prelude.{◌≡◌, ◌+◌, ◌*◌, ◌<◌, ◌≤◌, ◌↔◌, [], ◌∷◌, ◌++◌, ℕ, length, IfOk, IfErr, IsOk, MatchResult, Some, None, slice_get};
-ghost use Rattle.tick_units.specs.Orders.{IsPanelCount, IsOrder, IsStrangeAt, IsRepeatedAt, IsFirstMissing, canonical_seats, panel_seats, order_fault, first_missing, is_among as among};
+ghost use Rattle.tick_units.specs.Orders.{IsPanelCount, IsOrder, IsSound, IsStrangeAt, IsRepeatedAt, IsFirstMissing, canonical_seats, panel_seats, order_fault, first_missing, is_among as among};
 ghost use Rattle.tick_units.specs.declared.seat.Seat.{Seat as SeatOf};
 
 use crate::order_fault::BadOrder;
@@ -39,22 +39,8 @@ impl Order {
         // The same as a function, for those that read orders.
         ensures answer { MatchResult result (λ _. order_fault panels seats.now ≡ None) (λ fault. order_fault panels seats.now ≡ Some fault) }
     {
-        let canonical = Order::canonical(panels);
-        let mut order = ArrayVec::new();
-        for seat in seats {
-            if !is_among(seat, &canonical.seats) {
-                return Err(BadOrder::Strange {
-                    place: order.len() + 1,
-                });
-            }
-            if is_among(seat, &order) {
-                return Err(BadOrder::Repeated {
-                    place: order.len() + 1,
-                });
-            }
-            order.push(*seat);
-        }
-        match canonical.first_missing(&order) {
+        let order = sound_seats(seats, panels)?;
+        match Order::canonical(panels).first_missing(&order) {
             Some(seat) => Err(BadOrder::Missing { seat }),
             None => Ok(Order { seats: order }),
         }
@@ -104,6 +90,27 @@ impl Order {
         }
         None
     }
+}
+
+// These seats, if each is one of the site and none stands twice.
+fn sound_seats(seats: &[Seat], panels: u8) -> Result<ArrayVec<Seat, 65>, BadOrder>
+    requires { IsPanelCount panels }
+    ensures ok { IfOk result (λ order. (order.items ≡ seats.now) × IsSound panels seats.now) }
+    ensures bad { IfErr result (λ fault. order_fault panels seats.now ≡ Some fault) }
+{
+    let canonical = Order::canonical(panels);
+    let mut order = ArrayVec::new();
+    for seat in seats {
+        let place = order.len() + 1;
+        if !is_among(seat, &canonical.seats) {
+            return Err(BadOrder::Strange { place });
+        }
+        if is_among(seat, &order) {
+            return Err(BadOrder::Repeated { place });
+        }
+        order.push(*seat);
+    }
+    Ok(order)
 }
 
 // Whether a seat is one of some seats.
