@@ -1,9 +1,9 @@
 -- The canonical order.
 use Rattle.std.proofs.Common.{◌≡◌, ◌≢◌, ◌+◌, ◌*◌, ◌≤◌, ◌<◌, ◌++◌, ◌&&◌, ◌==◌, ℕ, zero, suc, Bool, true, false, List, [], ◌∷◌, length, refl, ap, sym, ◌∙◌, length-append, arith, add-one, inl, inr, lit<, rules, subst}
-use Rattle.std.specs.Prelude.{◌⊎◌}
+use Rattle.std.specs.Prelude.{◌⊎◌, ◌↔◌}
 use Rattle.std.specs.List.{All, AllByRecursion, Contains, IsDistinct, list_any}
 use Rattle.std.proofs.lemmas.Bool.{and_right, ne_eqb, cases_lt}
-use Rattle.std.proofs.lemmas.List.Elements.{All-from_recursion, recursion_from_All, All-append, All-weaker, All-nil, All-head, All-tail, Contains-append_left, Contains-append_right, Contains-push}
+use Rattle.std.proofs.lemmas.List.Elements.{All-from_recursion, recursion_from_All, All-append, All-weaker, All-nil, All-head, All-tail, All-contains, Contains-push_cases, Contains-append_left, Contains-append_right, Contains-push}
 use Rattle.std.proofs.lemmas.Map.Keys.{IsDistinct-cons, IsDistinct-head, IsDistinct-tail, IsDistinct-from_apart}
 use Rattle.tick_units.specs.declared.seat.Seat.{Seat}
 use Rattle.tick_units.specs.declared.task.Task.{Task}
@@ -91,3 +91,40 @@ Contains-canonical_seats n panel task h low high = Contains-append_left (seats_o
 -- Keep has one
 pub Contains-keep_seat : (n : ℕ) → Contains (canonical_seats n) keep_seat
 Contains-keep_seat n = Contains-push (seats_of_panels n) keep_seat
+
+seat_there : (n : ℕ) (s : Seat) → s ≡ keep_seat → Contains (canonical_seats n) s
+seat_there n s same = subst (Contains (canonical_seats n)) (sym same) (Contains-keep_seat n)
+
+-- a seat of panel 0 is Keep's, and Keep has no other
+pub record IsPanelSeat (n : ℕ) (s : Seat) : Type 0 where
+  pub low : 1 ≤ s.panel
+  pub high : s.panel ≤ n
+  pub other : s.task ≢ Keep
+
+task-panel_seats : (panel : ℕ) → All (λ (s : Seat). s.task ≢ Keep) (panel_seats panel)
+task-panel_seats panel = All-from_recursion (λ (s : Seat). s.task ≢ Keep) (panel_seats panel) (λ e. cc, (λ e. cc, (λ e. cc, (λ e. cc, (λ e. cc, (λ e. cc, (λ e. cc, (λ e. cc, tt))))))))
+
+task-seats_of_panels : (n : ℕ) → All (λ (s : Seat). s.task ≢ Keep) (seats_of_panels n)
+task-seats_of_panels zero = All-nil (λ (s : Seat). s.task ≢ Keep)
+task-seats_of_panels (suc n) =
+    All-append (λ (s : Seat). s.task ≢ Keep) (seats_of_panels n) (panel_seats (suc n)) (task-seats_of_panels n) (task-panel_seats (suc n))
+
+canonical_cases : (n : ℕ) (s : Seat) → Contains (seats_of_panels n) s ⊎ (keep_seat ≡ s) → IsPanelSeat n s ⊎ (s ≡ keep_seat)
+canonical_cases n s (inl there) =
+    let h = All-contains (λ (s : Seat). (1 ≤ s.panel) × (s.panel ≤ n)) (seats_of_panels n) s (panel-seats_of_panels n) there in
+    inl (record {
+      low = h.0;
+      high = h.1;
+      other = All-contains (λ (s : Seat). s.task ≢ Keep) (seats_of_panels n) s (task-seats_of_panels n) there;
+    })
+canonical_cases n s (inr same) = inr (sym same)
+
+known_from_cases : (n : ℕ) (s : Seat) → IsPanelSeat n s ⊎ (s ≡ keep_seat) → Contains (canonical_seats n) s
+known_from_cases n s (inl h) = Contains-canonical_seats n s.panel s.task h.other h.low h.high
+known_from_cases n s (inr same) = seat_there n s same
+
+pub Contains-canonical_seats-cases : (n : ℕ) (s : Seat) → Contains (canonical_seats n) s ↔ (IsPanelSeat n s ⊎ (s ≡ keep_seat))
+Contains-canonical_seats-cases n s = (
+  λ there. canonical_cases n s (Contains-push_cases (seats_of_panels n) keep_seat s there),
+  known_from_cases n s,
+)
