@@ -70,10 +70,10 @@ walk-step panels earlier seat later true true k t sound rest =
     }) (repeated_here panels earlier seat later k t)
 walk-step panels earlier seat later true false k t sound rest =
     let more : IsSound panels (earlier ++ seat ∷ []) =
-      sound_push panels earlier seat sound ((is_among-Decides seat (canonical_seats panels)).0 k) (not_from_Decides (is_among seat earlier) (is_among-Decides seat earlier) t)
+    sound_push panels earlier seat sound ((is_among-Decides seat (canonical_seats panels)).0 k) (not_from_Decides (is_among seat earlier) (is_among-Decides seat earlier) t)
     in
     let whole : Walked panels (earlier ++ seat ∷ later) (fault_behind panels (earlier ++ seat ∷ []) later) =
-      subst (λ xs. Walked panels xs (fault_behind panels (earlier ++ seat ∷ []) later)) (append_assoc earlier (seat ∷ []) later) (rest more)
+    subst (λ xs. Walked panels xs (fault_behind panels (earlier ++ seat ∷ []) later)) (append_assoc earlier (seat ∷ []) later) (rest more)
     in
     subst (Walked panels (earlier ++ seat ∷ later)) (sym (passes_here panels earlier seat later k t)) whole
 

@@ -79,7 +79,7 @@ count_absent : (seat : Seat) (xs : List Seat) → ¬ Contains xs seat → count_
 count_absent seat [] absent = refl
 count_absent seat (x ∷ xs) absent =
     let other : is_same_seat seat x ≡ false =
-      differs (is_same_seat seat x) (λ e. absent (0, omega arith, sym ((is_same_seat-Decides seat x).0 e)))
+    differs (is_same_seat seat x) (λ e. absent (0, omega arith, sym ((is_same_seat-Decides seat x).0 e)))
     in
     count_front seat x xs ∙ ap (λ b. cond b 1 0 + count_by (is_same_seat seat) xs) other ∙ zero-add (count_by (is_same_seat seat) xs) ∙ count_absent seat xs (λ there. absent (Contains-append_right (x ∷ []) xs seat there))
 
@@ -90,6 +90,6 @@ count_once panels seats seat order known =
     let first : count_by (is_same_seat seat) once.earlier ≡ 0 = count_absent seat once.earlier once.not_earlier in
     let last : count_by (is_same_seat seat) once.later ≡ 0 = count_absent seat once.later once.not_later in
     let here : count_by (is_same_seat seat) (seat ∷ once.later) ≡ 1 =
-      count_front seat seat once.later ∙ ap (λ b. cond b 1 0 + count_by (is_same_seat seat) once.later) ((is_same_seat-Decides seat seat).1 refl) ∙ ap (λ n. 1 + n) last
+    count_front seat seat once.later ∙ ap (λ b. cond b 1 0 + count_by (is_same_seat seat) once.later) ((is_same_seat-Decides seat seat).1 refl) ∙ ap (λ n. 1 + n) last
     in
     ap (count_by (is_same_seat seat)) once.splits ∙ sum_by-append (λ y. cond (is_same_seat seat y) 1 0) once.earlier (seat ∷ once.later) ∙ ap (λ n. n + count_by (is_same_seat seat) (seat ∷ once.later)) first ∙ zero-add (count_by (is_same_seat seat) (seat ∷ once.later)) ∙ here

@@ -15,7 +15,7 @@ use Rattle.tick_units.proofs.Seats.{is_same_seat-Decides, is_same_seat-comm}
 head_alone : (x : Seat) (xs : List Seat) (q : Seat) → IsDistinct is_same_seat (x ∷ xs) → Contains xs q → x ≡ q → ⊥
 head_alone x xs q distinct there same =
     let apart : is_same_seat x q ≡ false =
-      All-contains (λ y. is_same_seat x y ≡ false) xs q (All-from_recursion (λ y. is_same_seat x y ≡ false) xs (IsDistinct-head is_same_seat x xs distinct)) there
+    All-contains (λ y. is_same_seat x y ≡ false) xs q (All-from_recursion (λ y. is_same_seat x y ≡ false) xs (IsDistinct-head is_same_seat x xs distinct)) there
     in
     both_ways (is_same_seat x q) apart ((is_same_seat-Decides x q).1 same)
 
@@ -30,7 +30,7 @@ same_members-step x xs ys k within is p q to from rest =
     let back : IsPermutation (x ∷ zs) ys = IsPermutation-sym ys (x ∷ zs) there in
     let apart : IsDistinct is_same_seat (x ∷ zs) = IsDistinct-IsPermutation is_same_seat is_same_seat-comm ys (x ∷ zs) there q in
     let inner : IsPermutation xs zs =
-      rest zs (IsDistinct-tail is_same_seat x zs apart) (λ s h. Contains-tail x zs s (head_alone x xs s p h) (Contains-permutation ys (x ∷ zs) s there (to s (behind x xs s h)))) (λ s h. Contains-tail x xs s (head_alone x zs s apart h) (from s (Contains-permutation (x ∷ zs) ys s back (behind x zs s h))))
+    rest zs (IsDistinct-tail is_same_seat x zs apart) (λ s h. Contains-tail x zs s (head_alone x xs s p h) (Contains-permutation ys (x ∷ zs) s there (to s (behind x xs s h)))) (λ s h. Contains-tail x xs s (head_alone x zs s apart h) (from s (Contains-permutation (x ∷ zs) ys s back (behind x zs s h))))
     in
     IsPermutation-trans (x ∷ xs) (x ∷ zs) ys (IsPermutation-cons x xs zs inner) back
 

@@ -48,7 +48,7 @@ absent_before panels xs s ys h there =
 pub length_sound : (panels : ℕ) (xs : List Seat) → IsSound panels xs → length xs ≤ 8 * panels + 1
 length_sound panels xs h =
     let few : length xs ≤ length (canonical_seats panels) =
-      length-le_from_is_member seats_equivalence xs (canonical_seats panels) (IsDistinct-from_AllPairs is_same_seat-Decides xs h.once) (λ q m. (is_among-Decides q (canonical_seats panels)).1 (All-contains (Contains (canonical_seats panels)) xs q h.known ((is_among-Decides q xs).0 m)))
+    length-le_from_is_member seats_equivalence xs (canonical_seats panels) (IsDistinct-from_AllPairs is_same_seat-Decides xs h.once) (λ q m. (is_among-Decides q (canonical_seats panels)).1 (All-contains (Contains (canonical_seats panels)) xs q h.known ((is_among-Decides q xs).0 m)))
     in
     omega (arith, length-canonical_seats panels)
 
