@@ -1,7 +1,7 @@
 -- The canonical order.
-use Rattle.std.proofs.Common.{◌≡◌, ◌≢◌, ◌+◌, ◌*◌, ◌≤◌, ◌<◌, ◌++◌, ◌&&◌, ◌==◌, ℕ, zero, suc, Bool, true, false, List, [], ◌∷◌, length, refl, ap, sym, ◌∙◌, length-append, arith, add-one, inl, inr, lit<, rules, subst}
+use Rattle.std.proofs.Common.{◌≡◌, ◌≢◌, ◌+◌, ◌*◌, ◌≤◌, ◌<◌, ◌++◌, ◌==◌, ℕ, zero, suc, false, List, [], ◌∷◌, length, refl, sym, length-append, arith, inl, inr, lit<, rules, subst}
 use Rattle.std.specs.Prelude.{◌⊎◌, ◌↔◌}
-use Rattle.std.specs.List.{All, AllByRecursion, Contains, IsDistinct, list_any}
+use Rattle.std.specs.List.{All, AllByRecursion, Contains, IsDistinct}
 use Rattle.std.proofs.lemmas.Bool.{and_right, ne_eqb, cases_lt}
 use Rattle.std.proofs.lemmas.List.Elements.{All-from_recursion, recursion_from_All, All-append, All-weaker, All-nil, All-head, All-tail, All-contains, Contains-push_cases, Contains-append_left, Contains-append_right, Contains-push}
 use Rattle.std.proofs.lemmas.Map.Keys.{IsDistinct-cons, IsDistinct-head, IsDistinct-tail, IsDistinct-from_apart}
@@ -9,7 +9,6 @@ use Rattle.tick_units.specs.declared.seat.Seat.{Seat}
 use Rattle.tick_units.specs.declared.task.Task.{Task}
 use Rattle.tick_units.specs.declared.task.Task.TheVariants.{Poll, Decide, Supply, Desk, Hold, Link, Effect, Drive, Keep}
 use Rattle.tick_units.specs.Orders.{seat_of, seats_of_panels, panel_seats, canonical_seats, keep_seat, is_same_seat, task_number}
-use Rattle.tick_units.proofs.Seats.{is_same_seat-Decides}
 
 pub length-seats_of_panels : (panels : ℕ) → length (seats_of_panels panels) ≡ 8 * panels
 length-seats_of_panels zero = refl

@@ -1,7 +1,7 @@
 -- What is wrong with a list of seats, read from its first seat on, against the seats that it has.
-use Rattle.std.proofs.Common.{◌≡◌, ◌≢◌, ◌+◌, ◌<◌, ◌≤◌, ℕ, suc, take, drop, get_or, drop-cons, take-append-drop, length-append, ◌++◌, Bool, true, false, not, List, [], ◌∷◌, length, Option, Some, None, option_map, refl, ap, sym, ◌∙◌, arith, subst, append-nil, append_assoc, if◌then◌else◌}
+use Rattle.std.proofs.Common.{◌≡◌, ◌+◌, ◌<◌, ◌≤◌, ℕ, suc, take, drop, get_or, drop-cons, take-append-drop, length-append, ◌++◌, Bool, true, false, not, List, [], ◌∷◌, length, Option, Some, None, option_map, refl, ap, sym, ◌∙◌, arith, subst, append-nil, append_assoc, if◌then◌else◌}
 use Rattle.std.specs.Prelude.{◌↔◌, Result, Ok, Err, MatchResult, IsOk, IfOk}
-use Rattle.std.specs.List.{All, Contains}
+use Rattle.std.specs.List.{Contains}
 use Rattle.std.proofs.lemmas.List.{take_more}
 use Rattle.std.proofs.lemmas.Bool.Decides.{not_from_Decides}
 use Rattle.std.proofs.lemmas.List.Elements.{All-contains}

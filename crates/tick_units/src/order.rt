@@ -50,7 +50,8 @@ impl Order {
     /// Keep last.
     pub fn canonical(panels: u8) -> Order
         requires { IsPanelCount panels }
-        ensures { result ≡ canonical_seats panels }
+        ensures seats { result ≡ canonical_seats panels }
+        ensures order { IsOrder panels result }
     {
         let mut seats = ArrayVec::new();
         for before in 0..panels {
