@@ -1,10 +1,39 @@
-//! The vocabulary of a tick: ticks, lists in plain data, and the answer for want of memory.
+//! The vocabulary of a tick: its number, the seats that have a turn in it, the order of these turns, the
+//! lanes that lead from one task to the next, and values that change at a tick.
+//!
+//! A panel's time is counted in ticks. A tick begins, takes its events, and then gives each seat one turn. A
+//! [`Seat`] is a [`Task`] of a panel; Keep is one seat for the whole site. Begin with [`Order`], the list of all
+//! seats of a site in the order of their turns: [`Order::new`] takes a list only if it is a permutation of the
+//! seats, and else says what is wrong with it and where. [`Order::canonical`] makes the order of a tick for
+//! which none is given.
+//!
+//! A [`Lane`] is the queue between two tasks. Contracts see it as the list of what lies in it, with how many
+//! items were ever put and taken. A [`Switch`] tells the value that it had before the tick in which it was set,
+//! and the value after. [`Items`] is a list in plain data.
+//!
+//! [`Lane::new`] alone takes memory, and answers [`NoMemory`] where it is refused. All other calls take a time
+//! that doesn't depend on a site, but for [`Order::new`], which compares each seat with those before it: some
+//! eight thousand comparisons at most, since a list is refused at its first bad seat.
 #![tactic(auto)]
 
 mod items;
+mod lane;
 mod memory;
+mod order;
+mod order_fault;
+mod seat;
+mod switch;
+mod task;
+#[cfg(test)]
+mod tests;
 mod tick;
 
 pub use items::Items;
+pub use lane::Lane;
 pub use memory::NoMemory;
-pub use tick::Tick;
+pub use order::Order;
+pub use order_fault::BadOrder;
+pub use seat::Seat;
+pub use switch::Switch;
+pub use task::Task;
+pub use tick::{LAST_TICK, Tick, TickLimit, next_tick};
