@@ -1,0 +1,62 @@
+//! The outside of the panel as traits: what it reads, writes and fetches.
+//!
+//! Nothing above this crate touches a file, a terminal or a socket. It calls a [`Source`] (bytes that are read from the
+//! front), a [`Sink`] (bytes that are written at the end) or a [`Shelf`] (whole files by name), and each call may fail.
+//! What the crate promises is the contracts of these three:
+//!
+//! - *Content where it is told.* An object in memory tells the bytes that are left, the bytes that were written or the
+//!   files that it holds, and each call says what it does to them. A real file or terminal tells nothing.
+//! - *A fault has a cause.* Each object counts its faults. The count never falls, and a call answers [`Failed`] only
+//!   where it rose in that call. At its last value it counts as having risen.
+//! - *Both ends of a connection have one meaning*, [`Stream`]: a read leaves what was written as it is, and a write what
+//!   is left to read.
+//!
+//! Begin with [`MemorySource`] and [`MemorySink`]: they fail at the calls whose numbers they are given, and at no other
+//! but a write that passes the sink's room. `SoundMemorySource` and `SoundMemorySink` never fail. [`StdSource`],
+//! [`StdSink`] and [`FileShelf`] stand for the real things; what those hold is trusted and not proved.
+//!
+//! No call buffers: what a [`Sink`] took has left the process. A read or a write costs one call of the system, a fetch
+//! one for each 4,096 bytes, and only a fetch takes memory.
+#![tactic(auto)]
+
+mod copying;
+mod failed;
+mod fetching;
+mod file_shelf;
+mod label;
+mod limits;
+mod memory_shelf;
+mod memory_sink;
+mod memory_source;
+mod no_memory;
+mod shelf_file;
+mod shelves;
+mod sound_memory_shelf;
+mod sound_memory_sink;
+mod sound_memory_source;
+mod std_sink;
+mod std_source;
+mod streams;
+mod writing;
+
+pub use failed::Failed;
+pub use fetching::{FetchFault, Found};
+pub use file_shelf::FileShelf;
+pub use label::Label;
+pub use limits::{
+    MOST_BODY_BYTES, MOST_DISK_BYTES, MOST_FILE_BYTES, MOST_HEAD_BYTES, MOST_LINE_BYTES,
+    MOST_RECORD_BYTES,
+};
+pub use memory_shelf::MemoryShelf;
+pub use memory_sink::MemorySink;
+pub use memory_source::MemorySource;
+pub use no_memory::NoMemory;
+pub use shelf_file::ShelfFile;
+pub use shelves::Shelf;
+pub use sound_memory_shelf::SoundMemoryShelf;
+pub use sound_memory_sink::SoundMemorySink;
+pub use sound_memory_source::SoundMemorySource;
+pub use std_sink::StdSink;
+pub use std_source::StdSource;
+pub use streams::{Sink, Source, Stream};
+pub use writing::write_all;
