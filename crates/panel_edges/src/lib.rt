@@ -37,6 +37,8 @@ mod sound_memory_source;
 mod std_sink;
 mod std_source;
 mod streams;
+#[cfg(test)]
+mod tests;
 mod writing;
 
 pub use failed::Failed;
