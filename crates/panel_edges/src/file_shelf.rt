@@ -1,4 +1,4 @@
-ghost use Rattle.std.specs.Prelude.{◌≤◌, None, length, IfOk, IfSome};
+ghost use Rattle.std.specs.Prelude.{◌≡◌, ◌≤◌, None, length, IfOk, IfSome};
 ghost use Rattle.panel_edges.specs.Limits.{most_file_bytes};
 
 use crate::fetching::{FetchFault, Found};
@@ -19,7 +19,9 @@ pub struct FileShelf<R: Files + Drop> {
 
 impl<R: Files + Drop> FileShelf<R> {
     /// Keeps the allocator, from which each fetch takes the bytes that it hands out.
-    pub fn new(rt: R, alloc: Global) -> FileShelf<R> {
+    pub fn new(rt: R, alloc: Global) -> FileShelf<R>
+        ensures { result.faults ≡ 0 }
+    {
         FileShelf {
             rt,
             alloc,

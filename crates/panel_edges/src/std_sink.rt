@@ -1,4 +1,4 @@
-ghost use Rattle.std.specs.Prelude.{None};
+ghost use Rattle.std.specs.Prelude.{◌≡◌, None};
 
 use crate::failed::Failed;
 use crate::streams::{Sink, Stream};
@@ -11,7 +11,9 @@ pub struct StdSink<R: Print + Drop> {
 }
 
 impl<R: Print + Drop> StdSink<R> {
-    pub fn new(rt: R) -> StdSink<R> {
+    pub fn new(rt: R) -> StdSink<R>
+        ensures { result.faults ≡ 0 }
+    {
         StdSink { rt, faults: 0 }
     }
 }

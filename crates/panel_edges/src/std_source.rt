@@ -1,4 +1,4 @@
-ghost use Rattle.std.specs.Prelude.{None};
+ghost use Rattle.std.specs.Prelude.{◌≡◌, None};
 
 use crate::failed::Failed;
 use crate::streams::{Source, Stream};
@@ -13,7 +13,9 @@ pub struct StdSource<R: Input + Drop> {
 }
 
 impl<R: Input + Drop> StdSource<R> {
-    pub fn new(rt: R) -> StdSource<R> {
+    pub fn new(rt: R) -> StdSource<R>
+        ensures { result.faults ≡ 0 }
+    {
         StdSource {
             rt,
             reader: None,
