@@ -2,6 +2,7 @@
 #![tactic(auto)]
 
 mod answer;
+mod bits;
 mod buzzer;
 mod change;
 mod combine;
@@ -30,6 +31,10 @@ mod waits;
 mod zone;
 
 pub use answer::Answer;
+pub use bits::{
+    has_bit_8, has_bit_32, has_bit_128, mask_from_8, mask_from_32, mask_from_128, with_bit_8,
+    with_bit_32, with_bit_128,
+};
 pub use buzzer::Buzzer;
 pub use change::Change;
 pub use combine::Combine;

@@ -1,0 +1,141 @@
+-- Masks and their bits, at any width.
+use Rattle.std.proofs.Common.{add-one, add-zero, ◌≡◌, ◌≢◌, inl, inr, ℕ, zero, suc, ◌+◌, ◌*◌, ◌/◌, ◌%◌, ◌^◌, ◌<◌, ◌≤◌, ◌==◌, Bool, true, false, if◌then◌else◌, refl, sym, ◌∙◌, ap, arith, pow-suc}
+use Rattle.std.specs.Int.{Width, bit_at}
+use Rattle.std.specs.Int.Bits.{bit_or, or_zero_r}
+use mir.Val.{bits}
+use Rattle.std.proofs.Math.Nat.{div-eq_of_lt, mod-eq_of_lt}
+use Rattle.std.proofs.Math.Pow.{pow_mono}
+use Rattle.std.proofs.lemmas.Nat.{or_block, pow_below}
+use Rattle.std.proofs.lemmas.Nat.Bits.{bit_at_or, bit_at-pow_same, bit_at-pow_other, bit_at-lt, bit_at-zero, bit_at_above, bit_at_set_same, bit_at_set_other, bit_at_clear_same, bit_at_clear_other, same_from_bits_below}
+use Rattle.std.proofs.lemmas.Bool.Decides.{eqb_tells}
+use Rattle.site_types.specs.Bits.{has_bit, mask_of, with_bit}
+
+-- a mask of n bits is below 2 ^ n
+pub mask_below : (n : ℕ) (test : ℕ → Bool) → mask_of n test < 2 ^ n
+unfolding mask_of
+mask_below zero test = omega arith
+mask_below (suc n) test = elim (test n) as (λ b. mask_of n test + (if b then 2 ^ n else 0) < 2 ^ suc n) [
+  | true ↦ omega (arith, mask_below n test, pow-suc 2 n)
+  | false ↦ omega (arith, mask_below n test, pow-suc 2 n)
+]
+
+-- the mask of one more bit
+pub mask_more : (n : ℕ) (test : ℕ → Bool) → mask_of (suc n) test ≡ mask_of n test + (if test n then 2 ^ n else 0)
+unfolding mask_of
+mask_more n test = refl
+
+pub mask_none : (test : ℕ → Bool) → mask_of 0 test ≡ 0
+unfolding mask_of
+mask_none test = refl
+
+-- the next bit fits
+pub bit_fits : (w n mask : ℕ) → n < w → mask < 2 ^ n → mask + 1 * 2 ^ n % 2 ^ w < 2 ^ w
+bit_fits w n mask small below =
+    let one : 2 ^ n < 2 ^ w = pow_below n w small in
+    let two : 2 ^ suc n ≤ 2 ^ w = pow_mono small in
+    omega (arith, below, one, two, pow-suc 2 n)
+
+joined : (n mask : ℕ) → mask < 2 ^ n → bit_or mask (2 ^ n) ≡ mask + 2 ^ n
+joined n mask below =
+    let block = or_block n 0 1 mask 0 below (omega (arith, below)) in
+    let left : 0 * 2 ^ n + mask ≡ mask = omega arith in
+    let right : 1 * 2 ^ n + 0 ≡ 2 ^ n = omega arith in
+    sym (ap (λ a. bit_or a (1 * 2 ^ n + 0)) left ∙ ap (bit_or mask) right) ∙ block ∙ ap (λ r. 1 * 2 ^ n + r) (or_zero_r mask) ∙ omega arith
+
+-- each bit of a mask is its test
+pub bit_at-mask : (n : ℕ) (test : ℕ → Bool) (k : ℕ) → k < n → bit_at (mask_of n test) k ≡ (if test k then 1 else 0)
+unfolding mask_of
+bit_at-mask zero test k small = absurd (omega arith)
+bit_at-mask (suc n) test k small = go (test n) refl (bit_at-mask n test k) (mask_below n test)
+  where
+    go : (b : Bool) → test n ≡ b → (k < n → bit_at (mask_of n test) k ≡ (if test k then 1 else 0)) → mask_of n test < 2 ^ n → bit_at (mask_of n test + (if b then 2 ^ n else 0)) k ≡ (if test k then 1 else 0)
+    go true e ih below =
+        let m = mask_of n test in
+        let bits = ap (λ x. bit_at x k) (sym (joined n m below)) ∙ bit_at_or m (2 ^ n) k in
+        elim (eqb_tells k n) [
+          | inl same ↦ (let this : bit_at (2 ^ n) k ≡ 1 = ap (bit_at (2 ^ n)) same.1 ∙ bit_at-pow_same n in bits ∙ omega (arith, this, bit_at-lt m k) ∙ ap (λ t. if t then 1 else 0) (sym (ap test same.1 ∙ e)))
+          | inr other ↦ (let this : bit_at (2 ^ n) k ≡ 0 = bit_at-pow_other n k other.1 in let apart = other.1 in bits ∙ omega (arith, this) ∙ ih (omega (arith, small, apart)))
+        ]
+    go false e ih below =
+        let m = mask_of n test in
+        let same : m + 0 ≡ m = omega arith in
+        elim (eqb_tells k n) [
+          | inl here ↦ (let none : m / 2 ^ n ≡ 0 = div-eq_of_lt below in let bit : bit_at m n ≡ 0 = rw none refl in ap (λ x. bit_at x k) same ∙ ap (bit_at m) here.1 ∙ bit ∙ ap (λ t. if t then 1 else 0) (sym (ap test here.1 ∙ e)))
+          | inr other ↦ (let apart = other.1 in ap (λ x. bit_at x k) same ∙ ih (omega (arith, small, apart)))
+        ]
+
+flag_is : (b : Bool) (n : ℕ) → n ≡ (if b then 1 else 0) → (n == 1) ≡ b
+flag_is true n e = rw e refl
+flag_is false n e = rw e refl
+
+-- each bit of a mask is its test
+pub has_bit-mask : (n : ℕ) (test : ℕ → Bool) (k : ℕ) → k < n → has_bit (mask_of n test) k ≡ test k
+has_bit-mask n test k small = flag_is (test k) (bit_at (mask_of n test) k) (bit_at-mask n test k small)
+
+-- two bits are the same where their tests are
+bit_from : (a b : ℕ) → a < 2 → b < 2 → (a == 1) ≡ (b == 1) → a ≡ b
+bit_from a b la lb e = elim (eqb_tells a 1) [
+  | inl x ↦ elim (eqb_tells b 1) [
+    | inl y ↦ x.1 ∙ sym y.1
+    | inr y ↦ absurd (let no_way : true ≡ false = sym x.0 ∙ e ∙ y.0 in cc)
+  ]
+  | inr x ↦ elim (eqb_tells b 1) [
+    | inl y ↦ absurd (let no_way : false ≡ true = sym x.0 ∙ e ∙ y.0 in cc)
+    | inr y ↦ (let p = x.1 in let q = y.1 in omega (arith, la, lb, p, q))
+  ]
+]
+
+-- two numbers of n bits with the same bits are equal
+pub same_mask : (n a b : ℕ) → a < 2 ^ n → b < 2 ^ n → ((k : ℕ) → k < n → has_bit a k ≡ has_bit b k) → a ≡ b
+same_mask n a b la lb same =
+    same_from_bits_below n a b la lb (λ k small. bit_from (bit_at a k) (bit_at b k) (bit_at-lt a k) (bit_at-lt b k) (same k small))
+
+-- a number of n bits is the mask of its bits
+pub mask_is : (n mask : ℕ) → mask < 2 ^ n → mask ≡ mask_of n (has_bit mask)
+mask_is n mask below =
+    same_mask n mask (mask_of n (has_bit mask)) below (mask_below n (has_bit mask)) (λ k small. sym (has_bit-mask n (has_bit mask) k small))
+
+-- a number whose bits are the tests is their mask
+pub mask_from_bits : (n mask : ℕ) (test : ℕ → Bool) → mask < 2 ^ n → ((k : ℕ) → k < n → has_bit mask k ≡ test k) → mask ≡ mask_of n test
+mask_from_bits n mask test below same =
+    same_mask n mask (mask_of n test) below (mask_below n test) (λ k small. same k small ∙ sym (has_bit-mask n test k small))
+
+-- equal tests make equal masks
+pub mask_same : (n : ℕ) (p q : ℕ → Bool) → ((k : ℕ) → k < n → p k ≡ q k) → mask_of n p ≡ mask_of n q
+mask_same n p q same =
+    mask_from_bits n (mask_of n p) q (mask_below n p) (λ k small. has_bit-mask n p k small ∙ same k small)
+
+-- no bit of 0 is set, and none at or above the width
+pub has_bit-zero : (k : ℕ) → has_bit 0 k ≡ false
+has_bit-zero k = rw (bit_at-zero k) refl
+
+pub has_bit-above : (n mask k : ℕ) → mask < 2 ^ n → n ≤ k → has_bit mask k ≡ false
+has_bit-above n mask k below above = rw (bit_at_above mask n k below above) refl
+
+-- a number without a set bit is 0
+pub mask_empty : (n mask : ℕ) → mask < 2 ^ n → ((k : ℕ) → k < n → has_bit mask k ≡ false) → mask ≡ 0
+mask_empty n mask below none =
+    same_mask n mask 0 below (omega (arith, below)) (λ k small. none k small ∙ sym (has_bit-zero k))
+
+-- the bit that is written
+pub with_bit-same : (w : Width) (mask k : ℕ) (on : Bool) → k < bits w → has_bit (with_bit w mask k on) k ≡ on
+with_bit-same w mask k true within = rw (bit_at_set_same w mask k within) refl
+with_bit-same w mask k false within = rw (bit_at_clear_same w mask k within) refl
+
+-- every other bit
+pub with_bit-other : (w : Width) (mask k : ℕ) (on : Bool) → k < bits w → (i : ℕ) → i < bits w → i ≢ k → has_bit (with_bit w mask k on) i ≡ has_bit mask i
+with_bit-other w mask k true within i small apart = rw (bit_at_set_other w mask k within i apart) refl
+with_bit-other w mask k false within i small apart = rw (bit_at_clear_other w mask k within i small apart) refl
+
+-- a mask that grows by one flag
+pub mask_on : (w n mask : ℕ) (test : ℕ → Bool) → n < w → mask ≡ mask_of n test → test n ≡ true → mask + 1 * 2 ^ n % 2 ^ w ≡ mask_of (n + 1) test
+mask_on w n mask test small is on =
+    let one : 2 ^ n < 2 ^ w = pow_below n w small in
+    let place : 1 * 2 ^ n ≡ 2 ^ n = omega arith in
+    let more : mask_of (suc n) test ≡ mask_of n test + 2 ^ n = mask_more n test ∙ ap (λ b. mask_of n test + (if b then 2 ^ n else 0)) on in
+    rw (add-one, more, is, place, mod-eq_of_lt one) refl
+
+pub mask_off : (n mask : ℕ) (test : ℕ → Bool) → mask ≡ mask_of n test → test n ≡ false → mask ≡ mask_of (n + 1) test
+mask_off n mask test is off =
+    let more : mask_of (suc n) test ≡ mask_of n test + 0 = mask_more n test ∙ ap (λ b. mask_of n test + (if b then 2 ^ n else 0)) off in
+    rw (add-one, more, is) (sym (add-zero (mask_of n test)))
