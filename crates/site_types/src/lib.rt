@@ -11,6 +11,7 @@ mod fault_set;
 mod heard;
 mod item;
 mod label;
+mod limits;
 mod loop_plan;
 mod marker;
 mod named;
@@ -21,6 +22,7 @@ mod piece_state;
 mod point;
 mod point_set;
 mod point_state;
+mod profile;
 mod requests;
 mod retained;
 mod rule;
@@ -43,6 +45,10 @@ pub use fault_set::FaultSet;
 pub use heard::Heard;
 pub use item::Item;
 pub use label::Label;
+pub use limits::{
+    GREATEST_COUNT, LINE_BYTES, MOST_CODES, MOST_LOOPS, MOST_MARKERS, MOST_OPERATIONS,
+    MOST_OUTPUTS, MOST_PANELS, MOST_TERMS, MOST_ZONES, NAME_BYTES, SITE_BYTES,
+};
 pub use loop_plan::LoopPlan;
 pub use marker::Marker;
 pub use named::{Named, Thing};
@@ -53,6 +59,7 @@ pub use piece_state::PieceState;
 pub use point::Point;
 pub use point_set::PointSet;
 pub use point_state::PointState;
+pub use profile::Profile;
 pub use requests::Requests;
 pub use retained::Retained;
 pub use rule::Rule;

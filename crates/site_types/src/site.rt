@@ -1,9 +1,12 @@
+ghost use Rattle.std.specs.Prelude.{◌≡◌};
+
 use crate::label::Label;
 use crate::loop_plan::LoopPlan;
 use crate::marker::Marker;
 use crate::named::Named;
 use crate::output::Output;
 use crate::point::Point;
+use crate::profile::Profile;
 use crate::waits::Waits;
 use crate::zone::Zone;
 use tick_units::Items;
@@ -26,4 +29,13 @@ pub struct Site {
     pub markers: Items<Marker>,
     /// The names of points, zones, outputs and markers, rising by their bytes.
     pub names: Items<Named>,
+}
+
+impl Site {
+    /// The numbers of ticks that go by the site's format.
+    pub fn profile(&self) -> Profile
+        ensures { result.format ≡ self.now.format }
+    {
+        Profile::of(self.format)
+    }
 }
