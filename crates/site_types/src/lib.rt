@@ -15,6 +15,8 @@ mod limits;
 mod loop_plan;
 mod marker;
 mod named;
+mod names;
+mod numbers;
 mod operation;
 mod output;
 mod output_kind;
@@ -52,6 +54,8 @@ pub use limits::{
 pub use loop_plan::LoopPlan;
 pub use marker::Marker;
 pub use named::{Named, Thing};
+pub use names::{read_code, read_name};
+pub use numbers::read_number;
 pub use operation::Operation;
 pub use output::Output;
 pub use output_kind::OutputKind;
