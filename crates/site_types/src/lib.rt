@@ -7,6 +7,7 @@ mod buzzer;
 mod change;
 mod combine;
 mod event;
+mod event_names;
 mod fault_set;
 mod heard;
 mod item;

@@ -1,0 +1,27 @@
+-- What a name of a site stands for.
+use Rattle.std.specs.Prelude.{ℕ, List, [], ◌∷◌, Option, Some, None, slice_get, option_map, if◌then◌else◌}
+use Rattle.std.specs.Str.{bytes_eq}
+use Rattle.site_types.specs.declared.site.Site.{Site}
+use Rattle.site_types.specs.declared.point.Point.{Point as PointOf}
+use Rattle.site_types.specs.declared.zone.Zone.{Zone as ZoneOf}
+use Rattle.site_types.specs.declared.output.Output.{Output as OutputOf}
+use Rattle.site_types.specs.declared.marker.Marker.{Marker as MarkerOf}
+use Rattle.site_types.specs.declared.named.Named.{Named}
+use Rattle.site_types.specs.declared.named.Thing.{Thing}
+use Rattle.site_types.specs.declared.named.Thing.TheVariants.{Point, Zone, Output, Marker}
+
+-- the name of a thing of the site, if there is one at its place
+abbrev pub name_at : Site → Thing → Option (List ℕ)
+name_at site (Point place) = option_map (λ (point : PointOf). point.name.bytes) (slice_get site.points place)
+name_at site (Zone place) = option_map (λ (zone : ZoneOf). zone.name.bytes) (slice_get site.zones place)
+name_at site (Output place) = option_map (λ (output : OutputOf). output.name.bytes) (slice_get site.outputs place)
+name_at site (Marker place) = option_map (λ (marker : MarkerOf). marker.name.bytes) (slice_get site.markers place)
+
+-- the thing that a name stands for in a list of names
+abbrev pub thing_in : List Named → List ℕ → Option Thing
+thing_in [] name = None
+thing_in (named ∷ rest) name = if bytes_eq named.name.bytes name then Some named.thing else thing_in rest name
+
+-- the thing of the site with a name
+abbrev pub thing_named : Site → List ℕ → Option Thing
+thing_named site name = thing_in site.names name
