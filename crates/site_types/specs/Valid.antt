@@ -193,10 +193,14 @@ PartnersAreMutual site = (place other : ℕ) (zone partner : Zone) →
 
 -- ---- the list of names
 
--- the names rise strictly by their bytes, each is its thing's, and each thing's name is there
+-- a list of names rises strictly by their bytes
+abbrev pub IsRising : List Named → Type 0
+IsRising names = (j k : ℕ) (a b : Named) → j < k → slice_get names j ≡ Some a → slice_get names k ≡ Some b →
+    slice_cmp nat_cmp a.name.bytes b.name.bytes ≡ Less
+
+-- the names rise, each is its thing's, and each thing's name is there
 pub record AreNames (site : Site) : Type 0 where
-  pub rising : (j k : ℕ) (a b : Named) → j < k → slice_get site.names j ≡ Some a → slice_get site.names k ≡ Some b →
-      slice_cmp nat_cmp a.name.bytes b.name.bytes ≡ Less
+  pub rising : IsRising site.names
   pub right : All (λ (named : Named). name_at site named.thing ≡ Some named.name.bytes) site.names
   pub whole : (thing : Thing) (name : List ℕ) → name_at site thing ≡ Some name →
       (k : ℕ) × (named : Named) × (slice_get site.names k ≡ Some named) × (named.thing ≡ thing)

@@ -13,6 +13,7 @@ mod heard;
 mod item;
 mod label;
 mod limits;
+mod lookup;
 mod loop_plan;
 mod marker;
 mod named;
