@@ -1,12 +1,13 @@
 -- Masks and their bits, at any width.
-use Rattle.std.proofs.Common.{add-one, add-zero, ◌≡◌, ◌≢◌, inl, inr, ℕ, zero, suc, ◌+◌, ◌*◌, ◌/◌, ◌%◌, ◌^◌, ◌<◌, ◌≤◌, ◌==◌, Bool, true, false, if◌then◌else◌, refl, sym, ◌∙◌, ap, arith, pow-suc}
-use Rattle.std.specs.Int.{Width, bit_at}
+use Rattle.std.proofs.Common.{◌-◌, ◌&&◌, ◌||◌, max, min, bit_and, add-one, add-zero, ◌≡◌, ◌≢◌, inl, inr, ℕ, zero, suc, ◌+◌, ◌*◌, ◌/◌, ◌%◌, ◌^◌, ◌<◌, ◌≤◌, ◌==◌, Bool, true, false, if◌then◌else◌, refl, sym, ◌∙◌, ap, arith, pow-suc}
+use Rattle.std.specs.Prelude.{not}
+use Rattle.std.specs.Int.{Width, bit_at, bit_not}
 use Rattle.std.specs.Int.Bits.{bit_or, or_zero_r}
 use mir.Val.{bits}
 use Rattle.std.proofs.Math.Nat.{div-eq_of_lt, mod-eq_of_lt}
 use Rattle.std.proofs.Math.Pow.{pow_mono}
 use Rattle.std.proofs.lemmas.Nat.{or_block, pow_below}
-use Rattle.std.proofs.lemmas.Nat.Bits.{bit_at_or, bit_at-pow_same, bit_at-pow_other, bit_at-lt, bit_at-zero, bit_at_above, bit_at_set_same, bit_at_set_other, bit_at_clear_same, bit_at_clear_other, same_from_bits_below}
+use Rattle.std.proofs.lemmas.Nat.Bits.{bit_at_or, bit_at_and, bit_at_not, bit_at-pow_same, bit_at-pow_other, bit_at-lt, bit_at-zero, bit_at_above, bit_at_set_same, bit_at_set_other, bit_at_clear_same, bit_at_clear_other, same_from_bits_below}
 use Rattle.std.proofs.lemmas.Bool.Decides.{eqb_tells}
 use Rattle.site_types.specs.Bits.{has_bit, mask_of, with_bit}
 
@@ -139,3 +140,48 @@ pub mask_off : (n mask : ℕ) (test : ℕ → Bool) → mask ≡ mask_of n test 
 mask_off n mask test is off =
     let more : mask_of (suc n) test ≡ mask_of n test + 0 = mask_more n test ∙ ap (λ b. mask_of n test + (if b then 2 ^ n else 0)) off in
     rw (add-one, more, is) (sym (add-zero (mask_of n test)))
+
+or_bit : (a b : ℕ) → a < 2 → b < 2 → (max a b == 1) ≡ ((a == 1) || (b == 1))
+or_bit zero zero la lb = refl
+or_bit zero (suc zero) la lb = refl
+or_bit zero (suc (suc n)) la lb = absurd (omega (arith, lb))
+or_bit (suc zero) zero la lb = refl
+or_bit (suc zero) (suc zero) la lb = refl
+or_bit (suc zero) (suc (suc n)) la lb = absurd (omega (arith, lb))
+or_bit (suc (suc n)) b la lb = absurd (omega (arith, la))
+
+and_bit : (a b : ℕ) → a < 2 → b < 2 → (min a b == 1) ≡ ((a == 1) && (b == 1))
+and_bit zero zero la lb = refl
+and_bit zero (suc zero) la lb = refl
+and_bit zero (suc (suc n)) la lb = absurd (omega (arith, lb))
+and_bit (suc zero) zero la lb = refl
+and_bit (suc zero) (suc zero) la lb = refl
+and_bit (suc zero) (suc (suc n)) la lb = absurd (omega (arith, lb))
+and_bit (suc (suc n)) b la lb = absurd (omega (arith, la))
+
+not_bit : (a : ℕ) → a < 2 → (1 - a == 1) ≡ not (a == 1)
+not_bit zero la = refl
+not_bit (suc zero) la = refl
+not_bit (suc (suc n)) la = absurd (omega (arith, la))
+
+-- the bits of what `|`, `&` and `& !` make of two masks
+pub has_bit-or : (a b k : ℕ) → has_bit (bit_or a b) k ≡ (has_bit a k || has_bit b k)
+has_bit-or a b k = ap (λ x. x == 1) (bit_at_or a b k) ∙ or_bit (bit_at a k) (bit_at b k) (bit_at-lt a k) (bit_at-lt b k)
+
+pub has_bit-and : (a b k : ℕ) → has_bit (bit_and a b) k ≡ (has_bit a k && has_bit b k)
+has_bit-and a b k = ap (λ x. x == 1) (bit_at_and a b k) ∙ and_bit (bit_at a k) (bit_at b k) (bit_at-lt a k) (bit_at-lt b k)
+
+pub has_bit-not : (w : Width) (mask k : ℕ) → mask < 2 ^ bits w → k < bits w → has_bit (bit_not w mask) k ≡ not (has_bit mask k)
+has_bit-not w mask k below small = ap (λ x. x == 1) (bit_at_not w mask k below small) ∙ not_bit (bit_at mask k) (bit_at-lt mask k)
+
+pub mask_or : (n a b : ℕ) → bit_or a b < 2 ^ n → bit_or a b ≡ mask_of n (λ k. has_bit a k || has_bit b k)
+mask_or n a b below = mask_from_bits n (bit_or a b) (λ k. has_bit a k || has_bit b k) below (λ k small. has_bit-or a b k)
+
+pub mask_and : (n a b : ℕ) → bit_and a b < 2 ^ n → bit_and a b ≡ mask_of n (λ k. has_bit a k && has_bit b k)
+mask_and n a b below = mask_from_bits n (bit_and a b) (λ k. has_bit a k && has_bit b k) below (λ k small. has_bit-and a b k)
+
+pub mask_without : (w : Width) (a b : ℕ) → b < 2 ^ bits w → bit_and a (bit_not w b) < 2 ^ bits w →
+    bit_and a (bit_not w b) ≡ mask_of (bits w) (λ k. has_bit a k && not (has_bit b k))
+mask_without w a b bound below =
+    mask_from_bits (bits w) (bit_and a (bit_not w b)) (λ k. has_bit a k && not (has_bit b k)) below
+    (λ k small. has_bit-and a (bit_not w b) k ∙ ap (λ x. has_bit a k && x) (has_bit-not w b k bound small))

@@ -1,6 +1,6 @@
 //! Masks of 8, 32 and 128 bits: the only place where single bits are read and written.
 
-ghost use Rattle.std.specs.Prelude.{◌≡◌, ◌≢◌, ◌<◌, ◌≤◌, ℕ, false, length, slice_index_or};
+ghost use Rattle.std.specs.Prelude.{◌≡◌, ◌≢◌, ◌<◌, ◌≤◌, ◌&&◌, ◌||◌, ℕ, false, not, length, slice_index_or};
 ghost use Rattle.std.specs.Int.{w8, w32, w128};
 ghost use Rattle.site_types.specs.Bits.{has_bit, mask_of, with_bit};
 
@@ -110,4 +110,25 @@ pub fn mask_from_128(flags: &[bool]) -> u128
         }
     }
     mask
+}
+
+/// The bits that are set in one of two masks or in both.
+pub fn either_32(a: u32, b: u32) -> u32
+    ensures { result ≡ mask_of 32 (λ k. has_bit a k || has_bit b k) }
+{
+    a | b
+}
+
+/// The bits that are set in both masks.
+pub fn common_32(a: u32, b: u32) -> u32
+    ensures { result ≡ mask_of 32 (λ k. has_bit a k && has_bit b k) }
+{
+    a & b
+}
+
+/// The bits of the first mask that aren't set in the second.
+pub fn without_32(a: u32, b: u32) -> u32
+    ensures { result ≡ mask_of 32 (λ k. has_bit a k && not (has_bit b k)) }
+{
+    a & !b
 }

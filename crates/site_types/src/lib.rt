@@ -38,8 +38,8 @@ mod zone;
 
 pub use answer::Answer;
 pub use bits::{
-    has_bit_8, has_bit_32, has_bit_128, mask_from_8, mask_from_32, mask_from_128, with_bit_8,
-    with_bit_32, with_bit_128,
+    common_32, either_32, has_bit_8, has_bit_32, has_bit_128, mask_from_8, mask_from_32,
+    mask_from_128, with_bit_8, with_bit_32, with_bit_128, without_32,
 };
 pub use buzzer::Buzzer;
 pub use change::Change;
