@@ -1,6 +1,8 @@
--- What a name of a site stands for.
-use Rattle.std.specs.Prelude.{ℕ, List, [], ◌∷◌, Option, Some, None, slice_get, option_map, if◌then◌else◌}
+-- What a name of a site stands for, and which loop a number does.
+use Rattle.std.specs.Prelude.{◌==◌, ◌&&◌, ℕ, List, [], ◌∷◌, Option, Some, None, slice_get, option_map, if◌then◌else◌}
+use Rattle.std.specs.List.{find}
 use Rattle.std.specs.Str.{bytes_eq}
+use Rattle.site_types.specs.declared.loop_plan.LoopPlan.{LoopPlan}
 use Rattle.site_types.specs.declared.site.Site.{Site}
 use Rattle.site_types.specs.declared.point.Point.{Point as PointOf}
 use Rattle.site_types.specs.declared.zone.Zone.{Zone as ZoneOf}
@@ -25,3 +27,7 @@ thing_in (named ∷ rest) name = if bytes_eq named.name.bytes name then Some nam
 -- the thing of the site with a name
 abbrev pub thing_named : Site → List ℕ → Option Thing
 thing_named site name = thing_in site.names name
+
+-- the loop of a panel with a number
+abbrev pub loop_of : Site → ℕ → ℕ → Option LoopPlan
+loop_of site panel line = find (λ (plan : LoopPlan). (plan.panel == panel) && (plan.line == line)) site.loops

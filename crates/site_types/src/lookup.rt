@@ -1,12 +1,13 @@
 //! Looking up what a site has by name and by number.
 
-ghost use Rattle.std.specs.Prelude.{◌≡◌, length};
+ghost use Rattle.std.specs.Prelude.{◌≡◌, length, option_copied};
 ghost use Rattle.std.specs.Cmp.Lexicographic.{slice_cmp};
 ghost use Rattle.std.specs.Ordering.{nat_cmp};
 ghost use Rattle.std.specs.List.Sorted.{IsBinarySearchResult, IsSearchInRange};
 ghost use Rattle.site_types.specs.Valid.{IsRising, IsValid};
-ghost use Rattle.site_types.specs.Things.{thing_in, thing_named};
+ghost use Rattle.site_types.specs.Things.{loop_of as plan_of, thing_in, thing_named};
 
+use crate::loop_plan::LoopPlan;
 use crate::named::{Named, Thing};
 use crate::site::Site;
 use std::cmp::Ordering;
@@ -18,6 +19,16 @@ impl Site {
         ensures { result ≡ thing_named self.now name.now }
     {
         find_in(self.names.as_slice(), name)
+    }
+
+    /// The loop of a panel with a number, among the loops that are listed.
+    pub fn loop_of(&self, panel: u8, line: u8) -> Option<&LoopPlan>
+        ensures { option_copied result ≡ plan_of self.now panel line }
+    {
+        self.loops
+            .as_slice()
+            .iter()
+            .find(|plan| plan.panel == panel && plan.line == line)
     }
 }
 
