@@ -74,3 +74,6 @@ pub use supply_kind::SupplyKind;
 pub use term::Term;
 pub use waits::Waits;
 pub use zone::Zone;
+
+#[cfg(test)]
+mod tests;
