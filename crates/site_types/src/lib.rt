@@ -1,4 +1,15 @@
 //! The types on which every other crate stands: a site and its parts, what befalls it and is asked of it, what is kept of it.
+//!
+//! Begin with `Site`. It holds what a site file spells, each name of another part being the place of that part in its list. A reader of site
+//! files alone makes one, and `IsValid` of `specs/Valid` says what holds of each: forms and ranges, no name or number twice, references that are
+//! there, sections that cross no zones, partners that are mutual, and names in their order. `proofs/ValidSites` has what follows for callers.
+//!
+//! `Site::find` finds a name in steps that grow with the logarithm of the number of names; `Site::loop_of` and `Site::has_event` look at the few
+//! loops or at one place. Every other call here takes the same few steps whatever the site, and no call takes memory.
+//!
+//! Three things stand here alone in the whole repository: single bits of masks (`has_bit_32`, `with_bit_32`, `mask_from_32` and their kin for 8
+//! and 128 bits, `PointSet`), the numbers of ticks that go by a site's format (`Profile`), and the forms of names, codes and numbers
+//! (`read_name`, `read_code`, `read_number`).
 #![tactic(auto)]
 
 mod answer;
