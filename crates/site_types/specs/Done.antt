@@ -1,6 +1,5 @@
 -- What the operations that were done make of settings, floors and cancellings. An operation is in force from the tick after its own.
-use Rattle.std.specs.Prelude.{ℕ, ◌-◌, ◌/◌, ◌%◌, ◌≤◌, max, Bool, true, false, not, List, [], ◌∷◌, Option, Some, None, slice_get, slice_index, slice_index_or, if◌then◌else◌, ◌==◌, ◌&&◌, ◌||◌, nat_lt, nat_le}
-use Rattle.std.specs.Int.{bit_at}
+use Rattle.std.specs.Prelude.{ℕ, ◌-◌, ◌≤◌, max, Bool, true, false, not, List, [], ◌∷◌, Option, Some, None, slice_get, slice_index, slice_index_or, if◌then◌else◌, ◌==◌, ◌&&◌, ◌||◌, nat_lt, nat_le}
 use Rattle.site_types.specs.declared.site.Site.{Site}
 use Rattle.site_types.specs.declared.point.Point.{Point as PointPlan}
 use Rattle.site_types.specs.declared.zone.Zone.{Zone as ZonePlan}
@@ -11,6 +10,7 @@ use Rattle.site_types.specs.declared.item.Item.{Item}
 use Rattle.site_types.specs.declared.item.Item.TheVariants.{Point, Zone, Output}
 use Rattle.site_types.specs.declared.operation.Operation.{Operation}
 use Rattle.site_types.specs.declared.operation.Operation.TheVariants.{Mute, Override, Silence, Resound, Reset, Cancel, Disable, Enable, Test, Untest, Delays, Clear}
+use Rattle.site_types.specs.Bits.{has_bit, has_point}
 
 -- an operation that was done: in which tick, at which panel; lists of these have the newest first
 pub record Done : Type 0 where
@@ -72,32 +72,25 @@ is_kept_operation (Delays on) = true
 is_kept_operation Clear = true
 is_kept_operation _ = false
 
-abbrev pub is_bit : ℕ → ℕ → Bool
-is_bit mask bit = bit_at mask bit == 1
-
--- whether the point of a loop and address is in a set
-abbrev pub is_in_set : PointSet → ℕ → ℕ → Bool
-is_in_set points line address = is_bit (slice_index (slice_index_or points.loops (line - 1) []) ((address - 1) / 96)) ((address - 1) % 96)
-
 abbrev pub no_points : PointSet
 no_points = record { loops = [] }
 
 -- what is kept of a point, a zone, an output and a panel
 abbrev pub kept_point : Retained → Option PointPlan → Bool
 kept_point kept None = false
-kept_point kept (Some p) = is_in_set (slice_index_or kept.points (p.panel - 1) no_points) p.line p.address
+kept_point kept (Some p) = has_point (slice_index_or kept.points (p.panel - 1) no_points) p.line p.address
 
 abbrev pub kept_zone : Retained → Option ZonePlan → Bool
 kept_zone kept None = false
-kept_zone kept (Some z) = is_bit (slice_index kept.zones (z.panel - 1)) (z.number - 1)
+kept_zone kept (Some z) = has_bit (slice_index kept.zones (z.panel - 1)) (z.number - 1)
 
 abbrev pub kept_output : Retained → Option OutputPlan → Bool
 kept_output kept None = false
-kept_output kept (Some o) = is_bit (slice_index kept.outputs (o.panel - 1)) (o.number - 1)
+kept_output kept (Some o) = has_bit (slice_index kept.outputs (o.panel - 1)) (o.number - 1)
 
 abbrev pub kept_test : Retained → Option ZonePlan → Bool
 kept_test kept None = false
-kept_test kept (Some z) = is_bit (slice_index kept.tests (z.panel - 1)) (z.number - 1)
+kept_test kept (Some z) = has_bit (slice_index kept.tests (z.panel - 1)) (z.number - 1)
 
 -- the value that a setting has by what is kept
 abbrev pub at_opening : Site → Retained → Setting → Bool
@@ -105,7 +98,7 @@ at_opening site kept (PointOff point) = kept_point kept (slice_get site.points p
 at_opening site kept (ZoneOff zone) = kept_zone kept (slice_get site.zones zone)
 at_opening site kept (OutputOff output) = kept_output kept (slice_get site.outputs output)
 at_opening site kept (InTest zone) = kept_test kept (slice_get site.zones zone)
-at_opening site kept (DelaysOff panel) = is_bit kept.delays_off (panel - 1)
+at_opening site kept (DelaysOff panel) = has_bit kept.delays_off (panel - 1)
 at_opening site kept (Counter panel) = false
 
 abbrev pub is_setting : Setting → Option Setting → Bool

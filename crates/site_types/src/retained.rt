@@ -1,4 +1,12 @@
+ghost use Rattle.std.specs.Prelude.{◌≡◌, ◌≤◌, replicate, length};
+ghost use Rattle.site_types.specs.Changes.{CanApply, IsNumber, IsPanel, changed, with_number};
+
+use crate::bits::{with_bit_8, with_bit_32};
+use crate::change::Change;
 use crate::point_set::PointSet;
+
+// A counter stands at its end.
+const GREATEST_COUNT: u32 = 999_999;
 
 /// What is kept of a site over a power cut: disablements, delays, counters and zones in test.
 #[derive(Clone, Copy, Debug, PartialEq, Eq)]
@@ -29,4 +37,42 @@ impl Retained {
             tests: [0; 8],
         }
     }
+
+    /// Makes a change. What it names has a place here: panels 1 to 8, loops 1 to 4, addresses 1 to 192, numbers 1 to 32.
+    pub fn apply(&mut self, change: &Change)
+        requires { CanApply change.now }
+        ensures { self.new ≡ changed change.now self.old }
+    {
+        match *change {
+            Change::Point {
+                panel,
+                line,
+                address,
+                off,
+            } => self.points[panel as usize - 1].set(line, address, off),
+            Change::Zone { panel, number, off } => set_number(&mut self.zones, panel, number, off),
+            Change::Output { panel, number, off } => {
+                set_number(&mut self.outputs, panel, number, off)
+            }
+            Change::Delays { panel, off } => {
+                self.delays_off = with_bit_8(self.delays_off, panel - 1, off);
+            }
+            Change::Count { panel, entries } => {
+                let counter = &mut self.counters[panel as usize - 1];
+                *counter = counter.saturating_add(entries).min(GREATEST_COUNT);
+            }
+            Change::Clear { panel } => self.counters[panel as usize - 1] = 0,
+            Change::Test { panel, number, on } => set_number(&mut self.tests, panel, number, on),
+        }
+    }
+}
+
+// Sets or clears the bit of a number in the mask of a panel.
+fn set_number(masks: &mut [u32; 8], panel: u8, number: u8, on: bool)
+    requires panel { IsPanel panel }
+    requires number { IsNumber number }
+    ensures { masks.new ≡ with_number masks.old panel number on }
+{
+    let mask = &mut masks[panel as usize - 1];
+    *mask = with_bit_32(*mask, number - 1, on);
 }

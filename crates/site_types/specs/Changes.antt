@@ -1,0 +1,92 @@
+-- What a change makes of what is retained, and the change that an operation makes.
+use Rattle.std.specs.Prelude.{ℕ, ◌+◌, ◌-◌, ◌≤◌, min, Bool, true, false, not, List, [], ◌∷◌, Option, Some, None, slice_get, slice_index, slice_index_or, slice_set}
+use Rattle.std.specs.Int.{w8, w32}
+use Rattle.site_types.specs.declared.site.Site.{Site}
+use Rattle.site_types.specs.declared.point.Point.{Point as PointPlan}
+use Rattle.site_types.specs.declared.zone.Zone.{Zone as ZonePlan}
+use Rattle.site_types.specs.declared.output.Output.{Output as OutputPlan}
+use Rattle.site_types.specs.declared.retained.Retained.{Retained}
+use Rattle.site_types.specs.declared.change.Change.{Change}
+use Rattle.site_types.specs.declared.change.Change.TheVariants.{Point, Zone, Output, Delays, Count, Clear, Test}
+use Rattle.site_types.specs.declared.item.Item.{Item}
+use Rattle.site_types.specs.declared.item.Item.TheVariants.{Point as ThePoint, Zone as TheZone, Output as TheOutput}
+use Rattle.site_types.specs.declared.operation.Operation.{Operation}
+use Rattle.site_types.specs.declared.operation.Operation.TheVariants.{Disable, Enable, Test as SetTest, Untest, Delays as SetDelays, Clear as ClearCounter}
+use Rattle.site_types.specs.Bits.{IsPlace, with_bit, with_point}
+use Rattle.site_types.specs.Done.{Done, no_points}
+
+-- a counter stands at its end
+abbrev pub greatest_count : ℕ
+greatest_count = 999999
+
+abbrev pub IsPanel : ℕ → Type 0
+IsPanel panel = (1 ≤ panel) × (panel ≤ 8)
+
+-- the number of a zone or an output at its panel
+abbrev pub IsNumber : ℕ → Type 0
+IsNumber number = (1 ≤ number) × (number ≤ 32)
+
+-- what a change names has a place in what is retained
+abbrev pub CanApply : Change → Type 0
+CanApply (Point panel line address off) = IsPanel panel × IsPlace line address
+CanApply (Zone panel number off) = IsPanel panel × IsNumber number
+CanApply (Output panel number off) = IsPanel panel × IsNumber number
+CanApply (Delays panel off) = IsPanel panel
+CanApply (Count panel entries) = IsPanel panel
+CanApply (Clear panel) = IsPanel panel
+CanApply (Test panel number on) = IsPanel panel × IsNumber number
+
+-- of masks by panel, the one of a panel with the bit of a number set or cleared
+abbrev pub with_number : List ℕ → ℕ → ℕ → Bool → List ℕ
+with_number masks panel number on = slice_set masks (panel - 1) (with_bit w32 (slice_index masks (panel - 1)) (number - 1) on)
+
+-- what a change makes of what is retained
+abbrev pub changed : Change → Retained → Retained
+changed (Point panel line address off) kept =
+    record kept { points = slice_set kept.points (panel - 1) (with_point (slice_index_or kept.points (panel - 1) no_points) line address off) }
+changed (Zone panel number off) kept = record kept { zones = with_number kept.zones panel number off }
+changed (Output panel number off) kept = record kept { outputs = with_number kept.outputs panel number off }
+changed (Delays panel off) kept = record kept { delays_off = with_bit w8 kept.delays_off (panel - 1) off }
+changed (Count panel entries) kept =
+    record kept { counters = slice_set kept.counters (panel - 1) (min (slice_index kept.counters (panel - 1) + entries) greatest_count) }
+changed (Clear panel) kept = record kept { counters = slice_set kept.counters (panel - 1) 0 }
+changed (Test panel number on) kept = record kept { tests = with_number kept.tests panel number on }
+
+-- what a list of changes makes of it, the first change first
+abbrev pub changed_by : List Change → Retained → Retained
+changed_by [] kept = kept
+changed_by (change ∷ rest) kept = changed_by rest (changed change kept)
+
+abbrev pub point_change : Option PointPlan → Bool → Option Change
+point_change None off = None
+point_change (Some p) off = Some (Point p.panel p.line p.address off)
+
+abbrev pub zone_change : Option ZonePlan → Bool → Option Change
+zone_change None off = None
+zone_change (Some z) off = Some (Zone z.panel z.number off)
+
+abbrev pub output_change : Option OutputPlan → Bool → Option Change
+output_change None off = None
+output_change (Some o) off = Some (Output o.panel o.number off)
+
+abbrev pub test_change : Option ZonePlan → Bool → Option Change
+test_change None on = None
+test_change (Some z) on = Some (Test z.panel z.number on)
+
+abbrev pub item_change : Site → Item → Bool → Option Change
+item_change site (ThePoint point) off = point_change (slice_get site.points point) off
+item_change site (TheZone zone) off = zone_change (slice_get site.zones zone) off
+item_change site (TheOutput output) off = output_change (slice_get site.outputs output) off
+
+-- the change that an operation at a panel makes: none where it is not kept, or the site has not what it names
+abbrev pub operation_change : Site → ℕ → Operation → Option Change
+operation_change site panel (Disable item) = item_change site item true
+operation_change site panel (Enable item) = item_change site item false
+operation_change site panel (SetTest zone) = test_change (slice_get site.zones zone) true
+operation_change site panel (Untest zone) = test_change (slice_get site.zones zone) false
+operation_change site panel (SetDelays on) = Some (Delays panel (not on))
+operation_change site panel ClearCounter = Some (Clear panel)
+operation_change site panel _ = None
+
+abbrev pub change_of : Site → Done → Option Change
+change_of site d = operation_change site d.panel d.operation
