@@ -1,5 +1,5 @@
 -- What a change makes of what is retained, and the change that an operation makes.
-use Rattle.std.specs.Prelude.{ℕ, ◌+◌, ◌-◌, ◌≤◌, min, Bool, true, false, not, List, [], ◌∷◌, Option, Some, None, slice_get, slice_index, slice_index_or, slice_set}
+use Rattle.std.specs.Prelude.{◌≡◌, ◌<◌, length, replicate, ℕ, ◌+◌, ◌-◌, ◌≤◌, min, Bool, true, false, not, List, [], ◌∷◌, Option, Some, None, slice_get, slice_index, slice_index_or, slice_set}
 use Rattle.std.specs.Int.{w8, w32}
 use Rattle.site_types.specs.declared.site.Site.{Site}
 use Rattle.site_types.specs.declared.point.Point.{Point as PointPlan}
@@ -52,6 +52,17 @@ changed (Count panel entries) kept =
 changed (Clear panel) kept = record kept { counters = slice_set kept.counters (panel - 1) 0 }
 changed (Test panel number on) kept = record kept { tests = with_number kept.tests panel number on }
 
+-- nothing disabled or in test, delays on, counters 0
+abbrev pub nothing_retained : Retained
+nothing_retained = record {
+  points = replicate 8 (record { loops = replicate 4 (replicate 2 0) });
+  zones = replicate 8 0;
+  outputs = replicate 8 0;
+  delays_off = 0;
+  counters = replicate 8 0;
+  tests = replicate 8 0;
+}
+
 -- what a list of changes makes of it, the first change first
 abbrev pub changed_by : List Change → Retained → Retained
 changed_by [] kept = kept
@@ -90,3 +101,26 @@ operation_change site panel _ = None
 
 abbrev pub change_of : Site → Done → Option Change
 change_of site d = operation_change site d.panel d.operation
+
+-- each list of what is retained is as long as in the data
+pub record IsSized (kept : Retained) : Type 0 where
+  pub points : length kept.points ≡ 8
+  pub loops : (k : ℕ) → k < 8 → length (slice_index_or kept.points k no_points).loops ≡ 4
+  pub halves : (k l : ℕ) → k < 8 → l < 4 → length (slice_index_or (slice_index_or kept.points k no_points).loops l []) ≡ 2
+  pub zones : length kept.zones ≡ 8
+  pub outputs : length kept.outputs ≡ 8
+  pub counters : length kept.counters ≡ 8
+  pub tests : length kept.tests ≡ 8
+
+-- no counter is past its end
+abbrev pub AreCounters : List ℕ → Type 0
+AreCounters counters = (k : ℕ) → slice_index counters k ≤ greatest_count
+
+-- each point, zone and output of a site has a place of its own in what is retained
+pub record HasOwnPlaces (site : Site) : Type 0 where
+  pub point : (i : ℕ) (p : PointPlan) → slice_get site.points i ≡ Some p → IsPanel p.panel × IsPlace p.line p.address
+  pub zone : (i : ℕ) (z : ZonePlan) → slice_get site.zones i ≡ Some z → IsPanel z.panel × IsNumber z.number
+  pub output : (i : ℕ) (o : OutputPlan) → slice_get site.outputs i ≡ Some o → IsPanel o.panel × IsNumber o.number
+  pub points_apart : (i j : ℕ) (p q : PointPlan) → slice_get site.points i ≡ Some p → slice_get site.points j ≡ Some q → p.panel ≡ q.panel → p.line ≡ q.line → p.address ≡ q.address → i ≡ j
+  pub zones_apart : (i j : ℕ) (y z : ZonePlan) → slice_get site.zones i ≡ Some y → slice_get site.zones j ≡ Some z → y.panel ≡ z.panel → y.number ≡ z.number → i ≡ j
+  pub outputs_apart : (i j : ℕ) (n o : OutputPlan) → slice_get site.outputs i ≡ Some n → slice_get site.outputs j ≡ Some o → n.panel ≡ o.panel → n.number ≡ o.number → i ≡ j

@@ -101,6 +101,12 @@ at_opening site kept (InTest zone) = kept_test kept (slice_get site.zones zone)
 at_opening site kept (DelaysOff panel) = has_bit kept.delays_off (panel - 1)
 at_opening site kept (Counter panel) = false
 
+-- the setting of delays or of a counter is of a panel from 1 to 8
+abbrev pub IsSetting : Setting → Type 0
+IsSetting (DelaysOff panel) = (1 ≤ panel) × (panel ≤ 8)
+IsSetting (Counter panel) = (1 ≤ panel) × (panel ≤ 8)
+IsSetting _ = Unit {0}
+
 abbrev pub is_setting : Setting → Option Setting → Bool
 is_setting setting None = false
 is_setting setting (Some other) = same_setting setting other

@@ -1,5 +1,5 @@
-ghost use Rattle.std.specs.Prelude.{◌≡◌, ◌≤◌, replicate, length};
-ghost use Rattle.site_types.specs.Changes.{CanApply, IsNumber, IsPanel, changed, with_number};
+ghost use Rattle.std.specs.Prelude.{◌≡◌};
+ghost use Rattle.site_types.specs.Changes.{CanApply, IsNumber, IsPanel, changed, nothing_retained, with_number};
 
 use crate::bits::{with_bit_8, with_bit_32};
 use crate::change::Change;
@@ -27,7 +27,9 @@ pub struct Retained {
 
 impl Retained {
     /// Nothing disabled or in test, delays on, counters 0.
-    pub fn empty() -> Retained {
+    pub fn empty() -> Retained
+        ensures { result ≡ nothing_retained }
+    {
         Retained {
             points: [PointSet { loops: [[0; 2]; 4] }; 8],
             zones: [0; 8],
