@@ -17,6 +17,7 @@ mod bits;
 mod buzzer;
 mod change;
 mod combine;
+mod digest;
 mod event;
 mod event_names;
 mod fault_set;
@@ -55,6 +56,7 @@ pub use bits::{
 pub use buzzer::Buzzer;
 pub use change::Change;
 pub use combine::Combine;
+pub use digest::site_digest;
 pub use event::Event;
 pub use fault_set::FaultSet;
 pub use heard::Heard;
