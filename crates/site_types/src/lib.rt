@@ -15,6 +15,7 @@
 mod answer;
 mod bits;
 mod buzzer;
+mod carry_over;
 mod change;
 mod combine;
 mod digest;
@@ -54,6 +55,7 @@ pub use bits::{
     mask_from_128, with_bit_8, with_bit_32, with_bit_128, without_32,
 };
 pub use buzzer::Buzzer;
+pub use carry_over::carry;
 pub use change::Change;
 pub use combine::Combine;
 pub use digest::site_digest;

@@ -1,0 +1,10 @@
+use Rattle.std.proofs.Common.{◌≡◌, Some, false, take, ◌&&◌}
+use Rattle.std.specs.List.{list_any}
+use Rattle.std.specs.Str.{bytes_eq}
+use Rattle.site_types.specs.declared.zone.Zone.{Zone as ZonePlan}
+use Rattle.site_types.specs.Done.{kept_zone}
+use Rattle.site_types.proofs.carry_over.is_zone_off.Given as goal
+
+-- none of those so far is one
+abbrev pub invariant-loop-zone : goal.invariant-loop-zone
+invariant-loop-zone l = list_any (λ (x : ZonePlan). bytes_eq x.name.bytes l.name.bytes && kept_zone l.state (Some x)) (take l.zone-index l.old.zones) ≡ false
