@@ -16,16 +16,17 @@ use Rattle.site_types.specs.declared.operation.Operation.{Operation}
 use Rattle.site_types.specs.declared.operation.Operation.TheVariants.{Mute, Override, Silence, Resound, Reset, Cancel, Disable, Enable, Test as SetTest, Untest, Delays as SetDelays, Clear as ClearCounter}
 use Rattle.site_types.specs.Bits.{IsPlace, has_bit, with_bit, has_point, with_point}
 use Rattle.site_types.specs.Done.{Done, Setting, PointOff, ZoneOff, OutputOff, InTest, DelaysOff, Counter, no_points, same_setting, IsSetting, is_setting, is_on, operation_setting, value_set, at_opening, kept_point, kept_zone, kept_output, kept_test, is_kept_operation}
-use Rattle.site_types.specs.Changes.{IsPanel, IsNumber, CanApply, item_change, with_number, changed, changed_by, greatest_count, point_change, zone_change, output_change, test_change, operation_change, change_of, IsSized, AreCounters, HasOwnPlaces}
+use Rattle.site_types.specs.Changes.{IsPanelNumber, IsNumber, CanApply, item_change, with_number, changed, changed_by, point_change, zone_change, output_change, test_change, operation_change, change_of, IsSized, AreCounters, HasOwnPlaces}
+use Rattle.site_types.specs.Limits.{greatest_count}
 use Rattle.site_types.proofs.Masks.{with_bit-same, with_bit-other}
 
 -- the mask of a panel, at the bit of a number
-pub number-same : (masks : List ℕ) (panel number : ℕ) (on : Bool) → length masks ≡ 8 → IsPanel panel → IsNumber number → has_bit (get_or (with_number masks panel number on) (panel - 1) 0) (number - 1) ≡ on
+pub number-same : (masks : List ℕ) (panel number : ℕ) (on : Bool) → length masks ≡ 8 → IsPanelNumber panel → IsNumber number → has_bit (get_or (with_number masks panel number on) (panel - 1) 0) (number - 1) ≡ on
 number-same masks panel number on size here place =
     ap (λ m. has_bit m (number - 1)) (get_or-set_same masks (panel - 1) (with_bit w32 (get_or masks (panel - 1) 0) (number - 1) on) 0 (omega (arith, size, here.0, here.1)))
     ∙ with_bit-same w32 (get_or masks (panel - 1) 0) (number - 1) on (omega (arith, place.0, place.1))
 
-pub number-other : (masks : List ℕ) (panel number : ℕ) (on : Bool) → length masks ≡ 8 → IsPanel panel → IsNumber number → (p n : ℕ) → IsPanel p → IsNumber n → (p ≡ panel → n ≡ number → ⊥) → has_bit (get_or (with_number masks panel number on) (p - 1) 0) (n - 1) ≡ has_bit (get_or masks (p - 1) 0) (n - 1)
+pub number-other : (masks : List ℕ) (panel number : ℕ) (on : Bool) → length masks ≡ 8 → IsPanelNumber panel → IsNumber number → (p n : ℕ) → IsPanelNumber p → IsNumber n → (p ≡ panel → n ≡ number → ⊥) → has_bit (get_or (with_number masks panel number on) (p - 1) 0) (n - 1) ≡ has_bit (get_or masks (p - 1) 0) (n - 1)
 number-other masks panel number on size here place p n here' place' apart = go (eqb_tells p panel)
   where
     go : (((p == panel) ≡ true) × (p ≡ panel)) ⊎ (((p == panel) ≡ false) × (p ≢ panel)) → has_bit (get_or (with_number masks panel number on) (p - 1) 0) (n - 1) ≡ has_bit (get_or masks (p - 1) 0) (n - 1)
@@ -97,13 +98,13 @@ set-other points line address on size halves place l a place' apart = go (eqb_te
 abbrev set_points : List PointSet → ℕ → ℕ → ℕ → Bool → List PointSet
 set_points points panel line address off = set points (panel - 1) (with_point (get_or points (panel - 1) no_points) line address off)
 
-pub point-same : (kept : Retained) (panel line address : ℕ) (off : Bool) → IsSized kept → IsPanel panel → IsPlace line address → has_point (get_or (set_points kept.points panel line address off) (panel - 1) no_points) line address ≡ off
+pub point-same : (kept : Retained) (panel line address : ℕ) (off : Bool) → IsSized kept → IsPanelNumber panel → IsPlace line address → has_point (get_or (set_points kept.points panel line address off) (panel - 1) no_points) line address ≡ off
 point-same kept panel line address off sized here place =
     let old = get_or kept.points (panel - 1) no_points in
     ap (λ s. has_point s line address) (get_or-set_same kept.points (panel - 1) (with_point old line address off) no_points (let size = sized.points in omega (arith, size, here.0, here.1)))
     ∙ set-same old line address off (sized.loops (panel - 1) (omega (arith, here.0, here.1))) (sized.halves (panel - 1) (line - 1) (omega (arith, here.0, here.1)) (omega (arith, place.0, place.1))) place
 
-pub point-other : (kept : Retained) (panel line address : ℕ) (off : Bool) → IsSized kept → IsPanel panel → IsPlace line address → (p l a : ℕ) → IsPanel p → IsPlace l a → (p ≡ panel → l ≡ line → a ≡ address → ⊥)
+pub point-other : (kept : Retained) (panel line address : ℕ) (off : Bool) → IsSized kept → IsPanelNumber panel → IsPlace line address → (p l a : ℕ) → IsPanelNumber p → IsPlace l a → (p ≡ panel → l ≡ line → a ≡ address → ⊥)
     → has_point (get_or (set_points kept.points panel line address off) (p - 1) no_points) l a ≡ has_point (get_or kept.points (p - 1) no_points) l a
 point-other kept panel line address off sized here place p l a here' place' apart = go (eqb_tells p panel)
   where
@@ -224,7 +225,7 @@ at_test site kept i p on own sized is (InTest j) = go (eqb_tells j i) (slice_get
 at_test site kept i p on own sized is (DelaysOff j) = refl
 at_test site kept i p on own sized is (Counter j) = refl
 
-at_delays : (site : Site) (kept : Retained) (panel : ℕ) (off : Bool) → IsPanel panel → (setting : Setting) → IsSetting setting
+at_delays : (site : Site) (kept : Retained) (panel : ℕ) (off : Bool) → IsPanelNumber panel → (setting : Setting) → IsSetting setting
     → at_opening site (changed (Delays panel off) kept) setting ≡ (if same_setting setting (DelaysOff panel) then off else at_opening site kept setting)
 at_delays site kept panel off here (PointOff j) place = refl
 at_delays site kept panel off here (ZoneOff j) place = refl
@@ -297,7 +298,7 @@ test_set site kept i on change own sized None is e setting = absurd (cc)
 test_set site kept i on change own sized (Some p) is e setting =
     ap (λ c. at_opening site (changed c kept) setting) (sym (some_is (Test p.panel p.number on) change e)) ∙ at_test site kept i p on own sized is setting
 
-by_operation : (site : Site) (kept : Retained) (panel : ℕ) (operation : Operation) (change : Change) → HasOwnPlaces site → IsSized kept → IsPanel panel → operation_change site panel operation ≡ Some change → (setting : Setting) → IsSetting setting
+by_operation : (site : Site) (kept : Retained) (panel : ℕ) (operation : Operation) (change : Change) → HasOwnPlaces site → IsSized kept → IsPanelNumber panel → operation_change site panel operation ≡ Some change → (setting : Setting) → IsSetting setting
     → at_opening site (changed change kept) setting ≡ then_set site kept panel operation setting
 by_operation site kept panel Mute change own sized here e setting place = absurd (cc)
 by_operation site kept panel Override change own sized here e setting place = absurd (cc)
@@ -319,7 +320,7 @@ by_operation site kept panel ClearCounter change own sized here e setting place 
     ap (λ c. at_opening site (changed c kept) setting) (sym (some_is (Clear panel) change e)) ∙ at_clear site kept panel setting
 
 -- after the change of an operation its setting is kept as the operation sets it, and all others as they were
-pub kept-change : (site : Site) (kept : Retained) (d : Done) (change : Change) → HasOwnPlaces site → IsSized kept → IsPanel d.panel → change_of site d ≡ Some change → (setting : Setting) → IsSetting setting
+pub kept-change : (site : Site) (kept : Retained) (d : Done) (change : Change) → HasOwnPlaces site → IsSized kept → IsPanelNumber d.panel → change_of site d ≡ Some change → (setting : Setting) → IsSetting setting
     → at_opening site (changed change kept) setting ≡ (if is_on setting d then value_set d.operation else at_opening site kept setting)
 kept-change site kept d change own sized here e setting place = by_operation site kept d.panel d.operation change own sized here e setting place
 
@@ -332,7 +333,7 @@ each_set P xs n i y d size new old k small = go (eqb_tells k i)
     go (inr other) = subst P (sym (get_or-set_other xs i k y d other.1)) (old k small)
 
 -- a change leaves each list as long as it was
-sized_points : (kept : Retained) (panel line address : ℕ) (off : Bool) → IsSized kept → IsPanel panel → IsPlace line address → IsSized (changed (Point panel line address off) kept)
+sized_points : (kept : Retained) (panel line address : ℕ) (off : Bool) → IsSized kept → IsPanelNumber panel → IsPlace line address → IsSized (changed (Point panel line address off) kept)
 sized_points kept panel line address off sized here place = record {
   points = length-set kept.points (panel - 1) (with_point (get_or kept.points (panel - 1) no_points) line address off) ∙ sized.points;
   loops =
@@ -415,7 +416,7 @@ can_test site zone on change own e = go (slice_get site.zones zone) refl e
     go None is e = absurd (cc)
     go (Some z) is e = subst CanApply (some_is _ change e) (let h = own.zone zone z is in (h.0, h.1))
 
-pub can_apply : (site : Site) (panel : ℕ) (operation : Operation) (change : Change) → HasOwnPlaces site → IsPanel panel → operation_change site panel operation ≡ Some change → CanApply change
+pub can_apply : (site : Site) (panel : ℕ) (operation : Operation) (change : Change) → HasOwnPlaces site → IsPanelNumber panel → operation_change site panel operation ≡ Some change → CanApply change
 can_apply site panel Mute change own here e = absurd (cc)
 can_apply site panel Override change own here e = absurd (cc)
 can_apply site panel Silence change own here e = absurd (cc)

@@ -14,13 +14,11 @@ use Rattle.site_types.specs.declared.operation.Operation.{Operation}
 use Rattle.site_types.specs.declared.operation.Operation.TheVariants.{Disable, Enable, Test as SetTest, Untest, Delays as SetDelays, Clear as ClearCounter}
 use Rattle.site_types.specs.Bits.{IsPlace, with_bit, with_point}
 use Rattle.site_types.specs.Done.{Done, no_points}
+use Rattle.site_types.specs.Limits.{greatest_count}
 
--- a counter stands at its end
-abbrev pub greatest_count : ℕ
-greatest_count = 999999
-
-abbrev pub IsPanel : ℕ → Type 0
-IsPanel panel = (1 ≤ panel) × (panel ≤ 8)
+-- a panel that has a place in what is retained
+abbrev pub IsPanelNumber : ℕ → Type 0
+IsPanelNumber panel = (1 ≤ panel) × (panel ≤ 8)
 
 -- the number of a zone or an output at its panel
 abbrev pub IsNumber : ℕ → Type 0
@@ -28,13 +26,13 @@ IsNumber number = (1 ≤ number) × (number ≤ 32)
 
 -- what a change names has a place in what is retained
 abbrev pub CanApply : Change → Type 0
-CanApply (Point panel line address off) = IsPanel panel × IsPlace line address
-CanApply (Zone panel number off) = IsPanel panel × IsNumber number
-CanApply (Output panel number off) = IsPanel panel × IsNumber number
-CanApply (Delays panel off) = IsPanel panel
-CanApply (Count panel entries) = IsPanel panel
-CanApply (Clear panel) = IsPanel panel
-CanApply (Test panel number on) = IsPanel panel × IsNumber number
+CanApply (Point panel line address off) = IsPanelNumber panel × IsPlace line address
+CanApply (Zone panel number off) = IsPanelNumber panel × IsNumber number
+CanApply (Output panel number off) = IsPanelNumber panel × IsNumber number
+CanApply (Delays panel off) = IsPanelNumber panel
+CanApply (Count panel entries) = IsPanelNumber panel
+CanApply (Clear panel) = IsPanelNumber panel
+CanApply (Test panel number on) = IsPanelNumber panel × IsNumber number
 
 -- of masks by panel, the one of a panel with the bit of a number set or cleared
 abbrev pub with_number : List ℕ → ℕ → ℕ → Bool → List ℕ
@@ -118,9 +116,9 @@ AreCounters counters = (k : ℕ) → slice_index counters k ≤ greatest_count
 
 -- each point, zone and output of a site has a place of its own in what is retained
 pub record HasOwnPlaces (site : Site) : Type 0 where
-  pub point : (i : ℕ) (p : PointPlan) → slice_get site.points i ≡ Some p → IsPanel p.panel × IsPlace p.line p.address
-  pub zone : (i : ℕ) (z : ZonePlan) → slice_get site.zones i ≡ Some z → IsPanel z.panel × IsNumber z.number
-  pub output : (i : ℕ) (o : OutputPlan) → slice_get site.outputs i ≡ Some o → IsPanel o.panel × IsNumber o.number
+  pub point : (i : ℕ) (p : PointPlan) → slice_get site.points i ≡ Some p → IsPanelNumber p.panel × IsPlace p.line p.address
+  pub zone : (i : ℕ) (z : ZonePlan) → slice_get site.zones i ≡ Some z → IsPanelNumber z.panel × IsNumber z.number
+  pub output : (i : ℕ) (o : OutputPlan) → slice_get site.outputs i ≡ Some o → IsPanelNumber o.panel × IsNumber o.number
   pub points_apart : (i j : ℕ) (p q : PointPlan) → slice_get site.points i ≡ Some p → slice_get site.points j ≡ Some q → p.panel ≡ q.panel → p.line ≡ q.line → p.address ≡ q.address → i ≡ j
   pub zones_apart : (i j : ℕ) (y z : ZonePlan) → slice_get site.zones i ≡ Some y → slice_get site.zones j ≡ Some z → y.panel ≡ z.panel → y.number ≡ z.number → i ≡ j
   pub outputs_apart : (i j : ℕ) (n o : OutputPlan) → slice_get site.outputs i ≡ Some n → slice_get site.outputs j ≡ Some o → n.panel ≡ o.panel → n.number ≡ o.number → i ≡ j

@@ -1,12 +1,10 @@
 ghost use Rattle.std.specs.Prelude.{◌≡◌};
-ghost use Rattle.site_types.specs.Changes.{CanApply, IsNumber, IsPanel, changed, nothing_retained, with_number};
+ghost use Rattle.site_types.specs.Changes.{CanApply, IsNumber, IsPanelNumber, changed, nothing_retained, with_number};
 
 use crate::bits::{with_bit_8, with_bit_32};
 use crate::change::Change;
+use crate::limits::GREATEST_COUNT;
 use crate::point_set::PointSet;
-
-// A counter stands at its end.
-const GREATEST_COUNT: u32 = 999_999;
 
 /// What is kept of a site over a power cut: disablements, delays, counters and zones in test.
 #[derive(Clone, Copy, Debug, PartialEq, Eq)]
@@ -71,7 +69,7 @@ impl Retained {
 
 // Sets or clears the bit of a number in the mask of a panel.
 fn set_number(masks: &mut [u32; 8], panel: u8, number: u8, on: bool)
-    requires panel { IsPanel panel }
+    requires panel { IsPanelNumber panel }
     requires number { IsNumber number }
     ensures { masks.new ≡ with_number masks.old panel number on }
 {
