@@ -17,6 +17,8 @@ mod bits;
 mod buzzer;
 mod carry_over;
 mod change;
+#[cfg(test)]
+mod change_tests;
 mod combine;
 mod digest;
 mod event;
