@@ -1,6 +1,6 @@
 -- Of the things of one kind at most one has a name, so what is kept of a name is what is kept of the thing that is found by it.
-use Rattle.std.proofs.Common.{◌≡◌, ◌↔◌, ◌<◌, ℕ, Bool, true, false, List, length, get_or, Option, Some, None, slice_get, ◌&&◌, refl, sym, ◌∙◌, ap}
-use Rattle.std.specs.List.{list_any, All}
+use Rattle.std.proofs.Common.{◌≡◌, ◌↔◌, ℕ, Bool, true, false, List, get_or, Some, None, slice_get, ◌&&◌, refl, sym, ◌∙◌, ap}
+use Rattle.std.specs.List.{list_any}
 use Rattle.std.specs.Prelude.{option_map}
 use Rattle.std.specs.Str.{bytes_eq}
 use Rattle.std.proofs.lemmas.List.Folds.{list_any_at, list_any_none}
@@ -27,7 +27,7 @@ the_one {X = X} name_of kept xs name i x is named alone = by (kept x) refl
         let same : bytes_eq (name_of x) name ≡ true = (bytes_eq-Decides (name_of x) name).1 named in
         let holds : (bytes_eq (name_of x) name && kept x) ≡ true = ap (λ b. b && kept x) same ∙ e in
         list_any_at (λ y. bytes_eq (name_of y) name && kept y) xs i x (slice_get_within xs i x is)
-          (ap (λ y. bytes_eq (name_of y) name && kept y) (get_or_from_slice_get xs i x x is) ∙ holds)
+        (ap (λ y. bytes_eq (name_of y) name && kept y) (get_or_from_slice_get xs i x x is) ∙ holds)
         ∙ sym e
     by false e = list_any_none (λ y. bytes_eq (name_of y) name && kept y) xs (λ j d small. off j (get_or xs j d) (slice_get-get_or xs j d small) (bytes_eq (name_of (get_or xs j d)) name) refl) ∙ sym e
       where

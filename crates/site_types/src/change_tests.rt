@@ -43,7 +43,12 @@ fn changes_what_it_names(rt: HostRuntime) {
 #[test]
 fn counts_to_its_end(rt: HostRuntime) {
     let mut kept = Retained::empty();
-    for (entries, want) in [(999_998, 999_998), (1, 999_999), (1, 999_999), (u32::MAX, 999_999)] {
+    for (entries, want) in [
+        (999_998, 999_998),
+        (1, 999_999),
+        (1, 999_999),
+        (u32::MAX, 999_999),
+    ] {
         kept.apply(&Change::Count { panel: 7, entries });
         assert_eq!(rt; kept.counters, [0, 0, 0, 0, 0, 0, want, 0]);
     }
