@@ -129,7 +129,7 @@ not_there : {X : Type 0} (xs : List X) (i j : ℕ) (x : X) → i ≡ j → slice
 not_there xs i j x e f g = let h : slice_get xs j ≡ Some x = subst (λ k. slice_get xs k ≡ Some x) e f in cc (h, g)
 
 -- what the change of a point makes of each setting; likewise those of a zone, an output, a test and delays
-at_point : (site : Site) (kept : Retained) (i : ℕ) (p : PointPlan) (off : Bool) → HasOwnPlaces site → IsSized kept → slice_get site.points i ≡ Some p → (setting : Setting)
+pub at_point : (site : Site) (kept : Retained) (i : ℕ) (p : PointPlan) (off : Bool) → HasOwnPlaces site → IsSized kept → slice_get site.points i ≡ Some p → (setting : Setting)
     → at_opening site (changed (Point p.panel p.line p.address off) kept) setting ≡ (if same_setting setting (PointOff i) then off else at_opening site kept setting)
 at_point site kept i p off own sized is (PointOff j) = go (eqb_tells j i) (slice_get site.points j) refl
   where
@@ -153,7 +153,7 @@ at_point site kept i p off own sized is (InTest j) = refl
 at_point site kept i p off own sized is (DelaysOff j) = refl
 at_point site kept i p off own sized is (Counter j) = refl
 
-at_zone : (site : Site) (kept : Retained) (i : ℕ) (p : ZonePlan) (off : Bool) → HasOwnPlaces site → IsSized kept → slice_get site.zones i ≡ Some p → (setting : Setting)
+pub at_zone : (site : Site) (kept : Retained) (i : ℕ) (p : ZonePlan) (off : Bool) → HasOwnPlaces site → IsSized kept → slice_get site.zones i ≡ Some p → (setting : Setting)
     → at_opening site (changed (Zone p.panel p.number off) kept) setting ≡ (if same_setting setting (ZoneOff i) then off else at_opening site kept setting)
 at_zone site kept i p off own sized is (PointOff j) = refl
 at_zone site kept i p off own sized is (ZoneOff j) = go (eqb_tells j i) (slice_get site.zones j) refl
@@ -177,7 +177,7 @@ at_zone site kept i p off own sized is (InTest j) = refl
 at_zone site kept i p off own sized is (DelaysOff j) = refl
 at_zone site kept i p off own sized is (Counter j) = refl
 
-at_output : (site : Site) (kept : Retained) (i : ℕ) (p : OutputPlan) (off : Bool) → HasOwnPlaces site → IsSized kept → slice_get site.outputs i ≡ Some p → (setting : Setting)
+pub at_output : (site : Site) (kept : Retained) (i : ℕ) (p : OutputPlan) (off : Bool) → HasOwnPlaces site → IsSized kept → slice_get site.outputs i ≡ Some p → (setting : Setting)
     → at_opening site (changed (Output p.panel p.number off) kept) setting ≡ (if same_setting setting (OutputOff i) then off else at_opening site kept setting)
 at_output site kept i p off own sized is (PointOff j) = refl
 at_output site kept i p off own sized is (ZoneOff j) = refl
@@ -201,7 +201,7 @@ at_output site kept i p off own sized is (InTest j) = refl
 at_output site kept i p off own sized is (DelaysOff j) = refl
 at_output site kept i p off own sized is (Counter j) = refl
 
-at_test : (site : Site) (kept : Retained) (i : ℕ) (p : ZonePlan) (on : Bool) → HasOwnPlaces site → IsSized kept → slice_get site.zones i ≡ Some p → (setting : Setting)
+pub at_test : (site : Site) (kept : Retained) (i : ℕ) (p : ZonePlan) (on : Bool) → HasOwnPlaces site → IsSized kept → slice_get site.zones i ≡ Some p → (setting : Setting)
     → at_opening site (changed (Test p.panel p.number on) kept) setting ≡ (if same_setting setting (InTest i) then on else at_opening site kept setting)
 at_test site kept i p on own sized is (PointOff j) = refl
 at_test site kept i p on own sized is (ZoneOff j) = refl

@@ -13,7 +13,7 @@ use Rattle.site_types.specs.declared.item.Item.TheVariants.{Point as ThePoint, Z
 use Rattle.site_types.specs.declared.operation.Operation.{Operation}
 use Rattle.site_types.specs.declared.operation.Operation.TheVariants.{Disable, Enable, Test as SetTest, Untest, Delays as SetDelays, Clear as ClearCounter}
 use Rattle.site_types.specs.Bits.{IsPlace, with_bit, with_point}
-use Rattle.site_types.specs.Done.{Done, no_points}
+use Rattle.site_types.specs.Done.{Done, Setting, IsSetting, at_opening, in_force, no_points}
 use Rattle.site_types.specs.Limits.{greatest_count}
 
 -- a panel that has a place in what is retained
@@ -122,3 +122,7 @@ pub record HasOwnPlaces (site : Site) : Type 0 where
   pub points_apart : (i j : ℕ) (p q : PointPlan) → slice_get site.points i ≡ Some p → slice_get site.points j ≡ Some q → p.panel ≡ q.panel → p.line ≡ q.line → p.address ≡ q.address → i ≡ j
   pub zones_apart : (i j : ℕ) (y z : ZonePlan) → slice_get site.zones i ≡ Some y → slice_get site.zones j ≡ Some z → y.panel ≡ z.panel → y.number ≡ z.number → i ≡ j
   pub outputs_apart : (i j : ℕ) (n o : OutputPlan) → slice_get site.outputs i ≡ Some n → slice_get site.outputs j ≡ Some o → n.panel ≡ o.panel → n.number ≡ o.number → i ≡ j
+
+-- each setting is kept with the value that is in force at x, after what was done since a site was opened
+abbrev pub KeepsInForce : Site → Retained → List Done → ℕ → Retained → Type 0
+KeepsInForce site opened done x kept = (setting : Setting) → IsSetting setting → at_opening site kept setting ≡ in_force site opened setting x done
