@@ -1,5 +1,5 @@
 -- What is carried of each setting of the new site.
-use Rattle.std.proofs.Common.{◌≡◌, ℕ, zero, suc, ◌+◌, ◌-◌, ◌/◌, ◌%◌, ◌<◌, ◌≤◌, Bool, true, false, List, [], ◌∷◌, ◌++◌, length, get_or, map, Option, Some, None, slice_get, replicate, ◌==◌, ◌&&◌, ◌||◌, nat_lt, if◌then◌else◌, refl, sym, ◌∙◌, ap, subst, arith}
+use Rattle.std.proofs.Common.{◌≡◌, ℕ, zero, suc, ◌+◌, ◌-◌, ◌/◌, ◌%◌, ◌<◌, Bool, true, false, List, [], ◌∷◌, ◌++◌, length, get_or, map, Option, Some, None, slice_get, replicate, ◌==◌, ◌&&◌, ◌||◌, nat_lt, if◌then◌else◌, refl, sym, ◌∙◌, ap, subst, arith}
 use Rattle.std.specs.List.{filter}
 use Rattle.std.proofs.lemmas.Bool.Decides.{nat_tests}
 use Rattle.std.proofs.lemmas.List.{get_or-replicate, length-replicate}
@@ -210,12 +210,12 @@ all_sets old new state own setting =
     ap (λ k. at_opening new k setting) (changed_by-append (points ++ zones ++ outputs) tests nothing_retained ∙ ap (changed_by tests) (changed_by-append (points ++ zones) outputs nothing_retained ∙ ap (changed_by outputs) (changed_by-append points zones nothing_retained)))
     ∙ sets_all new (λ (z : ZonePlan). Test z.panel z.number true) InTest (λ (z : ZonePlan). zone_was_tested old state z.name.bytes) new.zones (test_sets new own) new.zones 0 (from_first new.zones) three sized_three setting
     ∙ ap (λ b. is_among InTest (λ (z : ZonePlan). zone_was_tested old state z.name.bytes) setting new.zones 0 || b)
-      (sets_all new (λ (o : OutputPlan). Output o.panel o.number true) OutputOff (λ (o : OutputPlan). output_was_off old state o.name.bytes) new.outputs (output_sets new own) new.outputs 0 (from_first new.outputs) two sized_two setting
-      ∙ ap (λ b. is_among OutputOff (λ (o : OutputPlan). output_was_off old state o.name.bytes) setting new.outputs 0 || b)
-        (sets_all new (λ (z : ZonePlan). Zone z.panel z.number true) ZoneOff (λ (z : ZonePlan). zone_was_off old state z.name.bytes) new.zones (zone_sets new own) new.zones 0 (from_first new.zones) one sized_one setting
-        ∙ ap (λ b. is_among ZoneOff (λ (z : ZonePlan). zone_was_off old state z.name.bytes) setting new.zones 0 || b)
-          (sets_all new (λ (p : PointPlan). Point p.panel p.line p.address true) PointOff (λ (p : PointPlan). point_was_off old state p.name.bytes) new.points (point_sets new own) new.points 0 (from_first new.points) nothing_retained sized_nothing setting
-          ∙ ap (λ b. is_among PointOff (λ (p : PointPlan). point_was_off old state p.name.bytes) setting new.points 0 || b) (nothing_set new own setting))))
+    (sets_all new (λ (o : OutputPlan). Output o.panel o.number true) OutputOff (λ (o : OutputPlan). output_was_off old state o.name.bytes) new.outputs (output_sets new own) new.outputs 0 (from_first new.outputs) two sized_two setting
+    ∙ ap (λ b. is_among OutputOff (λ (o : OutputPlan). output_was_off old state o.name.bytes) setting new.outputs 0 || b)
+    (sets_all new (λ (z : ZonePlan). Zone z.panel z.number true) ZoneOff (λ (z : ZonePlan). zone_was_off old state z.name.bytes) new.zones (zone_sets new own) new.zones 0 (from_first new.zones) one sized_one setting
+    ∙ ap (λ b. is_among ZoneOff (λ (z : ZonePlan). zone_was_off old state z.name.bytes) setting new.zones 0 || b)
+    (sets_all new (λ (p : PointPlan). Point p.panel p.line p.address true) PointOff (λ (p : PointPlan). point_was_off old state p.name.bytes) new.points (point_sets new own) new.points 0 (from_first new.points) nothing_retained sized_nothing setting
+    ∙ ap (λ b. is_among PointOff (λ (p : PointPlan). point_was_off old state p.name.bytes) setting new.points 0 || b) (nothing_set new own setting))))
 
 -- of four tests one may hold
 only_test : (a b c d : Bool) → b ≡ false → c ≡ false → d ≡ false → (a || (b || (c || (d || false)))) ≡ a
@@ -256,7 +256,7 @@ carried-point old new state own i x is =
     kept_point-rest (changed_by (point_changes old new state ++ zone_changes old new state ++ output_changes old new state ++ test_changes old new state) nothing_retained) (carried_delays new.panels state.delays_off) (carried_counters new.panels state.counters) (slice_get new.points i)
     ∙ all_sets old new state own (PointOff i)
     ∙ only_point (is_among InTest (λ (x : ZonePlan). zone_was_tested old state x.name.bytes) (PointOff i) new.zones 0) (is_among OutputOff (λ (x : OutputPlan). output_was_off old state x.name.bytes) (PointOff i) new.outputs 0) (is_among ZoneOff (λ (x : ZonePlan). zone_was_off old state x.name.bytes) (PointOff i) new.zones 0) (is_among PointOff (λ (x : PointPlan). point_was_off old state x.name.bytes) (PointOff i) new.points 0)
-      (among_none InTest (λ (x : ZonePlan). zone_was_tested old state x.name.bytes) (PointOff i) (λ j. refl) new.zones 0) (among_none OutputOff (λ (x : OutputPlan). output_was_off old state x.name.bytes) (PointOff i) (λ j. refl) new.outputs 0) (among_none ZoneOff (λ (x : ZonePlan). zone_was_off old state x.name.bytes) (PointOff i) (λ j. refl) new.zones 0)
+    (among_none InTest (λ (x : ZonePlan). zone_was_tested old state x.name.bytes) (PointOff i) (λ j. refl) new.zones 0) (among_none OutputOff (λ (x : OutputPlan). output_was_off old state x.name.bytes) (PointOff i) (λ j. refl) new.outputs 0) (among_none ZoneOff (λ (x : ZonePlan). zone_was_off old state x.name.bytes) (PointOff i) (λ j. refl) new.zones 0)
     ∙ among_at PointOff (λ (y : PointPlan). point_was_off old state y.name.bytes) i (λ j k. refl) new.points 0 i x is (omega arith)
 
 kept_zone-rest : (kept : Retained) (delays : ℕ) (counters : List ℕ) (o : Option ZonePlan) → kept_zone (record kept { delays_off = delays; counters = counters }) o ≡ kept_zone kept o
@@ -268,7 +268,7 @@ carried-zone old new state own i x is =
     kept_zone-rest (changed_by (point_changes old new state ++ zone_changes old new state ++ output_changes old new state ++ test_changes old new state) nothing_retained) (carried_delays new.panels state.delays_off) (carried_counters new.panels state.counters) (slice_get new.zones i)
     ∙ all_sets old new state own (ZoneOff i)
     ∙ only_zone (is_among InTest (λ (x : ZonePlan). zone_was_tested old state x.name.bytes) (ZoneOff i) new.zones 0) (is_among OutputOff (λ (x : OutputPlan). output_was_off old state x.name.bytes) (ZoneOff i) new.outputs 0) (is_among ZoneOff (λ (x : ZonePlan). zone_was_off old state x.name.bytes) (ZoneOff i) new.zones 0) (is_among PointOff (λ (x : PointPlan). point_was_off old state x.name.bytes) (ZoneOff i) new.points 0)
-      (among_none InTest (λ (x : ZonePlan). zone_was_tested old state x.name.bytes) (ZoneOff i) (λ j. refl) new.zones 0) (among_none OutputOff (λ (x : OutputPlan). output_was_off old state x.name.bytes) (ZoneOff i) (λ j. refl) new.outputs 0) (among_none PointOff (λ (x : PointPlan). point_was_off old state x.name.bytes) (ZoneOff i) (λ j. refl) new.points 0)
+    (among_none InTest (λ (x : ZonePlan). zone_was_tested old state x.name.bytes) (ZoneOff i) (λ j. refl) new.zones 0) (among_none OutputOff (λ (x : OutputPlan). output_was_off old state x.name.bytes) (ZoneOff i) (λ j. refl) new.outputs 0) (among_none PointOff (λ (x : PointPlan). point_was_off old state x.name.bytes) (ZoneOff i) (λ j. refl) new.points 0)
     ∙ among_at ZoneOff (λ (y : ZonePlan). zone_was_off old state y.name.bytes) i (λ j k. refl) new.zones 0 i x is (omega arith)
 
 kept_output-rest : (kept : Retained) (delays : ℕ) (counters : List ℕ) (o : Option OutputPlan) → kept_output (record kept { delays_off = delays; counters = counters }) o ≡ kept_output kept o
@@ -280,7 +280,7 @@ carried-output old new state own i x is =
     kept_output-rest (changed_by (point_changes old new state ++ zone_changes old new state ++ output_changes old new state ++ test_changes old new state) nothing_retained) (carried_delays new.panels state.delays_off) (carried_counters new.panels state.counters) (slice_get new.outputs i)
     ∙ all_sets old new state own (OutputOff i)
     ∙ only_output (is_among InTest (λ (x : ZonePlan). zone_was_tested old state x.name.bytes) (OutputOff i) new.zones 0) (is_among OutputOff (λ (x : OutputPlan). output_was_off old state x.name.bytes) (OutputOff i) new.outputs 0) (is_among ZoneOff (λ (x : ZonePlan). zone_was_off old state x.name.bytes) (OutputOff i) new.zones 0) (is_among PointOff (λ (x : PointPlan). point_was_off old state x.name.bytes) (OutputOff i) new.points 0)
-      (among_none InTest (λ (x : ZonePlan). zone_was_tested old state x.name.bytes) (OutputOff i) (λ j. refl) new.zones 0) (among_none ZoneOff (λ (x : ZonePlan). zone_was_off old state x.name.bytes) (OutputOff i) (λ j. refl) new.zones 0) (among_none PointOff (λ (x : PointPlan). point_was_off old state x.name.bytes) (OutputOff i) (λ j. refl) new.points 0)
+    (among_none InTest (λ (x : ZonePlan). zone_was_tested old state x.name.bytes) (OutputOff i) (λ j. refl) new.zones 0) (among_none ZoneOff (λ (x : ZonePlan). zone_was_off old state x.name.bytes) (OutputOff i) (λ j. refl) new.zones 0) (among_none PointOff (λ (x : PointPlan). point_was_off old state x.name.bytes) (OutputOff i) (λ j. refl) new.points 0)
     ∙ among_at OutputOff (λ (y : OutputPlan). output_was_off old state y.name.bytes) i (λ j k. refl) new.outputs 0 i x is (omega arith)
 
 kept_test-rest : (kept : Retained) (delays : ℕ) (counters : List ℕ) (o : Option ZonePlan) → kept_test (record kept { delays_off = delays; counters = counters }) o ≡ kept_test kept o
@@ -292,7 +292,7 @@ carried-test old new state own i x is =
     kept_test-rest (changed_by (point_changes old new state ++ zone_changes old new state ++ output_changes old new state ++ test_changes old new state) nothing_retained) (carried_delays new.panels state.delays_off) (carried_counters new.panels state.counters) (slice_get new.zones i)
     ∙ all_sets old new state own (InTest i)
     ∙ only_test (is_among InTest (λ (x : ZonePlan). zone_was_tested old state x.name.bytes) (InTest i) new.zones 0) (is_among OutputOff (λ (x : OutputPlan). output_was_off old state x.name.bytes) (InTest i) new.outputs 0) (is_among ZoneOff (λ (x : ZonePlan). zone_was_off old state x.name.bytes) (InTest i) new.zones 0) (is_among PointOff (λ (x : PointPlan). point_was_off old state x.name.bytes) (InTest i) new.points 0)
-      (among_none OutputOff (λ (x : OutputPlan). output_was_off old state x.name.bytes) (InTest i) (λ j. refl) new.outputs 0) (among_none ZoneOff (λ (x : ZonePlan). zone_was_off old state x.name.bytes) (InTest i) (λ j. refl) new.zones 0) (among_none PointOff (λ (x : PointPlan). point_was_off old state x.name.bytes) (InTest i) (λ j. refl) new.points 0)
+    (among_none OutputOff (λ (x : OutputPlan). output_was_off old state x.name.bytes) (InTest i) (λ j. refl) new.outputs 0) (among_none ZoneOff (λ (x : ZonePlan). zone_was_off old state x.name.bytes) (InTest i) (λ j. refl) new.zones 0) (among_none PointOff (λ (x : PointPlan). point_was_off old state x.name.bytes) (InTest i) (λ j. refl) new.points 0)
     ∙ among_at InTest (λ (y : ZonePlan). zone_was_tested old state y.name.bytes) i (λ j k. refl) new.zones 0 i x is (omega arith)
 
 -- delays begin off exactly where they were off and the new site has the panel

@@ -1,23 +1,12 @@
 -- What the change of one bit makes of the masks by panel and of the sets of points.
-use Rattle.std.proofs.Common.{◌≡◌, ◌≢◌, ◌⊎◌, inl, inr, ℕ, zero, suc, ◌+◌, ◌-◌, ◌/◌, ◌%◌, ◌<◌, ◌≤◌, min, Bool, true, false, not, List, [], ◌∷◌, ◌++◌, length, set, get_or, Option, Some, None, slice_get, ◌==◌, if◌then◌else◌, refl, sym, ◌∙◌, ap, subst, arith, get_or-set_same, get_or-set_other, length-set}
-use Rattle.std.specs.Int.{w8, w32, w128}
+use Rattle.std.proofs.Common.{◌≡◌, ◌≢◌, ◌⊎◌, inl, inr, ℕ, ◌-◌, ◌/◌, ◌%◌, ◌<◌, ◌≤◌, Bool, true, false, List, [], length, set, get_or, ◌==◌, sym, ◌∙◌, ap, arith, get_or-set_same, get_or-set_other}
+use Rattle.std.specs.Int.{w32, w128}
 use Rattle.std.proofs.lemmas.Bool.Decides.{eqb_tells}
-use Rattle.site_types.specs.declared.site.Site.{Site}
-use Rattle.site_types.specs.declared.point.Point.{Point as PointPlan}
-use Rattle.site_types.specs.declared.zone.Zone.{Zone as ZonePlan}
-use Rattle.site_types.specs.declared.output.Output.{Output as OutputPlan}
 use Rattle.site_types.specs.declared.point_set.PointSet.{PointSet}
 use Rattle.site_types.specs.declared.retained.Retained.{Retained}
-use Rattle.site_types.specs.declared.change.Change.{Change}
-use Rattle.site_types.specs.declared.change.Change.TheVariants.{Point, Zone, Output, Delays, Count, Clear, Test}
-use Rattle.site_types.specs.declared.item.Item.{Item}
-use Rattle.site_types.specs.declared.item.Item.TheVariants.{Point as ThePoint, Zone as TheZone, Output as TheOutput}
-use Rattle.site_types.specs.declared.operation.Operation.{Operation}
-use Rattle.site_types.specs.declared.operation.Operation.TheVariants.{Mute, Override, Silence, Resound, Reset, Cancel, Disable, Enable, Test as SetTest, Untest, Delays as SetDelays, Clear as ClearCounter}
 use Rattle.site_types.specs.Bits.{IsPlace, has_bit, with_bit, has_point, with_point}
-use Rattle.site_types.specs.Done.{Done, Setting, PointOff, ZoneOff, OutputOff, InTest, DelaysOff, Counter, no_points, same_setting, IsSetting, is_setting, is_on, operation_setting, value_set, at_opening, kept_point, kept_zone, kept_output, kept_test, is_kept_operation}
-use Rattle.site_types.specs.Changes.{IsPanelNumber, IsNumber, CanApply, item_change, with_number, changed, changed_by, point_change, zone_change, output_change, test_change, operation_change, change_of, IsSized, AreCounters, HasOwnPlaces}
-use Rattle.site_types.specs.Limits.{greatest_count}
+use Rattle.site_types.specs.Done.{no_points}
+use Rattle.site_types.specs.Changes.{IsPanelNumber, IsNumber, with_number, IsSized}
 use Rattle.site_types.proofs.Masks.{with_bit-same, with_bit-other}
 
 -- the mask of a panel, at the bit of a number

@@ -1,6 +1,6 @@
 -- What a change makes of each setting that is kept, and what it leaves.
-use Rattle.std.proofs.Common.{◌≡◌, ◌≢◌, ◌⊎◌, inl, inr, ℕ, zero, suc, ◌+◌, ◌-◌, ◌/◌, ◌%◌, ◌<◌, ◌≤◌, min, Bool, true, false, not, List, [], ◌∷◌, ◌++◌, length, set, get_or, Option, Some, None, slice_get, ◌==◌, if◌then◌else◌, refl, sym, ◌∙◌, ap, subst, arith, get_or-set_same, get_or-set_other, length-set}
-use Rattle.std.specs.Int.{w8, w32, w128}
+use Rattle.std.proofs.Common.{◌≡◌, ◌≢◌, ◌⊎◌, inl, inr, ℕ, zero, suc, ◌+◌, ◌-◌, ◌<◌, ◌≤◌, min, Bool, true, false, not, List, [], ◌∷◌, ◌++◌, length, set, get_or, Option, Some, None, slice_get, ◌==◌, if◌then◌else◌, refl, sym, ◌∙◌, ap, subst, arith, get_or-set_same, get_or-set_other, length-set}
+use Rattle.std.specs.Int.{w8}
 use Rattle.std.proofs.lemmas.Bool.Decides.{eqb_tells}
 use Rattle.site_types.specs.declared.site.Site.{Site}
 use Rattle.site_types.specs.declared.point.Point.{Point as PointPlan}
@@ -14,12 +14,12 @@ use Rattle.site_types.specs.declared.item.Item.{Item}
 use Rattle.site_types.specs.declared.item.Item.TheVariants.{Point as ThePoint, Zone as TheZone, Output as TheOutput}
 use Rattle.site_types.specs.declared.operation.Operation.{Operation}
 use Rattle.site_types.specs.declared.operation.Operation.TheVariants.{Mute, Override, Silence, Resound, Reset, Cancel, Disable, Enable, Test as SetTest, Untest, Delays as SetDelays, Clear as ClearCounter}
-use Rattle.site_types.specs.Bits.{IsPlace, has_bit, with_bit, has_point, with_point}
+use Rattle.site_types.specs.Bits.{IsPlace, has_bit, with_bit, with_point}
 use Rattle.site_types.specs.Done.{Done, Setting, PointOff, ZoneOff, OutputOff, InTest, DelaysOff, Counter, no_points, same_setting, IsSetting, is_setting, is_on, operation_setting, value_set, at_opening, kept_point, kept_zone, kept_output, kept_test, is_kept_operation}
-use Rattle.site_types.specs.Changes.{IsPanelNumber, IsNumber, CanApply, item_change, with_number, changed, changed_by, point_change, zone_change, output_change, test_change, operation_change, change_of, IsSized, AreCounters, HasOwnPlaces}
+use Rattle.site_types.specs.Changes.{IsPanelNumber, CanApply, item_change, changed, changed_by, point_change, zone_change, output_change, test_change, operation_change, change_of, IsSized, AreCounters, HasOwnPlaces}
 use Rattle.site_types.specs.Limits.{greatest_count}
 use Rattle.site_types.proofs.Masks.{with_bit-same, with_bit-other}
-use Rattle.site_types.proofs.ChangedBits.{number-same, number-other, point-same, point-other, set_points}
+use Rattle.site_types.proofs.ChangedBits.{number-same, number-other, point-same, point-other}
 
 -- what is kept of two things of one list, by their places
 same_thing : {X : Type 0} (xs : List X) (i j : ℕ) (x y : X) → i ≡ j → slice_get xs i ≡ Some x → slice_get xs j ≡ Some y → x ≡ y

@@ -1,10 +1,10 @@
 -- What is kept over a power cut is what was in force.
-use Rattle.std.proofs.Common.{◌≡◌, ℕ, ◌<◌, ◌≤◌, Bool, true, false, List, [], ◌∷◌, Option, Some, None, if◌then◌else◌, refl, sym, ◌∙◌, ap, arith}
+use Rattle.std.proofs.Common.{◌≡◌, ℕ, ◌<◌, false, List, [], ◌∷◌, Some, if◌then◌else◌, refl, sym, ◌∙◌, ap, arith}
 use Rattle.site_types.specs.declared.site.Site.{Site}
 use Rattle.site_types.specs.declared.retained.Retained.{Retained}
 use Rattle.site_types.specs.declared.change.Change.{Change}
 use Rattle.site_types.specs.declared.change.Change.TheVariants.{Count}
-use Rattle.site_types.specs.Done.{Done, Setting, IsSetting, is_setting, is_on, is_kept_operation, value_set, at_opening, in_force, AreBy}
+use Rattle.site_types.specs.Done.{Done, Setting, is_setting, is_on, is_kept_operation, value_set, in_force, AreBy}
 use Rattle.site_types.specs.Changes.{IsPanelNumber, changed, change_of, IsSized, HasOwnPlaces, KeepsInForce}
 use Rattle.site_types.proofs.Changes.{kept-change, counted-setting, not_kept}
 use Rattle.site_types.proofs.Done.{in_force-then}
