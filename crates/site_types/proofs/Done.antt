@@ -1,12 +1,13 @@
 -- What the operations that were done decide at a tick, and what later ones leave of it.
-use Rattle.std.proofs.Common.{◌≡◌, ◌⊎◌, inl, inr, ℕ, ◌<◌, ◌≤◌, max, Bool, true, false, List, [], ◌∷◌, ◌++◌, Option, Some, None, ◌&&◌, ◌||◌, nat_lt, slice_get, if◌then◌else◌, refl, ◌∙◌, ap, arith}
+use Rattle.std.proofs.Common.{◌≡◌, ◌⊎◌, inl, inr, ℕ, ◌<◌, ◌≤◌, max, Bool, true, false, List, [], ◌∷◌, ◌++◌, Option, Some, None, zero, suc, ◌==◌, ◌&&◌, ◌||◌, nat_lt, nat_le, slice_get, if◌then◌else◌, refl, sym, ◌∙◌, ap, subst, arith}
 use Rattle.std.proofs.lemmas.Bool.Decides.{nat_tests}
+use Rattle.std.proofs.lemmas.Option.{same_Some}
 use Rattle.site_types.specs.declared.site.Site.{Site}
 use Rattle.site_types.specs.declared.point.Point.{Point}
 use Rattle.site_types.specs.declared.retained.Retained.{Retained}
 use Rattle.site_types.specs.declared.item.Item.{Item}
 use Rattle.site_types.specs.declared.operation.Operation.TheVariants.{Enable}
-use Rattle.site_types.specs.Done.{Done, Setting, ZoneOff, InTest, PointOff, is_on, value_set, in_force, latest_before, moves_floor, floor_before, cancels, cancelled_before, mutes, muted_before, is_zone_blocked, is_blocked, AreFrom, AreBy}
+use Rattle.site_types.specs.Done.{Done, Setting, PointOff, ZoneOff, OutputOff, InTest, DelaysOff, Counter, same_setting, is_on, is_override, override_done_in, silence_then, silence_before, value_set, in_force, latest_before, moves_floor, floor_before, cancels, cancelled_before, mutes, muted_before, is_zone_blocked, is_blocked, AreFrom, AreBy}
 
 pub lt_tells : (a b : ℕ) → ((nat_lt a b ≡ true) × (a < b)) ⊎ ((nat_lt a b ≡ false) × (b ≤ a))
 lt_tells a b = tells (nat_lt a b) refl
@@ -126,6 +127,26 @@ cancelled-then zone x d done lt = latest-then (cancels zone) x d done lt
 pub muted-later : (panel x : ℕ) (new old : List Done) → AreFrom x new → muted_before panel x (new ++ old) ≡ muted_before panel x old
 muted-later panel x new old h = latest-later (mutes panel) x new old h
 
+pub muted-yet : (panel x : ℕ) (d : Done) (done : List Done) → x ≤ d.tick → muted_before panel x (d ∷ done) ≡ muted_before panel x done
+muted-yet panel x d done le = latest-yet (mutes panel) x d done le
+
+pub muted-then : (panel x : ℕ) (d : Done) (done : List Done) → d.tick < x → muted_before panel x (d ∷ done) ≡ (if mutes panel d then max d.tick (muted_before panel x done) else muted_before panel x done)
+muted-then panel x d done lt = latest-then (mutes panel) x d done lt
+
+pub override-yet : (panel first x : ℕ) (d : Done) (done : List Done) → x ≤ d.tick → override_done_in panel first x (d ∷ done) ≡ override_done_in panel first x done
+override-yet panel first x d done le = ap (λ b. b || override_done_in panel first x done) (and_false (d.panel == panel && is_override d.operation && nat_le first d.tick) (lt_false d.tick x le))
+
+pub override-later : (panel first x : ℕ) (new old : List Done) → AreFrom x new → override_done_in panel first x (new ++ old) ≡ override_done_in panel first x old
+override-later panel first x [] old h = refl
+override-later panel first x (d ∷ ds) old h = override-yet panel first x d (ds ++ old) h.0 ∙ override-later panel first x ds old h.1
+
+pub silence-yet : (panel x : ℕ) (d : Done) (done : List Done) → x ≤ d.tick → silence_before panel x (d ∷ done) ≡ silence_before panel x done
+silence-yet panel x d done le = ap (λ b. if b then silence_then d.operation d.tick (silence_before panel x done) else silence_before panel x done) (and_false (d.panel == panel) (lt_false d.tick x le))
+
+pub silence-later : (panel x : ℕ) (new old : List Done) → AreFrom x new → silence_before panel x (new ++ old) ≡ silence_before panel x old
+silence-later panel x [] old h = refl
+silence-later panel x (d ∷ ds) old h = silence-yet panel x d (ds ++ old) h.0 ∙ silence-later panel x ds old h.1
+
 zone_blocked-later : (site : Site) (kept : Retained) (o : Option Point) (x : ℕ) (new old : List Done) → AreFrom x new → is_zone_blocked site kept (new ++ old) o x ≡ is_zone_blocked site kept old o x
 zone_blocked-later site kept None x new old h = refl
 zone_blocked-later site kept (Some p) x new old h =
@@ -140,3 +161,84 @@ blocked-later site kept point x new old h =
 pub by_later : (low high : ℕ) (done : List Done) → low ≤ high → AreBy low done → AreBy high done
 by_later low high [] le h = tt
 by_later low high (d ∷ ds) le h = (omega (arith, le, h.0), by_later low high ds le h.1)
+
+-- an operation of the kind that was done before x is no later than the latest
+pub latest_reaches : (test : Done → Bool) (x : ℕ) (done : List Done) (k : ℕ) (d : Done) → slice_get done k ≡ Some d → test d ≡ true → d.tick < x → d.tick ≤ latest_before test x done
+latest_reaches test x [] k d is holds before = absurd (cc)
+latest_reaches test x (e ∷ rest) zero d is holds before =
+    let same : e ≡ d = same_Some e d is in
+    let first : latest_before test x (e ∷ rest) ≡ max d.tick (latest_before test x rest) =
+    latest-then test x e rest (subst (λ (o : Done). o.tick < x) (sym same) before)
+    ∙ ap (λ (o : Done). if test o then max o.tick (latest_before test x rest) else latest_before test x rest) same
+    ∙ ap (λ b. if b then max d.tick (latest_before test x rest) else latest_before test x rest) holds in
+    omega (arith, first)
+latest_reaches test x (e ∷ rest) (suc k) d is holds before =
+    let later = latest_reaches test x rest k d is holds before in
+    let more = latest_more (test e && nat_lt e.tick x) e.tick (latest_before test x rest) in
+    omega (arith, later, more)
+  where
+    latest_more : (b : Bool) (t n : ℕ) → n ≤ (if b then max t n else n)
+    latest_more true t n = omega arith
+    latest_more false t n = omega arith
+
+-- the latest one is one that was done
+pub record IsLatest (test : Done → Bool) (x : ℕ) (done : List Done) : Type 0 where
+  pub place : ℕ
+  pub operation : Done
+  pub is : slice_get done place ≡ Some operation
+  pub holds : test operation ≡ true
+  pub before : operation.tick < x
+  pub at : latest_before test x done ≡ operation.tick
+
+pub latest_attained : (test : Done → Bool) (x : ℕ) (done : List Done) → 0 < latest_before test x done → IsLatest test x done
+latest_attained test x [] some = absurd (omega (arith, some))
+latest_attained test x (d ∷ rest) some = by (test d) refl (lt_tells d.tick x) some (latest_attained test x rest)
+  where
+    rest_of : latest_before test x (d ∷ rest) ≡ latest_before test x rest → IsLatest test x rest → IsLatest test x (d ∷ rest)
+    rest_of same l = record { place = suc l.place; operation = l.operation; is = l.is; holds = l.holds; before = l.before; at = same ∙ l.at }
+
+    order : (a b : ℕ) → (a ≤ b) ⊎ (b < a)
+    order a b = elim (lt_tells b a) [ inl less ↦ inr less.1 | inr more ↦ inl more.1 ]
+
+    by : (b : Bool) → test d ≡ b → ((nat_lt d.tick x ≡ true) × (d.tick < x)) ⊎ ((nat_lt d.tick x ≡ false) × (x ≤ d.tick)) → 0 < latest_before test x (d ∷ rest) → (0 < latest_before test x rest → IsLatest test x rest) → IsLatest test x (d ∷ rest)
+    by true e (inl before) some ih =
+        let first : latest_before test x (d ∷ rest) ≡ max d.tick (latest_before test x rest) =
+        latest-then test x d rest before.1 ∙ ap (λ b. if b then max d.tick (latest_before test x rest) else latest_before test x rest) e in
+        elim (order (latest_before test x rest) d.tick) [
+          | inl le ↦ record { place = zero; operation = d; is = refl; holds = e; before = before.1; at = first ∙ omega (arith, le) }
+          | inr more ↦ rest_of (first ∙ omega (arith, more)) (ih (omega (arith, more)))
+        ]
+    by true e (inr after) some ih =
+        let same = latest-yet test x d rest after.1 in
+        rest_of same (ih (omega (arith, some, same)))
+    by false e (inl before) some ih =
+        let same : latest_before test x (d ∷ rest) ≡ latest_before test x rest =
+        latest-then test x d rest before.1 ∙ ap (λ b. if b then max d.tick (latest_before test x rest) else latest_before test x rest) e in
+        rest_of same (ih (omega (arith, some, same)))
+    by false e (inr after) some ih =
+        let same = latest-yet test x d rest after.1 in
+        rest_of same (ih (omega (arith, some, same)))
+
+same_number : (a b : ℕ) → (a == b) ≡ true → a ≡ b
+same_number a b e = grind (arith, nat_tests, e)
+
+itself : (a : ℕ) → (a == a) ≡ true
+itself a = grind (arith, nat_tests)
+
+-- the test of settings is their equality
+pub same_setting_is : (a b : Setting) → same_setting a b ≡ true → a ≡ b
+same_setting_is (PointOff a) (PointOff b) e = ap PointOff (same_number a b e)
+same_setting_is (ZoneOff a) (ZoneOff b) e = ap ZoneOff (same_number a b e)
+same_setting_is (OutputOff a) (OutputOff b) e = ap OutputOff (same_number a b e)
+same_setting_is (InTest a) (InTest b) e = ap InTest (same_number a b e)
+same_setting_is (DelaysOff a) (DelaysOff b) e = ap DelaysOff (same_number a b e)
+same_setting_is (Counter a) (Counter b) e = ap Counter (same_number a b e)
+same_setting_is _ _ e = absurd (cc)
+
+pub same_setting_itself : (a : Setting) → same_setting a a ≡ true
+same_setting_itself (PointOff a) = itself a
+same_setting_itself (ZoneOff a) = itself a
+same_setting_itself (OutputOff a) = itself a
+same_setting_itself (InTest a) = itself a
+same_setting_itself (DelaysOff a) = itself a
+same_setting_itself (Counter a) = itself a
