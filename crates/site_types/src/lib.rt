@@ -5,7 +5,13 @@
 //! there, sections that cross no zones, partners that are mutual, and names in their order. `proofs/ValidSites` has what follows for callers.
 //!
 //! `Site::find` finds a name in steps that grow with the logarithm of the number of names; `Site::loop_of` and `Site::has_event` look at the few
-//! loops or at one place. Every other call here takes the same few steps whatever the site, and no call takes memory.
+//! loops or at one place. Every other call here takes the same few steps whatever the site, but for `carry` and `site_digest`, and no call takes
+//! memory.
+//!
+//! `Retained` is what a power cut may not take: `Site::change_of` gives the change that an operation makes, `Retained::apply` makes it, and `carry`
+//! takes it over to a changed site, in steps that grow with the number of its names times the logarithm of the old site's. What the operations
+//! done so far make of settings, floors and cancellings stands in `specs/Done`, for other crates to cite; `proofs/Settled` shows that what is
+//! retained is what was in force.
 //!
 //! Three things stand here alone in the whole repository: single bits of masks (`has_bit_32`, `with_bit_32`, `mask_from_32` and their kin for 8
 //! and 128 bits, `PointSet`), the numbers of ticks that go by a site's format (`Profile`), and the forms of names, codes and numbers
