@@ -55,6 +55,7 @@ mod site;
 mod supply_kind;
 mod term;
 mod waits;
+mod word;
 mod zone;
 
 pub use answer::Answer;
@@ -96,6 +97,7 @@ pub use site::Site;
 pub use supply_kind::SupplyKind;
 pub use term::Term;
 pub use waits::Waits;
+pub use word::Word;
 pub use zone::Zone;
 
 #[cfg(test)]
