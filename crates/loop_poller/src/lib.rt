@@ -1,0 +1,2 @@
+//! Asks the points of a panel's loops, some in each tick.
+#![tactic(auto)]
