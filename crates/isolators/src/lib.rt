@@ -11,6 +11,8 @@
 mod begins;
 mod line_status;
 mod loop_line;
+#[cfg(test)]
+mod tests;
 
 pub use line_status::LineStatus;
 pub use loop_line::LoopLine;
