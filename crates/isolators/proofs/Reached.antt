@@ -9,7 +9,8 @@ use Rattle.site_types.specs.declared.loop_plan.LoopPlan.{LoopPlan}
 use Rattle.site_types.specs.declared.piece_state.PieceState.{PieceState}
 use Rattle.site_types.specs.declared.piece_state.PieceState.TheVariants.{Sound, Open, Short}
 use Rattle.isolators.specs.declared.loop_line.LoopLine.{LoopLine}
-use Rattle.isolators.specs.Reach.{Cable, with_piece, is_short, is_passed, is_reached, is_reached_from_a, is_reached_from_b, holds_short, section_of_piece, section_of_address}
+use Rattle.isolators.specs.Reach.{Cable, with_piece, is_short, is_passed, is_reached, is_reached_from_a, is_reached_from_b, holds_short}
+use Rattle.site_types.specs.Sections.{section_of_piece, section_of}
 use Rattle.isolators.specs.Stands.{PassAhead, PassBehind, StandsFor}
 use Rattle.isolators.proofs.Sections.{section_below}
 use Rattle.isolators.proofs.Ranges.{all_true, all_false, any-more}
@@ -65,10 +66,11 @@ module _ (plan : LoopPlan) (cable : Cable) (address : ℕ) (within : address ≤
 -- what the line answers for an address
 pub reach_is : (plan : LoopPlan) (cable : Cable) (line : LoopLine) (address : ℕ) → StandsFor plan cable line → 1 ≤ address → address ≤ plan.last → address < 257 → (not (slice_index_or line.shorted (slice_index line.begins (address - 1)) false) && (nat_le address line.ahead || nat_le line.behind address)) ≡ is_reached plan cable address
 reach_is plan cable line address stands first last small =
-    let begins : slice_index line.begins (address - 1) ≡ section_of_address plan.isolators address = stands.cables.begins (address - 1) (omega arith) in
-    let low : section_of_address plan.isolators address ≤ address - 1 = section_below plan.isolators (address - 1) in
-    let short : slice_index_or line.shorted (slice_index line.begins (address - 1)) false ≡ holds_short plan cable (section_of_address plan.isolators address) =
-    ap (λ place. slice_index_or line.shorted place false) begins ∙ stands.shorts (section_of_address plan.isolators address) (omega arith) in
+    let here : (address - 1) + 1 ≡ address = omega arith in
+    let begins : slice_index line.begins (address - 1) ≡ section_of plan.isolators address = stands.cables.begins (address - 1) (omega arith) ∙ ap (section_of plan.isolators) here in
+    let low : section_of plan.isolators address ≤ address - 1 = rw here at (section_below plan.isolators (address - 1)) in
+    let short : slice_index_or line.shorted (slice_index line.begins (address - 1)) false ≡ holds_short plan cable (section_of plan.isolators address) =
+    ap (λ place. slice_index_or line.shorted place false) begins ∙ stands.shorts (section_of plan.isolators address) (omega arith) in
     let from_a = reached_from_a plan cable address last line.ahead stands.ahead in
     let from_b = reached_from_b plan cable address last line.behind stands.behind in
     rw (short, ← from_a, ← from_b) refl

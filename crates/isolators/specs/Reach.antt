@@ -1,9 +1,10 @@
 -- Which addresses of a loop are reached, and what is wrong with its cable.
-use Rattle.std.specs.Prelude.{ℕ, ◌+◌, ◌-◌, ◌==◌, ◌&&◌, ◌||◌, Bool, true, false, not, List, [], ◌∷◌, max, nat_le, if◌then◌else◌}
+use Rattle.std.specs.Prelude.{ℕ, ◌+◌, ◌-◌, ◌==◌, ◌&&◌, ◌||◌, Bool, true, false, not, List, if◌then◌else◌}
 use Rattle.std.specs.List.{list_any, list_all, range_with_len}
 use Rattle.site_types.specs.declared.loop_plan.LoopPlan.{LoopPlan}
 use Rattle.site_types.specs.declared.piece_state.PieceState.{PieceState}
 use Rattle.site_types.specs.declared.piece_state.PieceState.TheVariants.{Sound, Open, Short}
+use Rattle.site_types.specs.Sections.{section_of, section_of_piece}
 use Rattle.isolators.specs.declared.line_status.LineStatus.{LineStatus}
 
 abbrev pub is_open : PieceState → Bool
@@ -15,17 +16,6 @@ abbrev pub is_short : PieceState → Bool
 is_short Sound = false
 is_short Open = false
 is_short Short = true
-
--- the place at which the section of a piece begins: the last isolator before the piece, else place 0.
--- An isolator with number k sits between address k and piece k
-abbrev pub section_of_piece : List ℕ → ℕ → ℕ
-section_of_piece [] piece = 0
-section_of_piece (isolator ∷ others) piece =
-    if nat_le isolator piece then max isolator (section_of_piece others piece) else section_of_piece others piece
-
--- the place at which the section of an address begins: the last isolator before the address, which is the one before the piece that leads to it from end A
-abbrev pub section_of_address : List ℕ → ℕ → ℕ
-section_of_address isolators address = section_of_piece isolators (address - 1)
 
 -- what the pieces of a loop are at: piece 0 runs from end A to address 1, piece k from address k to k + 1, piece `last` to end B
 abbrev pub Cable : Type 0
@@ -53,7 +43,7 @@ is_reached_from_b plan cable address = list_all (is_passed plan cable) (range_wi
 -- an address is reached: its own section holds no short, and every piece up to it from one end is passed
 abbrev pub is_reached : LoopPlan → Cable → ℕ → Bool
 is_reached plan cable address =
-    not (holds_short plan cable (section_of_address plan.isolators address)) && (is_reached_from_a plan cable address || is_reached_from_b plan cable address)
+    not (holds_short plan cable (section_of plan.isolators address)) && (is_reached_from_a plan cable address || is_reached_from_b plan cable address)
 
 -- which faults of the cable are there
 abbrev pub status_of : LoopPlan → Cable → LineStatus

@@ -3,7 +3,8 @@ use Rattle.std.specs.Prelude.{◌≡◌, ℕ, ◌+◌, ◌-◌, ◌<◌, ◌≤�
 use Rattle.site_types.specs.declared.loop_plan.LoopPlan.{LoopPlan}
 use Rattle.site_types.specs.declared.piece_state.PieceState.TheVariants.{Sound}
 use Rattle.isolators.specs.declared.loop_line.LoopLine.{LoopLine}
-use Rattle.isolators.specs.Reach.{Cable, section_of_piece, holds_short, is_passed, status_of}
+use Rattle.isolators.specs.Reach.{Cable, holds_short, is_passed, status_of}
+use Rattle.site_types.specs.Sections.{section_of_piece}
 
 -- the pieces that a line was told of
 pub record Cables (plan : LoopPlan) (cable : Cable) (line : LoopLine) : Type 0 where

@@ -1,6 +1,6 @@
 ghost use Rattle.std.specs.Prelude.{◌≡◌, ◌<◌, ◌==◌, ℕ, false, slice_index, slice_index_or};
 ghost use Rattle.std.specs.List.{list_any};
-ghost use Rattle.isolators.specs.Reach.{section_of_piece};
+ghost use Rattle.site_types.specs.Sections.{section_of_piece};
 
 /// For each piece the place at which its section begins.
 pub(crate) fn begins_of(isolators: &[u8]) -> [u8; 256]

@@ -1,7 +1,8 @@
 use Rattle.std.proofs.Common.{refl, ap, ◌∙◌}
 use Rattle.std.proofs.lemmas.List.{get_or-replicate}
 use Rattle.site_types.specs.declared.piece_state.PieceState.TheVariants.{Sound}
-use Rattle.isolators.specs.Reach.{sound_cable, section_of_piece}
+use Rattle.isolators.specs.Reach.{sound_cable}
+use Rattle.site_types.specs.Sections.{section_of_piece}
 use Rattle.isolators.proofs.loop_line.LoopLine.new.Goals as goal
 
 pub returns : goal.returns

@@ -1,7 +1,8 @@
 use Rattle.std.proofs.Common.{◌≡◌, ◌<◌, ◌==◌, ◌&&◌, ℕ, false, slice_index_or, length}
 use Rattle.std.specs.List.{list_any, range_with_len}
 use Rattle.site_types.specs.declared.loop_plan.LoopPlan.{LoopPlan as Plan}
-use Rattle.isolators.specs.Reach.{Cable, is_short, section_of_piece}
+use Rattle.isolators.specs.Reach.{Cable, is_short}
+use Rattle.site_types.specs.Sections.{section_of_piece}
 use Rattle.isolators.specs.Stands.{Cables}
 use Rattle.isolators.proofs.loop_line.LoopLine.shorted_sections.Given as goal
 

@@ -1,0 +1,47 @@
+-- What a poller keeps of its site and of what it was told.
+use Rattle.std.specs.Prelude.{◌≡◌, ℕ, ◌+◌, ◌-◌, ◌<◌, ◌≤◌, List, length, Option, Some, None, slice_get, slice_index_or}
+use Rattle.site_types.specs.declared.loop_plan.LoopPlan.{LoopPlan}
+use Rattle.site_types.specs.declared.point_state.PointState.{PointState}
+use Rattle.site_types.specs.declared.point_state.PointState.TheVariants.{Quiet}
+use Rattle.site_types.specs.declared.site.Site.{Site}
+use Rattle.site_types.specs.Valid.{IsValid}
+use Rattle.isolators.specs.Reach.{Cable}
+use Rattle.loop_poller.specs.declared.polled_line.PolledLine.{PolledLine}
+use Rattle.loop_poller.specs.declared.poller.Poller.{Poller}
+use Rattle.loop_poller.specs.Asked.{loop_at}
+use Rattle.loop_poller.specs.Cables.{CableStands}
+use Rattle.loop_poller.specs.Points.{ArePoints}
+use Rattle.loop_poller.specs.Calls.{Call, told_cable, told_point}
+
+-- a loop of the panel
+pub record LineStands (site : Site) (panel line : ℕ) (cable : Cable) (polled : PolledLine) : Type 0 where
+  pub points : ArePoints site panel line polled.points.items
+  pub cable_stands : CableStands (loop_at site panel line) cable polled.cable
+
+-- the states of the site's points
+pub record AreStates (site : Site) (points : ℕ → PointState) (states : List PointState) : Type 0 where
+  pub size : length states ≡ length site.points
+  pub each : (point : ℕ) → point < length site.points → slice_index_or states point Quiet ≡ points point
+
+-- a poller stands for a panel of a site, and for what it was told, the newest first
+pub record StandsFor (site : Site) (panel : ℕ) (calls : List Call) (poller : Poller) : Type 0 where
+  pub valid : IsValid site
+  pub format : poller.profile.format ≡ site.format
+  pub lines : (place : ℕ) (line : PolledLine) → slice_get poller.lines place ≡ Some line → LineStands site panel (place + 1) (told_cable calls (place + 1)) line
+  pub states : AreStates site (told_point calls) poller.states.items
+
+-- a poller stands for some panel of a site
+pub record StandsForSome (poller : Poller) : Type 0 where
+  pub site : Site
+  pub panel : ℕ
+  pub calls : List Call
+  pub stands : StandsFor site panel calls poller
+
+-- a poller has a state for this point
+abbrev pub HasPoint : Poller → ℕ → Type 0
+HasPoint poller point = point < length poller.states.items
+
+-- an address is one of its loop
+abbrev pub IsOnLoop : Option LoopPlan → ℕ → Type 0
+IsOnLoop None address = Unit {0}
+IsOnLoop (Some plan) address = address ≤ plan.last

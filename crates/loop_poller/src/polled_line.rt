@@ -1,0 +1,98 @@
+ghost use Rattle.std.specs.Prelude.{◌≡◌, ◌+◌, ◌*◌, ◌%◌, ◌<◌, ◌≤◌, ℕ, IfOk, length};
+ghost use Rattle.tick_units.specs.Lane.{HasRoom, with_put};
+ghost use Rattle.site_types.specs.declared.point_state.PointState.{PointState as State};
+ghost use Rattle.site_types.specs.declared.site.Site.{Site as SiteOf};
+ghost use Rattle.site_types.specs.Profile.{round_of};
+ghost use Rattle.site_types.specs.Valid.{IsValid};
+ghost use Rattle.isolators.specs.Reach.{Cable, sound_cable, with_piece};
+ghost use Rattle.loop_poller.specs.Asked.{asked_on, heard_of, is_reached_on, loop_at, status_on};
+ghost use Rattle.loop_poller.specs.Points.{KnowsPoints};
+
+use crate::cables::cable_of;
+use crate::points::points_of;
+use isolators::{LineStatus, LoopLine};
+use site_types::{Answer, Heard, PieceState, PointState, Site};
+use std::alloc::{AllocError, Global};
+use tick_units::{Lane, Tick};
+
+/// A loop of a panel: its cable, if the loop is there, and the point at each address.
+#[derive(Drop)]
+pub struct PolledLine {
+    cable: Option<LoopLine>,
+    points: Vec<Option<u16>>,
+}
+
+impl PolledLine {
+    ghost use Rattle.loop_poller.specs.Stands.{AreStates, IsOnLoop, LineStands};
+
+    pub fn new(alloc: Global, site: &Site, panel: u8, line: u8) -> Result<PolledLine, AllocError>
+        requires { IsValid site.now }
+        ensures { IfOk result (λ polled. LineStands site.now panel line sound_cable polled) }
+    {
+        let points = points_of(alloc, site, panel, line)?;
+        Ok(PolledLine {
+            cable: cable_of(site, panel, line),
+            points,
+        })
+    }
+
+    pub fn set_piece(&mut self, piece: u8, state: PieceState)
+        ensures { (site : SiteOf) (panel line : ℕ) (cable : Cable) → LineStands site panel line cable self.old → LineStands site panel line (with_piece cable piece state) self.new }
+    {
+        if let Some(cable) = &mut self.cable {
+            cable.set_piece(piece, state);
+        }
+    }
+
+    pub fn status(&self) -> LineStatus
+        ensures { (site : SiteOf) (panel line : ℕ) (cable : Cable) → LineStands site panel line cable self.now → result ≡ status_on (loop_at site panel line) cable }
+    {
+        match &self.cable {
+            Some(cable) => cable.status(),
+            None => LineStatus::default(),
+        }
+    }
+
+    fn reaches(&self, address: u8) -> bool
+        requires { 1 ≤ address }
+        ensures { (site : SiteOf) (panel line : ℕ) (cable : Cable) → LineStands site panel line cable self.now → IsOnLoop (loop_at site panel line) address → result ≡ is_reached_on (loop_at site panel line) cable address }
+    {
+        match &self.cable {
+            Some(cable) => cable.reach(address),
+            None => false,
+        }
+    }
+
+    fn heard(&self, address: u8, state: PointState) -> Heard
+        requires { 1 ≤ address }
+        ensures { (site : SiteOf) (panel line : ℕ) (cable : Cable) → LineStands site panel line cable self.now → IsOnLoop (loop_at site panel line) address → result ≡ heard_of state (is_reached_on (loop_at site panel line) cable address) }
+    {
+        let reached = self.reaches(address);
+        match state {
+            PointState::Quiet if reached => Heard::Quiet,
+            PointState::Alarm if reached => Heard::Alarm,
+            _ => Heard::Silent,
+        }
+    }
+
+    /// Puts the answers of eight addresses, from the first one on.
+    pub fn ask(&self, states: &[PointState], first: u8, now: Tick, answers: &mut Lane<Answer>)
+        requires room { HasRoom answers.old 8 }
+        requires from { (1 ≤ first) × (first ≤ 185) }
+        requires within { first + 7 ≤ length self.now.points.items }
+        requires known { KnowsPoints self.now.points.items (length states.now) }
+        ensures room { (n : ℕ) → HasRoom answers.old (n + 8) → HasRoom answers.new n }
+        ensures put { (site : SiteOf) (panel line : ℕ) (points : ℕ → State) (cables : ℕ → Cable) → IsValid site → LineStands site panel line (cables line) self.now → AreStates site points states.now → first ≡ 8 * (now.0 % round_of site.format) + 1 → answers.new ≡ with_put answers.old (asked_on site panel points cables now.0 line) }
+    {
+        for address in first..first + 8 {
+            if let Some(point) = self.points[address as usize - 1] {
+                let heard = self.heard(address, states[point as usize]);
+                answers.put(Answer {
+                    stamp: now,
+                    point,
+                    heard,
+                });
+            }
+        }
+    }
+}

@@ -1,0 +1,81 @@
+ghost use Rattle.std.specs.Prelude.{◌≡◌, ◌≤◌, [], ◌∷◌, List, ℕ, IfOk};
+ghost use Rattle.tick_units.specs.Lane.{HasRoom, with_put};
+ghost use Rattle.site_types.specs.declared.site.Site.{Site as SiteOf};
+ghost use Rattle.site_types.specs.Valid.{IsValid};
+ghost use Rattle.loop_poller.specs.Asked.{asked_in, loop_at, status_on};
+ghost use Rattle.loop_poller.specs.Calls.{Call, Reported, Cabled, told_cable, told_point};
+
+use crate::polled_line::PolledLine;
+use isolators::LineStatus;
+use site_types::{Answer, PieceState, PointState, Profile, Site};
+use std::alloc::Global;
+use tick_units::{Lane, NoMemory, Tick};
+
+/// Asks the points of a panel, eight addresses of each loop in a tick.
+#[derive(Drop)]
+pub struct Poller {
+    profile: Profile,
+    lines: [PolledLine; 4],
+    /// By the place of a point in the site.
+    states: Vec<PointState>,
+}
+
+impl Poller {
+    ghost use Rattle.loop_poller.specs.Stands.{HasPoint, StandsFor, StandsForSome};
+
+    /// A poller of a panel, 1 to the panels of the site. All points are quiet and all cables sound.
+    pub fn new(alloc: Global, site: &Site, panel: u8) -> Result<Poller, NoMemory>
+        requires { IsValid site.now }
+        ensures { IfOk result (λ poller. StandsFor site.now panel [] poller) }
+    {
+        let lines = [
+            PolledLine::new(alloc, site, panel, 1)?,
+            PolledLine::new(alloc, site, panel, 2)?,
+            PolledLine::new(alloc, site, panel, 3)?,
+            PolledLine::new(alloc, site, panel, 4)?,
+        ];
+        let states = vec![in alloc; PointState::Quiet; site.points.len()]?;
+        Ok(Poller {
+            profile: site.profile(),
+            lines,
+            states,
+        })
+    }
+
+    /// Takes a report on a point, by its place in the site.
+    pub fn set_point(&mut self, point: u16, state: PointState)
+        requires { HasPoint self.old point }
+        ensures { (site : SiteOf) (panel : ℕ) (calls : List Call) → StandsFor site panel calls self.old → StandsFor site panel (Reported point state ∷ calls) self.new }
+    {
+        self.states[point as usize] = state;
+    }
+
+    /// Takes a report on a piece of the cable of a loop, 1 to 4.
+    pub fn set_piece(&mut self, line: u8, piece: u8, state: PieceState)
+        requires { (1 ≤ line) × (line ≤ 4) }
+        ensures { (site : SiteOf) (panel : ℕ) (calls : List Call) → StandsFor site panel calls self.old → StandsFor site panel (Cabled line piece state ∷ calls) self.new }
+    {
+        let polled = &mut self.lines[line as usize - 1];
+        polled.set_piece(piece, state);
+    }
+
+    /// What is wrong with the cable of a loop, 1 to 4. Nothing is, where the panel has no such loop.
+    pub fn status(&self, line: u8) -> LineStatus
+        requires { (1 ≤ line) × (line ≤ 4) }
+        ensures { (site : SiteOf) (panel : ℕ) (calls : List Call) → StandsFor site panel calls self.now → result ≡ status_on (loop_at site panel line) (told_cable calls line) }
+    {
+        self.lines[line as usize - 1].status()
+    }
+
+    /// Puts the answers of a tick: at most 32, in order of loop, then address.
+    pub fn turn(&self, now: Tick, answers: &mut Lane<Answer>)
+        requires room { HasRoom answers.old 32 }
+        requires stands { StandsForSome self.now }
+        ensures { (site : SiteOf) (panel : ℕ) (calls : List Call) → StandsFor site panel calls self.now → answers.new ≡ with_put answers.old (asked_in site panel (told_point calls) (told_cable calls) now.0) }
+    {
+        let first = (now.0 % self.profile.round()) as u8 * 8 + 1;
+        for line in &self.lines {
+            line.ask(&self.states, first, now, answers);
+        }
+    }
+}
