@@ -1,17 +1,17 @@
 -- Which points of a panel are asked in a tick, and what they answer.
-use Rattle.std.specs.Prelude.{ℕ, ◌+◌, ◌-◌, ◌/◌, ◌%◌, ◌==◌, ◌&&◌, Bool, false, List, Option, Some, None, option_map, if◌then◌else◌}
+use Rattle.std.specs.Prelude.{ℕ, ◌-◌, ◌/◌, ◌%◌, ◌==◌, ◌&&◌, Bool, false, List, Option, Some, None, option_map, if◌then◌else◌}
 use Rattle.std.specs.List.{filter_map, find, flat_map, position, range_with_len}
 use Rattle.site_types.specs.declared.answer.Answer.{Answer}
 use Rattle.site_types.specs.declared.heard.Heard.{Heard}
 use Rattle.site_types.specs.declared.heard.Heard.TheVariants.{Quiet as HeardQuiet, Alarm as HeardAlarm, Silent}
 use Rattle.site_types.specs.declared.loop_plan.LoopPlan.{LoopPlan}
-use Rattle.site_types.specs.declared.piece_state.PieceState.{PieceState}
 use Rattle.site_types.specs.declared.point_state.PointState.{PointState}
 use Rattle.site_types.specs.declared.point_state.PointState.TheVariants.{Quiet, Alarm, Gone}
 use Rattle.site_types.specs.declared.site.Site.{Site}
 use Rattle.site_types.specs.Limits.{most_loops}
 use Rattle.site_types.specs.Profile.{asked_at_once, last_address_of, round_of}
-use Rattle.isolators.specs.Reach.{Cable, is_reached}
+use Rattle.isolators.specs.declared.line_status.LineStatus.{LineStatus}
+use Rattle.isolators.specs.Reach.{Cable, is_reached, status_of}
 
 -- an address is asked once in a round, eight addresses of a loop in a tick
 abbrev pub is_asked : ℕ → ℕ → ℕ → Bool
@@ -54,3 +54,8 @@ asked_on site panel points cables tick line =
 -- the answers of a panel in a tick, in order of loop, then address
 unfoldable pub asked_in : Site → ℕ → (ℕ → PointState) → (ℕ → Cable) → ℕ → List Answer
 asked_in site panel points cables tick = flat_map (asked_on site panel points cables tick) (range_with_len 1 most_loops)
+
+-- what is wrong with the cable of a loop; where there is no loop, nothing
+abbrev pub status_on : Option LoopPlan → Cable → LineStatus
+status_on None cable = record { broken = false; shorted = false }
+status_on (Some plan) cable = status_of plan cable

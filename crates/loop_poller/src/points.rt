@@ -6,7 +6,12 @@ use site_types::Site;
 use std::alloc::{AllocError, Global};
 
 /// The points of a loop of a panel by address, from 1 to the last that a loop of the site's format may have.
-pub(crate) fn points_of(alloc: Global, site: &Site, panel: u8, line: u8) -> Result<Vec<Option<u16>>, AllocError>
+pub(crate) fn points_of(
+    alloc: Global,
+    site: &Site,
+    panel: u8,
+    line: u8,
+) -> Result<Vec<Option<u16>>, AllocError>
     requires { IsValid site.now }
     ensures { IfOk result (λ points. ArePoints site.now panel line points.items) }
 {

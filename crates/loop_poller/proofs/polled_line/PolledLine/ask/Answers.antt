@@ -1,0 +1,60 @@
+use Rattle.std.proofs.Common.{◌≡◌, ◌∙◌, ap, sym, ◌+◌, ◌-◌, ◌%◌, ◌<◌, ◌++◌, ◌∷◌, [], length, arith, Some, None, option_map}
+use Rattle.std.specs.List.{filter_map, range_with_len}
+use Rattle.tick_units.specs.Lane.{with_put}
+use Rattle.site_types.specs.Profile.{round_of}
+use Rattle.loop_poller.specs.Asked.{answer_from, answer_of, heard_of, is_reached_on, loop_at, point_at}
+use Rattle.loop_poller.proofs.Filling.{read_at}
+use Rattle.loop_poller.proofs.Lanes.{got_more, got_same, put_some, put_none}
+use Rattle.loop_poller.proofs.Lines.{on_loop, point_there}
+use Rattle.loop_poller.proofs.Windows.{asked_window, group_of, is_asked_here, range-more}
+use Rattle.loop_poller.proofs.polled_line.PolledLine.ask.Goals as goal
+use Rattle.loop_poller.proofs.polled_line.PolledLine.ask.Goals.{in-Some, in_default}
+
+pub bounds-states-point : goal.bounds-states-point
+bounds-states-point c =
+    let within : c.loop-address.address - 1 < length c.args.self.now.points.items = omega arith in
+    c.requires.known (c.loop-address.address - 1) c.in-Some.point (read_at c.args.self.now.points.items (c.loop-address.address - 1) c.index.result.now None within c.index.ensures ∙ c.in-Some.is)
+
+pub loop-address-preserved : goal.loop-address-preserved
+loop-address-preserved c =
+    let address = c.loop-address.address in
+    let first = c.args.first in
+    let count : address + 1 - first ≡ (address - first) + 1 = omega arith in
+    record {
+      few = rw count (elim c.match-index.branch [
+        | in-Some w ↦ got_more _ _ _ _ _ c.loop-address.invariant.few (w.answers-is ∙ w.put.ensures)
+        | in_default w ↦ got_same _ _ _ _ c.loop-address.invariant.few w.answers-is
+      ]);
+      put = λ site panel line points cables valid stands states from.
+          let f = answer_from site panel points cables c.args.now.0 line in
+          let so_far = c.loop-address.invariant.put site panel line points cables valid stands states from in
+          let span : range_with_len first (address - first) ++ address ∷ [] ≡ range_with_len first (address + 1 - first) =
+          sym (ap (range_with_len first) count ∙ range-more first (address - first) ∙ ap (λ k. range_with_len first (address - first) ++ k ∷ []) (omega arith)) in
+          let within : address - 1 < length c.args.self.now.points.items = omega arith in
+          let size = stands.points.size in
+          let there : point_at site panel line address ≡ c.index.result.now =
+          sym (stands.points.each address (omega arith) (omega arith)) ∙ read_at c.args.self.now.points.items (address - 1) c.index.result.now None within c.index.ensures in
+          let asked : f address ≡ option_map (answer_of site panel points cables c.args.now.0 line address) c.index.result.now =
+          is_asked_here site panel points cables c.args.now.0 line address (group_of (c.args.now.0 % round_of site.format) first address from (omega arith) (omega arith))
+          ∙ ap (option_map (answer_of site panel points cables c.args.now.0 line address)) there in
+          elim c.match-index.branch [
+            | in-Some w ↦ (let point = w.in-Some.point in
+                let at : point_at site panel line address ≡ Some point = there ∙ w.in-Some.is in
+                let known = (point_there site panel line address point at).within in
+                let state = states.each point known in
+                let heard = w.heard-heard.ensures site panel line (cables line) stands (on_loop site panel line address point valid at)
+                ∙ ap (λ s. heard_of s (is_reached_on (loop_at site panel line) (cables line) address)) state in
+                let answer : f address ≡ Some (record { stamp = c.args.now; point = point; heard = w.heard-heard.result }) =
+                asked ∙ ap (option_map (answer_of site panel points cables c.args.now.0 line address)) w.in-Some.is ∙ ap (λ h. Some (record { stamp = c.args.now; point = point; heard = h })) (sym heard) in
+                put_some f address (range_with_len first (address - first)) _ _ _ so_far _ answer (w.answers-is ∙ w.put.ensures)
+                ∙ ap (λ places. with_put c.args.answers.now (filter_map f places)) span)
+            | in_default w ↦ put_none f address (range_with_len first (address - first)) _ _ _ so_far (asked ∙ ap (option_map (answer_of site panel points cables c.args.now.0 line address)) w.in_default.is) w.answers-is
+                ∙ ap (λ places. with_put c.args.answers.now (filter_map f places)) span
+          ];
+    }
+
+pub returns-clause-put : goal.returns-clause-put
+returns-clause-put c site panel line points cables valid stands states from =
+    let all : c.loop-address.address - c.args.first ≡ 8 = omega arith in
+    let put = rw (all, from) at (c.loop-address.invariant.put site panel line points cables valid stands states from) in
+    put ∙ ap (with_put c.args.answers.now) (sym (asked_window site panel points cables c.args.now.0 line valid.forms.format.0))

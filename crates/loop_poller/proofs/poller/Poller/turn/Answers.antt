@@ -1,0 +1,63 @@
+use Rattle.std.proofs.Common.{◌≡◌, ◌+◌, ◌*◌, ◌%◌, ◌<◌, arith, length, get_or, ap, ◌∙◌, slice_index_or}
+use Rattle.std.proofs.lemmas.Nat.{mod_below}
+use Rattle.std.proofs.lemmas.Option.{slice_get-get_or}
+use Rattle.site_types.specs.declared.point_state.PointState.TheVariants.{Quiet}
+use Rattle.site_types.specs.Profile.{round_of}
+use Rattle.loop_poller.specs.Asked.{asked_in, asked_on}
+use Rattle.loop_poller.specs.Calls.{told_cable, told_point}
+use Rattle.loop_poller.proofs.Lanes.{put_line}
+use Rattle.loop_poller.proofs.Lines.{knows_points}
+use Rattle.loop_poller.proofs.poller.Poller.turn.Goals as goal
+
+pub ask-requires-clause-room : goal.ask-requires-clause-room
+ask-requires-clause-room c =
+    let room = c.requires.room in
+    c.loop-line.invariant.room 8 (omega (arith, room.0), omega (arith, room.1))
+
+pub ask-requires-clause-within : goal.ask-requires-clause-within
+ask-requires-clause-within c =
+    let some = c.requires.stands in
+    let k = c.loop-line.line-index in
+    let lines = c.args.self.now.lines in
+    let size = (some.stands.lines k (get_or lines k c.line-item.result) (slice_get-get_or lines k c.line-item.result (omega arith))).points.size in
+    let known = some.stands.valid.forms.format.0 in
+    let round : c.round.result ≡ round_of some.site.format = c.round.ensures ∙ ap round_of some.stands.format in
+    let below : c.args.now.0 % c.round.result < c.round.result = mod_below c.args.now.0 c.round.result (omega arith) in
+    omega (arith, size)
+
+pub ask-requires-clause-known : goal.ask-requires-clause-known
+ask-requires-clause-known c place point h =
+    let some = c.requires.stands in
+    let k = c.loop-line.line-index in
+    let lines = c.args.self.now.lines in
+    let stands = some.stands.lines k (get_or lines k c.line-item.result) (slice_get-get_or lines k c.line-item.result (omega arith)) in
+    let below = knows_points some.site some.panel (k + 1) _ stands.points place point h in
+    let states : length c.deref.result.now ≡ length some.site.points = ap length c.deref.ensures.value ∙ some.stands.states.size in
+    omega (arith, below)
+
+pub loop-line-preserved : goal.loop-line-preserved
+loop-line-preserved c =
+    let k = c.loop-line.line-index in
+    let lines = c.args.self.now.lines in
+    let value = c.deref.ensures.value in
+    record {
+      room = λ n room. c.ask.ensures.room n (c.loop-line.invariant.room (n + 8) (omega (arith, room.0), omega (arith, room.1)));
+      put = λ site panel calls stands.
+          let line = stands.lines k (get_or lines k c.line-item.result) (slice_get-get_or lines k c.line-item.result (omega arith)) in
+          let round : c.round.result ≡ round_of site.format = c.round.ensures ∙ ap round_of stands.format in
+          let from : (c.args.now.0 % c.round.result) * 8 + 1 ≡ 8 * (c.args.now.0 % round_of site.format) + 1 = ap (λ r. (c.args.now.0 % r) * 8 + 1) round ∙ omega arith in
+          put_line (asked_on site panel (told_point calls) (told_cable calls) c.args.now.0) k c.args.answers.now c.loop-line.answers c.ask.new.answers
+          (c.loop-line.invariant.put site panel calls stands)
+          (c.ask.ensures.put site panel (k + 1) (told_point calls) (told_cable calls) stands.valid line
+          (record {
+            size = ap length value ∙ stands.states.size;
+            each = λ point within. ap (λ xs. slice_index_or xs point Quiet) value ∙ stands.states.each point within;
+          })
+          from);
+    }
+
+pub returns : goal.returns
+unfolding asked_in
+returns c site panel calls stands =
+    let all : c.loop-line.line-index ≡ 4 = omega arith in
+    rw all at (c.loop-line.invariant.put site panel calls stands)
