@@ -1,4 +1,10 @@
 pub mod Contents
+pub mod Crashes
+pub mod DiskLaws
+pub mod DiskLogs
+pub mod Disks
 pub mod Faults
 pub mod Limits
+pub mod MemoryDisks
+pub mod Overwritten
 pub mod Shelves

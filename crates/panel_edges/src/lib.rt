@@ -20,45 +20,60 @@
 #![tactic(auto)]
 
 mod copying;
+mod call_counts;
+mod cutting;
+mod disk_call;
+mod disks;
 mod failed;
 mod fetching;
+mod file_disk;
 mod file_shelf;
 mod label;
 mod limits;
+mod memory_disk;
 mod memory_shelf;
 mod memory_sink;
 mod memory_source;
 mod no_memory;
+mod overwriting;
 mod shelf_file;
 mod shelves;
+mod sound_memory_disk;
 mod sound_memory_shelf;
 mod sound_memory_sink;
 mod sound_memory_source;
 mod std_sink;
 mod std_source;
 mod streams;
+mod syncing;
 #[cfg(test)]
 mod tests;
 mod writing;
 
+pub use disk_call::DiskCall;
+pub use disks::Disk;
 pub use failed::Failed;
 pub use fetching::{FetchFault, Found};
+pub use file_disk::FileDisk;
 pub use file_shelf::FileShelf;
 pub use label::Label;
 pub use limits::{
     MOST_BODY_BYTES, MOST_DISK_BYTES, MOST_FILE_BYTES, MOST_HEAD_BYTES, MOST_LINE_BYTES,
     MOST_RECORD_BYTES,
 };
+pub use memory_disk::MemoryDisk;
 pub use memory_shelf::MemoryShelf;
 pub use memory_sink::MemorySink;
 pub use memory_source::MemorySource;
 pub use no_memory::NoMemory;
 pub use shelf_file::ShelfFile;
 pub use shelves::Shelf;
+pub use sound_memory_disk::SoundMemoryDisk;
 pub use sound_memory_shelf::SoundMemoryShelf;
 pub use sound_memory_sink::SoundMemorySink;
 pub use sound_memory_source::SoundMemorySource;
 pub use std_sink::StdSink;
 pub use std_source::StdSource;
 pub use streams::{Sink, Source, Stream};
+pub use syncing::write_synced;
 pub use writing::write_all;
