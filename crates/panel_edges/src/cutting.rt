@@ -1,5 +1,6 @@
-ghost use Rattle.std.specs.Prelude.{◌≡◌, IfOk, take};
-ghost use Rattle.panel_edges.specs.DiskLogs.{calls_of, cut_by};
+ghost use Rattle.std.specs.Prelude.{◌≡◌, ℕ, List, ◌∷◌, take, drop, slice_index, IfOk, OnOk};
+ghost use Rattle.panel_edges.specs.DiskLogs.{calls_of, cut_by, cut_from, front_written};
+ghost use Rattle.panel_edges.specs.declared.disk_call.DiskCall.{DiskCall as CallOfLog};
 
 use crate::disk_call::DiskCall;
 use crate::overwriting::overwrite;
@@ -16,36 +17,62 @@ pub(crate) fn cut_file(
 ) -> Result<Vec<u8>, AllocError>
     ensures { IfOk result (λ file. file.items ≡ cut_by start.now (calls_of log.now log_bytes.now) kept.now) }
 {
-    let mut file = Vec::from_slice(alloc, start)?;
+    let mut whole = Vec::from_slice(alloc, start)?;
     let mut torn = Vec::from_slice(alloc, start)?;
     let mut rest = log_bytes;
     for (place, call) in log.iter().enumerate() {
-        match call {
-            DiskCall::Wrote {
-                at,
-                count,
-                kept: whole,
-            } => {
-                let (bytes, behind) = rest.split_at((*count).min(rest.len()));
-                rest = behind;
-                overwrite(&mut file, *at, front(bytes, *whole))?;
-                let left = kept.get(place).copied().unwrap_or(0);
-                if left > 0 {
-                    overwrite(&mut torn, *at, front(bytes, left))?;
-                }
-            }
-            DiskCall::Synced => {
-                torn.clear();
-                torn.extend_from_slice(&file)?;
-            }
-        }
+        let left = kept.get(place).copied().unwrap_or(0);
+        rest = replay(call, left, rest, &mut whole, &mut torn)?;
     }
     Ok(torn)
 }
 
-// The first so many bytes, or all where there are fewer.
-fn front(bytes: &[u8], count: usize) -> &[u8]
-    ensures { result.now ≡ take count bytes.now }
+// Does one call again: to the file as it reads, and to the file as cut, where a write leaves so many of its first bytes.
+// The bytes of the log come in, and those of the calls behind go out.
+fn replay<'a>(
+    call: &DiskCall,
+    left: usize,
+    rest: &'a [u8],
+    whole: &mut Vec<u8>,
+    torn: &mut Vec<u8>,
+) -> Result<&'a [u8], AllocError>
+    ensures { IfOk result (λ behind. (log : List CallOfLog) (kept : List ℕ) → slice_index kept 0 ≡ left →
+        cut_from whole.old.items torn.old.items (calls_of (call.now ∷ log) rest.now) kept ≡ cut_from whole.new.items torn.new.items (calls_of log behind.now) (drop 1 kept)) }
 {
-    &bytes[..count.min(bytes.len())]
+    match call {
+        DiskCall::Wrote { at, count, kept } => {
+            let (bytes, behind) = split_front(rest, *count);
+            overwrite(whole, *at, split_front(bytes, *kept).0)?;
+            write_front(torn, *at, bytes, left)?;
+            Ok(behind)
+        }
+        DiskCall::Synced => {
+            torn.clear();
+            torn.extend_from_slice(whole)?;
+            Ok(rest)
+        }
+    }
+}
+
+// Writes the first so many bytes, and does nothing for none.
+fn write_front(
+    file: &mut Vec<u8>,
+    at: usize,
+    bytes: &[u8],
+    kept: usize,
+) -> Result<(), AllocError>
+    ensures { OnOk result (file.new.items ≡ front_written at bytes.now kept file.old.items) }
+{
+    if kept == 0 {
+        return Ok(());
+    }
+    overwrite(file, at, split_front(bytes, kept).0)
+}
+
+// The first so many bytes, or all where there are fewer, and those behind.
+fn split_front(bytes: &[u8], count: usize) -> (&[u8], &[u8])
+    ensures front { result.0.now ≡ take count bytes.now }
+    ensures behind { result.1.now ≡ drop count bytes.now }
+{
+    bytes.split_at(count.min(bytes.len()))
 }

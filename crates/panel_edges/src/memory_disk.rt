@@ -8,7 +8,7 @@ use crate::disks::Disk;
 use crate::failed::Failed;
 use crate::limits::MOST_DISK_BYTES;
 use crate::no_memory::NoMemory;
-use crate::overwriting::overwrite;
+use crate::overwriting::{append_reserved, overwrite_reserved};
 use std::alloc::Global;
 
 /// A disk in memory that keeps a log of its writes and syncs, and tells by it what a crash may leave at every moment since
@@ -217,18 +217,9 @@ impl MemoryDisk {
         ensures counts { (self.new.calls ≡ self.old.calls) × (self.new.faults ≡ self.old.faults) × (self.new.fails.items ≡ self.old.fails.items) }
     {
         let count = bytes.len();
-        match self.log.push(DiskCall::Wrote { at, count, kept }) {
-            Ok(()) => {}
-            Err(_) => unreachable!(),
-        }
-        match self.log_bytes.extend_from_slice(bytes) {
-            Ok(()) => {}
-            Err(_) => unreachable!(),
-        }
-        match overwrite(&mut self.bytes, at, &bytes[..kept]) {
-            Ok(()) => {}
-            Err(_) => unreachable!(),
-        }
+        self.log.push_reserved(DiskCall::Wrote { at, count, kept });
+        append_reserved(&mut self.log_bytes, bytes);
+        overwrite_reserved(&mut self.bytes, at, &bytes[..kept]);
     }
 
     // Logs a sync.
@@ -238,9 +229,6 @@ impl MemoryDisk {
         ensures bytes { self.new.bytes.items ≡ self.old.bytes.items }
         ensures counts { (self.new.calls ≡ self.old.calls) × (self.new.faults ≡ self.old.faults) × (self.new.fails.items ≡ self.old.fails.items) }
     {
-        match self.log.push(DiskCall::Synced) {
-            Ok(()) => {}
-            Err(_) => unreachable!(),
-        }
+        self.log.push_reserved(DiskCall::Synced);
     }
 }

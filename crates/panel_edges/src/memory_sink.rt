@@ -3,6 +3,7 @@ ghost use Rattle.panel_edges.specs.Faults.{HasCause, IsListed, counted};
 
 use crate::failed::Failed;
 use crate::no_memory::NoMemory;
+use crate::overwriting::append_reserved;
 use crate::streams::{Sink, Stream};
 use std::alloc::Global;
 
@@ -72,9 +73,7 @@ impl Sink for MemorySink {
             self.faults = self.faults.saturating_add(1);
             return Err(Failed);
         }
-        match self.bytes.extend_from_slice(piece) {
-            Ok(()) => Ok(piece.len()),
-            Err(_) => unreachable!(),
-        }
+        append_reserved(&mut self.bytes, piece);
+        Ok(piece.len())
     }
 }

@@ -30,3 +30,27 @@ fn pad(bytes: &mut Vec<u8>, len: usize) -> Result<(), AllocError>
     }
     Ok(())
 }
+
+// The same in room that is reserved.
+pub(crate) fn overwrite_reserved(bytes: &mut Vec<u8>, at: usize, piece: &[u8])
+    requires { max (length bytes.old.items) (at + length piece.now) ≤ vec_capacity bytes.old }
+    ensures items { bytes.new.items ≡ overwritten at piece.now bytes.old.items }
+    ensures room { vec_capacity bytes.old ≤ vec_capacity bytes.new }
+{
+    match overwrite(bytes, at, piece) {
+        Ok(()) => {}
+        Err(_) => unreachable!(),
+    }
+}
+
+// Writes at the end, in room that is reserved.
+pub(crate) fn append_reserved(bytes: &mut Vec<u8>, piece: &[u8])
+    requires { length bytes.old.items + length piece.now ≤ vec_capacity bytes.old }
+    ensures items { bytes.new.items ≡ bytes.old.items ++ piece.now }
+    ensures room { vec_capacity bytes.old ≤ vec_capacity bytes.new }
+{
+    match bytes.extend_from_slice(piece) {
+        Ok(()) => {}
+        Err(_) => unreachable!(),
+    }
+}

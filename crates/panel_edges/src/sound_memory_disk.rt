@@ -4,7 +4,7 @@ use crate::disks::Disk;
 use crate::failed::Failed;
 use crate::limits::MOST_DISK_BYTES;
 use crate::no_memory::NoMemory;
-use crate::overwriting::overwrite;
+use crate::overwriting::overwrite_reserved;
 use std::alloc::Global;
 
 /// A disk in memory whose calls never fail. It keeps no log, so it isn't honest: it tells nothing of crashes.
@@ -81,10 +81,8 @@ impl Disk for SoundMemoryDisk {
         ensures sound { result ≡ Ok tt }
         ensures bytes { Holds at bytes.now self.old.bytes.items self.new.bytes.items }
     {
-        match overwrite(&mut self.bytes, at as usize, bytes) {
-            Ok(()) => Ok(()),
-            Err(_) => unreachable!(),
-        }
+        overwrite_reserved(&mut self.bytes, at as usize, bytes);
+        Ok(())
     }
 
     fn sync(&mut self) -> Result<(), Failed>

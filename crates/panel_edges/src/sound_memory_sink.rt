@@ -2,6 +2,7 @@ ghost use Rattle.std.specs.Prelude.{◌≡◌, ◌+◌, ◌<◌, ◌≤◌, [], 
 
 use crate::failed::Failed;
 use crate::no_memory::NoMemory;
+use crate::overwriting::append_reserved;
 use crate::streams::{Sink, Stream};
 use std::alloc::Global;
 
@@ -56,9 +57,7 @@ impl Sink for SoundMemorySink {
             self.passed = true;
             return Ok(piece.len());
         }
-        match self.bytes.extend_from_slice(piece) {
-            Ok(()) => Ok(piece.len()),
-            Err(_) => unreachable!(),
-        }
+        append_reserved(&mut self.bytes, piece);
+        Ok(piece.len())
     }
 }
