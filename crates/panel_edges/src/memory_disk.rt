@@ -3,6 +3,7 @@ ghost use Rattle.panel_edges.specs.DiskLogs.{bytes_in, calls_of, content, left_a
 ghost use Rattle.panel_edges.specs.DiskLaws.{image_now, none_since, now_counts};
 
 use crate::call_counts::count_call;
+use crate::cutting::cut_file;
 use crate::disk_call::DiskCall;
 use crate::disks::Disk;
 use crate::failed::Failed;
@@ -154,10 +155,10 @@ impl Disk for MemoryDisk {
 }
 
 impl MemoryDisk {
-    ghost use Rattle.std.specs.Prelude.{◌⊎◌, ◌<◌, [], ◌↔◌, take, IfOk, IsTrue};
+    ghost use Rattle.std.specs.Prelude.{◌⊎◌, ℕ, ◌<◌, [], ◌↔◌, take, IfOk, IsTrue};
     ghost use Rattle.panel_edges.specs.DiskLogs.{Sync, Write, cut_by};
     ghost use Rattle.panel_edges.specs.Limits.{most_disk_bytes};
-    ghost use Rattle.panel_edges.specs.MemoryDisks.{HasLogged, IsPassed, log_of, left_of};
+    ghost use Rattle.panel_edges.specs.MemoryDisks.{HasLogged, IsPassed, left_of, log_of, moment_of};
     ghost use Rattle.panel_edges.specs.Overwritten.{overwritten};
 
     /// Reserves `MOST_DISK_BYTES` bytes, and a log of so many calls and so many written bytes.
@@ -197,6 +198,25 @@ impl MemoryDisk {
             calls: 0,
             faults: 0,
         })
+    }
+
+    /// The file that a cut leaves after the first so many calls of the log. Each write since the last sync before left as
+    /// many of its first bytes as `kept` says at its place in the log, and none where it says nothing.
+    pub fn cut(
+        &self,
+        alloc: Global,
+        calls: usize,
+        kept: &[usize],
+    ) -> Result<Vec<u8>, NoMemory>
+        ensures file { IfOk result (λ file. file.items ≡ cut_by self.now.start.items (take calls (log_of self.now)) kept.now) }
+        // It is one of the images since each moment up to the last of these calls.
+        ensures image { IfOk result (λ file. (t : ℕ) → t ≤ calls → t ≤ moment_of self.now → left_of self.now t file.items) }
+    {
+        let log = &self.log[..calls.min(self.log.len())];
+        match cut_file(alloc, &self.start, log, &self.log_bytes, kept) {
+            Ok(file) => Ok(file),
+            Err(_) => Err(NoMemory),
+        }
     }
 
     // Whether a write of so many bytes passes the log.
