@@ -48,14 +48,14 @@ cut_since start calls n kept t le within =
 
 take_min : {A : Type 0} (n : ℕ) (xs : List A) → take (min n (length xs)) xs ≡ take n xs
 take_min n xs = elim (leb_tells n (length xs)) [
-    | inl few ↦ ap (λ k. take k xs) (omega (arith, few.1))
-    | inr many ↦ take_all (min n (length xs)) xs (omega (arith, many.1)) ∙ sym (take_all n xs (omega (arith, many.1)))
-  ]
+  | inl few ↦ ap (λ k. take k xs) (omega (arith, few.1))
+  | inr many ↦ take_all (min n (length xs)) xs (omega (arith, many.1)) ∙ sym (take_all n xs (omega (arith, many.1)))
+]
 
 -- the cut after some calls, by what a caller reads of the disk
 pub cut_front : (start start' : List ℕ) (log log' : List DiskCall) (store store' : List ℕ) (n m : ℕ) (kept file : List ℕ)
     → start' ≡ start → log' ≡ log → store' ≡ store → m ≡ min n (length log') → file ≡ cut_by start' (calls_of (take m log') store') kept → file ≡ cut_by start (take n (calls_of log store)) kept
 cut_front start start' log log' store store' n m kept file same_start same_log same_store least e =
     let front : calls_of (take m log') store' ≡ take n (calls_of log store) =
-      ap (λ k. calls_of (take k log') store') least ∙ ap (λ xs. calls_of xs store') (take_min n log') ∙ calls-take n log' store' ∙ ap (λ xs. take n (calls_of xs store')) same_log ∙ ap (λ xs. take n (calls_of log xs)) same_store
+    ap (λ k. calls_of (take k log') store') least ∙ ap (λ xs. calls_of xs store') (take_min n log') ∙ calls-take n log' store' ∙ ap (λ xs. take n (calls_of xs store')) same_log ∙ ap (λ xs. take n (calls_of log xs)) same_store
     in e ∙ ap (λ xs. cut_by xs (calls_of (take m log') store') kept) same_start ∙ ap (λ calls. cut_by start calls kept) front

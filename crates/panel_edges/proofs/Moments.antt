@@ -1,5 +1,5 @@
 -- How calls of a disk follow one another: laws of what a crash at any moment since leaves.
-use Rattle.std.proofs.Common.{inl, inr, ⊎_elim, ◌⊎◌, ℕ, ◌≤◌, List, arith}
+use Rattle.std.proofs.Common.{inl, inr, ⊎_elim, ℕ, List, arith}
 use Rattle.panel_edges.specs.Crashes.{Elapses, LeavesOnly}
 
 module _ {D : Type 0} (moment : D → ℕ) (left_since : D → ℕ → List ℕ → Type 0) where

@@ -55,12 +55,7 @@ fn replay<'a>(
 }
 
 // Writes the first so many bytes, and does nothing for none.
-fn write_front(
-    file: &mut Vec<u8>,
-    at: usize,
-    bytes: &[u8],
-    kept: usize,
-) -> Result<(), AllocError>
+fn write_front(file: &mut Vec<u8>, at: usize, bytes: &[u8], kept: usize) -> Result<(), AllocError>
     ensures { OnOk result (file.new.items ≡ front_written at bytes.now kept file.old.items) }
 {
     if kept == 0 {

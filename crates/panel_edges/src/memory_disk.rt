@@ -202,12 +202,7 @@ impl MemoryDisk {
 
     /// The file that a cut leaves after the first so many calls of the log. Each write since the last sync before left as
     /// many of its first bytes as `kept` says at its place in the log, and none where it says nothing.
-    pub fn cut(
-        &self,
-        alloc: Global,
-        calls: usize,
-        kept: &[usize],
-    ) -> Result<Vec<u8>, NoMemory>
+    pub fn cut(&self, alloc: Global, calls: usize, kept: &[usize]) -> Result<Vec<u8>, NoMemory>
         ensures file { IfOk result (λ file. file.items ≡ cut_by self.now.start.items (take calls (log_of self.now)) kept.now) }
         // It is one of the images since each moment up to the last of these calls.
         ensures image { IfOk result (λ file. (t : ℕ) → t ≤ calls → t ≤ moment_of self.now → left_of self.now t file.items) }

@@ -2,6 +2,7 @@ ghost use Rattle.std.specs.Prelude.{◌≡◌, ◌↔◌, Some, Err, map, IfOk};
 ghost use Rattle.panel_edges.specs.Faults.{HasFetchCause, IsListed, counted};
 ghost use Rattle.panel_edges.specs.Shelves.{file_of, file_view, Fetched, Filled};
 
+use crate::call_counts::count_call;
 use crate::fetching::{FetchFault, Found};
 use crate::no_memory::NoMemory;
 use crate::shelf_file::{ShelfFile, fetch_from};
@@ -54,8 +55,7 @@ impl Shelf for MemoryShelf {
         ensures fails { (result ≡ Err FetchFault.Failed) ↔ IsListed self.old.fails.items self.old.calls }
         ensures calls { (self.new.calls ≡ counted self.old.calls) × (self.new.fails.items ≡ self.old.fails.items) × (self.new.files.items ≡ self.old.files.items) }
     {
-        self.calls = self.calls.saturating_add(1);
-        if self.fails.contains(&self.calls) {
+        if count_call(&mut self.calls, &self.fails) {
             self.faults = self.faults.saturating_add(1);
             return Err(FetchFault::Failed);
         }

@@ -1,6 +1,7 @@
-ghost use Rattle.std.specs.Prelude.{◌≡◌, ◌⊎◌, ◌+◌, ◌<◌, ◌≤◌, [], ◌++◌, ◌↔◌, Some, None, length, take, IfOk, IsErr, OnErr, IsTrue, Contains, vec_capacity};
+ghost use Rattle.std.specs.Prelude.{◌≡◌, ◌⊎◌, ◌+◌, ◌<◌, ◌≤◌, [], ◌++◌, ◌↔◌, Some, None, length, take, IfOk, IsErr, OnErr, vec_capacity};
 ghost use Rattle.panel_edges.specs.Faults.{HasCause, IsListed, counted};
 
+use crate::call_counts::count_call;
 use crate::failed::Failed;
 use crate::no_memory::NoMemory;
 use crate::overwriting::append_reserved;
@@ -39,13 +40,6 @@ impl MemorySink {
             Err(_) => Err(NoMemory),
         }
     }
-
-    // Whether the write that was counted last fails at this piece.
-    fn is_to_fail(&self, piece: &[u8]) -> bool
-        ensures { IsTrue result ↔ (Contains self.now.fails.items self.now.calls ⊎ (self.now.room < length self.now.bytes.items + length piece.now)) }
-    {
-        self.fails.contains(&self.calls) || self.room - self.bytes.len() < piece.len()
-    }
 }
 
 impl Stream for MemorySink {
@@ -68,8 +62,8 @@ impl Sink for MemorySink {
         ensures whole { IfOk result (λ n. (n ≡ length piece.now) × (self.new.bytes.items ≡ self.old.bytes.items ++ piece.now)) }
         ensures calls { (self.new.calls ≡ counted self.old.calls) × (self.new.fails.items ≡ self.old.fails.items) × (self.new.room ≡ self.old.room) }
     {
-        self.calls = self.calls.saturating_add(1);
-        if self.is_to_fail(piece) {
+        let is_listed = count_call(&mut self.calls, &self.fails);
+        if is_listed || self.room - self.bytes.len() < piece.len() {
             self.faults = self.faults.saturating_add(1);
             return Err(Failed);
         }

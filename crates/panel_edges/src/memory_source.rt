@@ -1,7 +1,8 @@
 ghost use Rattle.std.specs.Prelude.{◌≡◌, ◌<◌, ◌≤◌, [], ◌++◌, ◌↔◌, Some, None, length, take, drop, min, IfOk, IsErr, OnErr};
 ghost use Rattle.panel_edges.specs.Faults.{HasCause, IsListed, counted};
 
-use crate::copying::copy_front;
+use crate::call_counts::count_call;
+use crate::copying::copy_from;
 use crate::failed::Failed;
 use crate::no_memory::NoMemory;
 use crate::streams::{Source, Stream};
@@ -60,12 +61,11 @@ impl Source for MemorySource {
         ensures count { IfOk result (λ n. n ≡ min (length into.old) (length (drop self.old.at self.old.bytes.items))) }
         ensures calls { (self.new.calls ≡ counted self.old.calls) × (self.new.fails.items ≡ self.old.fails.items) }
     {
-        self.calls = self.calls.saturating_add(1);
-        if self.fails.contains(&self.calls) {
+        if count_call(&mut self.calls, &self.fails) {
             self.faults = self.faults.saturating_add(1);
             return Err(Failed);
         }
-        let count = copy_front(&self.bytes[self.at..], into);
+        let count = copy_from(&self.bytes, self.at, into);
         self.at += count;
         Ok(count)
     }

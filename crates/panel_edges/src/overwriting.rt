@@ -4,11 +4,7 @@ ghost use Rattle.panel_edges.specs.Overwritten.{overwritten};
 use std::alloc::AllocError;
 
 // Writes over what is there, and past the end. Zeros fill what lies between.
-pub(crate) fn overwrite(
-    bytes: &mut Vec<u8>,
-    at: usize,
-    piece: &[u8],
-) -> Result<(), AllocError>
+pub(crate) fn overwrite(bytes: &mut Vec<u8>, at: usize, piece: &[u8]) -> Result<(), AllocError>
     ensures items { OnOk result (bytes.new.items ≡ overwritten at piece.now bytes.old.items) }
     ensures succeeds { max (length bytes.old.items) (at + length piece.now) ≤ vec_capacity bytes.old → IsOk result }
     ensures room { vec_capacity bytes.old ≤ vec_capacity bytes.new }

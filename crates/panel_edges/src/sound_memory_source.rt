@@ -1,6 +1,6 @@
 ghost use Rattle.std.specs.Prelude.{◌≡◌, ◌<◌, ◌≤◌, [], ◌++◌, ◌↔◌, Some, None, length, take, drop, min, IfOk};
 
-use crate::copying::copy_front;
+use crate::copying::copy_from;
 use crate::failed::Failed;
 use crate::no_memory::NoMemory;
 use crate::streams::{Source, Stream};
@@ -43,7 +43,7 @@ impl Source for SoundMemorySource {
         // It never fails, and gives as many bytes as there are and fit.
         ensures count { result ≡ Ok (min (length into.old) (length (drop self.old.at self.old.bytes.items))) }
     {
-        let count = copy_front(&self.bytes[self.at..], into);
+        let count = copy_from(&self.bytes, self.at, into);
         self.at += count;
         Ok(count)
     }
