@@ -1,0 +1,5 @@
+pub mod Lists
+pub mod Latest
+pub mod Seconds
+pub mod Runs
+pub mod Verified

@@ -6,3 +6,5 @@ pub mod First
 pub mod Missing
 pub mod Findings
 pub mod InOrder
+pub mod Kept
+pub mod Found
