@@ -3,3 +3,5 @@ pub mod Latest
 pub mod Seconds
 pub mod Runs
 pub mod Verified
+pub mod Found
+pub mod FoundZones
