@@ -5,3 +5,5 @@ pub mod Runs
 pub mod Verified
 pub mod Found
 pub mod FoundZones
+pub mod ZoneMasks
+pub mod FoundFindings

@@ -8,3 +8,4 @@ pub mod Findings
 pub mod InOrder
 pub mod Kept
 pub mod Found
+pub mod Wired

@@ -1,0 +1,61 @@
+-- What the parts that decide make of an answer or an operation.
+use Rattle.std.specs.Prelude.{ℕ, ◌+◌, Bool, true, false, not, Option, Some, None, ◌==◌, ◌&&◌, nat_lt, nat_le, if◌then◌else◌}
+use Rattle.tick_units.specs.declared.tick.Tick.{Tick}
+use Rattle.tick_units.specs.declared.switch.Switch.{Switch}
+use Rattle.site_types.specs.declared.heard.Heard.{Heard}
+use Rattle.site_types.specs.declared.heard.Heard.TheVariants.{Silent}
+use Rattle.site_types.specs.declared.rule.Rule.{Rule}
+use Rattle.site_types.specs.declared.rule.Rule.TheVariants.{B}
+use Rattle.coincidence_rules.specs.Kept.{run_then}
+use Rattle.coincidence.specs.declared.last_tick.LastTick.{LastTick}
+use Rattle.coincidence.specs.declared.recent.Sighting.{Sighting}
+use Rattle.coincidence.specs.declared.recent.Recent.{Recent}
+use Rattle.coincidence.specs.declared.point_watch.PointWatch.{PointWatch}
+use Rattle.coincidence.specs.declared.zone_watch.ZoneWatch.{ZoneWatch}
+
+-- a switch at a tick that isn't before its own
+abbrev pub switch_at : ℕ → Switch → Bool
+switch_at x switch = if nat_lt switch.since.0 x then switch.now else switch.was
+
+abbrev pub switch_after : Bool → Tick → Switch → Switch
+switch_after value at switch = record { was = switch.now; now = value; since = at }
+
+-- the latest tick before one that isn't before the latest of all
+abbrev pub last_at : ℕ → LastTick → ℕ
+last_at x last = if nat_lt last.tick.0 x then last.tick.0 else last.earlier.0
+
+abbrev pub last_after : Tick → LastTick → LastTick
+last_after at last = if nat_lt last.tick.0 at.0 then record { tick = at; earlier = last.tick } else last
+
+abbrev pub last_if : Bool → Tick → LastTick → LastTick
+last_if on at last = if on then last_after at last else last
+
+abbrev pub stamp_of : Option Sighting → Option Tick
+stamp_of None = None
+stamp_of (Some seen) = Some seen.stamp
+
+abbrev pub besides_by : ℕ → Option Sighting → Option Sighting → Option Tick
+besides_by point None other = None
+besides_by point (Some seen) other = if seen.point == point then stamp_of other else Some seen.stamp
+
+-- the latest stamp of another point than this one
+abbrev pub besides : ℕ → Recent → Option Tick
+besides point recent = besides_by point recent.latest recent.other
+
+abbrev pub other_after : ℕ → Option Sighting → Option Sighting → Option Sighting
+other_after point None other = other
+other_after point (Some seen) other = if seen.point == point then other else Some seen
+
+abbrev pub noted : ℕ → Tick → Recent → Recent
+noted point stamp recent = record { latest = Some (record { point = point; stamp = stamp }); other = other_after point recent.latest recent.other }
+
+-- how many of the last answers were silent, to three
+abbrev pub silent_then : Heard → ℕ → ℕ
+silent_then Silent n = if nat_lt n 3 then n + 1 else n
+silent_then _ n = 0
+
+abbrev pub point_noted : Heard → Bool → Tick → Tick → PointWatch → PointWatch
+point_noted heard counted floor stamp watch = record watch { silent = silent_then heard watch.silent; run = run_then counted floor.0 stamp watch.run }
+
+abbrev pub zone_noted : Bool → ℕ → Tick → ZoneWatch → ZoneWatch
+zone_noted pairs point stamp watch = if pairs then record watch { recent = noted point stamp watch.recent } else watch

@@ -1,0 +1,173 @@
+-- The part that decides stands for the operations done and the answers taken.
+use Rattle.std.specs.Prelude.{◌≡◌, ◌≢◌, ◌<◌, ◌≤◌, ℕ, Bool, true, false, List, [], ◌∷◌, ◌++◌, Option, Some, None, length, slice_get, ◌==◌, ◌&&◌, nat_le, if◌then◌else◌}
+use Rattle.tick_units.specs.declared.switch.Switch.{Switch}
+use Rattle.site_types.specs.declared.site.Site.{Site}
+use Rattle.site_types.specs.declared.point.Point.{Point as PointPlan}
+use Rattle.site_types.specs.declared.zone.Zone.{Zone as ZonePlan}
+use Rattle.site_types.specs.declared.answer.Answer.{Answer}
+use Rattle.site_types.specs.declared.retained.Retained.{Retained}
+use Rattle.site_types.specs.declared.item.Item.{Item}
+use Rattle.site_types.specs.declared.item.Item.TheVariants.{Point, Zone, Output}
+use Rattle.site_types.specs.declared.operation.Operation.{Operation}
+use Rattle.site_types.specs.declared.operation.Operation.TheVariants.{Reset, Cancel, Disable, Enable, Test, Untest}
+use Rattle.site_types.specs.Done.{Done, Setting, PointOff, ZoneOff, InTest, is_on, operation_setting, in_force, latest_before, floor_before, cancels, AreBy}
+use Rattle.coincidence_rules.specs.Counted.{is_counted}
+use Rattle.coincidence_rules.specs.Missing.{latest_of, begins_silent}
+use Rattle.coincidence_rules.specs.InOrder.{AreInOrder}
+use Rattle.coincidence.specs.declared.last_tick.LastTick.{LastTick}
+use Rattle.coincidence.specs.declared.point_watch.PointWatch.{PointWatch}
+use Rattle.coincidence.specs.declared.zone_watch.ZoneWatch.{ZoneWatch}
+use Rattle.coincidence.specs.declared.decide.Decide.{Decide}
+use Rattle.coincidence.specs.Parts.{switch_at, last_at, besides}
+use Rattle.coincidence_rules.specs.Kept.{latest_besides, run_of, may_pair}
+use Rattle.coincidence_rules.specs.Wired.{IsWired}
+
+abbrev pub is_reset : Operation → Bool
+is_reset Reset = true
+is_reset _ = false
+
+-- a reset of the panel
+abbrev pub resets : ℕ → Done → Bool
+resets panel d = is_reset d.operation && (d.panel == panel)
+
+abbrev pub is_move : ℕ → Operation → Bool
+is_move zone (Disable (Zone other)) = other == zone
+is_move zone (Test other) = other == zone
+is_move zone _ = false
+
+-- a disabling or a test of the zone
+abbrev pub moves : ℕ → Done → Bool
+moves zone d = is_move zone d.operation
+
+-- the tick of the last operation on a setting, else 0
+abbrev pub set_in : Setting → List Done → ℕ
+set_in setting [] = 0
+set_in setting (d ∷ ds) = if is_on setting d then d.tick else set_in setting ds
+
+-- a switch tells a setting at each tick from its own on
+pub record TellsSetting (site : Site) (kept : Retained) (setting : Setting) (done : List Done) (switch : Switch) : Type 0 where
+  pub at : (x : ℕ) → switch.since.0 ≤ x → in_force site kept setting x done ≡ switch_at x switch
+  pub since : switch.since.0 ≡ set_in setting done
+
+-- the latest tick of a kind of operations, at each tick from it on
+pub record TellsLast (test : Done → Bool) (done : List Done) (last : LastTick) : Type 0 where
+  pub at : (x : ℕ) → last.tick.0 ≤ x → latest_before test x done ≡ last_at x last
+  pub by : (x : ℕ) → AreBy x done → last.tick.0 ≤ x
+
+pub record WatchesPoint (site : Site) (kept : Retained) (done : List Done) (taken : List Answer) (place : ℕ) (point : PointPlan) (watch : PointWatch) : Type 0 where
+  pub zone : watch.zone ≡ point.zone
+  pub manual : watch.manual ≡ point.manual
+  pub off : TellsSetting site kept (PointOff place) done watch.off
+  pub silent : (n : ℕ) → n ≤ 3 → begins_silent n (latest_of place taken) ≡ nat_le n watch.silent
+  pub few : watch.silent ≤ 3
+  pub run : watch.run ≡ run_of (is_counted site kept done) (λ x. floor_before site point.zone x done) place None taken
+
+pub record WatchesZone (site : Site) (kept : Retained) (done : List Done) (taken : List Answer) (place : ℕ) (zone : ZonePlan) (watch : ZoneWatch) : Type 0 where
+  pub number : watch.number ≡ zone.number
+  pub rule : watch.rule ≡ zone.rule
+  pub partner : watch.partner ≡ zone.partner
+  pub off : TellsSetting site kept (ZoneOff place) done watch.off
+  pub test : TellsSetting site kept (InTest place) done watch.test
+  pub moved : TellsLast (moves place) done watch.moved
+  pub cancelled : TellsLast (cancels place) done watch.cancelled
+  pub recent : (point : ℕ) → besides point watch.recent ≡ latest_besides (may_pair site kept done place zone.rule) point None taken
+
+-- the point is of the panel
+pub record IsOwn (site : Site) (panel place : ℕ) : Type 0 where
+  pub point : PointPlan
+  pub is : slice_get site.points place ≡ Some point
+  pub at : point.panel ≡ panel
+
+pub record DecidesFor (site : Site) (kept : Retained) (panel : ℕ) (done : List Done) (taken : List Answer) (decide : Decide) : Type 0 where
+  pub wired : IsWired site
+  pub at : decide.panel ≡ panel
+  pub point_count : length decide.points.items ≡ length site.points
+  pub zone_count : length decide.zones.items ≡ length site.zones
+  pub points : (place : ℕ) (watch : PointWatch) (point : PointPlan) → slice_get decide.points.items place ≡ Some watch → slice_get site.points place ≡ Some point → point.panel ≡ panel
+      → WatchesPoint site kept done taken place point watch
+  pub zones : (place : ℕ) (watch : ZoneWatch) (zone : ZonePlan) → slice_get decide.zones.items place ≡ Some watch → slice_get site.zones place ≡ Some zone → zone.panel ≡ panel
+      → WatchesZone site kept done taken place zone watch
+  pub reset : TellsLast (resets panel) done decide.reset
+  pub order : AreInOrder taken
+  pub own : (k : ℕ) (answer : Answer) → slice_get taken k ≡ Some answer → IsOwn site panel answer.point
+
+-- an answer of the panel, not earlier than any answer taken nor than the tick of any operation done
+pub record Fits (site : Site) (panel : ℕ) (done : List Done) (taken : List Answer) (answer : Answer) : Type 0 where
+  pub own : IsOwn site panel answer.point
+  pub since : AreBy answer.stamp.0 done
+  pub late : (k : ℕ) (other : Answer) → slice_get taken k ≡ Some other → other.stamp.0 ≤ answer.stamp.0
+
+-- the part stands for something with which the answer fits
+pub record CanSee (decide : Decide) (answer : Answer) : Type 0 where
+  pub site : Site
+  pub kept : Retained
+  pub panel : ℕ
+  pub done : List Done
+  pub taken : List Answer
+  pub stands : DecidesFor site kept panel done taken decide
+  pub fits : Fits site panel done taken answer
+
+-- answers may be taken after these: all are of the panel, their stamps never fall, no point gives two in one tick, and none is stamped before the tick of an operation done
+pub record MayTake (site : Site) (panel : ℕ) (done : List Done) (taken answers : List Answer) : Type 0 where
+  pub own : (k : ℕ) (answer : Answer) → slice_get answers k ≡ Some answer → IsOwn site panel answer.point
+  pub order : AreInOrder (taken ++ answers)
+  pub since : (k : ℕ) (answer : Answer) → slice_get answers k ≡ Some answer → AreBy answer.stamp.0 done
+
+pub record CanTake (decide : Decide) (answers : List Answer) : Type 0 where
+  pub site : Site
+  pub kept : Retained
+  pub panel : ℕ
+  pub done : List Done
+  pub taken : List Answer
+  pub stands : DecidesFor site kept panel done taken decide
+  pub may : MayTake site panel done taken answers
+
+-- no operation on the setting was done in a tick
+abbrev pub NoneIn : ℕ → Setting → List Done → Type 0
+NoneIn tick setting [] = Unit {0}
+NoneIn tick setting (d ∷ ds) = (is_on setting d ≡ true → d.tick ≢ tick) × NoneIn tick setting ds
+
+pub record IsOwnZone (site : Site) (panel place : ℕ) : Type 0 where
+  pub zone : ZonePlan
+  pub is : slice_get site.zones place ≡ Some zone
+  pub at : zone.panel ≡ panel
+
+abbrev pub IsOwnItem : Site → ℕ → Item → Type 0
+IsOwnItem site panel (Point point) = IsOwn site panel point
+IsOwnItem site panel (Zone zone) = IsOwnZone site panel zone
+IsOwnItem site panel (Output output) = Unit {0}
+
+-- the point or zone that an operation names is of the panel
+abbrev pub IsOwnOperation : Site → ℕ → Operation → Type 0
+IsOwnOperation site panel (Cancel zone) = IsOwnZone site panel zone
+IsOwnOperation site panel (Disable item) = IsOwnItem site panel item
+IsOwnOperation site panel (Enable item) = IsOwnItem site panel item
+IsOwnOperation site panel (Test zone) = IsOwnZone site panel zone
+IsOwnOperation site panel (Untest zone) = IsOwnZone site panel zone
+IsOwnOperation site panel _ = Unit {0}
+
+-- an operation may be applied in a tick: it is of the panel, not earlier than those done and the answers taken, and the only one on its setting in that tick; ticks count from 1
+pub record MayApply (site : Site) (panel : ℕ) (done : List Done) (taken : List Answer) (operation : Operation) (tick : ℕ) : Type 0 where
+  pub own : IsOwnOperation site panel operation
+  pub counted : 1 ≤ tick
+  pub since : AreBy tick done
+  pub late : (k : ℕ) (answer : Answer) → slice_get taken k ≡ Some answer → answer.stamp.0 ≤ tick
+  pub once : (setting : Setting) → operation_setting panel operation ≡ Some setting → NoneIn tick setting done
+
+pub record CanApply (decide : Decide) (operation : Operation) (tick : ℕ) : Type 0 where
+  pub site : Site
+  pub kept : Retained
+  pub panel : ℕ
+  pub done : List Done
+  pub taken : List Answer
+  pub stands : DecidesFor site kept panel done taken decide
+  pub may : MayApply site panel done taken operation tick
+
+-- a partner, if there is one, is one of so many zones
+abbrev pub IsPlaceIn : Option ℕ → ℕ → Type 0
+IsPlaceIn None count = Unit {0}
+IsPlaceIn (Some place) count = place < count
+
+abbrev pub IsOwnPartner : Site → ℕ → Option ℕ → Type 0
+IsOwnPartner site panel None = Unit {0}
+IsOwnPartner site panel (Some place) = IsOwnZone site panel place

@@ -1,0 +1,14 @@
+ghost use Rattle.std.specs.Prelude.{◌≡◌, ◌<◌, ◌≤◌, ◌+◌, ◌==◌, ◌&&◌, ℕ, if◌then◌else◌};
+ghost use Rattle.site_types.specs.Bits.{has_bit};
+ghost use Rattle.site_types.specs.Changes.{IsNumber};
+
+use site_types::with_bit_32;
+
+/// A mask of zones with at most two bits: those of two numbers, which may be the same, where the first decides.
+pub fn two_bits(number: u8, on: bool, other: u8, also: bool) -> u32
+    requires number { IsNumber number }
+    requires other { IsNumber other }
+    ensures { (k : ℕ) → k < 32 → has_bit result k ≡ (if (k + 1) == number then on else (((k + 1) == other) && also)) }
+{
+    with_bit_32(with_bit_32(0, other - 1, also), number - 1, on)
+}

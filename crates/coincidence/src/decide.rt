@@ -1,0 +1,207 @@
+ghost use Rattle.std.specs.Prelude.{◌≡◌, ◌≢◌, ◌<◌, ◌≤◌, ◌+◌, ◌++◌, [], ◌∷◌, ℕ, List, Some, None, length, slice_get, take, IfOk};
+ghost use Rattle.site_types.specs.declared.site.Site.{Site as SitePlan};
+ghost use Rattle.site_types.specs.declared.point.Point.{Point as PointPlan};
+ghost use Rattle.site_types.specs.declared.zone.Zone.{Zone as ZonePlan};
+ghost use Rattle.site_types.specs.declared.answer.Answer.{Answer as Taken};
+ghost use Rattle.site_types.specs.declared.retained.Retained.{Retained as Kept};
+ghost use Rattle.site_types.specs.Done.{Done, floor_before, AreBy};
+
+use crate::beside::Beside;
+use crate::bits::two_bits;
+use crate::last_tick::LastTick;
+use crate::point_watch::PointWatch;
+use crate::sight::Sight;
+use crate::zone_watch::ZoneWatch;
+use arrayvec::ArrayVec;
+use coincidence_rules::Finding;
+use site_types::{Answer, Heard, Item, Operation, Retained, Rule, Site};
+use std::alloc::Global;
+use tick_units::{Lane, NoMemory, Switch, Tick};
+
+/// Decides which answers of a panel's points confirm and release which of its zones.
+#[derive(Drop)]
+pub struct Decide {
+    panel: u8,
+    points: Vec<PointWatch>,
+    zones: Vec<ZoneWatch>,
+    reset: LastTick,
+}
+
+impl Decide {
+    ghost use Rattle.coincidence_rules.specs.Counted.{is_counted};
+    ghost use Rattle.coincidence_rules.specs.Findings.{finding_among, finding_of, findings_after};
+    ghost use Rattle.coincidence_rules.specs.Kept.{second_of};
+    ghost use Rattle.coincidence.specs.Sights.{Sees, SeesBeside, far_of};
+    ghost use Rattle.coincidence.specs.Stands.{DecidesFor, WatchesZone, IsPlaceIn, IsOwnPartner, Fits, CanSee, MayTake, CanTake, MayApply, CanApply};
+
+    // Takes an answer: what it means, by those taken up to it.
+    fn take(&mut self, answer: &Answer) -> Finding
+        requires { CanTake self.old (answer.now ∷ []) }
+        ensures taken { (site : SitePlan) (kept : Kept) (panel : ℕ) (done : List Done) (taken : List Taken) → DecidesFor site kept panel done taken self.old → MayTake site panel done taken (answer.now ∷ []) → DecidesFor site kept panel done (taken ++ answer.now ∷ []) self.new }
+        ensures found { (site : SitePlan) (kept : Kept) (panel : ℕ) (done : List Done) (taken : List Taken) → DecidesFor site kept panel done taken self.old → MayTake site panel done taken (answer.now ∷ []) → result ≡ finding_of site kept panel done taken answer.now }
+    {
+        self.note(answer);
+        self.find(answer)
+    }
+
+    // Takes note of an answer.
+    fn note(&mut self, answer: &Answer)
+        requires { CanTake self.old (answer.now ∷ []) }
+        ensures { (site : SitePlan) (kept : Kept) (panel : ℕ) (done : List Done) (taken : List Taken) → DecidesFor site kept panel done taken self.old → MayTake site panel done taken (answer.now ∷ []) → DecidesFor site kept panel done (taken ++ answer.now ∷ []) self.new }
+    {
+        let counted = self.counts(answer);
+        let place = answer.point as usize;
+        let zone = self.points[place].zone as usize;
+        let floor = self.floor_at(zone, answer.stamp);
+        let watch = &mut self.points[place];
+        watch.note(answer.heard, counted, floor, answer.stamp);
+        let pairs = counted && (!watch.manual || is_type_c(self.zones[zone].rule));
+        let watch = &mut self.zones[zone];
+        watch.note(pairs, answer.point, answer.stamp);
+    }
+
+    // What an answer means, which was the last one taken.
+    fn find(&self, answer: &Answer) -> Finding
+        requires { CanSee self.now answer.now }
+        ensures { (site : SitePlan) (kept : Kept) (panel : ℕ) (done : List Done) (taken : List Taken) → DecidesFor site kept panel done (taken ++ answer.now ∷ []) self.now → Fits site panel done (taken ++ answer.now ∷ []) answer.now → result ≡ finding_of site kept panel done taken answer.now }
+    {
+        let sight = self.sight(answer);
+        let point = &self.points[answer.point as usize];
+        let zone = &self.zones[point.zone as usize];
+        let beside = self.beside(zone, &sight);
+        let number = zone.number;
+        Finding {
+            stamp: answer.stamp,
+            point: answer.point,
+            counted: two_bits(number, sight.counted, number, false),
+            confirmed: two_bits(number, sight.confirms_own(zone.rule), beside.number, beside.confirmed),
+            manual: two_bits(number, sight.counted && point.manual, number, false),
+            released: two_bits(number, sight.releases_own(zone.rule), beside.number, beside.released),
+            missing: point.is_missing(),
+        }
+    }
+
+    // All that is seen of an answer.
+    fn sight(&self, answer: &Answer) -> Sight
+        requires { CanSee self.now answer.now }
+        ensures { (site : SitePlan) (kept : Kept) (panel : ℕ) (done : List Done) (taken : List Taken) → DecidesFor site kept panel done taken self.now → Fits site panel done taken answer.now → (point : PointPlan) (zone : ZonePlan) → slice_get site.points answer.now.point ≡ Some point → slice_get site.zones point.zone ≡ Some zone → Sees site kept done taken answer.now point zone result }
+    {
+        let point = &self.points[answer.point as usize];
+        let place = point.zone as usize;
+        let partner = self.zones[place].partner;
+        let counted = self.counts(answer);
+        let floor = self.floor_at(place, answer.stamp);
+        let near = self.second(place, answer);
+        let far = self.far(partner, answer);
+        Sight {
+            stamp: answer.stamp,
+            counted,
+            manual: point.manual,
+            run: point.run,
+            floor,
+            near,
+            far,
+        }
+    }
+
+    // Whether an answer counts.
+    fn counts(&self, answer: &Answer) -> bool
+        requires { CanSee self.now answer.now }
+        ensures { (site : SitePlan) (kept : Kept) (panel : ℕ) (done : List Done) (taken : List Taken) → DecidesFor site kept panel done taken self.now → Fits site panel done taken answer.now → result ≡ is_counted site kept done answer.now }
+    {
+        let point = &self.points[answer.point as usize];
+        let zone = &self.zones[point.zone as usize];
+        let stamp = answer.stamp;
+        is_alarm(answer.heard) && !(is_on(&point.off, stamp) || is_on(&zone.off, stamp) || is_on(&zone.test, stamp))
+    }
+
+    // The last floor of a zone before a tick, which isn't earlier than the operations done.
+    fn floor_at(&self, zone: usize, x: Tick) -> Tick
+        requires { zone < length self.now.zones.items }
+        ensures { (site : SitePlan) (kept : Kept) (panel : ℕ) (done : List Done) (taken : List Taken) → DecidesFor site kept panel done taken self.now → AreBy x.0 done → (plan : ZonePlan) → slice_get site.zones zone ≡ Some plan → plan.panel ≡ panel → result.0 ≡ floor_before site zone x.0 done }
+    {
+        Tick(self.reset.before(x).0.max(self.zones[zone].moved.before(x).0))
+    }
+
+    // The latest answer of another point of a zone that makes a pair with this one.
+    fn second(&self, zone: usize, answer: &Answer) -> Option<Tick>
+        requires { zone < length self.now.zones.items }
+        ensures { (site : SitePlan) (kept : Kept) (panel : ℕ) (done : List Done) (taken : List Taken) → DecidesFor site kept panel done taken self.now → AreBy answer.now.stamp.0 done → (plan : ZonePlan) → slice_get site.zones zone ≡ Some plan → plan.panel ≡ panel → result ≡ second_of site kept done taken zone plan.rule answer.now }
+    {
+        let floor = self.floor_at(zone, answer.stamp);
+        let watch = &self.zones[zone];
+        after(watch.bar(floor, answer.stamp), watch.recent.besides(answer.point))
+    }
+
+    // The same for the partner of a zone.
+    fn far(&self, partner: Option<u16>, answer: &Answer) -> Option<Tick>
+        requires { IsPlaceIn partner (length self.now.zones.items) }
+        ensures { (site : SitePlan) (kept : Kept) (panel : ℕ) (done : List Done) (taken : List Taken) → DecidesFor site kept panel done taken self.now → AreBy answer.now.stamp.0 done → IsOwnPartner site panel partner → result ≡ far_of site kept done taken partner answer.now }
+    {
+        match partner {
+            None => None,
+            Some(other) => self.second(other as usize, answer),
+        }
+    }
+
+    // What an answer means for the partner of its zone.
+    fn beside(&self, zone: &ZoneWatch, sight: &Sight) -> Beside
+        requires { IsPlaceIn zone.now.partner (length self.now.zones.items) }
+        ensures { (site : SitePlan) (kept : Kept) (panel : ℕ) (done : List Done) (taken : List Taken) → DecidesFor site kept panel done taken self.now → (place : ℕ) (plan : ZonePlan) → slice_get site.zones place ≡ Some plan → plan.panel ≡ panel → WatchesZone site kept done taken place plan zone.now → SeesBeside site plan plan.partner sight.now result }
+    {
+        match zone.partner {
+            None => Beside {
+                number: zone.number,
+                confirmed: false,
+                released: false,
+            },
+            Some(other) => {
+                let partner = &self.zones[other as usize];
+                Beside {
+                    number: partner.number,
+                    confirmed: sight.confirms_partner(partner.rule),
+                    released: sight.releases_partner(partner.rule),
+                }
+            }
+        }
+    }
+}
+
+ghost use Rattle.coincidence.specs.Parts.{switch_at};
+ghost use Rattle.coincidence_rules.specs.Kept.{is_type_C, after as after_tick};
+ghost use Rattle.coincidence_rules.specs.Counted.{is_alarm as is_heard_alarm};
+
+fn is_alarm(heard: Heard) -> bool
+    ensures { result ≡ is_heard_alarm heard }
+{
+    match heard {
+        Heard::Alarm => true,
+        Heard::Quiet | Heard::Silent => false,
+    }
+}
+
+fn is_type_c(rule: Rule) -> bool
+    ensures { result ≡ is_type_C rule }
+{
+    match rule {
+        Rule::C => true,
+        Rule::Plain | Rule::A { .. } | Rule::B { .. } => false,
+    }
+}
+
+// The value of a switch at a tick that isn't before its own.
+fn is_on(switch: &Switch, x: Tick) -> bool
+    requires { switch.now.since.0 ≤ x.0 }
+    ensures { result ≡ switch_at x.0 switch.entry.now }
+{
+    switch.at(x)
+}
+
+fn after(tick: Tick, stamp: Option<Tick>) -> Option<Tick>
+    ensures { result ≡ after_tick tick.0 stamp }
+{
+    match stamp {
+        Some(stamp) => if tick.0 < stamp.0 { Some(stamp) } else { None },
+        None => None,
+    }
+}

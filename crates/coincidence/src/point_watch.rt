@@ -1,0 +1,85 @@
+ghost use Rattle.std.specs.Prelude.{◌≡◌, ◌≤◌};
+ghost use Rattle.coincidence.specs.Parts.{point_noted, switch_after};
+ghost use Rattle.coincidence_rules.specs.Counted.{is_silent};
+
+use site_types::{Heard, Point};
+use tick_units::{Switch, Tick};
+
+/// How many silent answers make a point missing.
+pub const SILENT_ASKINGS: u8 = 3;
+
+/// What is kept of a point.
+#[derive(Clone, Copy)]
+pub struct PointWatch {
+    /// The place of its zone.
+    pub zone: u16,
+    pub manual: bool,
+    /// Whether it is disabled.
+    pub off: Switch,
+    /// How many of its last answers were silent, at most `SILENT_ASKINGS`.
+    pub silent: u8,
+    /// The stamp at which its answers began to count without a break and without a floor.
+    pub run: Option<Tick>,
+}
+
+impl PointWatch {
+    pub fn new(point: &Point, off: bool) -> PointWatch {
+        PointWatch {
+            zone: point.zone,
+            manual: point.manual,
+            off: Switch::new(off),
+            silent: 0,
+            run: None,
+        }
+    }
+
+    /// Takes note of an answer, of whether it counts, and of the floor before it.
+    pub fn note(&mut self, heard: Heard, counted: bool, floor: Tick, stamp: Tick)
+        ensures { self.new ≡ point_noted heard counted floor stamp self.old }
+    {
+        self.silent = silent_after(self.silent, heard);
+        self.run = run_after(self.run, counted, floor, stamp);
+    }
+
+    pub fn is_missing(&self) -> bool
+        ensures { result ≡ nat_le 3 self.now.silent }
+    {
+        self.silent >= SILENT_ASKINGS
+    }
+
+    pub fn set_off(&mut self, off: bool, at: Tick)
+        requires { self.old.off.since.0 < at.0 }
+        ensures { self.new ≡ record self.old { off = switch_after off at self.old.off } }
+    {
+        self.off.set(off, at);
+    }
+}
+
+ghost use Rattle.std.specs.Prelude.{nat_le, ◌<◌};
+ghost use Rattle.coincidence.specs.Parts.{silent_then};
+ghost use Rattle.coincidence_rules.specs.Kept.{run_then};
+
+fn silent_after(silent: u8, heard: Heard) -> u8
+    ensures { result ≡ silent_then heard silent }
+{
+    match heard {
+        Heard::Silent => if silent < SILENT_ASKINGS {
+            silent + 1
+        } else {
+            silent
+        },
+        Heard::Quiet | Heard::Alarm => 0,
+    }
+}
+
+fn run_after(run: Option<Tick>, counted: bool, floor: Tick, stamp: Tick) -> Option<Tick>
+    ensures { result ≡ run_then counted floor.0 stamp run }
+{
+    if !counted {
+        return None;
+    }
+    match run {
+        Some(first) => if floor.0 < first.0 { run } else { Some(stamp) },
+        None => Some(stamp),
+    }
+}

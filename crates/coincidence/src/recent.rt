@@ -1,0 +1,58 @@
+ghost use Rattle.std.specs.Prelude.{◌≡◌};
+ghost use Rattle.coincidence.specs.Parts.{besides, noted};
+
+use tick_units::Tick;
+
+/// A point and the stamp of an answer of it.
+#[derive(Clone, Copy)]
+pub struct Sighting {
+    pub point: u16,
+    pub stamp: Tick,
+}
+
+/// The latest answer that counted, and the latest one of another point than that one's.
+#[derive(Clone, Copy)]
+pub struct Recent {
+    latest: Option<Sighting>,
+    other: Option<Sighting>,
+}
+
+impl Recent {
+    pub fn none() -> Recent
+        ensures { result ≡ record { latest = None; other = None } }
+    {
+        Recent {
+            latest: None,
+            other: None,
+        }
+    }
+
+    /// Takes note of an answer that isn't earlier than those before.
+    pub fn note(&mut self, point: u16, stamp: Tick)
+        ensures { self.new ≡ noted point stamp self.old }
+    {
+        if let Some(seen) = self.latest {
+            if seen.point != point {
+                self.other = self.latest;
+            }
+        }
+        self.latest = Some(Sighting { point, stamp });
+    }
+
+    /// The stamp of the latest answer of another point than this one.
+    pub fn besides(&self, point: u16) -> Option<Tick>
+        ensures { result ≡ besides point self.now }
+    {
+        match self.latest {
+            None => None,
+            Some(seen) => if seen.point != point {
+                Some(seen.stamp)
+            } else {
+                match self.other {
+                    None => None,
+                    Some(seen) => Some(seen.stamp),
+                }
+            },
+        }
+    }
+}

@@ -1,0 +1,93 @@
+ghost use Rattle.std.specs.Prelude.{◌≡◌, is_some};
+ghost use Rattle.coincidence_rules.specs.Kept.{is_long, is_within};
+ghost use Rattle.coincidence.specs.Sights.{own_coincides, own_confirmed, own_released, partner_confirmed, partner_released};
+
+use site_types::Rule;
+use tick_units::Tick;
+
+/// What is seen of an answer: whether it counts, and the earlier answers with which it may make a pair.
+#[derive(Clone, Copy)]
+pub struct Sight {
+    pub stamp: Tick,
+    pub counted: bool,
+    /// Whether it is of a manual call point.
+    pub manual: bool,
+    /// Where the run of its point's counted answers began.
+    pub run: Option<Tick>,
+    /// The floor of its zone.
+    pub floor: Tick,
+    /// The latest answer of another point of its zone.
+    pub near: Option<Tick>,
+    /// The latest answer of a point of the zone's partner.
+    pub far: Option<Tick>,
+}
+
+impl Sight {
+    /// Whether the answer confirms its own zone.
+    pub fn confirms_own(&self, rule: Rule) -> bool
+        ensures { result ≡ own_confirmed rule self.now }
+    {
+        self.counted && (self.manual || self.coincides(rule))
+    }
+
+    fn coincides(&self, rule: Rule) -> bool
+        ensures { result ≡ own_coincides rule self.now }
+    {
+        match rule {
+            Rule::Plain | Rule::C => true,
+            Rule::A { verify, within } => self.is_verified(verify) || self.is_within(self.near, within),
+            Rule::B { within } => self.is_within(self.near, within) || self.is_within(self.far, within),
+        }
+    }
+
+    /// Whether the answer releases its own zone.
+    pub fn releases_own(&self, rule: Rule) -> bool
+        ensures { result ≡ own_released rule self.now }
+    {
+        match rule {
+            Rule::C => self.counted && (self.manual || self.near.is_some() || self.far.is_some()),
+            Rule::Plain | Rule::A { .. } | Rule::B { .. } => self.confirms_own(rule),
+        }
+    }
+
+    /// Whether the answer confirms the partner of its zone.
+    pub fn confirms_partner(&self, rule: Rule) -> bool
+        ensures { result ≡ partner_confirmed rule self.now }
+    {
+        match rule {
+            Rule::B { within } => self.counted && !self.manual && self.is_within(self.far, within),
+            Rule::Plain | Rule::A { .. } | Rule::C => false,
+        }
+    }
+
+    /// Whether the answer releases the partner of its zone.
+    pub fn releases_partner(&self, rule: Rule) -> bool
+        ensures { result ≡ partner_released rule self.now }
+    {
+        match rule {
+            Rule::C => self.counted && self.far.is_some(),
+            Rule::Plain | Rule::A { .. } | Rule::B { .. } => self.confirms_partner(rule),
+        }
+    }
+
+    // Whether the run lies after the floor and began long enough ago.
+    fn is_verified(&self, verify: u16) -> bool
+        ensures { result ≡ is_long verify self.now.floor.0 self.now.stamp.0 self.now.run }
+    {
+        match self.run {
+            None => false,
+            Some(first) => self.floor.0 < first.0
+                && first.0 <= self.stamp.0
+                && self.stamp.0 - first.0 >= verify as u64,
+        }
+    }
+
+    fn is_within(&self, earlier: Option<Tick>, within: u16) -> bool
+        ensures { result ≡ is_within within self.now.stamp.0 earlier }
+    {
+        match earlier {
+            None => false,
+            Some(stamp) => self.stamp.0.saturating_sub(stamp.0) <= within as u64,
+        }
+    }
+}

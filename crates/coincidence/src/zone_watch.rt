@@ -1,0 +1,86 @@
+ghost use Rattle.std.specs.Prelude.{◌≡◌, ◌<◌, ◌≤◌};
+ghost use Rattle.coincidence.specs.Parts.{zone_noted, switch_after, last_after, last_if, last_at};
+ghost use Rattle.coincidence_rules.specs.Kept.{bar};
+
+use crate::last_tick::LastTick;
+use crate::recent::Recent;
+use site_types::{Rule, Zone};
+use tick_units::{Switch, Tick};
+
+/// What is kept of a zone.
+#[derive(Clone, Copy)]
+pub struct ZoneWatch {
+    /// Its number at the panel, from 1.
+    pub number: u8,
+    pub rule: Rule,
+    /// The place of its partner.
+    pub partner: Option<u16>,
+    /// Whether it is disabled.
+    pub off: Switch,
+    pub test: Switch,
+    /// Its last disabling or test.
+    pub moved: LastTick,
+    pub cancelled: LastTick,
+    /// Its latest answers that may make a pair with others.
+    pub recent: Recent,
+}
+
+impl ZoneWatch {
+    pub fn new(zone: &Zone, off: bool, test: bool) -> ZoneWatch {
+        ZoneWatch {
+            number: zone.number,
+            rule: zone.rule,
+            partner: zone.partner,
+            off: Switch::new(off),
+            test: Switch::new(test),
+            moved: LastTick::never(),
+            cancelled: LastTick::never(),
+            recent: Recent::none(),
+        }
+    }
+
+    /// Takes note of an answer, if it may make a pair with others.
+    pub fn note(&mut self, pairs: bool, point: u16, stamp: Tick)
+        ensures { self.new ≡ zone_noted pairs point stamp self.old }
+    {
+        if pairs {
+            self.recent.note(point, stamp);
+        }
+    }
+
+    /// After which tick an earlier answer must lie to make a pair with one of this stamp.
+    pub fn bar(&self, floor: Tick, stamp: Tick) -> Tick
+        ensures { result.0 ≡ bar self.now.rule floor.0 (last_at stamp.0 self.now.cancelled) }
+    {
+        match self.rule {
+            Rule::B { .. } => Tick(floor.0.max(self.cancelled.before(stamp).0)),
+            Rule::Plain | Rule::A { .. } | Rule::C => floor,
+        }
+    }
+
+    pub fn set_off(&mut self, off: bool, at: Tick)
+        requires { self.old.off.since.0 < at.0 }
+        ensures { self.new ≡ record self.old { off = switch_after off at self.old.off; moved = last_if off at self.old.moved } }
+    {
+        self.off.set(off, at);
+        if off {
+            self.moved.raise(at);
+        }
+    }
+
+    pub fn set_test(&mut self, on: bool, at: Tick)
+        requires { self.old.test.since.0 < at.0 }
+        ensures { self.new ≡ record self.old { test = switch_after on at self.old.test; moved = last_if on at self.old.moved } }
+    {
+        self.test.set(on, at);
+        if on {
+            self.moved.raise(at);
+        }
+    }
+
+    pub fn cancel(&mut self, at: Tick)
+        ensures { self.new ≡ record self.old { cancelled = last_after at self.old.cancelled } }
+    {
+        self.cancelled.raise(at);
+    }
+}
