@@ -35,7 +35,7 @@ stamp_of None = None
 stamp_of (Some seen) = Some seen.stamp
 
 abbrev pub besides_by : ℕ → Option Sighting → Option Sighting → Option Tick
-besides_by point None other = None
+besides_by point None other = stamp_of other
 besides_by point (Some seen) other = if seen.point == point then stamp_of other else Some seen.stamp
 
 -- the latest stamp of another point than this one

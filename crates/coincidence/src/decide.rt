@@ -55,9 +55,9 @@ impl Decide {
         let floor = self.floor_at(zone, answer.stamp);
         let watch = &mut self.points[place];
         watch.note(answer.heard, counted, floor, answer.stamp);
-        let pairs = counted && (!watch.manual || is_type_c(self.zones[zone].rule));
+        let manual = watch.manual;
         let watch = &mut self.zones[zone];
-        watch.note(pairs, answer.point, answer.stamp);
+        watch.note(may_pair(counted, manual, watch.rule), answer.point, answer.stamp);
     }
 
     // What an answer means, which was the last one taken.
@@ -75,7 +75,7 @@ impl Decide {
             point: answer.point,
             counted: two_bits(number, sight.counted, number, false),
             confirmed: two_bits(number, sight.confirms_own(zone.rule), beside.number, beside.confirmed),
-            manual: two_bits(number, sight.counted && point.manual, number, false),
+            manual: two_bits(number, sight.calls(), number, false),
             released: two_bits(number, sight.releases_own(zone.rule), beside.number, beside.released),
             missing: point.is_missing(),
         }
@@ -111,8 +111,10 @@ impl Decide {
     {
         let point = &self.points[answer.point as usize];
         let zone = &self.zones[point.zone as usize];
-        let stamp = answer.stamp;
-        is_alarm(answer.heard) && !(is_on(&point.off, stamp) || is_on(&zone.off, stamp) || is_on(&zone.test, stamp))
+        let off = is_on(&point.off, answer.stamp);
+        let zone_off = is_on(&zone.off, answer.stamp);
+        let test = is_on(&zone.test, answer.stamp);
+        counts_unless(answer.heard, off, zone_off, test)
     }
 
     // The last floor of a zone before a tick, which isn't earlier than the operations done.
@@ -169,15 +171,23 @@ impl Decide {
 
 ghost use Rattle.coincidence.specs.Parts.{switch_at};
 ghost use Rattle.coincidence_rules.specs.Kept.{is_type_C, after as after_tick};
-ghost use Rattle.coincidence_rules.specs.Counted.{is_alarm as is_heard_alarm};
+ghost use Rattle.coincidence_rules.specs.Counted.{is_alarm};
+ghost use Rattle.std.specs.Prelude.{not, ◌&&◌, ◌||◌};
 
-fn is_alarm(heard: Heard) -> bool
-    ensures { result ≡ is_heard_alarm heard }
+fn counts_unless(heard: Heard, off: bool, zone_off: bool, test: bool) -> bool
+    ensures { result ≡ is_alarm heard && not (off || (zone_off || test)) }
 {
     match heard {
-        Heard::Alarm => true,
+        Heard::Alarm => !(off || zone_off || test),
         Heard::Quiet | Heard::Silent => false,
     }
+}
+
+// Whether an answer may make a pair with others of its zone.
+fn may_pair(counted: bool, manual: bool, rule: Rule) -> bool
+    ensures { result ≡ counted && (is_type_C rule || not manual) }
+{
+    counted && (is_type_c(rule) || !manual)
 }
 
 fn is_type_c(rule: Rule) -> bool

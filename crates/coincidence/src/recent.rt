@@ -44,14 +44,10 @@ impl Recent {
         ensures { result ≡ besides point self.now }
     {
         match self.latest {
-            None => None,
-            Some(seen) => if seen.point != point {
-                Some(seen.stamp)
-            } else {
-                match self.other {
-                    None => None,
-                    Some(seen) => Some(seen.stamp),
-                }
+            Some(seen) if seen.point != point => Some(seen.stamp),
+            _ => match self.other {
+                Some(seen) => Some(seen.stamp),
+                None => None,
             },
         }
     }

@@ -1,4 +1,4 @@
-ghost use Rattle.std.specs.Prelude.{◌≡◌, is_some};
+ghost use Rattle.std.specs.Prelude.{◌≡◌, ◌&&◌, is_some};
 ghost use Rattle.coincidence_rules.specs.Kept.{is_long, is_within};
 ghost use Rattle.coincidence.specs.Sights.{own_coincides, own_confirmed, own_released, partner_confirmed, partner_released};
 
@@ -23,6 +23,13 @@ pub struct Sight {
 }
 
 impl Sight {
+    /// Whether the answer counts and is of a manual call point.
+    pub fn calls(&self) -> bool
+        ensures { result ≡ self.now.counted && self.now.manual }
+    {
+        self.counted && self.manual
+    }
+
     /// Whether the answer confirms its own zone.
     pub fn confirms_own(&self, rule: Rule) -> bool
         ensures { result ≡ own_confirmed rule self.now }
