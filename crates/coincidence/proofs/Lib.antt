@@ -5,3 +5,5 @@ pub mod Meant
 pub mod FindingIs
 pub mod Seen
 pub mod Noted
+pub mod Applied
+pub mod Operated

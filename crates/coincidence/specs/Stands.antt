@@ -1,5 +1,6 @@
 -- The part that decides stands for the operations done and the answers taken.
-use Rattle.std.specs.Prelude.{◌≡◌, ◌≢◌, ◌<◌, ◌≤◌, ℕ, Bool, true, false, List, [], ◌∷◌, ◌++◌, Option, Some, None, length, slice_get, ◌==◌, ◌&&◌, nat_le, if◌then◌else◌}
+use Rattle.std.specs.Prelude.{◌≡◌, ◌≢◌, ◌<◌, ◌≤◌, ℕ, Bool, true, false, List, [], ◌∷◌, ◌++◌, Option, Some, None, length, slice_get, take, ◌==◌, ◌&&◌, nat_le, if◌then◌else◌}
+use Rattle.tick_units.specs.Lane.{LaneState, turn_count}
 use Rattle.tick_units.specs.declared.switch.Switch.{Switch}
 use Rattle.site_types.specs.declared.site.Site.{Site}
 use Rattle.site_types.specs.declared.point.Point.{Point as PointPlan}
@@ -10,7 +11,7 @@ use Rattle.site_types.specs.declared.item.Item.{Item}
 use Rattle.site_types.specs.declared.item.Item.TheVariants.{Point, Zone, Output}
 use Rattle.site_types.specs.declared.operation.Operation.{Operation}
 use Rattle.site_types.specs.declared.operation.Operation.TheVariants.{Reset, Cancel, Disable, Enable, Test, Untest}
-use Rattle.site_types.specs.Done.{Done, Setting, PointOff, ZoneOff, InTest, is_on, operation_setting, in_force, latest_before, floor_before, cancels, AreBy}
+use Rattle.site_types.specs.Done.{Done, Setting, PointOff, ZoneOff, InTest, is_on, in_force, latest_before, floor_before, cancels, AreBy}
 use Rattle.coincidence_rules.specs.Counted.{is_counted}
 use Rattle.coincidence_rules.specs.Missing.{latest_of, begins_silent}
 use Rattle.coincidence_rules.specs.InOrder.{AreInOrder}
@@ -113,6 +114,10 @@ pub record MayTake (site : Site) (panel : ℕ) (done : List Done) (taken answers
   pub order : AreInOrder (taken ++ answers)
   pub since : (k : ℕ) (answer : Answer) → slice_get answers k ≡ Some answer → AreBy answer.stamp.0 done
 
+-- what a turn takes of a lane
+abbrev pub taken_by : LaneState Answer → List Answer
+taken_by lane = take (turn_count lane) lane.items
+
 pub record CanTake (decide : Decide) (answers : List Answer) : Type 0 where
   pub site : Site
   pub kept : Retained
@@ -146,13 +151,17 @@ IsOwnOperation site panel (Test zone) = IsOwnZone site panel zone
 IsOwnOperation site panel (Untest zone) = IsOwnZone site panel zone
 IsOwnOperation site panel _ = Unit {0}
 
+abbrev pub off_operation : Bool → Item → Operation
+off_operation true item = Disable item
+off_operation false item = Enable item
+
 -- an operation may be applied in a tick: it is of the panel, not earlier than those done and the answers taken, and the only one on its setting in that tick; ticks count from 1
 pub record MayApply (site : Site) (panel : ℕ) (done : List Done) (taken : List Answer) (operation : Operation) (tick : ℕ) : Type 0 where
   pub own : IsOwnOperation site panel operation
   pub counted : 1 ≤ tick
   pub since : AreBy tick done
   pub late : (k : ℕ) (answer : Answer) → slice_get taken k ≡ Some answer → answer.stamp.0 ≤ tick
-  pub once : (setting : Setting) → operation_setting panel operation ≡ Some setting → NoneIn tick setting done
+  pub once : (setting : Setting) → is_on setting (record { tick = tick; panel = panel; operation = operation }) ≡ true → NoneIn tick setting done
 
 pub record CanApply (decide : Decide) (operation : Operation) (tick : ℕ) : Type 0 where
   pub site : Site

@@ -5,6 +5,7 @@ ghost use Rattle.site_types.specs.declared.zone.Zone.{Zone as ZonePlan};
 ghost use Rattle.site_types.specs.declared.answer.Answer.{Answer as Taken};
 ghost use Rattle.site_types.specs.declared.retained.Retained.{Retained as Kept};
 ghost use Rattle.site_types.specs.Done.{Done, floor_before, AreBy};
+ghost use Rattle.tick_units.specs.Lane.{HasRoom, after_turn, with_put};
 
 use crate::beside::Beside;
 use crate::bits::two_bits;
@@ -32,7 +33,51 @@ impl Decide {
     ghost use Rattle.coincidence_rules.specs.Findings.{finding_among, finding_of, findings_after};
     ghost use Rattle.coincidence_rules.specs.Kept.{second_of};
     ghost use Rattle.coincidence.specs.Sights.{Sees, SeesBeside, far_of};
-    ghost use Rattle.coincidence.specs.Stands.{DecidesFor, WatchesZone, IsPlaceIn, IsOwnPartner, Fits, CanSee, MayTake, CanTake, MayApply, CanApply};
+    ghost use Rattle.coincidence.specs.Stands.{DecidesFor, WatchesZone, IsPlaceIn, IsOwnPartner, Fits, CanSee, MayTake, CanTake, taken_by, MayApply, CanApply, off_operation};
+
+    /// Takes the answers of a turn, and puts one finding for each.
+    pub fn turn(&mut self, answers: &mut Lane<Answer>, findings: &mut Lane<Finding>)
+        requires quota { answers.old.quota ≤ 32 }
+        requires room { HasRoom findings.old 32 }
+        requires may { CanTake self.old (taken_by answers.old) }
+        ensures answers { answers.new ≡ after_turn answers.old }
+        ensures taken { (site : SitePlan) (kept : Kept) (panel : ℕ) (done : List Done) (taken : List Taken) → DecidesFor site kept panel done taken self.old → MayTake site panel done taken (taken_by answers.old) → DecidesFor site kept panel done (taken ++ taken_by answers.old) self.new }
+        ensures findings { (site : SitePlan) (kept : Kept) (panel : ℕ) (done : List Done) (taken : List Taken) → DecidesFor site kept panel done taken self.old → MayTake site panel done taken (taken_by answers.old) → findings.new ≡ with_put findings.old (findings_after site kept panel done taken (taken_by answers.old)) }
+    {
+        let mut batch: ArrayVec<Answer, 32> = ArrayVec::new();
+        answers.take_turn(&mut batch);
+        for answer in batch.as_slice() {
+            findings.put(self.take(answer));
+        }
+    }
+
+    /// An operation of the panel was done in a tick, counted from 1. It is in force from the next tick on.
+    pub fn apply(&mut self, operation: &Operation, at: Tick)
+        requires { CanApply self.old operation.now at.0 }
+        ensures { (site : SitePlan) (kept : Kept) (panel : ℕ) (done : List Done) (taken : List Taken) → DecidesFor site kept panel done taken self.old → MayApply site panel done taken operation.now at.0 → DecidesFor site kept panel (record { tick = at.0; panel = panel; operation = operation.now } ∷ done) taken self.new }
+    {
+        match *operation {
+            Operation::Reset => self.reset.raise(at),
+            Operation::Cancel(zone) => self.zones[zone as usize].cancel(at),
+            Operation::Test(zone) => self.zones[zone as usize].set_test(true, at),
+            Operation::Untest(zone) => self.zones[zone as usize].set_test(false, at),
+            Operation::Disable(item) => self.set_off(&item, true, at),
+            Operation::Enable(item) => self.set_off(&item, false, at),
+            Operation::Mute | Operation::Override | Operation::Silence | Operation::Resound | Operation::Delays(_) | Operation::Clear => {}
+        }
+    }
+
+    // A point, zone or output of the panel was disabled or enabled in a tick.
+    fn set_off(&mut self, item: &Item, off: bool, at: Tick)
+        requires { CanApply self.old (off_operation off item.now) at.0 }
+        ensures { (site : SitePlan) (kept : Kept) (panel : ℕ) (done : List Done) (taken : List Taken) → DecidesFor site kept panel done taken self.old → MayApply site panel done taken (off_operation off item.now) at.0 → DecidesFor site kept panel (record { tick = at.0; panel = panel; operation = off_operation off item.now } ∷ done) taken self.new }
+    {
+        match *item {
+            Item::Point(point) => self.points[point as usize].set_off(off, at),
+            Item::Zone(zone) => self.zones[zone as usize].set_off(off, at),
+            Item::Output(_) => {}
+        }
+    }
 
     // Takes an answer: what it means, by those taken up to it.
     fn take(&mut self, answer: &Answer) -> Finding
