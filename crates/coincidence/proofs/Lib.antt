@@ -7,3 +7,4 @@ pub mod Seen
 pub mod Noted
 pub mod Applied
 pub mod Operated
+pub mod Turned

@@ -1,29 +1,49 @@
-use Rattle.std.proofs.Common.{rules, ◌≡◌, ◌≢◌, ◌<◌, ◌≤◌, ◌+◌, ◌++◌, [], ◌∷◌, ℕ, List, Some, None, length, slice_get, take, IfOk, not, ◌&&◌, ◌||◌, ◌-◌, ◌*◌, ◌/◌, ◌%◌, Bool, true, false, nat_eq, nat_lt, slice_index_or, slice_set, bit_and, bit_or, w8, w32, w64, Bor, MutBor}
-use Rattle.site_types.specs.declared.site.Site.{Site as SitePlan}
-use Rattle.site_types.specs.declared.point.Point.{Point as PointPlan}
-use Rattle.site_types.specs.declared.zone.Zone.{Zone as ZonePlan}
-use Rattle.site_types.specs.declared.answer.Answer.{Answer as Taken}
-use Rattle.site_types.specs.declared.retained.Retained.{Retained as Kept}
-use Rattle.site_types.specs.Done.{Done, floor_before, AreBy}
-use Rattle.tick_units.specs.Lane.{HasRoom, after_turn, with_put}
-use Rattle.coincidence.specs.Parts.{switch_at}
-use Rattle.coincidence_rules.specs.Kept.{is_type_C}
-use Rattle.coincidence_rules.specs.Kept.{after as after_tick}
-use Rattle.coincidence_rules.specs.Kept.{second_of}
-use Rattle.coincidence_rules.specs.Counted.{is_alarm, is_counted}
-use Rattle.coincidence_rules.specs.Findings.{finding_among, finding_of, findings_after}
-use Rattle.coincidence.specs.Sights.{Sees, SeesBeside, far_of}
-use Rattle.coincidence.specs.Stands.{DecidesFor, WatchesZone, IsPlaceIn, IsOwnPartner, Fits, CanSee, MayTake, CanTake, taken_by, MayApply, CanApply, off_operation}
+use Rattle.std.proofs.Common.{◌≡◌, ◌++◌, ◌+◌, ◌∷◌, length, take, sym, ◌∙◌, ap, subst, arith}
+use Rattle.site_types.specs.declared.answer.Answer.{Answer}
+use Rattle.tick_units.specs.Lane.{LaneState}
+use Rattle.coincidence_rules.specs.declared.finding.Finding.{Finding}
+use Rattle.coincidence.specs.Stands.{DecidesFor, MayTake, taken_by}
+use Rattle.coincidence.proofs.Turned.{one_more, may_next, found_more, items_more, puts_more, stands_front}
 use Rattle.coincidence.proofs.decide.Decide.turn.Goals as goal
 
--- src/decide.rt:50:26
 pub take-requires : goal.take-requires
-take-requires c = ?
+take-requires c =
+    let q = c.requires.may in
+    let xs = c.as_slice-answer-items.result.now in
+    let k = c.loop-answer.answer-index in
+    let same : xs ≡ taken_by c.args.answers.now = c.as_slice-answer-items.ensures.value ∙ c.take_turn.ensures.moved in
+    let may = subst (MayTake q.site q.panel q.done q.taken) (sym same) q.may in
+    record {
+      site = q.site;
+      kept = q.kept;
+      panel = q.panel;
+      done = q.done;
+      taken = q.taken ++ take k xs;
+      stands = c.loop-answer.invariant.stands q.site q.kept q.panel q.done q.taken q.stands may;
+      may = may_next q.site q.panel q.done q.taken xs k _ c.loop-answer-test.true may;
+    }
 
--- src/decide.rt:49:9
 pub loop-answer-preserved : goal.loop-answer-preserved
-loop-answer-preserved c = ?
+loop-answer-preserved c =
+    let xs = c.as_slice-answer-items.result.now in
+    let k = c.loop-answer.answer-index in
+    let h = c.loop-answer.invariant in
+    let put = c.put.ensures in
+    record {
+      stands = λ site kept panel done taken stands may.
+          subst (λ ys. DecidesFor site kept panel done ys c.take.new.self) (one_more taken xs k _ c.loop-answer-test.true)
+          (c.take.ensures.taken site kept panel done (taken ++ take k xs) (h.stands site kept panel done taken stands may) (may_next site panel done taken xs k _ c.loop-answer-test.true may));
+      found = λ site kept panel done taken stands may.
+          found_more site kept panel done taken xs k _ c.args.findings.now c.loop-answer.findings c.put.new.self c.take.result c.loop-answer-test.true (h.found site kept panel done taken stands may)
+          (c.take.ensures.found site kept panel done (taken ++ take k xs) (h.stands site kept panel done taken stands may) (may_next site panel done taken xs k _ c.loop-answer-test.true may)) put;
+      few = items_more c.loop-answer.findings c.put.new.self c.take.result (length c.args.findings.now.items) k put h.few;
+      puts = puts_more c.loop-answer.findings c.put.new.self c.take.result c.args.findings.now.put k put h.puts;
+      room = ap (λ (l : LaneState Finding). l.capacity) put ∙ h.room;
+    }
 
--- src/decide.rt:39:5
 pub returns-clause-taken : goal.returns-clause-taken
-returns-clause-taken c = ?
+returns-clause-taken c site kept panel done taken stands may =
+    let xs = c.as_slice-answer-items.result.now in
+    let same : xs ≡ taken_by c.args.answers.now = c.as_slice-answer-items.ensures.value ∙ c.take_turn.ensures.moved in
+    subst (λ ys. DecidesFor site kept panel done (taken ++ ys) c.loop-answer.self) same
+    (stands_front site kept panel done taken xs c.loop-answer.answer-index c.loop-answer.self c.loop-answer-test.false (c.loop-answer.invariant.stands site kept panel done taken stands (subst (MayTake site panel done taken) (sym same) may)))
