@@ -56,7 +56,7 @@ module _ {site : Site} {kept : Retained} {panel : ℕ} {done : List Done} {all :
       record {
         zone = has.partner;
         is = has.is;
-        at = has.panel ∙ w.zone_at;
+        at = has.at_panel ∙ w.zone_at;
         number_is = tells.0;
         tests = sym (tells.1 ∙ partner_confirmed_is site kept done all answer w.point w.zone sight stands.wired w.is_point w.is_zone stands.order fits.late sees other p has.partner has.is has.type);
       }
@@ -69,7 +69,7 @@ module _ {site : Site} {kept : Retained} {panel : ℕ} {done : List Done} {all :
       record {
         zone = has.partner;
         is = has.is;
-        at = has.panel ∙ w.zone_at;
+        at = has.at_panel ∙ w.zone_at;
         number_is = tells.0;
         tests = sym (tells.2 ∙ partner_released_is site kept done all answer w.point w.zone sight stands.wired w.is_point w.is_zone stands.order fits.late sees other p has.partner has.is has.type);
       }

@@ -8,3 +8,4 @@ pub mod Noted
 pub mod Applied
 pub mod Operated
 pub mod Turned
+pub mod Begun

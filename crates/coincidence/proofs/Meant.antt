@@ -18,7 +18,8 @@ use Rattle.coincidence_rules.specs.Confirmed.{is_second, is_near, is_uncancelled
 use Rattle.coincidence_rules.specs.Alarm.{calls, has_second, releases_by, releases}
 use Rattle.coincidence_rules.specs.Kept.{run_of, is_long, is_within, second_of}
 use Rattle.coincidence_rules.specs.InOrder.{AreInOrder}
-use Rattle.coincidence_rules.specs.Wired.{may_be_partners, IsWired, HasPartner}
+use Rattle.site_types.specs.Valid.{is_partner_type}
+use Rattle.coincidence_rules.specs.Wired.{IsWired, HasPartner}
 use Rattle.coincidence_rules.proofs.Lists.{and_both}
 use Rattle.coincidence_rules.proofs.Seconds.{AreUpTo, near_by_second, uncancelled_by_second, any_by_second}
 use Rattle.coincidence_rules.proofs.Verified.{verified_by_run}
@@ -146,13 +147,13 @@ module _ (site : Site) (kept : Retained) (done : List Done) (all : List Answer) 
   no_far : zone.partner ≡ None → sight.far ≡ None
   no_far e = sees.far ∙ ap (λ o. far_of site kept done all o answer) e
 
-  partner_B : (own : ℕ) (other : Rule) → may_be_partners (B own) other ≡ true → (w : ℕ) × (other ≡ B w)
+  partner_B : (own : ℕ) (other : Rule) → is_partner_type (B own) other ≡ true → (w : ℕ) × (other ≡ B w)
   partner_B own Plain h = cc
   partner_B own (A v w) h = cc
   partner_B own (B w) h = (w, refl)
   partner_B own C h = cc
 
-  partner_C : (other : Rule) → may_be_partners C other ≡ true → other ≡ C
+  partner_C : (other : Rule) → is_partner_type C other ≡ true → other ≡ C
   partner_C Plain h = cc
   partner_C (A v w) h = cc
   partner_C (B w) h = cc
@@ -162,7 +163,7 @@ module _ (site : Site) (kept : Retained) (done : List Done) (all : List Answer) 
   far_B within rule limit None e = ap (is_within limit sight.stamp.0) (no_far e)
   far_B within rule limit (Some other) e =
       let has = wired.partners place other zone is_zone e in
-      let type = partner_B within has.partner.rule (subst (λ r. may_be_partners r has.partner.rule ≡ true) rule has.type) in
+      let type = partner_B within has.partner.rule (subst (λ r. is_partner_type r has.partner.rule ≡ true) rule has.type) in
       ap (is_within limit sight.stamp.0) (far_is other e has.partner has.is ∙ ap (λ r. second_of site kept done all other r answer) type.1)
       ∙ ap (λ t. is_within limit t (second_of site kept done all other (B type.0) answer)) stamp_is
       ∙ uncancelled_by_second site kept done all type.0 limit other answer order late
@@ -171,7 +172,7 @@ module _ (site : Site) (kept : Retained) (done : List Done) (all : List Answer) 
   far_C rule None e = ap is_some (no_far e)
   far_C rule (Some other) e =
       let has = wired.partners place other zone is_zone e in
-      let type = partner_C has.partner.rule (subst (λ r. may_be_partners r has.partner.rule ≡ true) rule has.type) in
+      let type = partner_C has.partner.rule (subst (λ r. is_partner_type r has.partner.rule ≡ true) rule has.type) in
       ap is_some (far_is other e has.partner has.is ∙ ap (λ r. second_of site kept done all other r answer) type) ∙ any_by_second site kept done all other answer order late
 
   coincides_is : (rule : Rule) → zone.rule ≡ rule → own_coincides rule sight ≡ coincides site kept done all place (Some rule) answer
@@ -233,18 +234,18 @@ module _ (site : Site) (kept : Retained) (done : List Done) (all : List Answer) 
   counted_none : (c o d e h : Bool) → o ≡ false → e ≡ false → (c && ((o && h) || (d && e))) ≡ false
   counted_none c o d e h a b = grind arith
 
-  partner_confirmed_by : (other : ℕ) → zone.partner ≡ Some other → (y : ZonePlan) → slice_get site.zones other ≡ Some y → (rule : Rule) → y.rule ≡ rule → may_be_partners zone.rule rule ≡ true
+  partner_confirmed_by : (other : ℕ) → zone.partner ≡ Some other → (y : ZonePlan) → slice_get site.zones other ≡ Some y → (rule : Rule) → y.rule ≡ rule → is_partner_type zone.rule rule ≡ true
       → partner_confirmed rule sight ≡ (is_counted site kept done answer && (is_by_call_point site other answer.point || (is_detector site answer.point && coincides site kept done all other (Some rule) answer)))
   partner_confirmed_by other e y is Plain r t = absurd (none zone.rule t)
     where
-      none : (own : Rule) → may_be_partners own Plain ≡ true → ⊥
+      none : (own : Rule) → is_partner_type own Plain ≡ true → ⊥
       none Plain h = cc
       none (A v w) h = cc
       none (B w) h = cc
       none C h = cc
   partner_confirmed_by other e y is (A verify within) r t = absurd (none zone.rule t)
     where
-      none : (own : Rule) → may_be_partners own (A verify within) ≡ true → ⊥
+      none : (own : Rule) → is_partner_type own (A verify within) ≡ true → ⊥
       none Plain h = cc
       none (A v w) h = cc
       none (B w) h = cc
@@ -259,12 +260,12 @@ module _ (site : Site) (kept : Retained) (done : List Done) (all : List Answer) 
       ∙ ap (λ b. is_counted site kept done answer && b) (partner_hand (is_of site other answer.point) (is_detector site answer.point) sight.manual (coincides site kept done all other (Some (B within)) answer) (of_other other (partner_apart other e)) detector_is)
       ∙ ap (λ m. is_counted site kept done answer && ((is_of site other answer.point && m) || (is_detector site answer.point && coincides site kept done all other (Some (B within)) answer))) (sym by_hand)
 
-  pub partner_confirmed_is : (other : ℕ) → zone.partner ≡ Some other → (y : ZonePlan) → slice_get site.zones other ≡ Some y → may_be_partners zone.rule y.rule ≡ true → partner_confirmed y.rule sight ≡ confirms site kept done all other answer
+  pub partner_confirmed_is : (other : ℕ) → zone.partner ≡ Some other → (y : ZonePlan) → slice_get site.zones other ≡ Some y → is_partner_type zone.rule y.rule ≡ true → partner_confirmed y.rule sight ≡ confirms site kept done all other answer
   partner_confirmed_is other e y is t =
       partner_confirmed_by other e y is y.rule refl t
       ∙ ap (λ r. is_counted site kept done answer && (is_by_call_point site other answer.point || (is_detector site answer.point && coincides site kept done all other r answer))) (sym (ap rule_of is))
 
-  partner_released_by : (other : ℕ) → zone.partner ≡ Some other → (y : ZonePlan) → slice_get site.zones other ≡ Some y → may_be_partners zone.rule y.rule ≡ true → (rule : Rule) → y.rule ≡ rule
+  partner_released_by : (other : ℕ) → zone.partner ≡ Some other → (y : ZonePlan) → slice_get site.zones other ≡ Some y → is_partner_type zone.rule y.rule ≡ true → (rule : Rule) → y.rule ≡ rule
       → partner_released rule sight ≡ releases_by site kept done all other (Some rule) answer
   partner_released_by other e y is t Plain r = ap (λ q. partner_confirmed q sight) (sym r) ∙ partner_confirmed_is other e y is t
   partner_released_by other e y is t (A verify within) r = ap (λ q. partner_confirmed q sight) (sym r) ∙ partner_confirmed_is other e y is t
@@ -279,7 +280,7 @@ module _ (site : Site) (kept : Retained) (done : List Done) (all : List Answer) 
       only false o m h a = refl
       only true true m h a = cc
 
-  pub partner_released_is : (other : ℕ) → zone.partner ≡ Some other → (y : ZonePlan) → slice_get site.zones other ≡ Some y → may_be_partners zone.rule y.rule ≡ true → partner_released y.rule sight ≡ releases site kept done all other answer
+  pub partner_released_is : (other : ℕ) → zone.partner ≡ Some other → (y : ZonePlan) → slice_get site.zones other ≡ Some y → is_partner_type zone.rule y.rule ≡ true → partner_released y.rule sight ≡ releases site kept done all other answer
   partner_released_is other e y is t = partner_released_by other e y is t y.rule refl ∙ ap (λ r. releases_by site kept done all other r answer) (sym (ap rule_of is))
 
   -- it means nothing for other zones

@@ -1,16 +1,20 @@
 -- What each operation makes of what is kept.
 use Rattle.std.proofs.Common.{◌≡◌, ◌≢◌, ◌⊎◌, inl, inr, ⊎_elim, ℕ, zero, suc, ◌+◌, ◌<◌, ◌≤◌, Bool, true, false, not, List, [], ◌∷◌, length, set, length-set, Option, Some, None, slice_get, get_or, ◌==◌, ◌&&◌, if◌then◌else◌, refl, sym, ◌∙◌, ap, subst, arith}
 use Rattle.std.proofs.lemmas.Bool.Decides.{nat_tests}
+use Rattle.std.proofs.lemmas.Bool.{eqb-true}
 use Rattle.std.proofs.lemmas.Option.{slice_get-get_or}
 use Rattle.std.specs.Vec.{with_item}
 use Rattle.tick_units.specs.declared.tick.Tick.{Tick}
 use Rattle.site_types.specs.declared.site.Site.{Site}
+use Rattle.site_types.specs.declared.point.Point.{Point as PointPlan}
+use Rattle.site_types.specs.declared.zone.Zone.{Zone as ZonePlan}
 use Rattle.site_types.specs.declared.answer.Answer.{Answer}
 use Rattle.site_types.specs.declared.retained.Retained.{Retained}
 use Rattle.site_types.specs.declared.item.Item.{Item}
 use Rattle.site_types.specs.declared.item.Item.TheVariants.{Point, Zone, Output}
 use Rattle.site_types.specs.declared.operation.Operation.{Operation}
 use Rattle.site_types.specs.declared.operation.Operation.TheVariants.{Mute, Override, Silence, Resound, Reset, Cancel, Disable, Enable, Test, Untest, Delays, Clear}
+use Rattle.site_types.specs.Events.{is_some_with, has_operands, has_item, has_zone}
 use Rattle.site_types.specs.Done.{Done, PointOff, ZoneOff, InTest, is_on}
 use Rattle.coincidence_rules.proofs.Lists.{get_small}
 use Rattle.coincidence.specs.declared.last_tick.LastTick.{LastTick}
@@ -18,7 +22,7 @@ use Rattle.coincidence.specs.declared.point_watch.PointWatch.{PointWatch}
 use Rattle.coincidence.specs.declared.zone_watch.ZoneWatch.{ZoneWatch}
 use Rattle.coincidence.specs.declared.decide.Decide.{Decide}
 use Rattle.coincidence.specs.Parts.{switch_after, last_after, last_if}
-use Rattle.coincidence.specs.Stands.{resets, IsOwn, IsOwnZone, IsOwnItem, IsOwnOperation, DecidesFor, MayApply, off_operation}
+use Rattle.coincidence.specs.Stands.{resets, IsOwn, IsOwnZone, DecidesFor, MayApply, off_operation}
 use Rattle.coincidence.proofs.Noted.{get_set}
 use Rattle.coincidence.proofs.Applied.{done_now, point_then, zone_then, IsAfter, stands_after}
 
@@ -155,9 +159,24 @@ point_off_after at panel decide false p x y small read new =
     point_after at panel (Enable (Point p)) decide p x y small read (new ∙ sym (ap (λ b. point_with at false b x) (eq_true p p refl))) (λ k w apart. ap (λ b. point_with at false b w) (eq_false k p apart)) (λ k w. refl) refl
 
 -- what an operation names is of the panel
-pub own_item : (site : Site) (panel : ℕ) (off : Bool) (item : Item) → IsOwnOperation site panel (off_operation off item) → IsOwnItem site panel item
-own_item site panel true item h = h
-own_item site panel false item h = h
+zone_by : (site : Site) (panel place : ℕ) (o : Option ZonePlan) → slice_get site.zones place ≡ o → is_some_with (λ (z : ZonePlan). z.panel == panel) o ≡ true → IsOwnZone site panel place
+zone_by site panel place None e h = cc
+zone_by site panel place (Some z) e h = record { zone = z; is = e; at = eqb-true z.panel panel h }
+
+pub own_zone : (site : Site) (panel place : ℕ) → has_zone site panel place ≡ true → IsOwnZone site panel place
+own_zone site panel place h = zone_by site panel place (slice_get site.zones place) refl h
+
+point_by : (site : Site) (panel place : ℕ) (o : Option PointPlan) → slice_get site.points place ≡ o → is_some_with (λ (p : PointPlan). p.panel == panel) o ≡ true → IsOwn site panel place
+point_by site panel place None e h = cc
+point_by site panel place (Some p) e h = record { point = p; is = e; at = eqb-true p.panel panel h }
+
+pub own_zone_off : (site : Site) (panel : ℕ) (off : Bool) (z : ℕ) → has_operands site panel (off_operation off (Zone z)) ≡ true → IsOwnZone site panel z
+own_zone_off site panel true z h = own_zone site panel z h
+own_zone_off site panel false z h = own_zone site panel z h
+
+pub own_point_off : (site : Site) (panel : ℕ) (off : Bool) (p : ℕ) → has_operands site panel (off_operation off (Point p)) ≡ true → IsOwn site panel p
+own_point_off site panel true p h = point_by site panel p (slice_get site.points p) refl h
+own_point_off site panel false p h = point_by site panel p (slice_get site.points p) refl h
 
 pub on_zone_off : (at : Tick) (panel : ℕ) (off : Bool) (z : ℕ) → is_on (ZoneOff z) (done_now at panel (off_operation off (Zone z))) ≡ true
 on_zone_off at panel true z = eq_true z z refl
@@ -192,27 +211,23 @@ module _ {site : Site} {kept : Retained} {panel : ℕ} {done : List Done} {taken
 
   pub cancel_stands : (operation : Operation) (z : ℕ) (x y : ZoneWatch) → operation ≡ Cancel z → x ≡ get_or decide.zones.items z x → y ≡ record x { cancelled = last_after at x.cancelled } → MayApply site panel done taken operation at.0
       → DecidesFor site kept panel (done_now at panel operation ∷ done) taken (record { panel = decide.panel; points = decide.points; zones = with_item decide.zones z y; reset = decide.reset })
-  cancel_stands operation z x y e read new may = as_read operation (Cancel z) _ e may (λ m. cancel_after at panel decide z x y (own_small z m.own) read new)
+  cancel_stands operation z x y e read new may = as_read operation (Cancel z) _ e may (λ m. cancel_after at panel decide z x y (own_small z (own_zone site panel z m.own)) read new)
 
   pub test_stands : (operation : Operation) (z : ℕ) (x y : ZoneWatch) → operation ≡ Test z → x ≡ get_or decide.zones.items z x → y ≡ record x { test = switch_after true at x.test; moved = last_if true at x.moved } → MayApply site panel done taken operation at.0
       → DecidesFor site kept panel (done_now at panel operation ∷ done) taken (record { panel = decide.panel; points = decide.points; zones = with_item decide.zones z y; reset = decide.reset })
-  test_stands operation z x y e read new may = as_read operation (Test z) _ e may (λ m. test_after at panel decide z x y (own_small z m.own) read new)
+  test_stands operation z x y e read new may = as_read operation (Test z) _ e may (λ m. test_after at panel decide z x y (own_small z (own_zone site panel z m.own)) read new)
 
   pub untest_stands : (operation : Operation) (z : ℕ) (x y : ZoneWatch) → operation ≡ Untest z → x ≡ get_or decide.zones.items z x → y ≡ record x { test = switch_after false at x.test; moved = last_if false at x.moved } → MayApply site panel done taken operation at.0
       → DecidesFor site kept panel (done_now at panel operation ∷ done) taken (record { panel = decide.panel; points = decide.points; zones = with_item decide.zones z y; reset = decide.reset })
-  untest_stands operation z x y e read new may = as_read operation (Untest z) _ e may (λ m. untest_after at panel decide z x y (own_small z m.own) read new)
-
-  item_read : (off : Bool) (item one : Item) (next : Decide) → item ≡ one → MayApply site panel done taken (off_operation off item) at.0 → (IsOwnItem site panel one → IsAfter at panel (off_operation off one) decide next)
-      → DecidesFor site kept panel (done_now at panel (off_operation off item) ∷ done) taken next
-  item_read off item one next e may after = as_read (off_operation off item) (off_operation off one) next (ap (off_operation off) e) may (λ m. after (own_item site panel off one m.own))
+  untest_stands operation z x y e read new may = as_read operation (Untest z) _ e may (λ m. untest_after at panel decide z x y (own_small z (own_zone site panel z m.own)) read new)
 
   pub zone_off_stands : (off : Bool) (item : Item) (z : ℕ) (x y : ZoneWatch) → item ≡ Zone z → x ≡ get_or decide.zones.items z x → y ≡ record x { off = switch_after off at x.off; moved = last_if off at x.moved } → MayApply site panel done taken (off_operation off item) at.0
       → DecidesFor site kept panel (done_now at panel (off_operation off item) ∷ done) taken (record { panel = decide.panel; points = decide.points; zones = with_item decide.zones z y; reset = decide.reset })
-  zone_off_stands off item z x y e read new may = item_read off item (Zone z) _ e may (λ own. zone_off_after at panel decide off z x y (own_small z own) read new)
+  zone_off_stands off item z x y e read new may = as_read (off_operation off item) (off_operation off (Zone z)) _ (ap (off_operation off) e) may (λ m. zone_off_after at panel decide off z x y (own_small z (own_zone_off site panel off z m.own)) read new)
 
   pub point_off_stands : (off : Bool) (item : Item) (p : ℕ) (x y : PointWatch) → item ≡ Point p → x ≡ get_or decide.points.items p x → y ≡ record x { off = switch_after off at x.off } → MayApply site panel done taken (off_operation off item) at.0
       → DecidesFor site kept panel (done_now at panel (off_operation off item) ∷ done) taken (record { panel = decide.panel; points = with_item decide.points p y; zones = decide.zones; reset = decide.reset })
-  point_off_stands off item p x y e read new may = item_read off item (Point p) _ e may (λ own. point_off_after at panel decide off p x y (own_point_small p own) read new)
+  point_off_stands off item p x y e read new may = as_read (off_operation off item) (off_operation off (Point p)) _ (ap (off_operation off) e) may (λ m. point_off_after at panel decide off p x y (own_point_small p (own_point_off site panel off p m.own)) read new)
 
   pub output_off_stands : (off : Bool) (item : Item) (output : ℕ) → item ≡ Output output → MayApply site panel done taken (off_operation off item) at.0 → DecidesFor site kept panel (done_now at panel (off_operation off item) ∷ done) taken decide
   output_off_stands true item output e may = idle_stands (Disable item) (ap (λ i. is_idle (Disable i)) e) may

@@ -31,7 +31,7 @@ module _ {site : Site} {kept : Retained} {panel : ℕ} {done : List Done} {taken
   pub zone_at : zone.panel ≡ panel
   zone_at =
       let zoned = stands.wired.zoned answer.point point is_point in
-      ap (λ (z : ZonePlan). z.panel) (some_same zone zoned.zone (sym is_zone ∙ zoned.is)) ∙ zoned.panel ∙ point_at
+      ap (λ (z : ZonePlan). z.panel) (some_same zone zoned.zone (sym is_zone ∙ zoned.is)) ∙ zoned.at_panel ∙ point_at
 
   watch_of : (r : PointWatch) → r ≡ get_or decide.points.items answer.point r → WatchesPoint site kept done taken answer.point point r
   watch_of r e =
@@ -72,7 +72,7 @@ module _ {site : Site} {kept : Retained} {panel : ℕ} {done : List Done} {taken
       let b : Beside = record { number = y.number; confirmed = confirmed; released = released } in
       let p : plan.partner ≡ Some other = sym watches.partner ∙ partner in
       let has = stands.wired.partners place other plan is p in
-      let wz = watched_zone stands other has.partner has.is (has.panel ∙ at) in
+      let wz = watched_zone stands other has.partner has.is (has.at_panel ∙ at) in
       let same : y ≡ wz.over = read_is decide.zones.items other y wz.over e wz.is_over in
       let rule : y.rule ≡ has.partner.rule = ap (λ (o : ZoneWatch). o.rule) same ∙ wz.watches.rule in
       subst (λ o. SeesBeside site plan o sight b) (sym p)

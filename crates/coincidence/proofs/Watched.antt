@@ -68,7 +68,7 @@ module _ {site : Site} {kept : Retained} {panel : ℕ} {done : List Done} {taken
       let small = get_small site.points place own.point own.is in
       let watch = get_any decide.points.items place (subst (λ n. place < n) (sym stands.point_count) small) in
       let zoned = stands.wired.zoned place own.point own.is in
-      let zone = watched_zone own.point.zone zoned.zone zoned.is (zoned.panel ∙ own.at) in
+      let zone = watched_zone own.point.zone zoned.zone zoned.is (zoned.at_panel ∙ own.at) in
       record {
         point = own.point;
         is_point = own.is;
@@ -78,7 +78,7 @@ module _ {site : Site} {kept : Retained} {panel : ℕ} {done : List Done} {taken
         watches = stands.points place watch.0 own.point watch.1 own.is own.at;
         zone = zoned.zone;
         is_zone = zoned.is;
-        zone_at = zoned.panel ∙ own.at;
+        zone_at = zoned.at_panel ∙ own.at;
         over = zone.over;
         is_over = zone.is_over;
         watches_zone = zone.watches;
@@ -112,7 +112,7 @@ module _ {site : Site} {kept : Retained} {panel : ℕ} {done : List Done} {taken
   -- the partner of a zone of the panel is one
   pub partner_own : (place : ℕ) (zone : ZonePlan) → slice_get site.zones place ≡ Some zone → zone.panel ≡ panel → (partner : Option ℕ) → zone.partner ≡ partner → IsOwnPartner site panel partner
   partner_own place zone is at None e = tt
-  partner_own place zone is at (Some other) e = let has = stands.wired.partners place other zone is e in record { zone = has.partner; is = has.is; at = has.panel ∙ at }
+  partner_own place zone is at (Some other) e = let has = stands.wired.partners place other zone is e in record { zone = has.partner; is = has.is; at = has.at_panel ∙ at }
 
   pub place_in : (partner : Option ℕ) → IsOwnPartner site panel partner → IsPlaceIn partner (length decide.zones.items)
   place_in None own = tt

@@ -7,6 +7,10 @@ use Rattle.site_types.specs.declared.heard.Heard.TheVariants.{Silent}
 use Rattle.site_types.specs.declared.rule.Rule.{Rule}
 use Rattle.site_types.specs.declared.rule.Rule.TheVariants.{B}
 use Rattle.coincidence_rules.specs.Kept.{run_then}
+use Rattle.site_types.specs.declared.point.Point.{Point as PointPlan}
+use Rattle.site_types.specs.declared.zone.Zone.{Zone as ZonePlan}
+use Rattle.site_types.specs.declared.retained.Retained.{Retained}
+use Rattle.site_types.specs.Done.{kept_point, kept_zone, kept_test}
 use Rattle.coincidence.specs.declared.last_tick.LastTick.{LastTick}
 use Rattle.coincidence.specs.declared.recent.Sighting.{Sighting}
 use Rattle.coincidence.specs.declared.recent.Recent.{Recent}
@@ -59,3 +63,33 @@ point_noted heard counted floor stamp watch = record watch { silent = silent_the
 
 abbrev pub zone_noted : Bool → ℕ → Tick → ZoneWatch → ZoneWatch
 zone_noted pairs point stamp watch = if pairs then record watch { recent = noted point stamp watch.recent } else watch
+
+-- what is kept at the start
+abbrev pub switch_begun : Bool → Switch
+switch_begun value = record { was = value; now = value; since = record { 0 = 0 } }
+
+abbrev pub last_begun : LastTick
+last_begun = record { tick = record { 0 = 0 }; earlier = record { 0 = 0 } }
+
+abbrev pub point_begun : PointPlan → Bool → PointWatch
+point_begun point off = record { zone = point.zone; manual = point.manual; off = switch_begun off; silent = 0; run = None }
+
+abbrev pub zone_begun : ZonePlan → Bool → Bool → ZoneWatch
+zone_begun zone off test =
+    record {
+      number = zone.number;
+      rule = zone.rule;
+      partner = zone.partner;
+      off = switch_begun off;
+      test = switch_begun test;
+      moved = last_begun;
+      cancelled = last_begun;
+      recent = record { latest = None; other = None };
+    }
+
+-- by what is retained
+abbrev pub point_from : Retained → PointPlan → PointWatch
+point_from kept point = point_begun point (kept_point kept (Some point))
+
+abbrev pub zone_from : Retained → ZonePlan → ZoneWatch
+zone_from kept zone = zone_begun zone (kept_zone kept (Some zone)) (kept_test kept (Some zone))

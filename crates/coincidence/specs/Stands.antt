@@ -11,6 +11,7 @@ use Rattle.site_types.specs.declared.item.Item.{Item}
 use Rattle.site_types.specs.declared.item.Item.TheVariants.{Point, Zone, Output}
 use Rattle.site_types.specs.declared.operation.Operation.{Operation}
 use Rattle.site_types.specs.declared.operation.Operation.TheVariants.{Reset, Cancel, Disable, Enable, Test, Untest}
+use Rattle.site_types.specs.Events.{has_operands}
 use Rattle.site_types.specs.Done.{Done, Setting, PointOff, ZoneOff, InTest, is_on, in_force, latest_before, floor_before, cancels, AreBy}
 use Rattle.coincidence_rules.specs.Counted.{is_counted}
 use Rattle.coincidence_rules.specs.Missing.{latest_of, begins_silent}
@@ -137,27 +138,13 @@ pub record IsOwnZone (site : Site) (panel place : ℕ) : Type 0 where
   pub is : slice_get site.zones place ≡ Some zone
   pub at : zone.panel ≡ panel
 
-abbrev pub IsOwnItem : Site → ℕ → Item → Type 0
-IsOwnItem site panel (Point point) = IsOwn site panel point
-IsOwnItem site panel (Zone zone) = IsOwnZone site panel zone
-IsOwnItem site panel (Output output) = Unit {0}
-
--- the point or zone that an operation names is of the panel
-abbrev pub IsOwnOperation : Site → ℕ → Operation → Type 0
-IsOwnOperation site panel (Cancel zone) = IsOwnZone site panel zone
-IsOwnOperation site panel (Disable item) = IsOwnItem site panel item
-IsOwnOperation site panel (Enable item) = IsOwnItem site panel item
-IsOwnOperation site panel (Test zone) = IsOwnZone site panel zone
-IsOwnOperation site panel (Untest zone) = IsOwnZone site panel zone
-IsOwnOperation site panel _ = Unit {0}
-
 abbrev pub off_operation : Bool → Item → Operation
 off_operation true item = Disable item
 off_operation false item = Enable item
 
 -- an operation may be applied in a tick: it is of the panel, not earlier than those done and the answers taken, and the only one on its setting in that tick; ticks count from 1
 pub record MayApply (site : Site) (panel : ℕ) (done : List Done) (taken : List Answer) (operation : Operation) (tick : ℕ) : Type 0 where
-  pub own : IsOwnOperation site panel operation
+  pub own : has_operands site panel operation ≡ true
   pub counted : 1 ≤ tick
   pub since : AreBy tick done
   pub late : (k : ℕ) (answer : Answer) → slice_get taken k ≡ Some answer → answer.stamp.0 ≤ tick

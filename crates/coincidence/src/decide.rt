@@ -5,6 +5,7 @@ ghost use Rattle.site_types.specs.declared.zone.Zone.{Zone as ZonePlan};
 ghost use Rattle.site_types.specs.declared.answer.Answer.{Answer as Taken};
 ghost use Rattle.site_types.specs.declared.retained.Retained.{Retained as Kept};
 ghost use Rattle.site_types.specs.Done.{Done, floor_before, AreBy};
+ghost use Rattle.site_types.specs.Valid.{IsValid};
 ghost use Rattle.tick_units.specs.Lane.{HasRoom, after_turn, with_put};
 
 use crate::beside::Beside;
@@ -12,6 +13,7 @@ use crate::bits::two_bits;
 use crate::last_tick::LastTick;
 use crate::point_watch::PointWatch;
 use crate::sight::Sight;
+use crate::watches::{watch_points, watch_zones};
 use crate::zone_watch::ZoneWatch;
 use arrayvec::ArrayVec;
 use coincidence_rules::Finding;
@@ -34,6 +36,21 @@ impl Decide {
     ghost use Rattle.coincidence_rules.specs.Kept.{second_of};
     ghost use Rattle.coincidence.specs.Sights.{Sees, SeesBeside, far_of};
     ghost use Rattle.coincidence.specs.Stands.{DecidesFor, WatchesZone, IsPlaceIn, IsOwnPartner, Fits, CanSee, MayTake, CanTake, taken_by, MayApply, CanApply, off_operation};
+
+    /// Begins with what is kept of a panel's site.
+    pub fn new(alloc: Global, site: &Site, panel: u8, kept: &Retained) -> Result<Decide, NoMemory>
+        requires { IsValid site.now }
+        ensures { IfOk result (λ decide. DecidesFor site.now kept.now panel [] [] decide) }
+    {
+        let points = watch_points(alloc, site.points.as_slice(), kept)?;
+        let zones = watch_zones(alloc, site.zones.as_slice(), kept)?;
+        Ok(Decide {
+            panel,
+            points,
+            zones,
+            reset: LastTick::never(),
+        })
+    }
 
     /// Takes the answers of a turn, and puts one finding for each.
     pub fn turn(&mut self, answers: &mut Lane<Answer>, findings: &mut Lane<Finding>)

@@ -8,6 +8,7 @@ mod last_tick;
 mod point_watch;
 mod recent;
 mod sight;
+mod watches;
 mod zone_watch;
 
 pub use coincidence_rules::Finding;

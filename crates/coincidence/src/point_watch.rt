@@ -1,5 +1,5 @@
 ghost use Rattle.std.specs.Prelude.{◌≡◌, ◌≤◌};
-ghost use Rattle.coincidence.specs.Parts.{point_noted, switch_after};
+ghost use Rattle.coincidence.specs.Parts.{point_begun, point_noted, switch_after};
 ghost use Rattle.coincidence_rules.specs.Counted.{is_silent};
 
 use site_types::{Heard, Point};
@@ -23,7 +23,10 @@ pub struct PointWatch {
 }
 
 impl PointWatch {
-    pub fn new(point: &Point, off: bool) -> PointWatch {
+    /// What is kept of a point at the start.
+    pub fn new(point: &Point, off: bool) -> PointWatch
+        ensures { result ≡ point_begun point.now off }
+    {
         PointWatch {
             zone: point.zone,
             manual: point.manual,

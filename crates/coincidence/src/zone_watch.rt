@@ -1,5 +1,5 @@
 ghost use Rattle.std.specs.Prelude.{◌≡◌, ◌<◌, ◌≤◌};
-ghost use Rattle.coincidence.specs.Parts.{zone_noted, switch_after, last_after, last_if, last_at};
+ghost use Rattle.coincidence.specs.Parts.{zone_begun, zone_noted, switch_after, last_after, last_if, last_at};
 ghost use Rattle.coincidence_rules.specs.Kept.{bar};
 
 use crate::last_tick::LastTick;
@@ -26,7 +26,10 @@ pub struct ZoneWatch {
 }
 
 impl ZoneWatch {
-    pub fn new(zone: &Zone, off: bool, test: bool) -> ZoneWatch {
+    /// What is kept of a zone at the start.
+    pub fn new(zone: &Zone, off: bool, test: bool) -> ZoneWatch
+        ensures { result ≡ zone_begun zone.now off test }
+    {
         ZoneWatch {
             number: zone.number,
             rule: zone.rule,

@@ -7,3 +7,4 @@ pub mod Found
 pub mod FoundZones
 pub mod ZoneMasks
 pub mod FoundFindings
+pub mod ValidWired

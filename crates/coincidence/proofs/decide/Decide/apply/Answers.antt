@@ -3,26 +3,26 @@ use Rattle.site_types.specs.declared.operation.Operation.{Operation}
 use Rattle.site_types.specs.declared.operation.Operation.TheVariants.{Reset, Cancel, Disable, Enable, Test, Untest}
 use Rattle.coincidence.specs.Stands.{CanApply, DecidesFor, MayApply, off_operation}
 use Rattle.coincidence.proofs.Applied.{done_now, zone_since}
-use Rattle.coincidence.proofs.Operated.{same_place, own_small, reset_stands, cancel_stands, test_stands, untest_stands, idle_is, idle_stands}
+use Rattle.coincidence.proofs.Operated.{same_place, own_zone, own_small, reset_stands, cancel_stands, test_stands, untest_stands, idle_is, idle_stands}
 use Rattle.coincidence.proofs.decide.Decide.apply.Goals as goal
 
 pub set_test-requires : goal.set_test-requires
 set_test-requires c =
     let zone = c.in-Test.zone in
     let q : CanApply c.args.self.now (Test zone) c.args.at.0 = subst (λ o. CanApply c.args.self.now o c.args.at.0) c.in-Test.is c.requires in
-    (zone_since q.stands (Test zone) c.args.at q.may zone q.may.own c.index_mut-in-Test.result.now c.index_mut-in-Test.ensures.value).1 (same_place zone)
+    (zone_since q.stands (Test zone) c.args.at q.may zone (own_zone q.site q.panel zone q.may.own) c.index_mut-in-Test.result.now c.index_mut-in-Test.ensures.value).1 (same_place zone)
 
 pub index_mut-requires-in-Untest : goal.index_mut-requires-in-Untest
 index_mut-requires-in-Untest c =
     let zone = c.in-Untest.zone in
     let q : CanApply c.args.self.now (Untest zone) c.args.at.0 = subst (λ o. CanApply c.args.self.now o c.args.at.0) c.in-Untest.is c.requires in
-    subst (λ n. zone < n) (sym c.args.self.now.zones.ok.0) (own_small q.stands c.args.at zone q.may.own)
+    subst (λ n. zone < n) (sym c.args.self.now.zones.ok.0) (own_small q.stands c.args.at zone (own_zone q.site q.panel zone q.may.own))
 
 pub set_test-requires-in-Untest : goal.set_test-requires-in-Untest
 set_test-requires-in-Untest c =
     let zone = c.in-Untest.zone in
     let q : CanApply c.args.self.now (Untest zone) c.args.at.0 = subst (λ o. CanApply c.args.self.now o c.args.at.0) c.in-Untest.is c.requires in
-    (zone_since q.stands (Untest zone) c.args.at q.may zone q.may.own c.index_mut-in-Untest.result.now c.index_mut-in-Untest.ensures.value).1 (same_place zone)
+    (zone_since q.stands (Untest zone) c.args.at q.may zone (own_zone q.site q.panel zone q.may.own) c.index_mut-in-Untest.result.now c.index_mut-in-Untest.ensures.value).1 (same_place zone)
 
 pub returns-in-Reset : goal.returns-in-Reset
 returns-in-Reset c site kept panel done taken stands may = reset_stands stands c.args.at c.args.operation.now c.raise.new.self c.in-Reset.is c.raise.ensures may

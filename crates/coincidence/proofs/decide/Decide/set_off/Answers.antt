@@ -4,7 +4,7 @@ use Rattle.site_types.specs.declared.item.Item.{Item}
 use Rattle.site_types.specs.declared.item.Item.TheVariants.{Point, Zone, Output}
 use Rattle.coincidence.specs.Stands.{CanApply, off_operation}
 use Rattle.coincidence.proofs.Applied.{zone_since, point_since}
-use Rattle.coincidence.proofs.Operated.{own_item, on_zone_off, on_point_off, own_small, zone_off_stands, point_off_stands, output_off_stands}
+use Rattle.coincidence.proofs.Operated.{own_zone_off, own_point_off, on_zone_off, on_point_off, own_small, zone_off_stands, point_off_stands, output_off_stands}
 use Rattle.coincidence.proofs.decide.Decide.set_off.Goals as goal
 
 pub set_off-requires : goal.set_off-requires
@@ -12,21 +12,21 @@ set_off-requires c =
     let off = c.args.off in
     let point = c.in-Point.point in
     let q : CanApply c.args.self.now (off_operation off (Point point)) c.args.at.0 = subst (λ i. CanApply c.args.self.now (off_operation off i) c.args.at.0) c.in-Point.is c.requires in
-    point_since q.stands (off_operation off (Point point)) c.args.at q.may point (own_item q.site q.panel off (Point point) q.may.own) c.index_mut.result.now c.index_mut.ensures.value (on_point_off c.args.at q.panel off point)
+    point_since q.stands (off_operation off (Point point)) c.args.at q.may point (own_point_off q.site q.panel off point q.may.own) c.index_mut.result.now c.index_mut.ensures.value (on_point_off c.args.at q.panel off point)
 
 pub index_mut-requires-in-Zone : goal.index_mut-requires-in-Zone
 index_mut-requires-in-Zone c =
     let off = c.args.off in
     let zone = c.in-Zone.zone in
     let q : CanApply c.args.self.now (off_operation off (Zone zone)) c.args.at.0 = subst (λ i. CanApply c.args.self.now (off_operation off i) c.args.at.0) c.in-Zone.is c.requires in
-    subst (λ n. zone < n) (sym c.args.self.now.zones.ok.0) (own_small q.stands c.args.at zone (own_item q.site q.panel off (Zone zone) q.may.own))
+    subst (λ n. zone < n) (sym c.args.self.now.zones.ok.0) (own_small q.stands c.args.at zone (own_zone_off q.site q.panel off zone q.may.own))
 
 pub set_off-requires-in-Zone : goal.set_off-requires-in-Zone
 set_off-requires-in-Zone c =
     let off = c.args.off in
     let zone = c.in-Zone.zone in
     let q : CanApply c.args.self.now (off_operation off (Zone zone)) c.args.at.0 = subst (λ i. CanApply c.args.self.now (off_operation off i) c.args.at.0) c.in-Zone.is c.requires in
-    (zone_since q.stands (off_operation off (Zone zone)) c.args.at q.may zone (own_item q.site q.panel off (Zone zone) q.may.own) c.index_mut-in-Zone.result.now c.index_mut-in-Zone.ensures.value).0 (on_zone_off c.args.at q.panel off zone)
+    (zone_since q.stands (off_operation off (Zone zone)) c.args.at q.may zone (own_zone_off q.site q.panel off zone q.may.own) c.index_mut-in-Zone.result.now c.index_mut-in-Zone.ensures.value).0 (on_zone_off c.args.at q.panel off zone)
 
 pub returns-in-Point : goal.returns-in-Point
 returns-in-Point c site kept panel done taken stands may =
