@@ -5,3 +5,4 @@ pub mod Rounds
 pub mod Asked
 pub mod Answers
 pub mod Counts
+pub mod Lanes

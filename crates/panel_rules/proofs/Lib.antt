@@ -1,0 +1,5 @@
+pub mod Turns
+pub mod Asked
+pub mod Counts
+pub mod Ticks
+pub mod LaneLaws
