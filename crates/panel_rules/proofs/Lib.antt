@@ -1,3 +1,4 @@
+pub mod Bools
 pub mod Turns
 pub mod Places
 pub mod Asked
@@ -5,3 +6,6 @@ pub mod Counts
 pub mod Ticks
 pub mod LaneLaws
 pub mod Lags
+pub mod Stays
+pub mod Rounds
+pub mod Told

@@ -8,9 +8,10 @@ use Rattle.site_types.specs.declared.point_state.PointState.{PointState}
 use Rattle.site_types.specs.declared.point_state.PointState.TheVariants.{Quiet, Alarm, Gone}
 use Rattle.site_types.specs.declared.piece_state.PieceState.{PieceState}
 use Rattle.site_types.specs.declared.loop_plan.LoopPlan.{LoopPlan}
+use Rattle.site_types.specs.declared.point.Point.{Point}
 use Rattle.site_types.specs.declared.site.Site.{Site}
 use Rattle.panel_rules.specs.Reach.{is_reached}
-use Rattle.panel_rules.specs.Rounds.{round_of}
+use Rattle.site_types.specs.Profile.{round_of}
 
 -- an address is asked once in a round, eight addresses of a loop in a tick
 abbrev pub is_asked : ℕ → ℕ → ℕ → Bool
@@ -37,6 +38,11 @@ loop_at site panel line = find (λ l. (l.panel == panel) && (l.line == line)) si
 abbrev pub is_reached_on : Option LoopPlan → (ℕ → PieceState) → ℕ → Bool
 is_reached_on None pieces address = false
 is_reached_on (Some plan) pieces address = is_reached plan (map pieces (range_with_len 0 (plan.last + 1))) address
+
+-- a point is reached where its panel, loop and address are, with the pieces of each loop in these states
+abbrev pub is_point_reached : Site → Option Point → (ℕ → ℕ → ℕ → PieceState) → Bool
+is_point_reached site None pieces = false
+is_point_reached site (Some p) pieces = is_reached_on (loop_at site p.panel p.line) (pieces p.panel p.line) p.address
 
 -- what a point answers: its state, where it is there and reached
 abbrev pub heard_of : PointState → Bool → Heard

@@ -1,8 +1,12 @@
 pub mod Moments
 pub mod States
 pub mod Reach
-pub mod Rounds
 pub mod Asked
 pub mod Answers
 pub mod Counts
 pub mod Lanes
+pub mod Zones
+pub mod Laid
+pub mod Ring
+pub mod Due
+pub mod Caused

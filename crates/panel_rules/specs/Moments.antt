@@ -1,5 +1,5 @@
 -- What befalls a site, one thing after another. In a list of moments the newest stands first.
-use Rattle.std.specs.Prelude.{◌≡◌, ℕ, ◌+◌, ◌-◌, ◌≤◌, ◌==◌, ◌&&◌, Bool, true, false, List, [], ◌∷◌, drop, length, if◌then◌else◌}
+use Rattle.std.specs.Prelude.{◌≡◌, ℕ, ◌+◌, ◌-◌, ◌≤◌, ◌==◌, ◌&&◌, nat_le, Bool, true, false, List, [], ◌∷◌, drop, length, if◌then◌else◌}
 use Rattle.tick_units.specs.declared.seat.Seat.{Seat}
 use Rattle.tick_units.specs.declared.task.Task.{Task}
 use Rattle.tick_units.specs.declared.task.Task.TheVariants.{Poll, Decide, Supply, Desk, Hold, Link, Effect, Drive, Keep}
@@ -96,6 +96,11 @@ moments (tick ∷ ticks) = and_turns tick.failed tick.order (and_events tick.eve
 -- a record up to a tick
 abbrev pub until : ℕ → List TickBlock → List TickBlock
 until tick ticks = drop (length ticks - tick) ticks
+
+-- a history up to the end of a tick
+abbrev pub up_to : ℕ → List Moment → List Moment
+up_to tick [] = []
+up_to tick (moment ∷ before) = if nat_le (tick_of (moment ∷ before)) tick then moment ∷ before else up_to tick before
 
 -- an earlier moment of a history, or its last one
 pub data IsPast (past : List Moment) : List Moment → Type 0 where
