@@ -9,3 +9,5 @@ pub mod Lags
 pub mod Stays
 pub mod Rounds
 pub mod Told
+pub mod Floors
+pub mod Held
