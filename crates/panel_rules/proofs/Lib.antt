@@ -11,3 +11,5 @@ pub mod Rounds
 pub mod Told
 pub mod Floors
 pub mod Held
+pub mod Pairing
+pub mod Signals

@@ -1,0 +1,82 @@
+-- A zone that has had a signal for a round is in alarm by what its panel's Hold has taken, whatever the order of turns.
+use Rattle.std.proofs.Common.{◌≡◌, ℕ, ◌+◌, ◌-◌, ◌*◌, ◌≤◌, ◌<◌, ◌==◌, ◌&&◌, ◌||◌, List, Option, Some, None, slice_get, ◌⊎◌, inl, inr, Bool, true, false, not, ◌≢◌, refl, sym, ◌∙◌, ap, subst, arith}
+use Rattle.std.specs.Prelude.{nat_le, nat_lt}
+use Rattle.std.specs.List.{list_any, list_all}
+use Rattle.std.proofs.lemmas.Bool.{eqb-true}
+use Rattle.std.proofs.lemmas.Bool.Decides.{eqb_tells, leb_tells}
+use Rattle.tick_units.specs.declared.task.Task.TheVariants.{Hold}
+use Rattle.site_types.specs.declared.site.Site.{Site}
+use Rattle.site_types.specs.declared.answer.Answer.{Answer}
+use Rattle.site_types.specs.declared.retained.Retained.{Retained}
+use Rattle.site_types.specs.declared.rule.Rule.{Rule}
+use Rattle.site_types.specs.declared.rule.Rule.TheVariants.{Plain, A, B, C}
+use Rattle.site_types.specs.Done.{Done, moves_floor, cancels, floor_before, cancelled_before}
+use Rattle.site_types.specs.Profile.{round_of}
+use Rattle.coincidence_rules.specs.Places.{is_of, is_manual, is_detector, rule_of, pairs_up}
+use Rattle.coincidence_rules.specs.Counted.{is_counted}
+use Rattle.coincidence_rules.specs.Confirmed.{is_second, is_near, is_uncancelled, is_between, counts_throughout, is_first_of_run, is_verified, coincides, is_by_call_point, confirms}
+use Rattle.coincidence_rules.specs.Alarm.{since_floor, is_in_alarm, calls, is_by_hand, has_second, releases_by, releases, is_released}
+use Rattle.panel_rules.specs.Moments.{Moment, tick_of, IsPanel, IsRun, IsPast, latest_turn}
+use Rattle.panel_rules.specs.Answers.{answers}
+use Rattle.panel_rules.specs.Counts.{taken_by_hold}
+use Rattle.panel_rules.specs.Zones.{held_answers, panel_of_zone, holds_alarm, holds_by_hand, holds_released}
+use Rattle.panel_rules.specs.Laid.{IsLaidOut}
+use Rattle.panel_rules.specs.Due.{none_in, NoFloor, NoCancelling, SignalsAt, IsHeld, TwoHeld, CallPointSignals, PointSignals, DetectorSignals, DetectorsSignal, PairSignals, SecondSignals, Signals, by_call_point, by_one, by_itself, by_two, by_pair, SignalsOut, by_signal, by_hand, by_second}
+use Rattle.panel_rules.proofs.Bools.{both, parts, either_left, either_right, not_true, any_at, all_by}
+use Rattle.panel_rules.proofs.Places.{take_get}
+use Rattle.panel_rules.proofs.Floors.{none_since, lt_to, le_to, le_from}
+use Rattle.panel_rules.proofs.Turns.{turn_lag, run_tail, tick_rises}
+use Rattle.panel_rules.proofs.Told.{told_by, eq_true}
+use Rattle.panel_rules.proofs.Held.{Counts, signal_counts, IsAtPanel, at_panel, round_counts}
+use Rattle.panel_rules.proofs.Pairing.{kind_of, Pairs, pairs_of, of_pairs, swapped, pair_panels}
+
+-- an answer from a tick on passes a test
+pub record Sure (xs : List Answer) (first : ℕ) (test : Answer → Bool) : Type 0 where
+  pub place : ℕ
+  pub answer : Answer
+  pub is : slice_get xs place ≡ Some answer
+  pub from : first ≤ answer.stamp.0
+  pub passes : test answer ≡ true
+
+-- and the floor lies before that tick
+pub sure_since : (site : Site) (done : List Done) (xs : List Answer) (zone tick first : ℕ) (test : Answer → Bool) → floor_before site zone tick done < first → Sure xs first test → since_floor site done xs zone tick test ≡ true
+sure_since site done xs zone tick first test l s =
+    any_at _ xs s.place s.answer s.is (both _ _ (lt_to _ _ (omega (arith, l, s.from))) s.passes)
+
+module _ (site : Site) (kept : Retained) (done : List Done) (xs : List Answer) (zone : ℕ) where
+  by_call : (a : Answer) → is_counted site kept done a ≡ true → is_by_call_point site zone a.point ≡ true → confirms site kept done xs zone a ≡ true
+  by_call a c h = both _ _ c (either_left _ _ h)
+
+  by_rule : (a : Answer) (rule : Option Rule) → rule_of (slice_get site.zones zone) ≡ rule → is_counted site kept done a ≡ true → is_detector site a.point ≡ true → coincides site kept done xs zone rule a ≡ true → confirms site kept done xs zone a ≡ true
+  by_rule a rule e c d h = both _ _ c (either_right _ _ (both _ _ d (ap (λ r. coincides site kept done xs zone r a) e ∙ h)))
+
+  -- a manual call point releases for every type
+  hand_releases : (a : Answer) (rule : Option Rule) → calls site kept done zone a ≡ true → releases_by site kept done xs zone rule a ≡ true
+  hand_releases a None h = let p = parts _ _ h in by_call a p.0 p.1
+  hand_releases a (Some Plain) h = let p = parts _ _ h in by_call a p.0 p.1
+  hand_releases a (Some (A verify within)) h = let p = parts _ _ h in by_call a p.0 p.1
+  hand_releases a (Some (B within)) h = let p = parts _ _ h in by_call a p.0 p.1
+  hand_releases a (Some C) h = either_left _ _ h
+
+  -- for the other types what confirms releases
+  alarm_releases : (a : Answer) (rule : Option Rule) → rule ≢ Some C → confirms site kept done xs zone a ≡ true → releases_by site kept done xs zone rule a ≡ true
+  alarm_releases a None n h = h
+  alarm_releases a (Some Plain) n h = h
+  alarm_releases a (Some (A verify within)) n h = h
+  alarm_releases a (Some (B within)) n h = h
+  alarm_releases a (Some C) n h = absurd (n refl)
+
+-- of two answers that count, of two points, the later one and the earlier one
+pub record TwoCount (site : Site) (kept : Retained) (done : List Done) (xs : List Answer) (later_point earlier_point first last : ℕ) : Type 0 where
+  pub later : Counts site kept done xs later_point first last
+  pub earlier : Counts site kept done xs earlier_point first last
+  pub in_order : earlier.answer.stamp.0 ≤ later.answer.stamp.0
+
+pub two_in_order : (site : Site) (kept : Retained) (done : List Done) (xs : List Answer) (one other first second last : ℕ) → first ≤ second → second ≤ last → Counts site kept done xs one first (first + last) → Counts site kept done xs other second (second + last) → TwoCount site kept done xs other one first (second + last) ⊎ TwoCount site kept done xs one other first (second + last)
+two_in_order site kept done xs one other first second last l m f s =
+    let f' : Counts site kept done xs one first (second + last) = record { place = f.place; answer = f.answer; is = f.is; point_is = f.point_is; from = f.from; by = omega (arith, f.by, l); counts = f.counts } in
+    let s' : Counts site kept done xs other first (second + last) = record { place = s.place; answer = s.answer; is = s.is; point_is = s.point_is; from = omega (arith, s.from, l); by = s.by; counts = s.counts } in
+    elim (leb_tells f.answer.stamp.0 s.answer.stamp.0) [
+      | inl o ↦ inl (record { later = s'; earlier = f'; in_order = o.1 })
+      | inr o ↦ inr (record { later = f'; earlier = s'; in_order = omega (arith, o.1) })
+    ]
