@@ -13,3 +13,4 @@ pub mod Floors
 pub mod Held
 pub mod Pairing
 pub mod Signals
+pub mod InAlarm
