@@ -25,7 +25,7 @@ unfolding places
 asked_at_most site panel before =
     omega (arith, found_few (answer_at site panel (λ point. state_of point before) (λ line piece. piece_of panel line piece before) (tick_of before)) (range_with_len 0 32), length-range 0 32)
 
-answered_at : (site : Site) (panel : ℕ) (points : ℕ → PointState) (pieces : ℕ → ℕ → PieceState) (tick line address : ℕ) (o : Option ℕ) (a : Answer) → option_map (answer_of site panel points pieces tick line address) o ≡ Some a → (point : ℕ) × (o ≡ Some point) × (a ≡ answer_of site panel points pieces tick line address point)
+pub answered_at : (site : Site) (panel : ℕ) (points : ℕ → PointState) (pieces : ℕ → ℕ → PieceState) (tick line address : ℕ) (o : Option ℕ) (a : Answer) → option_map (answer_of site panel points pieces tick line address) o ≡ Some a → (point : ℕ) × (o ≡ Some point) × (a ≡ answer_of site panel points pieces tick line address point)
 answered_at site panel points pieces tick line address None a h = cc
 answered_at site panel points pieces tick line address (Some point) a h = (point, refl, cc)
 

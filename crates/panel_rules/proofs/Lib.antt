@@ -14,3 +14,4 @@ pub mod Held
 pub mod Pairing
 pub mod Signals
 pub mod InAlarm
+pub mod Order
