@@ -24,6 +24,14 @@ pub either : (a b : Bool) → (a || b) ≡ true → (a ≡ true) ⊎ (b ≡ true
 either true b h = inl refl
 either false b h = inr h
 
+pub and_to : (a b c : Bool) → (b ≡ true → c ≡ true) → (a && b) ≡ true → (a && c) ≡ true
+and_to true b c to h = to h
+and_to false b c to h = h
+
+pub or_to : (a b c : Bool) → (b ≡ true → c ≡ true) → (a || b) ≡ true → (a || c) ≡ true
+or_to true b c to h = h
+or_to false b c to h = to h
+
 pub not_true : (a : Bool) → a ≡ false → not a ≡ true
 not_true true h = cc
 not_true false h = refl

@@ -15,3 +15,5 @@ pub mod Pairing
 pub mod Signals
 pub mod InAlarm
 pub mod Order
+pub mod Grows
+pub mod Causes

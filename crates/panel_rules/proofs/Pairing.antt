@@ -25,7 +25,7 @@ on_zone_to test other None to h = h
 on_zone_to test other (Some zone) to h = to zone h
 
 -- a partner that passes one test passes another that follows from it
-partner_to : (site : Site) (zone : ℕ) (test other : ℕ → Bool) → ((z : ℕ) → test z ≡ true → other z ≡ true) → on_partner site zone test ≡ true → on_partner site zone other ≡ true
+pub partner_to : (site : Site) (zone : ℕ) (test other : ℕ → Bool) → ((z : ℕ) → test z ≡ true → other z ≡ true) → on_partner site zone test ≡ true → on_partner site zone other ≡ true
 partner_to site zone test other to h = on_zone_to test other (partner_of (slice_get site.zones zone)) to h
 
 -- how two points make a pair for a zone
