@@ -5,7 +5,5 @@
 #![tactic(auto)]
 
 mod finding;
-mod laws;
 
 pub use finding::Finding;
-pub use laws::findings_tell;

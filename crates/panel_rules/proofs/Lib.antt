@@ -17,3 +17,5 @@ pub mod InAlarm
 pub mod Order
 pub mod Grows
 pub mod Causes
+pub mod Laid
+pub mod Deadlines

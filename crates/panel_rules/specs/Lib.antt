@@ -10,3 +10,4 @@ pub mod Laid
 pub mod Ring
 pub mod Due
 pub mod Caused
+pub mod Laws
