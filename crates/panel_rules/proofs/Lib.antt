@@ -19,3 +19,5 @@ pub mod Grows
 pub mod Causes
 pub mod Laid
 pub mod Deadlines
+pub mod Orders
+pub mod Records

@@ -10,4 +10,5 @@ pub mod Laid
 pub mod Ring
 pub mod Due
 pub mod Caused
+pub mod Records
 pub mod Laws
