@@ -1,25 +1,24 @@
 -- What a panel holds of its zones is caused.
-use Rattle.std.proofs.Common.{◌≡◌, ℕ, zero, suc, ◌+◌, ◌≤◌, ◌<◌, ◌==◌, ◌&&◌, List, [], ◌∷◌, ◌++◌, take, length, Some, slice_get, ◌⊎◌, inl, inr, Bool, true, false, not, if◌then◌else◌, max, refl, sym, ◌∙◌, ap, subst, arith}
+use Rattle.std.proofs.Common.{◌≡◌, ℕ, ◌≤◌, ◌<◌, ◌&&◌, List, [], ◌∷◌, ◌++◌, take, Some, slice_get, inl, inr, Bool, true, false, not, if◌then◌else◌, max, refl, sym, ◌∙◌, ap, arith}
 use Rattle.std.specs.Prelude.{nat_le, nat_lt}
-use Rattle.std.specs.List.{list_any}
-use Rattle.std.proofs.lemmas.Bool.Decides.{eqb_tells, leb_tells}
+use Rattle.std.proofs.lemmas.Bool.Decides.{eqb_tells}
 use Rattle.std.proofs.lemmas.List.{take-append-le}
 use Rattle.tick_units.specs.declared.task.Task.TheVariants.{Poll, Hold}
 use Rattle.site_types.specs.declared.site.Site.{Site}
 use Rattle.site_types.specs.declared.answer.Answer.{Answer}
 use Rattle.site_types.specs.declared.retained.Retained.{Retained}
-use Rattle.site_types.specs.Done.{Done, latest_before, moves_floor, floor_before}
+use Rattle.site_types.specs.Done.{Done, latest_before, moves_floor}
 use Rattle.coincidence_rules.specs.Confirmed.{confirms}
 use Rattle.coincidence_rules.specs.Alarm.{since_floor, calls, releases}
 use Rattle.panel_rules.specs.Moments.{Moment, Began, Happened, Turned, Kept, IsPanel, IsRun, IsPast, present, later, latest_turn}
 use Rattle.panel_rules.specs.Answers.{answers, asked}
 use Rattle.panel_rules.specs.Counts.{answer_count, taken_by_hold}
 use Rattle.panel_rules.specs.Zones.{held_answers, panel_of_zone, holds_alarm, holds_by_hand, holds_released}
-use Rattle.panel_rules.specs.Due.{none_in, NoFloor}
+use Rattle.panel_rules.specs.Due.{none_in}
 use Rattle.panel_rules.specs.Caused.{IsCausedBy, IsCausedAt, IsCausedByHand, IsCausedOut}
-use Rattle.panel_rules.proofs.Bools.{both, parts, any_at, at_any, not_true}
+use Rattle.panel_rules.proofs.Bools.{both, parts, any_at, at_any}
 use Rattle.panel_rules.proofs.Places.{take_get}
-use Rattle.panel_rules.proofs.Floors.{lt_from, lt_to, le_from}
+use Rattle.panel_rules.proofs.Floors.{lt_from, le_from}
 use Rattle.panel_rules.proofs.Counts.{decide_behind, hold_behind}
 use Rattle.panel_rules.proofs.Lags.{held_past}
 use Rattle.panel_rules.proofs.Told.{eq_true}

@@ -1,9 +1,9 @@
 -- What is confirmed by a front of the answers is confirmed by all of them.
-use Rattle.std.proofs.Common.{◌≡◌, ℕ, zero, suc, ◌+◌, ◌≤◌, ◌<◌, ◌==◌, ◌&&◌, ◌||◌, List, [], ◌∷◌, take, Option, Some, None, slice_get, ◌⊎◌, inl, inr, Bool, true, false, not, refl, sym, ◌∙◌, ap, subst, arith}
+use Rattle.std.proofs.Common.{◌≡◌, ℕ, ◌≤◌, ◌==◌, ◌&&◌, ◌||◌, List, take, Option, Some, None, slice_get, inl, inr, Bool, true, false, not, refl, sym, ◌∙◌, ap, arith}
 use Rattle.std.specs.Prelude.{nat_le}
-use Rattle.std.specs.List.{list_any, list_all}
+use Rattle.std.specs.List.{list_any}
 use Rattle.std.proofs.lemmas.Bool.{eqb-true}
-use Rattle.std.proofs.lemmas.Bool.Decides.{eqb_tells, leb_tells}
+use Rattle.std.proofs.lemmas.Bool.Decides.{leb_tells}
 use Rattle.site_types.specs.declared.site.Site.{Site}
 use Rattle.site_types.specs.declared.answer.Answer.{Answer}
 use Rattle.site_types.specs.declared.retained.Retained.{Retained}
@@ -12,8 +12,8 @@ use Rattle.site_types.specs.declared.rule.Rule.TheVariants.{Plain, A, B, C}
 use Rattle.site_types.specs.Done.{Done}
 use Rattle.coincidence_rules.specs.Places.{is_of, is_detector, rule_of, on_partner, pairs_up}
 use Rattle.coincidence_rules.specs.Counted.{is_counted}
-use Rattle.coincidence_rules.specs.Confirmed.{is_second, is_near, is_uncancelled, is_between, counts_throughout, is_first_of_run, is_verified, coincides, is_by_call_point, confirms}
-use Rattle.coincidence_rules.specs.Alarm.{calls, has_second, releases_by, releases}
+use Rattle.coincidence_rules.specs.Confirmed.{is_second, is_near, is_uncancelled, is_between, counts_throughout, is_verified, coincides, is_by_call_point, confirms}
+use Rattle.coincidence_rules.specs.Alarm.{calls, releases_by, releases}
 use Rattle.coincidence_rules.specs.InOrder.{AreInOrder}
 use Rattle.panel_rules.proofs.Bools.{both, parts, either, either_left, either_right, and_to, or_to, any_at, at_any, all_by, all_at}
 use Rattle.panel_rules.proofs.Places.{get_take, take_get}

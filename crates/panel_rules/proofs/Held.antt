@@ -1,6 +1,5 @@
 -- A point that signals is answered, the answer counts, and Hold has it in time.
-use Rattle.std.proofs.Common.{◌≡◌, ℕ, ◌+◌, ◌-◌, ◌*◌, ◌/◌, ◌≤◌, ◌<◌, ◌==◌, ◌&&◌, ◌||◌, List, Option, Some, None, slice_get, ◌⊎◌, inl, inr, Bool, true, false, not, refl, sym, ◌∙◌, ap, subst, arith}
-use Rattle.std.specs.Prelude.{take}
+use Rattle.std.proofs.Common.{◌≡◌, ℕ, ◌+◌, ◌-◌, ◌/◌, ◌≤◌, ◌<◌, List, Option, Some, None, slice_get, Bool, true, false, refl, sym, ◌∙◌, ap, subst, arith}
 use Rattle.std.proofs.lemmas.Bool.{eqb-true}
 use Rattle.tick_units.specs.declared.task.Task.TheVariants.{Poll, Hold}
 use Rattle.site_types.specs.declared.site.Site.{Site}
@@ -8,10 +7,9 @@ use Rattle.site_types.specs.declared.answer.Answer.{Answer}
 use Rattle.site_types.specs.declared.point.Point.{Point}
 use Rattle.site_types.specs.declared.zone.Zone.{Zone}
 use Rattle.site_types.specs.declared.retained.Retained.{Retained}
-use Rattle.site_types.specs.declared.point_state.PointState.TheVariants.{Alarm}
-use Rattle.site_types.specs.Done.{Done, is_blocked}
+use Rattle.site_types.specs.Done.{Done}
 use Rattle.site_types.specs.Profile.{round_of}
-use Rattle.coincidence_rules.specs.Places.{is_of, lies_in, on_zone, partner_of, on_partner, pairs_up}
+use Rattle.coincidence_rules.specs.Places.{is_of, lies_in, on_zone, partner_of, on_partner}
 use Rattle.coincidence_rules.specs.Counted.{is_alarm, is_counted}
 use Rattle.panel_rules.specs.Moments.{Moment, tick_of, has_turned, IsPanel, IsRun, IsPast, latest_turn, up_to}
 use Rattle.panel_rules.specs.States.{state_of}
@@ -20,8 +18,8 @@ use Rattle.panel_rules.specs.Answers.{answers}
 use Rattle.panel_rules.specs.Counts.{taken_by_hold}
 use Rattle.panel_rules.specs.Zones.{held_answers, panel_of_zone}
 use Rattle.panel_rules.specs.Laid.{PointLies, IsLaidOut}
-use Rattle.panel_rules.specs.Due.{SignalsAt, reached_at}
-use Rattle.panel_rules.proofs.Bools.{both, parts, not_true, either}
+use Rattle.panel_rules.specs.Due.{SignalsAt}
+use Rattle.panel_rules.proofs.Bools.{both, not_true}
 use Rattle.panel_rules.proofs.Places.{get_take}
 use Rattle.panel_rules.proofs.Turns.{turn_lag, run_tail, owed_turn}
 use Rattle.panel_rules.proofs.Lags.{hold_has}

@@ -1,33 +1,31 @@
 -- A zone that has had a signal for a round is in alarm by what its panel's Hold has taken, whatever the order of turns.
-use Rattle.std.proofs.Common.{◌≡◌, ℕ, ◌+◌, ◌-◌, ◌*◌, ◌≤◌, ◌<◌, ◌==◌, ◌&&◌, ◌||◌, List, Option, Some, None, slice_get, ◌⊎◌, inl, inr, Bool, true, false, not, ◌≢◌, refl, sym, ◌∙◌, ap, subst, arith}
-use Rattle.std.specs.Prelude.{nat_le, nat_lt}
-use Rattle.std.specs.List.{list_any, list_all}
+use Rattle.std.proofs.Common.{◌≡◌, ℕ, ◌+◌, ◌-◌, ◌≤◌, ◌<◌, ◌==◌, ◌||◌, List, Some, slice_get, ◌⊎◌, inl, inr, Bool, true, false, not, ◌≢◌, refl, sym, ◌∙◌, ap, subst, arith}
+use Rattle.std.specs.List.{list_any}
 use Rattle.std.proofs.lemmas.Bool.{eqb-true}
-use Rattle.std.proofs.lemmas.Bool.Decides.{eqb_tells, leb_tells}
+use Rattle.std.proofs.lemmas.Bool.Decides.{eqb_tells}
 use Rattle.tick_units.specs.declared.task.Task.TheVariants.{Hold}
 use Rattle.site_types.specs.declared.site.Site.{Site}
 use Rattle.site_types.specs.declared.answer.Answer.{Answer}
 use Rattle.site_types.specs.declared.retained.Retained.{Retained}
-use Rattle.site_types.specs.declared.rule.Rule.{Rule}
 use Rattle.site_types.specs.declared.rule.Rule.TheVariants.{Plain, A, B, C}
-use Rattle.site_types.specs.Done.{Done, moves_floor, cancels, floor_before, cancelled_before}
+use Rattle.site_types.specs.Done.{Done, moves_floor, cancels, floor_before}
 use Rattle.site_types.specs.Profile.{round_of}
-use Rattle.coincidence_rules.specs.Places.{is_of, is_manual, is_detector, rule_of, pairs_up}
+use Rattle.coincidence_rules.specs.Places.{is_of, is_detector, rule_of, pairs_up}
 use Rattle.coincidence_rules.specs.Counted.{is_counted}
-use Rattle.coincidence_rules.specs.Confirmed.{is_second, is_near, is_uncancelled, is_between, counts_throughout, is_first_of_run, is_verified, coincides, is_by_call_point, confirms}
-use Rattle.coincidence_rules.specs.Alarm.{since_floor, is_in_alarm, calls, is_by_hand, has_second, releases_by, releases, is_released}
+use Rattle.coincidence_rules.specs.Confirmed.{is_second, is_near, is_uncancelled, is_between, counts_throughout, is_first_of_run, is_verified, is_by_call_point, confirms}
+use Rattle.coincidence_rules.specs.Alarm.{since_floor, calls, has_second, releases_by, releases}
 use Rattle.panel_rules.specs.Moments.{Moment, tick_of, IsPanel, IsRun, IsPast, latest_turn}
 use Rattle.panel_rules.specs.Answers.{answers}
 use Rattle.panel_rules.specs.Counts.{taken_by_hold}
 use Rattle.panel_rules.specs.Zones.{held_answers, panel_of_zone, holds_alarm, holds_by_hand, holds_released}
 use Rattle.panel_rules.specs.Laid.{IsLaidOut}
-use Rattle.panel_rules.specs.Due.{none_in, NoFloor, NoCancelling, SignalsAt, IsHeld, TwoHeld, CallPointSignals, PointSignals, DetectorSignals, DetectorsSignal, PairSignals, SecondSignals, Signals, by_call_point, by_one, by_itself, by_two, by_pair, SignalsOut, by_signal, by_hand, by_second}
+use Rattle.panel_rules.specs.Due.{NoFloor, NoCancelling, SignalsAt, TwoHeld, CallPointSignals, PointSignals, DetectorSignals, DetectorsSignal, PairSignals, SecondSignals, Signals, by_call_point, by_one, by_itself, by_two, by_pair, SignalsOut, by_signal, by_hand, by_second}
 use Rattle.panel_rules.proofs.Bools.{both, parts, either_left, either_right, not_true, any_at, all_by}
 use Rattle.panel_rules.proofs.Places.{take_get}
 use Rattle.panel_rules.proofs.Floors.{none_since, lt_to, le_to, le_from}
 use Rattle.panel_rules.proofs.Turns.{turn_lag, run_tail, tick_rises}
 use Rattle.panel_rules.proofs.Told.{told_by, eq_true}
-use Rattle.panel_rules.proofs.Held.{Counts, signal_counts, IsAtPanel, at_panel, round_counts}
+use Rattle.panel_rules.proofs.Held.{signal_counts, IsAtPanel, at_panel, round_counts}
 use Rattle.panel_rules.proofs.Pairing.{kind_of, Pairs, pairs_of, of_pairs, swapped, pair_panels}
 use Rattle.panel_rules.proofs.Signals.{Sure, sure_since, by_call, by_rule, hand_releases, alarm_releases, TwoCount, two_in_order}
 
@@ -110,9 +108,9 @@ module _ (site : Site) (kept : Retained) (done : List Done) (moments past : List
       let after : floor_before site zone x.answer.stamp.0 done < y.answer.stamp.0 = omega (arith, floor, y.from) in
       let far : y.answer.stamp.0 + s.verify ≤ x.answer.stamp.0 = omega (arith, y.by, x.from, wide) in
       let first_of_run : is_first_of_run site kept done s.verify zone x.answer y.answer ≡ true =
-          both _ _ (both _ _ (eq_true _ _ (y.point_is ∙ sym x.point_is)) y.counts) (both _ _ (lt_to (floor_before site zone x.answer.stamp.0 done) y.answer.stamp.0 after) (le_to (y.answer.stamp.0 + s.verify) x.answer.stamp.0 far)) in
+      both _ _ (both _ _ (eq_true _ _ (y.point_is ∙ sym x.point_is)) y.counts) (both _ _ (lt_to (floor_before site zone x.answer.stamp.0 done) y.answer.stamp.0 after) (le_to (y.answer.stamp.0 + s.verify) x.answer.stamp.0 far)) in
       let through : counts_throughout site kept done xs x.answer.point y.answer.stamp.0 x.answer.stamp.0 ≡ true =
-          throughout x.answer.point y.answer.stamp.0 x.answer.stamp.0 (λ tick l u. subst (λ w. SignalsAt site kept done moments w tick) (sym x.point_is) (s.signals tick (omega (arith, l, y.from)) (omega (arith, u, x.by, wide)))) in
+      throughout x.answer.point y.answer.stamp.0 x.answer.stamp.0 (λ tick l u. subst (λ w. SignalsAt site kept done moments w tick) (sym x.point_is) (s.signals tick (omega (arith, l, y.from)) (omega (arith, u, x.by, wide)))) in
       let verified : is_verified site kept done xs s.verify zone x.answer ≡ true = any_at _ xs y.place y.answer y.is (both _ _ first_of_run through) in
       record {
         place = x.place;
@@ -179,9 +177,9 @@ module _ (site : Site) (kept : Retained) (done : List Done) (moments past : List
       let xs = held_answers site panel past in
       let a = two.later.answer in
       let test : (z : ℕ) → is_of site z other ≡ true → list_any (is_uncancelled site kept done within z a) xs ≡ true =
-          λ z of_zone. any_at (is_uncancelled site kept done within z a) xs two.earlier.place two.earlier.answer two.earlier.is
-          (both _ _ (nears within z one other first last last two begins (omega arith) near differ of_zone other_detects (floors z of_zone))
-          (lt_to _ _ (omega (arith, none_since (cancels z) first last a.stamp.0 done begins (omega (arith, two.later.by)) (cancellings z of_zone), two.earlier.from)))) in
+      λ z of_zone. any_at (is_uncancelled site kept done within z a) xs two.earlier.place two.earlier.answer two.earlier.is
+      (both _ _ (nears within z one other first last last two begins (omega arith) near differ of_zone other_detects (floors z of_zone))
+      (lt_to _ _ (omega (arith, none_since (cancels z) first last a.stamp.0 done begins (omega (arith, two.later.by)) (cancellings z of_zone), two.earlier.from)))) in
       record {
         place = two.later.place;
         answer = a;
@@ -212,11 +210,11 @@ module _ (site : Site) (kept : Retained) (done : List Done) (moments past : List
       let xs = held_answers site panel past in
       let a = two.later.answer in
       let test : (z : ℕ) → is_of site z other ≡ true → list_any (is_second site kept done z a) xs ≡ true =
-          λ z of_zone. any_at (is_second site kept done z a) xs two.earlier.place two.earlier.answer two.earlier.is (seconds z one other first last last two begins (omega arith) differ of_zone (floors z of_zone)) in
+      λ z of_zone. any_at (is_second site kept done z a) xs two.earlier.place two.earlier.answer two.earlier.is (seconds z one other first last last two begins (omega arith) differ of_zone (floors z of_zone)) in
       let has : has_second site kept done xs zone a ≡ true =
-          both _ _ two.later.counts
-          (ap (λ q. pairs_up site zone q (λ z. list_any (is_second site kept done z a) xs)) two.later.point_is
-          ∙ of_pairs site zone one other (λ z. list_any (is_second site kept done z a) xs) test pairs) in
+      both _ _ two.later.counts
+      (ap (λ q. pairs_up site zone q (λ z. list_any (is_second site kept done z a) xs)) two.later.point_is
+      ∙ of_pairs site zone one other (λ z. list_any (is_second site kept done z a) xs) test pairs) in
       record {
         place = two.later.place;
         answer = a;

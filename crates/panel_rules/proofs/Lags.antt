@@ -1,11 +1,11 @@
 -- How long an answer may lie before Decide and Hold have taken it.
-use Rattle.std.proofs.Common.{◌≡◌, ℕ, ◌+◌, ◌-◌, ◌≤◌, ◌<◌, ◌==◌, List, [], ◌∷◌, ◌++◌, length, Some, slice_get, inl, inr, Bool, true, false, min, if◌then◌else◌, refl, subst, arith, length-append}
+use Rattle.std.proofs.Common.{◌≡◌, ℕ, ◌+◌, ◌≤◌, ◌<◌, List, [], ◌∷◌, Some, slice_get, inl, inr, arith, length-append}
 use Rattle.std.proofs.lemmas.Bool.Decides.{eqb_tells}
 use Rattle.std.proofs.lemmas.Option.{slice_get_within}
 use Rattle.tick_units.specs.declared.task.Task.TheVariants.{Poll, Decide, Hold}
 use Rattle.site_types.specs.declared.site.Site.{Site}
 use Rattle.site_types.specs.declared.answer.Answer.{Answer}
-use Rattle.panel_rules.specs.Moments.{Moment, Began, Happened, Turned, Kept, IsRun, IsPanel, has_turned, tick_of, latest_turn}
+use Rattle.panel_rules.specs.Moments.{Moment, Began, Happened, Turned, Kept, IsRun, IsPanel, tick_of, latest_turn}
 use Rattle.panel_rules.specs.Answers.{answers, asked}
 use Rattle.panel_rules.specs.Counts.{answer_count, taken_by_decide, taken_by_hold}
 use Rattle.panel_rules.specs.Lanes.{put_by_poll, put_by_decide}

@@ -1,16 +1,13 @@
 -- A valid site is laid out as the rules of the whole need it.
-use Rattle.std.proofs.Common.{◌≡◌, ℕ, zero, suc, ◌+◌, ◌≤◌, ◌<◌, ◌==◌, ◌&&◌, List, [], ◌∷◌, length, Option, Some, None, slice_get, Bool, true, false, not, cond, refl, sym, ◌∙◌, ap, arith}
-use Rattle.std.specs.Prelude.{nat_lt}
-use Rattle.std.specs.List.{position, position_or_len, prefix_len}
+use Rattle.std.proofs.Common.{◌≡◌, ℕ, zero, suc, ◌+◌, ◌≤◌, ◌==◌, ◌&&◌, List, [], ◌∷◌, length, Some, None, slice_get, Bool, true, false, not, cond, refl, sym, ◌∙◌, ap, arith}
+use Rattle.std.specs.List.{position, position_or_len}
 use Rattle.std.proofs.lemmas.Bool.{eqb-true}
 use Rattle.std.proofs.lemmas.Option.{slice_get_within}
 use Rattle.site_types.specs.declared.site.Site.{Site}
 use Rattle.site_types.specs.declared.point.Point.{Point}
-use Rattle.site_types.specs.declared.zone.Zone.{Zone}
 use Rattle.site_types.specs.Valid.{IsValid, point_key}
 use Rattle.site_types.proofs.ValidSites.{point_at as point_is, zone_of_point, partner_of_zone}
-use Rattle.panel_rules.specs.Asked.{point_at}
-use Rattle.panel_rules.specs.Zones.{panel_of, panel_of_zone}
+use Rattle.panel_rules.specs.Zones.{panel_of}
 use Rattle.panel_rules.specs.Laid.{PointLies, IsLaidOut}
 use Rattle.panel_rules.proofs.Bools.{both, parts}
 use Rattle.panel_rules.proofs.Floors.{lt_to}

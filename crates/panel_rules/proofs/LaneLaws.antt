@@ -1,10 +1,8 @@
 -- The laws on lanes, over every order of turns.
-use Rattle.std.proofs.Common.{◌≡◌, ℕ, ◌+◌, ◌-◌, ◌≤◌, List, ◌∷◌, Bool, true, false, ap, arith}
+use Rattle.std.proofs.Common.{◌∷◌, arith}
 use Rattle.tick_units.specs.declared.task.Task.TheVariants.{Poll, Decide, Hold}
-use Rattle.site_types.specs.declared.site.Site.{Site}
-use Rattle.panel_rules.specs.Moments.{moments, has_turned}
-use Rattle.panel_rules.specs.Counts.{answer_count, taken_by_decide}
-use Rattle.panel_rules.specs.Lanes.{LanesHoldFew, LanesKeepTheirTick, TakenByTheNextTick, put_by_poll, put_by_decide}
+use Rattle.panel_rules.specs.Moments.{moments}
+use Rattle.panel_rules.specs.Lanes.{LanesHoldFew, LanesKeepTheirTick, TakenByTheNextTick}
 use Rattle.panel_rules.proofs.Counts.{answers_lie, findings_lie, lies_few}
 use Rattle.panel_rules.proofs.Ticks.{tick_begins, answers_since, findings_since}
 

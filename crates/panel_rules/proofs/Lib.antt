@@ -20,4 +20,4 @@ pub mod Causes
 pub mod Laid
 pub mod Deadlines
 pub mod Orders
-pub mod Records
+pub mod RecordRuns

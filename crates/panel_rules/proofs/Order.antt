@@ -1,5 +1,5 @@
 -- The answers of a panel come in the order of their stamps, and no point gives two in one tick.
-use Rattle.std.proofs.Common.{◌≡◌, ℕ, zero, suc, ◌+◌, ◌-◌, ◌*◌, ◌/◌, ◌%◌, ◌≤◌, ◌<◌, ◌==◌, List, [], ◌∷◌, ◌++◌, length, Option, Some, None, slice_get, ◌⊎◌, inl, inr, Bool, true, false, if◌then◌else◌, refl, sym, ◌∙◌, ap, subst, arith}
+use Rattle.std.proofs.Common.{◌≡◌, ℕ, zero, suc, ◌≤◌, ◌<◌, List, [], ◌∷◌, length, Option, Some, None, slice_get, ◌⊎◌, inl, inr, true, false, refl, sym, ◌∙◌, ap, arith}
 use Rattle.std.specs.List.{filter_map, range_with_len, cons_option}
 use Rattle.std.proofs.lemmas.Bool.Decides.{eqb_tells, leb_tells}
 use Rattle.std.proofs.lemmas.Option.{slice_get_within}
@@ -12,11 +12,11 @@ use Rattle.site_types.specs.declared.piece_state.PieceState.{PieceState}
 use Rattle.coincidence_rules.specs.InOrder.{AreInOrder}
 use Rattle.panel_rules.specs.Moments.{Moment, Began, Happened, Turned, Kept, tick_of, has_turned, IsPanel, IsRun}
 use Rattle.panel_rules.specs.States.{state_of, piece_of}
-use Rattle.panel_rules.specs.Asked.{answer_at, answer_of, places, asked_in, line_at, address_at, point_at}
+use Rattle.panel_rules.specs.Asked.{answer_at, places, asked_in, line_at, address_at, point_at}
 use Rattle.panel_rules.specs.Answers.{answers, asked}
 use Rattle.panel_rules.proofs.Places.{get_either, IsBehind, found_from, range_got}
 use Rattle.panel_rules.proofs.Asked.{asked_now, answered_at}
-use Rattle.panel_rules.proofs.Told.{eq_true, placed}
+use Rattle.panel_rules.proofs.Told.{placed}
 use Rattle.panel_rules.proofs.Counts.{of_panel}
 use Rattle.panel_rules.proofs.Lags.{stamped_by}
 

@@ -1,20 +1,12 @@
 -- Ticks whose turns go by an order of the site's seats make a run.
-use Rattle.std.proofs.Common.{◌≡◌, ◌≢◌, ℕ, zero, suc, ◌+◌, ◌≤◌, ◌<◌, ◌==◌, ◌&&◌, ◌||◌, List, [], ◌∷◌, ◌++◌, append-nil, append_assoc, ◌⊎◌, inl, inr, Bool, true, false, if◌then◌else◌, refl, sym, ◌∙◌, ap, subst, arith}
-use Rattle.std.specs.List.{list_any, Contains}
-use Rattle.std.proofs.lemmas.Bool.{eqb-true}
+use Rattle.std.proofs.Common.{◌≡◌, ◌≢◌, ℕ, ◌==◌, ◌&&◌, ◌||◌, List, [], ◌∷◌, inl, inr, Bool, true, false, if◌then◌else◌, refl, sym, ◌∙◌, ap}
+use Rattle.std.specs.List.{list_any}
 use Rattle.std.proofs.lemmas.Bool.Decides.{eqb_tells}
 use Rattle.tick_units.specs.declared.seat.Seat.{Seat}
 use Rattle.tick_units.specs.declared.task.Task.{Task}
-use Rattle.tick_units.specs.declared.task.Task.TheVariants.{Poll, Decide, Supply, Desk, Hold, Link, Effect, Drive, Keep}
-use Rattle.tick_units.specs.Orders.{task_number, is_same_seat, is_among, seat_of, keep_seat, canonical_seats, IsSound, IsOrder}
-use Rattle.tick_units.proofs.Canonical.{IsPanelSeat, Contains-canonical_seats-cases}
-use Rattle.tick_units.proofs.OrderLaws.{panel_in_order, keep_in_order}
-use Rattle.tick_units.proofs.Seats.{is_among-Decides}
-use Rattle.tick_units.proofs.Sound.{known_behind, absent_before, sound_from_order}
-use Rattle.site_types.specs.declared.event.Event.{Event}
-use Rattle.panel_rules.specs.Moments.{Moment, Began, Happened, Turned, Kept, TickBlock, moments, and_events, and_turns, turn_of, is_turn, has_turned, has_kept, is_fresh, IsPanelTask, IsPanel, HaveAllTurned, IsRun}
-use Rattle.panel_rules.specs.Records.{AreOrdered, RecordsAreRuns}
-use Rattle.panel_rules.proofs.Turns.{turn_tells, same_task}
+use Rattle.tick_units.specs.declared.task.Task.TheVariants.{Keep}
+use Rattle.tick_units.specs.Orders.{task_number, is_same_seat, is_among, seat_of, keep_seat}
+use Rattle.panel_rules.specs.Moments.{Moment, Turned, and_turns, turn_of, is_turn, has_turned, has_kept, IsPanelTask}
 
 pub not_keep : (task : Task) → IsPanelTask task → task ≢ Keep
 not_keep Keep h e = h
@@ -43,9 +35,11 @@ turn_adds failed panel task other_panel other before t = turned panel task other
           | inl h ↦ h.0 ∙ sym (elim (eqb_tells b a) [ inl g ↦ g.0 | inr g ↦ absurd (g.1 (sym h.1)) ])
           | inr h ↦ h.0 ∙ sym (elim (eqb_tells b a) [ inl g ↦ absurd (h.1 (sym g.1)) | inr g ↦ g.0 ])
         ]
+
     by : (b c : Bool) → (if b then true else c) ≡ (b || c)
     by true c = refl
     by false c = refl
+
     turned : (panel : ℕ) (task : Task) (other_panel : ℕ) (other : Task) (before : List Moment) → has_turned panel task (Turned other_panel other ∷ before) ≡ (is_same_seat (seat_of panel task) (seat_of other_panel other) || has_turned panel task before)
     turned panel task other_panel other before =
         by (is_turn panel task other_panel other) (has_turned panel task before)

@@ -1,34 +1,19 @@
 -- A zone that has had a signal for a round is in alarm by what its panel's Hold has taken, whatever the order of turns.
-use Rattle.std.proofs.Common.{◌≡◌, ℕ, ◌+◌, ◌-◌, ◌*◌, ◌≤◌, ◌<◌, ◌==◌, ◌&&◌, ◌||◌, List, Option, Some, None, slice_get, ◌⊎◌, inl, inr, Bool, true, false, not, ◌≢◌, refl, sym, ◌∙◌, ap, subst, arith}
-use Rattle.std.specs.Prelude.{nat_le, nat_lt}
-use Rattle.std.specs.List.{list_any, list_all}
-use Rattle.std.proofs.lemmas.Bool.{eqb-true}
-use Rattle.std.proofs.lemmas.Bool.Decides.{eqb_tells, leb_tells}
-use Rattle.tick_units.specs.declared.task.Task.TheVariants.{Hold}
+use Rattle.std.proofs.Common.{◌≡◌, ℕ, ◌+◌, ◌≤◌, ◌<◌, List, Option, Some, None, slice_get, ◌⊎◌, inl, inr, Bool, true, ◌≢◌, refl, ◌∙◌, ap, arith}
+use Rattle.std.proofs.lemmas.Bool.Decides.{leb_tells}
 use Rattle.site_types.specs.declared.site.Site.{Site}
 use Rattle.site_types.specs.declared.answer.Answer.{Answer}
 use Rattle.site_types.specs.declared.retained.Retained.{Retained}
 use Rattle.site_types.specs.declared.rule.Rule.{Rule}
 use Rattle.site_types.specs.declared.rule.Rule.TheVariants.{Plain, A, B, C}
-use Rattle.site_types.specs.Done.{Done, moves_floor, cancels, floor_before, cancelled_before}
-use Rattle.site_types.specs.Profile.{round_of}
-use Rattle.coincidence_rules.specs.Places.{is_of, is_manual, is_detector, rule_of, pairs_up}
+use Rattle.site_types.specs.Done.{Done, floor_before}
+use Rattle.coincidence_rules.specs.Places.{is_detector, rule_of}
 use Rattle.coincidence_rules.specs.Counted.{is_counted}
-use Rattle.coincidence_rules.specs.Confirmed.{is_second, is_near, is_uncancelled, is_between, counts_throughout, is_first_of_run, is_verified, coincides, is_by_call_point, confirms}
-use Rattle.coincidence_rules.specs.Alarm.{since_floor, is_in_alarm, calls, is_by_hand, has_second, releases_by, releases, is_released}
-use Rattle.panel_rules.specs.Moments.{Moment, tick_of, IsPanel, IsRun, IsPast, latest_turn}
-use Rattle.panel_rules.specs.Answers.{answers}
-use Rattle.panel_rules.specs.Counts.{taken_by_hold}
-use Rattle.panel_rules.specs.Zones.{held_answers, panel_of_zone, holds_alarm, holds_by_hand, holds_released}
-use Rattle.panel_rules.specs.Laid.{IsLaidOut}
-use Rattle.panel_rules.specs.Due.{none_in, NoFloor, NoCancelling, SignalsAt, IsHeld, TwoHeld, CallPointSignals, PointSignals, DetectorSignals, DetectorsSignal, PairSignals, SecondSignals, Signals, by_call_point, by_one, by_itself, by_two, by_pair, SignalsOut, by_signal, by_hand, by_second}
-use Rattle.panel_rules.proofs.Bools.{both, parts, either_left, either_right, not_true, any_at, all_by}
-use Rattle.panel_rules.proofs.Places.{take_get}
-use Rattle.panel_rules.proofs.Floors.{none_since, lt_to, le_to, le_from}
-use Rattle.panel_rules.proofs.Turns.{turn_lag, run_tail, tick_rises}
-use Rattle.panel_rules.proofs.Told.{told_by, eq_true}
-use Rattle.panel_rules.proofs.Held.{Counts, signal_counts, IsAtPanel, at_panel, round_counts}
-use Rattle.panel_rules.proofs.Pairing.{kind_of, Pairs, pairs_of, of_pairs, swapped, pair_panels}
+use Rattle.coincidence_rules.specs.Confirmed.{coincides, is_by_call_point, confirms}
+use Rattle.coincidence_rules.specs.Alarm.{since_floor, calls, releases_by}
+use Rattle.panel_rules.proofs.Bools.{both, parts, either_left, either_right, any_at}
+use Rattle.panel_rules.proofs.Floors.{lt_to}
+use Rattle.panel_rules.proofs.Held.{Counts}
 
 -- an answer from a tick on passes a test
 pub record Sure (xs : List Answer) (first : ℕ) (test : Answer → Bool) : Type 0 where

@@ -1,16 +1,15 @@
 -- What a tick of a record adds to the moments before it.
-use Rattle.std.proofs.Common.{◌≡◌, ℕ, ◌+◌, ◌-◌, ◌≤◌, ◌==◌, List, [], ◌∷◌, inl, inr, length, min, if◌then◌else◌, refl, ◌∙◌, arith, length-append}
+use Rattle.std.proofs.Common.{◌≡◌, ℕ, ◌+◌, List, [], ◌∷◌, inl, inr, refl, ◌∙◌, arith, length-append}
 use Rattle.std.proofs.lemmas.Bool.Decides.{eqb_tells}
 use Rattle.tick_units.specs.declared.seat.Seat.{Seat}
 use Rattle.tick_units.specs.declared.task.Task.{Task}
-use Rattle.tick_units.specs.declared.task.Task.TheVariants.{Poll, Decide, Supply, Desk, Hold, Link, Effect, Drive, Keep}
+use Rattle.tick_units.specs.declared.task.Task.TheVariants.{Poll, Decide, Keep}
 use Rattle.site_types.specs.declared.event.Event.{Event}
 use Rattle.site_types.specs.declared.site.Site.{Site}
-use Rattle.panel_rules.specs.Moments.{Moment, Began, Happened, Turned, Kept, TickBlock, moments, and_events, and_turns, turn_of, IsRun, IsPanel, HaveAllTurned, IsPast, present, later}
+use Rattle.panel_rules.specs.Moments.{Moment, Began, Happened, Turned, Kept, TickBlock, moments, and_events, and_turns, turn_of}
 use Rattle.panel_rules.specs.Answers.{answers, asked}
-use Rattle.panel_rules.specs.Counts.{answer_count, taken_by_decide, taken_by_hold}
+use Rattle.panel_rules.specs.Counts.{answer_count, taken_by_decide}
 use Rattle.panel_rules.specs.Lanes.{put_by_poll, put_by_decide}
-use Rattle.panel_rules.proofs.Turns.{run_tail, past_on}
 use Rattle.panel_rules.proofs.Counts.{decide_behind}
 
 -- what had befallen when the tick that began last began

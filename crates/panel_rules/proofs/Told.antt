@@ -1,6 +1,6 @@
 -- What the answers of a panel tell, and that each asking is answered.
-use Rattle.std.proofs.Common.{◌≡◌, ℕ, zero, suc, ◌+◌, ◌-◌, ◌*◌, ◌/◌, ◌%◌, ◌≤◌, ◌<◌, ◌==◌, ◌&&◌, List, [], ◌∷◌, ◌++◌, length, map, Option, Some, None, slice_get, get_or, option_map, ◌⊎◌, inl, inr, Bool, true, false, if◌then◌else◌, refl, sym, ◌∙◌, ap, subst, arith}
-use Rattle.std.specs.List.{position, filter_map, range_with_len}
+use Rattle.std.proofs.Common.{◌≡◌, ℕ, ◌+◌, ◌-◌, ◌*◌, ◌/◌, ◌%◌, ◌≤◌, ◌<◌, ◌==◌, List, [], ◌∷◌, ◌++◌, length, Option, Some, None, slice_get, get_or, option_map, inl, inr, Bool, true, false, refl, sym, ◌∙◌, ap, subst, arith}
+use Rattle.std.specs.List.{position, range_with_len}
 use Rattle.std.proofs.lemmas.Bool.{eqb-true}
 use Rattle.std.proofs.lemmas.Bool.Decides.{eqb_tells}
 use Rattle.std.proofs.lemmas.Option.{slice_get-get_or}
@@ -16,14 +16,14 @@ use Rattle.site_types.specs.Profile.{round_of}
 use Rattle.panel_rules.specs.Moments.{Moment, Began, Happened, Turned, Kept, tick_of, has_turned, IsPanel, IsPanelTask, IsRun, IsPast, present, later, up_to}
 use Rattle.panel_rules.specs.States.{state_of, piece_of}
 use Rattle.panel_rules.specs.Reach.{is_reached}
-use Rattle.panel_rules.specs.Asked.{is_asked, answer_at, answer_of, places, asked_in, line_at, address_at, point_at, loop_at, is_reached_on, is_point_reached, heard_of}
+use Rattle.panel_rules.specs.Asked.{is_asked, answer_at, answer_of, places, line_at, address_at, point_at, loop_at, is_reached_on, is_point_reached, heard_of}
 use Rattle.panel_rules.specs.Answers.{answers, asked}
 use Rattle.panel_rules.specs.Due.{reached_at}
 use Rattle.panel_rules.specs.Laid.{PointLies}
 use Rattle.panel_rules.proofs.Bools.{parts, map_same}
 use Rattle.panel_rules.proofs.Places.{get_either, get_behind, get_front, IsFound, found_in, range_get}
-use Rattle.panel_rules.proofs.Asked.{asked_from, IsAskedAt}
-use Rattle.panel_rules.proofs.Turns.{IsThat, turn_tells, past_on, owed_turn, tick_rises}
+use Rattle.panel_rules.proofs.Asked.{asked_from}
+use Rattle.panel_rules.proofs.Turns.{turn_tells, past_on, owed_turn}
 use Rattle.panel_rules.proofs.Stays.{ByEvents, state_stays}
 
 -- the turn of a seat in a tick
@@ -146,6 +146,7 @@ tells_asked site panels panel moments before place point run turn h =
   where
     group : (place phase : ℕ) → (8 * phase + place % 8 + 1 - 1) / 8 ≡ phase
     group place phase = omega arith
+
     placed_reached : (site : Site) (after : List Moment) (plan : Point) (panel line address : ℕ) → plan.panel ≡ panel → plan.line ≡ line → plan.address ≡ address → is_reached_on (loop_at site plan.panel plan.line) (λ piece. piece_of plan.panel plan.line piece after) plan.address ≡ is_reached_on (loop_at site panel line) (λ piece. piece_of panel line piece after) address
     placed_reached site after plan panel line address p l a = rw (p, l, a) refl
 

@@ -1,5 +1,5 @@
 -- The answers of a panel's points, the oldest first.
-use Rattle.std.specs.Prelude.{ℕ, ◌+◌, ◌==◌, ◌++◌, List, [], ◌∷◌, if◌then◌else◌}
+use Rattle.std.specs.Prelude.{ℕ, ◌==◌, ◌++◌, List, [], ◌∷◌, if◌then◌else◌}
 use Rattle.tick_units.specs.declared.task.Task.TheVariants.{Poll}
 use Rattle.site_types.specs.declared.answer.Answer.{Answer}
 use Rattle.site_types.specs.declared.site.Site.{Site}

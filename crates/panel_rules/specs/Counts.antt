@@ -1,5 +1,5 @@
 -- How many answers each task of a panel has taken.
-use Rattle.std.specs.Prelude.{ℕ, ◌+◌, ◌-◌, ◌==◌, List, [], ◌∷◌, length, min, if◌then◌else◌}
+use Rattle.std.specs.Prelude.{ℕ, ◌+◌, ◌==◌, List, [], ◌∷◌, length, min, if◌then◌else◌}
 use Rattle.tick_units.specs.declared.task.Task.TheVariants.{Decide, Hold}
 use Rattle.site_types.specs.declared.site.Site.{Site}
 use Rattle.panel_rules.specs.Moments.{Moment, Began, Happened, Turned, Kept}

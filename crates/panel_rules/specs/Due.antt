@@ -1,8 +1,7 @@
 -- Which zones are due: a signal has lasted so long that the zone is to be shown. Only what befell and which operations were done decide, never the order of turns.
-use Rattle.std.specs.Prelude.{◌≡◌, ℕ, ◌+◌, ◌≤◌, ◌<◌, ◌≢◌, ◌⊎◌, ◌&&◌, ◌||◌, not, nat_le, nat_lt, Bool, true, false, List, Option, Some, None, slice_get}
+use Rattle.std.specs.Prelude.{◌≡◌, ℕ, ◌+◌, ◌≤◌, ◌<◌, ◌≢◌, ◌⊎◌, ◌&&◌, ◌||◌, not, nat_le, nat_lt, Bool, true, false, List, Some, slice_get}
 use Rattle.std.specs.List.{list_all}
 use Rattle.site_types.specs.declared.point_state.PointState.TheVariants.{Alarm}
-use Rattle.site_types.specs.declared.rule.Rule.{Rule}
 use Rattle.site_types.specs.declared.rule.Rule.TheVariants.{Plain, A, B, C}
 use Rattle.site_types.specs.declared.retained.Retained.{Retained}
 use Rattle.site_types.specs.declared.site.Site.{Site}
@@ -126,6 +125,21 @@ module _ (site : Site) (kept : Retained) (done : List Done) (moments : List Mome
     pub pairs : pairs_up site zone first_point (λ other. is_of site other second_point) ≡ true
     pub floors : (other : ℕ) → (is_of site other first_point || is_of site other second_point) ≡ true → NoFloor site done other first (second + round_of site.format)
     pub floor : NoFloor site done zone first last
+
+  -- one detector of a zone of type B was held so long ago that the zone is due to tell it, and its time has not ended
+  pub record LoneSignals (zone last : ℕ) : Type 0 where
+    pub point : ℕ
+    pub first : ℕ
+    pub within : ℕ
+    pub begins : 1 ≤ first
+    pub rule : rule_of (slice_get site.zones zone) ≡ Some (B within)
+    pub of_zone : is_of site zone point ≡ true
+    pub detects : is_detector site point ≡ true
+    pub held : IsHeld point first
+    pub floor : NoFloor site done zone first last
+    pub cancelling : NoCancelling done zone first last
+    pub late : first + signal_of site.format ≤ last
+    pub window : last ≤ first + within
 
   -- the zone has a signal that counts from a tick on, with no floor before the last tick
   pub data Signals (zone last settled : ℕ) : Type 0 where

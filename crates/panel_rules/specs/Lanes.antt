@@ -1,8 +1,8 @@
 -- What lies between the tasks of a panel.
-use Rattle.std.specs.Prelude.{◌≡◌, ℕ, ◌+◌, ◌-◌, ◌*◌, ◌≤◌, ◌==◌, List, [], ◌∷◌, length, min, if◌then◌else◌}
+use Rattle.std.specs.Prelude.{ℕ, ◌+◌, ◌-◌, ◌≤◌, ◌==◌, List, [], ◌∷◌, length, min, if◌then◌else◌}
 use Rattle.tick_units.specs.declared.task.Task.TheVariants.{Poll, Decide}
 use Rattle.site_types.specs.declared.site.Site.{Site}
-use Rattle.panel_rules.specs.Moments.{Moment, Began, Happened, Turned, Kept, IsRun, IsPanel, HaveAllTurned, TickBlock, moments, tick_of}
+use Rattle.panel_rules.specs.Moments.{Moment, Began, Happened, Turned, Kept, IsRun, IsPanel, HaveAllTurned, TickBlock, moments}
 use Rattle.panel_rules.specs.Answers.{asked}
 use Rattle.panel_rules.specs.Counts.{answer_count, taken_by_decide, taken_by_hold}
 

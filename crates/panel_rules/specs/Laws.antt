@@ -1,13 +1,13 @@
 -- What follows for each run of a valid site, whatever the order of turns: what is due is held by its panel, and what is held is caused.
-use Rattle.std.specs.Prelude.{◌≡◌, ℕ, true, List}
+use Rattle.std.specs.Prelude.{◌≡◌, ◌⊎◌, ℕ, true, List}
 use Rattle.tick_units.specs.declared.task.Task.TheVariants.{Hold}
 use Rattle.site_types.specs.declared.site.Site.{Site}
 use Rattle.site_types.specs.declared.retained.Retained.{Retained}
 use Rattle.site_types.specs.Done.{Done}
 use Rattle.site_types.specs.Valid.{IsValid}
-use Rattle.panel_rules.specs.Moments.{Moment, IsRun, IsPanel, HaveAllTurned, latest_turn}
-use Rattle.panel_rules.specs.Zones.{panel_of_zone, holds_alarm, holds_by_hand, holds_released}
-use Rattle.panel_rules.specs.Due.{IsDue, IsDueOut, IsDueByHand}
+use Rattle.panel_rules.specs.Moments.{Moment, tick_of, IsRun, IsPanel, HaveAllTurned, latest_turn}
+use Rattle.panel_rules.specs.Zones.{panel_of_zone, holds_alarm, holds_by_hand, holds_released, holds_first}
+use Rattle.panel_rules.specs.Due.{IsDue, IsDueOut, IsDueByHand, LoneSignals}
 use Rattle.panel_rules.specs.Caused.{IsCausedAt, IsCausedByHand, IsCausedOut}
 
 -- after a tick of a run of a valid site, at a zone's own panel
@@ -48,3 +48,9 @@ abbrev pub OwnReleaseIsCaused : Type 0
 OwnReleaseIsCaused =
     (site : Site) (kept : Retained) (done : List Done) (moments : List Moment) (zone : ℕ) → IsRun site.panels moments → IsPanel site.panels (panel_of_zone site zone)
     → holds_released site kept done (panel_of_zone site zone) moments zone ≡ true → IsCausedOut site kept done moments zone (latest_turn (panel_of_zone site zone) Hold moments)
+
+-- a zone of type B with one lasting signal is in alarm or in its first state until its time ends
+abbrev pub LoneSignalIsShown : Type 0
+LoneSignalIsShown =
+    (site : Site) (kept : Retained) (done : List Done) (moments : List Moment) (zone : ℕ) → IsAfterTick site moments zone → LoneSignals site kept done moments zone (tick_of moments)
+    → (holds_alarm site kept done (panel_of_zone site zone) moments zone ≡ true) ⊎ (holds_first site kept done (panel_of_zone site zone) moments zone ≡ true)

@@ -1,6 +1,18 @@
-//! The rules of the whole: what befalls a site tick by tick, what each panel has taken of it, and what follows.
+//! The rules of the whole: what befalls a site tick by tick, what each panel has taken of it, and what follows from that.
+//!
+//! A history is a list of moments, the newest first: a tick begins, its events happen, and each seat has its turn, in any order. The
+//! definitions in specs/ are functions of such a list, of the site, of what was retained at opening and of the operations done. Each
+//! function here is a law over them: its contract says it, and its body does nothing. Begin with [`own_zone_is_shown`], the deadline
+//! of a panel's own zones, and [`own_zone_is_caused`], which says that no zone is shown without a cause.
 #![tactic(auto)]
 
 mod lanes;
+mod records;
+mod zones;
 
 pub use lanes::{lanes_hold_few, lanes_keep_their_tick, taken_by_the_next_tick};
+pub use records::{asked_once_in_a_round, records_are_runs};
+pub use zones::{
+    lone_signal_is_shown, own_hand_is_caused, own_release_is_caused, own_zone_is_by_hand,
+    own_zone_is_caused, own_zone_is_released, own_zone_is_shown,
+};

@@ -1,5 +1,5 @@
 -- A record whose ticks are ordered is a run.
-use Rattle.std.proofs.Common.{◌≡◌, ◌≢◌, ℕ, zero, suc, ◌+◌, ◌≤◌, ◌<◌, ◌==◌, ◌&&◌, ◌||◌, List, [], ◌∷◌, ◌++◌, length, get_or, append-nil, append_assoc, length-append, Some, slice_get, ◌⊎◌, inl, inr, Bool, true, false, refl, sym, ◌∙◌, ap, subst, arith}
+use Rattle.std.proofs.Common.{◌≡◌, ℕ, zero, suc, ◌<◌, ◌||◌, List, [], ◌∷◌, ◌++◌, length, get_or, append_assoc, length-append, ◌⊎◌, inl, inr, Bool, true, false, refl, sym, ◌∙◌, ap, subst, arith}
 use Rattle.std.specs.List.{list_any, Contains}
 use Rattle.std.proofs.lemmas.Bool.{eqb-true}
 use Rattle.std.proofs.lemmas.List.{get_or_append_left}
@@ -13,11 +13,10 @@ use Rattle.tick_units.proofs.OrderLaws.{panel_in_order, keep_in_order}
 use Rattle.tick_units.proofs.Seats.{is_among-Decides}
 use Rattle.tick_units.proofs.Sound.{known_behind, absent_before, sound_from_order}
 use Rattle.site_types.specs.declared.event.Event.{Event}
-use Rattle.panel_rules.specs.Moments.{Moment, Began, Happened, Turned, Kept, TickBlock, moments, and_events, and_turns, turn_of, has_turned, has_kept, is_fresh, IsPanelTask, IsPanel, HaveAllTurned, IsRun}
-use Rattle.panel_rules.specs.Records.{AreOrdered, RecordsAreRuns}
+use Rattle.panel_rules.specs.Moments.{Moment, Began, Happened, moments, and_events, and_turns, turn_of, has_turned, has_kept, is_fresh, HaveAllTurned, IsRun}
+use Rattle.panel_rules.specs.Records.{RecordsAreRuns}
 use Rattle.panel_rules.proofs.Bools.{at_any, either_left, either_right}
 use Rattle.panel_rules.proofs.Turns.{same_task}
-use Rattle.panel_rules.proofs.Told.{eq_true}
 use Rattle.panel_rules.proofs.Orders.{not_keep, false_by, turned_among, is_keep, keep_is, keep_itself, kept_among}
 
 pub turns-append : (failed : Bool) (xs ys : List Seat) (before : List Moment) → and_turns failed (xs ++ ys) before ≡ and_turns failed ys (and_turns failed xs before)
@@ -51,6 +50,7 @@ module _ (panels : ℕ) (failed : Bool) (start : List Moment) (fresh : Fresh pan
       only_by : (s : Seat) → IsPanelSeat panels s ⊎ (s ≡ keep_seat) → s.task ≡ Keep → s ≡ keep_seat
       only_by s (inl h) e = absurd (h.other e)
       only_by s (inr h) e = h
+
       only : (s : Seat) → Contains (canonical_seats panels) s → s.task ≡ Keep → s ≡ keep_seat
       only s known e = only_by s ((Contains-canonical_seats-cases panels s).0 known) e
 
@@ -58,11 +58,12 @@ module _ (panels : ℕ) (failed : Bool) (start : List Moment) (fresh : Fresh pan
   may_turn : (earlier : List Seat) (seat : Seat) (later : List Seat) → IsSound panels (earlier ++ seat ∷ later) → IsRun panels (and_turns failed earlier start) → (task : Task) → seat.task ≡ task → IsRun panels (turn_of failed seat.panel task ∷ and_turns failed earlier start)
   may_turn earlier seat later sound run Keep e =
       (run, kept_among failed earlier start ∙ ap (λ b. b || has_kept start) (false_by (list_any is_keep earlier) (unkept_yet earlier seat later sound e)) ∙ fresh.unkept)
-  may_turn earlier seat later sound run task e =
-      (run,
-      turned_among failed seat.panel task earlier start tt
-      ∙ ap (λ b. b || has_turned seat.panel task start) (false_by (is_among (seat_of seat.panel task) earlier) (λ h. absent_before panels earlier seat later sound (subst (Contains earlier) (ap (seat_of seat.panel) (sym e)) ((is_among-Decides (seat_of seat.panel task) earlier).0 h))))
-      ∙ fresh.unturned seat.panel task)
+  may_turn earlier seat later sound run task e = (
+    run,
+    turned_among failed seat.panel task earlier start tt
+        ∙ ap (λ b. b || has_turned seat.panel task start) (false_by (is_among (seat_of seat.panel task) earlier) (λ h. absent_before panels earlier seat later sound (subst (Contains earlier) (ap (seat_of seat.panel) (sym e)) ((is_among-Decides (seat_of seat.panel task) earlier).0 h))))
+        ∙ fresh.unturned seat.panel task,
+  )
 
   turns_run : (earlier later : List Seat) → IsSound panels (earlier ++ later) → IsRun panels (and_turns failed earlier start) → IsRun panels (and_turns failed later (and_turns failed earlier start))
   turns_run earlier [] sound run = run
