@@ -21,3 +21,4 @@ pub mod Laid
 pub mod Deadlines
 pub mod Orders
 pub mod RecordRuns
+pub mod Words

@@ -8,6 +8,7 @@ pub mod Lanes
 pub mod Zones
 pub mod Laid
 pub mod Ring
+pub mod Kept
 pub mod Due
 pub mod Caused
 pub mod Records
