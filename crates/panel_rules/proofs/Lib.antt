@@ -22,3 +22,4 @@ pub mod Deadlines
 pub mod Orders
 pub mod RecordRuns
 pub mod Words
+pub mod Ways
