@@ -23,3 +23,4 @@ pub mod Orders
 pub mod RecordRuns
 pub mod Words
 pub mod Ways
+pub mod Heard

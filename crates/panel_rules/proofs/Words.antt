@@ -144,7 +144,7 @@ own_keeps panels panel source before =
     own e = subst (λ s. heard panels panel s before ≤ tick_of (made_at panel before)) e (omega (arith, heard_past panels panel panel before, made_tick panel before))
 
 -- a stamp that is heard never falls
-heard_next : (panels panel source : ℕ) (moment : Moment) (before : List Moment) → heard panels panel source before ≤ heard panels panel source (moment ∷ before)
+pub heard_next : (panels panel source : ℕ) (moment : Moment) (before : List Moment) → heard panels panel source before ≤ heard panels panel source (moment ∷ before)
 heard_next panels panel source Began before = omega arith
 heard_next panels panel source (Happened event) before = omega arith
 heard_next panels panel source (Turned other Link) before =
