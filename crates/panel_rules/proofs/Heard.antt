@@ -9,7 +9,7 @@ use Rattle.panel_rules.specs.Kept.{is_odd, carries, above, below, heard}
 use Rattle.panel_rules.proofs.Turns.{turn_lag, one_back, run_tail, past_on, owed_turn}
 use Rattle.panel_rules.proofs.Stays.{ByEvents, state_stays}
 use Rattle.panel_rules.proofs.Told.{eq_true}
-use Rattle.panel_rules.proofs.Words.{heard_next, takes_above, takes_below, own_heard}
+use Rattle.panel_rules.proofs.KeptWords.{heard_next, takes_above, takes_below, own_heard}
 
 odd_turns : (tick : ℕ) → is_odd (tick + 1) ≡ not (is_odd tick)
 odd_turns tick =

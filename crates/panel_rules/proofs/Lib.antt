@@ -21,6 +21,7 @@ pub mod Laid
 pub mod Deadlines
 pub mod Orders
 pub mod RecordRuns
-pub mod Words
+pub mod KeptWords
 pub mod Ways
 pub mod Heard
+pub mod Joined

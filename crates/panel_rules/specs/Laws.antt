@@ -7,6 +7,7 @@ use Rattle.site_types.specs.Done.{Done}
 use Rattle.site_types.specs.Valid.{IsValid}
 use Rattle.panel_rules.specs.Moments.{Moment, tick_of, IsRun, IsPanel, HaveAllTurned, latest_turn}
 use Rattle.panel_rules.specs.Zones.{panel_of_zone, holds_alarm, holds_by_hand, holds_released, holds_first}
+use Rattle.panel_rules.specs.Kept.{kept_at, heard}
 use Rattle.panel_rules.specs.Due.{IsDue, IsDueOut, IsDueByHand, LoneSignals}
 use Rattle.panel_rules.specs.Caused.{IsCausedAt, IsCausedByHand, IsCausedOut}
 
@@ -54,3 +55,38 @@ abbrev pub LoneSignalIsShown : Type 0
 LoneSignalIsShown =
     (site : Site) (kept : Retained) (done : List Done) (moments : List Moment) (zone : ℕ) → IsAfterTick site moments zone → LoneSignals site kept done moments zone (tick_of moments)
     → (holds_alarm site kept done (panel_of_zone site zone) moments zone ≡ true) ⊎ (holds_first site kept done (panel_of_zone site zone) moments zone ≡ true)
+
+-- a zone that is due at a panel is in alarm in the word that the panel keeps of the zone's panel; the same for outputs and by hand
+abbrev pub DueZoneIsKept : Type 0
+DueZoneIsKept =
+    (site : Site) (kept : Retained) (done : List Done) (moments : List Moment) (zone panel : ℕ) → IsAfterTick site moments zone → IsPanel site.panels panel → IsDue site kept done moments zone panel
+    → holds_alarm site kept done (panel_of_zone site zone) (kept_at site.panels panel (panel_of_zone site zone) moments) zone ≡ true
+
+abbrev pub DueReleaseIsKept : Type 0
+DueReleaseIsKept =
+    (site : Site) (kept : Retained) (done : List Done) (moments : List Moment) (zone panel : ℕ) → IsAfterTick site moments zone → IsPanel site.panels panel → IsDueOut site kept done moments zone panel
+    → holds_released site kept done (panel_of_zone site zone) (kept_at site.panels panel (panel_of_zone site zone) moments) zone ≡ true
+
+abbrev pub DueHandIsKept : Type 0
+DueHandIsKept =
+    (site : Site) (kept : Retained) (done : List Done) (moments : List Moment) (zone panel : ℕ) → IsAfterTick site moments zone → IsPanel site.panels panel → IsDueByHand site kept done moments zone panel
+    → holds_by_hand site kept done (panel_of_zone site zone) (kept_at site.panels panel (panel_of_zone site zone) moments) zone ≡ true
+
+-- a zone that is in alarm in a word kept was caused at the stamp of that word; the same for outputs and by hand
+abbrev pub KeptZoneIsCaused : Type 0
+KeptZoneIsCaused =
+    (site : Site) (kept : Retained) (done : List Done) (moments : List Moment) (zone panel : ℕ) → IsRun site.panels moments → IsPanel site.panels (panel_of_zone site zone)
+    → holds_alarm site kept done (panel_of_zone site zone) (kept_at site.panels panel (panel_of_zone site zone) moments) zone ≡ true
+    → IsCausedAt site kept done moments zone (heard site.panels panel (panel_of_zone site zone) moments)
+
+abbrev pub KeptReleaseIsCaused : Type 0
+KeptReleaseIsCaused =
+    (site : Site) (kept : Retained) (done : List Done) (moments : List Moment) (zone panel : ℕ) → IsRun site.panels moments → IsPanel site.panels (panel_of_zone site zone)
+    → holds_released site kept done (panel_of_zone site zone) (kept_at site.panels panel (panel_of_zone site zone) moments) zone ≡ true
+    → IsCausedOut site kept done moments zone (heard site.panels panel (panel_of_zone site zone) moments)
+
+abbrev pub KeptHandIsCaused : Type 0
+KeptHandIsCaused =
+    (site : Site) (kept : Retained) (done : List Done) (moments : List Moment) (zone panel : ℕ) → IsRun site.panels moments → IsPanel site.panels (panel_of_zone site zone)
+    → holds_by_hand site kept done (panel_of_zone site zone) (kept_at site.panels panel (panel_of_zone site zone) moments) zone ≡ true
+    → IsCausedByHand site kept done moments zone (heard site.panels panel (panel_of_zone site zone) moments)

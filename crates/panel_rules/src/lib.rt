@@ -8,10 +8,15 @@
 
 mod lanes;
 mod records;
+mod words;
 mod zones;
 
 pub use lanes::{lanes_hold_few, lanes_keep_their_tick, taken_by_the_next_tick};
 pub use records::{asked_once_in_a_round, records_are_runs};
+pub use words::{
+    due_hand_is_kept, due_release_is_kept, due_zone_is_kept, kept_hand_is_caused,
+    kept_release_is_caused, kept_zone_is_caused,
+};
 pub use zones::{
     lone_signal_is_shown, own_hand_is_caused, own_release_is_caused, own_zone_is_by_hand,
     own_zone_is_caused, own_zone_is_released, own_zone_is_shown,
