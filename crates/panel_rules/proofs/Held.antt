@@ -13,7 +13,7 @@ use Rattle.coincidence_rules.specs.Places.{is_of, lies_in, on_zone, partner_of, 
 use Rattle.coincidence_rules.specs.Counted.{is_alarm, is_counted}
 use Rattle.panel_rules.specs.Moments.{Moment, tick_of, has_turned, IsPanel, IsRun, IsPast, latest_turn, up_to}
 use Rattle.panel_rules.specs.States.{state_of}
-use Rattle.panel_rules.specs.Asked.{heard_of, is_asked}
+use Rattle.loop_poller.specs.Asked.{heard_of, is_asked}
 use Rattle.panel_rules.specs.Answers.{answers}
 use Rattle.panel_rules.specs.Counts.{taken_by_hold}
 use Rattle.panel_rules.specs.Zones.{held_answers, panel_of_zone}

@@ -12,10 +12,11 @@ use Rattle.site_types.specs.declared.piece_state.PieceState.{PieceState}
 use Rattle.coincidence_rules.specs.InOrder.{AreInOrder}
 use Rattle.panel_rules.specs.Moments.{Moment, Began, Happened, Turned, Kept, tick_of, has_turned, IsPanel, IsRun}
 use Rattle.panel_rules.specs.States.{state_of, piece_of}
-use Rattle.panel_rules.specs.Asked.{answer_at, places, asked_in, line_at, address_at, point_at}
+use Rattle.loop_poller.specs.Asked.{asked_in, point_at}
+use Rattle.loop_poller.specs.Places.{answer_at, places, line_at, address_at}
 use Rattle.panel_rules.specs.Answers.{answers, asked}
 use Rattle.panel_rules.proofs.Places.{get_either, IsBehind, found_from, range_got}
-use Rattle.panel_rules.proofs.Asked.{asked_now, answered_at}
+use Rattle.panel_rules.proofs.Asked.{asked_now, answered_at, by_places}
 use Rattle.panel_rules.proofs.Told.{placed}
 use Rattle.panel_rules.proofs.Counts.{of_panel}
 use Rattle.panel_rules.proofs.Lags.{stamped_by}
@@ -61,14 +62,23 @@ one_place site panel tick s t point h g =
 asked_once : (site : Site) (panel : ℕ) (points : ℕ → PointState) (pieces : ℕ → ℕ → PieceState) (tick i j : ℕ) (a b : Answer) → i < j → slice_get (asked_in site panel points pieces tick) i ≡ Some a → slice_get (asked_in site panel points pieces tick) j ≡ Some b → a.point ≡ b.point → ⊥
 unfolding places
 asked_once site panel points pieces tick i j a b l h g e =
-    let c = come_apart (answer_at site panel points pieces tick) (range_with_len 0 32) i j a b l h g in
-    let f = range_got 0 32 c.first_place c.first c.first_is in
-    let s = range_got 0 32 c.second_place c.second c.second_is in
-    let x = answered_at site panel points pieces tick (line_at c.first) (address_at site.format tick c.first) (point_at site panel (line_at c.first) (address_at site.format tick c.first)) a c.first_gives in
-    let y = answered_at site panel points pieces tick (line_at c.second) (address_at site.format tick c.second) (point_at site panel (line_at c.second) (address_at site.format tick c.second)) b c.second_gives in
-    let same : x.0 ≡ y.0 = sym (ap (λ (r : Answer). r.point) x.2) ∙ e ∙ ap (λ (r : Answer). r.point) y.2 in
-    let place = one_place site panel tick c.first c.second y.0 (x.1 ∙ ap Some same) y.1 in
-    omega (arith, place, f.1, s.1, c.apart)
+    elim (by_places site panel points pieces tick) [
+      | inl n ↦ none i (sym (ap (λ xs. slice_get xs i) n) ∙ h)
+      | inr n ↦ two (sym (ap (λ xs. slice_get xs i) n) ∙ h) (sym (ap (λ xs. slice_get xs j) n) ∙ g)
+    ]
+  where
+    none : (k : ℕ) → slice_get [] k ≡ Some a → ⊥
+    none k h = cc
+    two : slice_get (filter_map (answer_at site panel points pieces tick) (range_with_len 0 32)) i ≡ Some a → slice_get (filter_map (answer_at site panel points pieces tick) (range_with_len 0 32)) j ≡ Some b → ⊥
+    two h g =
+        let c = come_apart (answer_at site panel points pieces tick) (range_with_len 0 32) i j a b l h g in
+        let f = range_got 0 32 c.first_place c.first c.first_is in
+        let s = range_got 0 32 c.second_place c.second c.second_is in
+        let x = answered_at site panel points pieces tick (line_at c.first) (address_at site.format tick c.first) (point_at site panel (line_at c.first) (address_at site.format tick c.first)) a c.first_gives in
+        let y = answered_at site panel points pieces tick (line_at c.second) (address_at site.format tick c.second) (point_at site panel (line_at c.second) (address_at site.format tick c.second)) b c.second_gives in
+        let same : x.0 ≡ y.0 = sym (ap (λ (r : Answer). r.point) x.2) ∙ e ∙ ap (λ (r : Answer). r.point) y.2 in
+        let place = one_place site panel tick c.first c.second y.0 (x.1 ∙ ap Some same) y.1 in
+        omega (arith, place, f.1, s.1, c.apart)
 
 pub asked_apart : (site : Site) (panel : ℕ) (before : List Moment) (i j : ℕ) (a b : Answer) → slice_get (asked site panel before) i ≡ Some a → slice_get (asked site panel before) j ≡ Some b → a.point ≡ b.point → i ≡ j
 asked_apart site panel before i j a b h g e =

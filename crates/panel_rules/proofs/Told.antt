@@ -1,5 +1,7 @@
 -- What the answers of a panel tell, and that each asking is answered.
 use Rattle.std.proofs.Common.{◌≡◌, ℕ, ◌+◌, ◌-◌, ◌*◌, ◌/◌, ◌%◌, ◌≤◌, ◌<◌, ◌==◌, List, [], ◌∷◌, ◌++◌, length, Option, Some, None, slice_get, get_or, option_map, inl, inr, Bool, true, false, refl, sym, ◌∙◌, ap, subst, arith}
+use mathlib.Core.Path.{fun_ext}
+use Rattle.loop_poller.proofs.Places.{asked_in_places}
 use Rattle.std.specs.List.{position, range_with_len}
 use Rattle.std.proofs.lemmas.Bool.{eqb-true}
 use Rattle.std.proofs.lemmas.Bool.Decides.{eqb_tells}
@@ -15,8 +17,9 @@ use Rattle.site_types.specs.declared.piece_state.PieceState.{PieceState}
 use Rattle.site_types.specs.Profile.{round_of}
 use Rattle.panel_rules.specs.Moments.{Moment, Began, Happened, Turned, Kept, tick_of, has_turned, IsPanel, IsPanelTask, IsRun, IsPast, present, later, up_to}
 use Rattle.panel_rules.specs.States.{state_of, piece_of}
-use Rattle.panel_rules.specs.Reach.{is_reached}
-use Rattle.panel_rules.specs.Asked.{is_asked, answer_at, answer_of, places, line_at, address_at, point_at, loop_at, is_reached_on, is_point_reached, heard_of}
+use Rattle.loop_poller.specs.Asked.{is_asked, answer_of, point_at, loop_at, is_reached_on, heard_of}
+use Rattle.loop_poller.specs.Places.{answer_at, places, line_at, address_at}
+use Rattle.panel_rules.specs.Reached.{is_point_reached}
 use Rattle.panel_rules.specs.Answers.{answers, asked}
 use Rattle.panel_rules.specs.Due.{reached_at}
 use Rattle.panel_rules.specs.Laid.{PointLies}
@@ -105,8 +108,7 @@ placed site panel line address point h =
     record { plan = g.item; is = g.is; panel_is = eqb-true _ _ a.0; line_is = eqb-true _ _ b.0; address_is = eqb-true _ _ b.1 }
 
 reached_same : (plan : Option LoopPlan) (pieces others : ℕ → PieceState) (address : ℕ) → ((piece : ℕ) → pieces piece ≡ others piece) → is_reached_on plan pieces address ≡ is_reached_on plan others address
-reached_same None pieces others address same = refl
-reached_same (Some plan) pieces others address same = ap (λ states. is_reached plan states address) (map_same pieces others (range_with_len 0 (plan.last + 1)) same)
+reached_same plan pieces others address same = ap (λ cable. is_reached_on plan cable address) (fun_ext same)
 
 -- an answer tells what its point was at in the tick of its stamp
 pub record Tells (site : Site) (panel : ℕ) (moments : List Moment) (a : Answer) : Type 0 where
@@ -172,12 +174,14 @@ told_by site panels panel moments (Turned other Poll ∷ before) k a run h e =
 told_by site panels panel moments (Turned other task ∷ before) k a run h e = told_by site panels panel moments before k a run (past_on before (Turned other task ∷ before) moments (later (Turned other task) before present) h) e
 told_by site panels panel moments (Kept failed ∷ before) k a run h e = told_by site panels panel moments before k a run (past_on before (Kept failed ∷ before) moments (later (Kept failed) before present) h) e
 
-asked_finds : (site : Site) (panel : ℕ) (before : List Moment) (place point : ℕ) → place < 32 → point_at site panel (line_at place) (address_at site.format (tick_of before) place) ≡ Some point → IsFound (asked site panel before) (answer_of site panel (λ p. state_of p before) (λ line piece. piece_of panel line piece before) (tick_of before) (line_at place) (address_at site.format (tick_of before) place) point)
+asked_finds : (site : Site) (panel : ℕ) (before : List Moment) (place point : ℕ) → 1 ≤ site.format → place < 32 → point_at site panel (line_at place) (address_at site.format (tick_of before) place) ≡ Some point → IsFound (asked site panel before) (answer_of site panel (λ p. state_of p before) (λ line piece. piece_of panel line piece before) (tick_of before) (line_at place) (address_at site.format (tick_of before) place) point)
 unfolding places
-asked_finds site panel before place point few h =
-    found_in (answer_at site panel (λ p. state_of p before) (λ line piece. piece_of panel line piece before) (tick_of before)) (range_with_len 0 32) place place _
+asked_finds site panel before place point known few h =
+    subst (λ xs. IsFound xs (answer_of site panel (λ p. state_of p before) (λ line piece. piece_of panel line piece before) (tick_of before) (line_at place) (address_at site.format (tick_of before) place) point))
+    (sym (asked_in_places site panel (λ p. state_of p before) (λ line piece. piece_of panel line piece before) (tick_of before) known))
+    (found_in (answer_at site panel (λ p. state_of p before) (λ line piece. piece_of panel line piece before) (tick_of before)) (range_with_len 0 32) place place _
     (range_get 0 32 place few ∙ ap Some (omega arith))
-    (ap (option_map (answer_of site panel (λ p. state_of p before) (λ line piece. piece_of panel line piece before) (tick_of before) (line_at place) (address_at site.format (tick_of before) place))) h)
+    (ap (option_map (answer_of site panel (λ p. state_of p before) (λ line piece. piece_of panel line piece before) (tick_of before) (line_at place) (address_at site.format (tick_of before) place))) h))
 
 -- an answer of a point with a stamp is there
 pub record IsAnswered (xs : List Answer) (point tick : ℕ) : Type 0 where
@@ -199,7 +203,7 @@ polled site panels panel moments point plan tick lies of_panel turn asks =
     let phase : tick_of before % round_of site.format ≡ (plan.address - 1) / 8 = ap (λ t. t % round_of site.format) turn.at ∙ eqb-true _ _ asks in
     let address : address_at site.format (tick_of before) place ≡ plan.address = ap (λ p. 8 * p + place % 8 + 1) phase ∙ whole plan.line plan.address lies.address.0 in
     let stands : point_at site panel (line_at place) (address_at site.format (tick_of before) place) ≡ Some point = ap (λ l. point_at site panel l (address_at site.format (tick_of before) place)) line ∙ ap (λ a. point_at site panel plan.line a) address ∙ ap (λ p. point_at site p plan.line plan.address) (sym of_panel) ∙ lies.alone in
-    let found = asked_finds site panel before place point (omega (arith, lies.line.0, lies.line.1)) stands in
+    let found = asked_finds site panel before place point (omega (arith, lies.address.0, lies.address.1)) (omega (arith, lies.line.0, lies.line.1)) stands in
     let there = get_behind (answers site panel before) (asked site panel before) found.place ∙ found.is in
     record {
       place = found.place + length (answers site panel before);

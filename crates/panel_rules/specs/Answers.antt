@@ -5,7 +5,7 @@ use Rattle.site_types.specs.declared.answer.Answer.{Answer}
 use Rattle.site_types.specs.declared.site.Site.{Site}
 use Rattle.panel_rules.specs.Moments.{Moment, Began, Happened, Turned, Kept, tick_of}
 use Rattle.panel_rules.specs.States.{state_of, piece_of}
-use Rattle.panel_rules.specs.Asked.{asked_in}
+use Rattle.loop_poller.specs.Asked.{asked_in}
 
 -- what a turn of the panel's Poll puts now
 abbrev pub asked : Site → ℕ → List Moment → List Answer

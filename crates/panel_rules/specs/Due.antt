@@ -11,7 +11,7 @@ use Rattle.coincidence_rules.specs.Places.{is_of, is_detector, rule_of, pairs_up
 use Rattle.coincidence_rules.specs.Confirmed.{is_by_call_point}
 use Rattle.panel_rules.specs.Moments.{Moment, tick_of, up_to}
 use Rattle.panel_rules.specs.States.{state_of, piece_of}
-use Rattle.panel_rules.specs.Asked.{is_point_reached}
+use Rattle.panel_rules.specs.Reached.{is_point_reached}
 use Rattle.panel_rules.specs.Ring.{AreJoined}
 use Rattle.panel_rules.specs.Zones.{panel_of_zone}
 

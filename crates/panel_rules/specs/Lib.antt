@@ -1,7 +1,6 @@
 pub mod Moments
 pub mod States
-pub mod Reach
-pub mod Asked
+pub mod Reached
 pub mod Answers
 pub mod Counts
 pub mod Lanes

@@ -3,7 +3,7 @@ use Rattle.std.specs.Prelude.{ℕ, ◌+◌, ◌≤◌, ◌<◌, ◌≡◌, true,
 use Rattle.tick_units.specs.Orders.{IsOrder}
 use Rattle.site_types.specs.Profile.{round_of, last_address_of}
 use Rattle.panel_rules.specs.Moments.{TickBlock, moments, IsRun, HaveAllTurned}
-use Rattle.panel_rules.specs.Asked.{is_asked}
+use Rattle.loop_poller.specs.Asked.{is_asked}
 
 abbrev pub AreOrdered : ℕ → List TickBlock → Type 0
 AreOrdered panels [] = Unit {0}
