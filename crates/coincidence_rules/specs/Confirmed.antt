@@ -14,13 +14,13 @@ use Rattle.coincidence_rules.specs.Counted.{is_counted}
 -- the other answer is of another point, of this zone; it counts, was not given later, and lies after each floor of the zone that came before the answer
 abbrev pub is_second : Site → Retained → List Done → ℕ → Answer → Answer → Bool
 is_second site kept done zone answer other =
-    ((is_of site zone other.point && not (other.point == answer.point)) && is_counted site kept done other)
+    ((is_of site zone other.point && is_counted site kept done other) && not (other.point == answer.point))
     && (nat_lt (floor_before site zone answer.stamp.0 done) other.stamp.0 && nat_le other.stamp.0 answer.stamp.0)
 
 -- the same of a detector, at most so many ticks before
 abbrev pub is_near : Site → Retained → List Done → ℕ → ℕ → Answer → Answer → Bool
 is_near site kept done within zone answer other =
-    (is_detector site other.point && is_second site kept done zone answer other) && nat_le answer.stamp.0 (other.stamp.0 + within)
+    (is_second site kept done zone answer other && is_detector site other.point) && nat_le answer.stamp.0 (other.stamp.0 + within)
 
 -- the same, and after each cancelling of the zone that came before the answer
 abbrev pub is_uncancelled : Site → Retained → List Done → ℕ → ℕ → Answer → Answer → Bool

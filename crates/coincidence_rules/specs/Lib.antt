@@ -6,3 +6,6 @@ pub mod First
 pub mod Missing
 pub mod Findings
 pub mod InOrder
+pub mod Kept
+pub mod Found
+pub mod Wired

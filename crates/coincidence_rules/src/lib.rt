@@ -5,5 +5,7 @@
 #![tactic(auto)]
 
 mod finding;
+mod laws;
 
 pub use finding::Finding;
+pub use laws::findings_tell;
