@@ -1,9 +1,9 @@
 -- How old a word is that comes over a way of links that were up.
-use Rattle.std.proofs.Common.{◌≡◌, ℕ, zero, suc, ◌+◌, ◌-◌, ◌*◌, ◌%◌, ◌≤◌, ◌<◌, ◌==◌, ◌&&◌, ◌||◌, List, [], ◌∷◌, ◌⊎◌, inl, inr, Bool, true, false, not, if◌then◌else◌, refl, sym, ◌∙◌, ap, subst, arith}
+use Rattle.std.proofs.Common.{◌≡◌, ℕ, zero, suc, ◌+◌, ◌*◌, ◌%◌, ◌≤◌, ◌<◌, ◌||◌, List, [], ◌∷◌, inl, inr, Bool, true, false, not, if◌then◌else◌, refl, sym, ◌∙◌, ap, subst, arith}
 use Rattle.std.specs.Prelude.{nat_le}
 use Rattle.std.proofs.lemmas.Bool.Decides.{eqb_tells, leb_tells}
 use Rattle.tick_units.specs.declared.task.Task.TheVariants.{Hold, Link}
-use Rattle.panel_rules.specs.Moments.{Moment, Began, Happened, Turned, Kept, tick_of, has_turned, IsPanel, IsRun, IsPast, present, later, up_to, latest_turn, before_turn}
+use Rattle.panel_rules.specs.Moments.{Moment, Began, Happened, Turned, Kept, tick_of, has_turned, IsPanel, IsRun, IsPast, present, later, up_to, latest_turn}
 use Rattle.panel_rules.specs.States.{is_up}
 use Rattle.panel_rules.specs.Kept.{is_odd, carries, above, below, heard}
 use Rattle.panel_rules.proofs.Turns.{turn_lag, one_back, run_tail, past_on, owed_turn}
@@ -82,15 +82,20 @@ module _ (panels source : ℕ) (whole : List Moment) (run : IsRun panels whole) 
     where
       tail : IsPast before whole
       tail = past_on before (Turned (way (suc j)) Link ∷ before) whole (later (Turned (way (suc j)) Link) before present) past
+
       here : IsRun panels (Turned (way (suc j)) Link ∷ before)
       here = run_tail panels (Turned (way (suc j)) Link ∷ before) whole past run
+
       owes : (b : Bool) → latest_turn (way j) Link before + owed_turn b ≡ tick_of before → (tick_of before ≤ latest_turn (way j) Link before + 1) × (latest_turn (way j) Link before ≤ tick_of before)
       owes true e = (omega (arith, e), omega (arith, e))
       owes false e = (omega (arith, e), omega (arith, e))
+
       near : (tick_of before ≤ latest_turn (way j) Link before + 1) × (latest_turn (way j) Link before ≤ tick_of before)
       near = owes (has_turned (way j) Link before) (turn_lag panels (way j) Link before (members j (omega arith)) tt here.0)
+
       was : latest_turn (way (suc j)) Link before + 1 ≡ tick_of before
       was = rw here.1 at (turn_lag panels (way (suc j)) Link before (members (suc j) (omega arith)) tt here.0)
+
       from_neighbour : carries panels (tick_of before) source ≡ true → 1 ≤ tick_of before → WereUp (suc j) (tick_of before) (2 * (j + 1)) → tick_of before ≤ heard panels (way (suc j)) source (Turned (way (suc j)) Link ∷ before) + 2 * (j + 1)
       from_neighbour carried one were' =
           let up : is_up (link j) before ≡ true = sym (state_stays (λ b. is_up (link j) b) panels (Turned (way (suc j)) Link ∷ before) whole (link_by_events (link j)) past run refl) ∙ were' j (tick_of before) (omega arith) one (omega arith) (omega arith) in
@@ -100,6 +105,7 @@ module _ (panels source : ℕ) (whole : List Moment) (run : IsRun panels whole) 
           let rest : WereUp j t (lag j (carries panels t source)) = λ i y less begin end recent. were' i y (omega (arith, less)) begin (omega (arith, end, near.1)) (omega (arith, recent, few, near.0)) in
           let heard_there = ih before tail rest in
           omega (arith, heard_there, few, takes, near.0)
+
       go : (c : Bool) → carries panels (tick_of before) source ≡ c → WereUp (suc j) (tick_of before) (lag (suc j) c) → tick_of before ≤ heard panels (way (suc j)) source (Turned (way (suc j)) Link ∷ before) + lag (suc j) c
       go true e were' = elim (leb_tells 1 (tick_of before)) [ inl o ↦ from_neighbour e o.1 were' | inr o ↦ omega (arith, o.1) ]
       go false e were' =

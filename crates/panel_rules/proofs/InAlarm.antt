@@ -125,8 +125,8 @@ module _ (site : Site) (kept : Retained) (done : List Done) (moments past : List
   seconds z one other first last beyond two begins l differ of_zone floor =
       both _ _
       (both _ _
-      (both _ _ (ap (λ q. is_of site z q) two.earlier.point_is ∙ of_zone) (not_true _ (not_same two.earlier.answer.point two.later.answer.point (λ e. differ (sym two.later.point_is ∙ sym e ∙ two.earlier.point_is)))))
-      two.earlier.counts)
+      (both _ _ (ap (λ q. is_of site z q) two.earlier.point_is ∙ of_zone) two.earlier.counts)
+      (not_true _ (not_same two.earlier.answer.point two.later.answer.point (λ e. differ (sym two.later.point_is ∙ sym e ∙ two.earlier.point_is)))))
       (both _ _
       (lt_to _ _ (omega (arith, floor_since z first beyond two.later.answer.stamp.0 begins (omega (arith, two.later.by, l)) floor, two.earlier.from)))
       (le_to _ _ two.in_order))
@@ -137,7 +137,7 @@ module _ (site : Site) (kept : Retained) (done : List Done) (moments past : List
   nears : (within z one other first last beyond : ℕ) (two : TwoCount site kept done (held_answers site panel past) one other first last) → 1 ≤ first → last ≤ beyond + 1 → last ≤ first + within + 1 → one ≢ other → is_of site z other ≡ true → is_detector site other ≡ true → NoFloor site done z first beyond → is_near site kept done within z two.later.answer two.earlier.answer ≡ true
   nears within z one other first last beyond two begins l near differ of_zone detects floor =
       both _ _
-      (both _ _ (ap (λ q. is_detector site q) two.earlier.point_is ∙ detects) (seconds z one other first last beyond two begins l differ of_zone floor))
+      (both _ _ (seconds z one other first last beyond two begins l differ of_zone floor) (ap (λ q. is_detector site q) two.earlier.point_is ∙ detects))
       (le_to _ _ (omega (arith, two.later.by, near, two.earlier.from)))
 
   -- both rounds of two points are counted

@@ -1,24 +1,23 @@
 -- A zone that is due at a panel is in the word that the panel keeps, and what is in a word kept is caused.
-use Rattle.std.proofs.Common.{◌≡◌, ℕ, zero, suc, ◌+◌, ◌-◌, ◌*◌, ◌≤◌, ◌<◌, ◌==◌, List, [], ◌∷◌, ◌⊎◌, inl, inr, Bool, true, false, refl, sym, ◌∙◌, ap, subst, arith}
+use Rattle.std.proofs.Common.{◌≡◌, ℕ, suc, ◌+◌, ◌-◌, ◌*◌, ◌≤◌, ◌<◌, List, ◌∷◌, Bool, true, false, refl, sym, ◌∙◌, ap, subst, arith}
 use Rattle.tick_units.specs.declared.task.Task.TheVariants.{Hold, Link}
 use Rattle.site_types.specs.declared.site.Site.{Site}
 use Rattle.site_types.specs.declared.retained.Retained.{Retained}
 use Rattle.site_types.specs.Done.{Done}
-use Rattle.site_types.specs.Valid.{IsValid}
-use Rattle.site_types.specs.Profile.{round_of, signal_of, settled_of, spread_of}
-use Rattle.panel_rules.specs.Moments.{Moment, Turned, tick_of, has_turned, IsPanel, IsRun, IsPast, present, up_to, latest_turn, before_turn}
+use Rattle.site_types.specs.Profile.{round_of}
+use Rattle.panel_rules.specs.Moments.{Moment, Turned, tick_of, has_turned, IsPanel, IsRun, IsPast, present, up_to, latest_turn}
 use Rattle.panel_rules.specs.States.{is_up}
 use Rattle.panel_rules.specs.Ring.{links_between, link_on, IsWayUp, AreJoined, the_same, upward as way_up, downward as way_down}
 use Rattle.panel_rules.specs.Kept.{kept_at, heard}
-use Rattle.panel_rules.specs.Zones.{panel_of_zone, holds_alarm, holds_by_hand, holds_released}
+use Rattle.panel_rules.specs.Zones.{panel_of_zone}
 use Rattle.panel_rules.specs.Due.{IsDueAfter, own, by_way}
 use Rattle.panel_rules.specs.Caused.{IsCausedAt, IsCausedByHand, IsCausedOut}
 use Rattle.panel_rules.specs.Laws.{IsAfterTick, DueZoneIsKept, DueReleaseIsKept, DueHandIsKept, KeptZoneIsCaused, KeptReleaseIsCaused, KeptHandIsCaused}
 use Rattle.panel_rules.proofs.Turns.{turn_lag, one_back, run_tail, owed_turn}
-use Rattle.panel_rules.proofs.Told.{eq_true, HasTurn, turn_in}
+use Rattle.panel_rules.proofs.Told.{eq_true, turn_in}
 use Rattle.panel_rules.proofs.KeptWords.{IsMade, nothing, in_turn, kept_is, heard_rises, own_heard}
 use Rattle.panel_rules.proofs.Ways.{up_from, down_from, links_few, up_member, up_begins, up_ends, up_step, down_member, down_begins, down_ends, down_step, down_links}
-use Rattle.panel_rules.proofs.Heard.{IsStep, upward, downward, heard_by_way}
+use Rattle.panel_rules.proofs.Heard.{upward, downward, heard_by_way}
 use Rattle.panel_rules.proofs.Laid.{laid_out}
 use Rattle.panel_rules.proofs.InAlarm.{signal_holds, hand_holds, out_holds}
 use Rattle.panel_rules.proofs.Causes.{alarm_caused, hand_caused, released_caused}
@@ -28,7 +27,6 @@ link_tick : (panel : ℕ) (before : List Moment) → latest_turn panel Link (Tur
 link_tick panel before = rw (eq_true panel panel refl) refl
 
 module _ (panels : ℕ) (moments past : List Moment) (run : IsRun panels moments) (is_past : IsPast past moments) (few : panels ≤ 8) (from to : ℕ) (f : IsPanel panels from) (t : IsPanel panels to) where
-
   upward_heard : (first last : ℕ) → latest_turn to Link past ≤ last → first + 14 ≤ latest_turn to Link past + 1 → IsWayUp panels moments from to first last → latest_turn to Link past ≤ heard panels to from past + 15
   upward_heard first last l recent up =
       let h = links_between panels from to in
@@ -47,7 +45,7 @@ module _ (panels : ℕ) (moments past : List Moment) (run : IsRun panels moments
       let claim = heard_by_way panels from moments run (down_from panels from) (λ j. down_from panels from (suc j)) h (down_begins panels from f) (λ j less. downward (down_step panels from j f (omega (arith, less, short))) refl) (λ j less. down_member panels from j f (omega (arith, less, short))) past is_past in
       let at : ((i y : ℕ) → i < h → 1 ≤ y → y ≤ latest_turn to Link past → latest_turn to Link past < y + 2 * h → is_up (down_from panels from (suc i)) (up_to y moments) ≡ true) → latest_turn to Link past ≤ heard panels to from past + (2 * h + 1) = subst (λ p. ((i y : ℕ) → i < h → 1 ≤ y → y ≤ latest_turn p Link past → latest_turn p Link past < y + 2 * h → is_up (down_from panels from (suc i)) (up_to y moments) ≡ true) → latest_turn p Link past ≤ heard panels p from past + (2 * h + 1)) ends claim in
       let held =
-          at (λ i y less one end late. subst (λ k. is_up k (up_to y moments) ≡ true) (down_links panels from to i f t less) (up (h - i - 1) y (omega (arith, less)) (omega (arith, late, recent, short, few)) (omega (arith, end, l)))) in
+      at (λ i y less one end late. subst (λ k. is_up k (up_to y moments) ≡ true) (down_links panels from to i f t less) (up (h - i - 1) y (omega (arith, less)) (omega (arith, late, recent, short, few)) (omega (arith, end, l)))) in
       omega (arith, held, short, few)
 
   -- a panel has heard its own word of the tick of its turn of Link, or of the one before

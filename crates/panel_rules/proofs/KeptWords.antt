@@ -1,7 +1,7 @@
 -- What a panel keeps of another is a word that the other made, and never an older one than before.
-use Rattle.std.proofs.Common.{◌≡◌, ℕ, ◌+◌, ◌≤◌, ◌<◌, ◌==◌, ◌&&◌, ◌||◌, List, [], ◌∷◌, ◌⊎◌, inl, inr, Bool, true, false, if◌then◌else◌, refl, sym, ◌∙◌, ap, subst, arith}
+use Rattle.std.proofs.Common.{◌≡◌, ℕ, ◌≤◌, ◌==◌, List, [], ◌∷◌, inl, inr, Bool, true, false, if◌then◌else◌, refl, ap, subst, arith}
 use Rattle.std.specs.Prelude.{nat_lt}
-use Rattle.std.proofs.lemmas.Bool.Decides.{eqb_tells, leb_tells}
+use Rattle.std.proofs.lemmas.Bool.Decides.{eqb_tells}
 use Rattle.tick_units.specs.declared.task.Task.{Task}
 use Rattle.tick_units.specs.declared.task.Task.TheVariants.{Hold, Link}
 use Rattle.site_types.proofs.Done.{lt_tells}
@@ -49,6 +49,7 @@ made_is panel (Turned other Hold ∷ before) =
   where
     latest_now : (other panel : ℕ) (before : List Moment) → (other == panel) ≡ true → tick_of before ≤ latest_turn panel Hold (Turned other Hold ∷ before)
     latest_now other panel before e = rw e (omega arith)
+
     latest_same : (other panel : ℕ) (before : List Moment) → (other == panel) ≡ false → latest_turn panel Hold before ≤ latest_turn panel Hold (Turned other Hold ∷ before)
     latest_same other panel before e = rw e (omega arith)
 made_is panel (Turned other task ∷ before) = word_on panel (Turned other task) before (made_at panel before) (omega arith) (made_is panel before)

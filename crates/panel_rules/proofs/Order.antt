@@ -69,6 +69,7 @@ asked_once site panel points pieces tick i j a b l h g e =
   where
     none : (k : ℕ) → slice_get [] k ≡ Some a → ⊥
     none k h = cc
+
     two : slice_get (filter_map (answer_at site panel points pieces tick) (range_with_len 0 32)) i ≡ Some a → slice_get (filter_map (answer_at site panel points pieces tick) (range_with_len 0 32)) j ≡ Some b → ⊥
     two h g =
         let c = come_apart (answer_at site panel points pieces tick) (range_with_len 0 32) i j a b l h g in

@@ -1,5 +1,5 @@
 -- What the answers of a panel tell, and that each asking is answered.
-use Rattle.std.proofs.Common.{◌≡◌, ℕ, ◌+◌, ◌-◌, ◌*◌, ◌/◌, ◌%◌, ◌≤◌, ◌<◌, ◌==◌, List, [], ◌∷◌, ◌++◌, length, Option, Some, None, slice_get, get_or, option_map, inl, inr, Bool, true, false, refl, sym, ◌∙◌, ap, subst, arith}
+use Rattle.std.proofs.Common.{◌≡◌, ℕ, ◌+◌, ◌-◌, ◌*◌, ◌/◌, ◌%◌, ◌≤◌, ◌<◌, ◌==◌, List, [], ◌∷◌, ◌++◌, length, Option, Some, slice_get, get_or, option_map, inl, inr, Bool, true, false, refl, sym, ◌∙◌, ap, subst, arith}
 use mathlib.Core.Path.{fun_ext}
 use Rattle.loop_poller.proofs.Places.{asked_in_places}
 use Rattle.std.specs.List.{position, range_with_len}
@@ -23,7 +23,7 @@ use Rattle.panel_rules.specs.Reached.{is_point_reached}
 use Rattle.panel_rules.specs.Answers.{answers, asked}
 use Rattle.panel_rules.specs.Due.{reached_at}
 use Rattle.panel_rules.specs.Laid.{PointLies}
-use Rattle.panel_rules.proofs.Bools.{parts, map_same}
+use Rattle.panel_rules.proofs.Bools.{parts}
 use Rattle.panel_rules.proofs.Places.{get_either, get_behind, get_front, IsFound, found_in, range_get}
 use Rattle.panel_rules.proofs.Asked.{asked_from}
 use Rattle.panel_rules.proofs.Turns.{turn_tells, past_on, owed_turn}

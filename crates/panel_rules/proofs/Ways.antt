@@ -1,5 +1,5 @@
 -- Ways round the ring: the panels on them, one step after another, and the links between.
-use Rattle.std.proofs.Common.{◌≡◌, ℕ, zero, suc, ◌+◌, ◌-◌, ◌%◌, ◌≤◌, ◌<◌, ◌⊎◌, inl, inr, refl, sym, ◌∙◌, ap, arith}
+use Rattle.std.proofs.Common.{◌≡◌, ℕ, suc, ◌+◌, ◌-◌, ◌%◌, ◌≤◌, ◌<◌, ◌⊎◌, inl, inr, refl, ◌∙◌, ap, arith}
 use Rattle.std.proofs.lemmas.Bool.Decides.{leb_tells}
 use Rattle.std.proofs.Math.Nat.{mod-eq_of_lt, add-mod_left}
 use Rattle.panel_rules.specs.Moments.{IsPanel}
@@ -16,6 +16,7 @@ wraps x n l = go (x - n) (cases x n)
   where
     cases : (x n : ℕ) → (x < n) ⊎ (x ≡ n + (x - n))
     cases x n = elim (leb_tells n x) [ inl h ↦ inr (omega (arith, h.1)) | inr h ↦ inl h.1 ]
+
     go : (k : ℕ) → (x < n) ⊎ (x ≡ n + k) → Wraps x n
     go k (inl s) = low s (mod-eq_of_lt s)
     go k (inr e) =
@@ -54,6 +55,7 @@ up_ends panels from to f t = go (links_between panels from to) (wraps (to + pane
           | low s m ↦ (elim e [ inl g ↦ absurd (omega (arith, g, s, t.0)) | inr g ↦ omega (arith, g, m, t.0) ])
           | high s m b ↦ (elim e [ inl g ↦ omega (arith, g, m, t.0) | inr g ↦ absurd (omega (arith, g, s, t.1, t.0)) ])
         ]
+
     go : (h : ℕ) → Wraps (to + panels - from) panels → h ≡ links_between panels from to → (from + h - 1) % panels + 1 ≡ to
     go h (low s e) is = at h (inl (omega (arith, s, e, is, f.1))) (omega (arith, s, e, is))
     go h (high s e b) is = at h (inr (omega (arith, s, e, is, f.1))) (omega (arith, b, is))
@@ -99,6 +101,7 @@ down_ends panels from to f t = go (links_between panels to from) (wraps (from + 
           | low s m ↦ (elim e [ inl g ↦ omega (arith, g, m, t.0) | inr g ↦ absurd (omega (arith, g, s, t.0)) ])
           | high s m b ↦ (elim e [ inl g ↦ absurd (omega (arith, g, s, t.1, t.0)) | inr g ↦ omega (arith, g, m, t.0) ])
         ]
+
     go : (h : ℕ) → Wraps (from + panels - to) panels → h ≡ links_between panels to from → (from + panels - h - 1) % panels + 1 ≡ to
     go h (low s e) is = at h (inl (omega (arith, s, e, is, t.1))) (omega (arith, s, e, is))
     go h (high s e b) is = at h (inr (omega (arith, s, e, is, t.1))) (omega (arith, b, is))
@@ -143,6 +146,7 @@ down_links panels from to step f t l = go (links_between panels to from) (wraps 
                 | high u g c ↦ elim e [ inl i ↦ omega (arith, i, m, g, less, t.0) | inr i ↦ absurd (omega (arith, i, s, f.1, less, t.0)) ]
               ]
         ]
+
     go : (h : ℕ) → Wraps (from + panels - to) panels → h ≡ links_between panels to from → step < h → (to + (h - step - 1) - 1) % panels + 1 ≡ (from + panels - suc step - 1) % panels + 1
     go h (low s e) is less = at h (inl (omega (arith, s, e, is, t.1))) (omega (arith, s, e, is)) less
     go h (high s e b) is less = at h (inr (omega (arith, s, e, is, t.1))) (omega (arith, b, is)) less

@@ -4,35 +4,29 @@ ghost use Rattle.panel_rules.specs.Laws.{DueZoneIsKept, DueReleaseIsKept, DueHan
 /// orders of turns. It is due there once it was joined for long enough, so that each panel shows it within the network's ticks.
 pub fn due_zone_is_kept()
     ensures { DueZoneIsKept }
-{
-}
+{}
 
 /// A zone that is due for outputs at a panel is released in the word kept.
 pub fn due_release_is_kept()
     ensures { DueReleaseIsKept }
-{
-}
+{}
 
 /// A zone that is due by hand at a panel is by hand in the word kept.
 pub fn due_hand_is_kept()
     ensures { DueHandIsKept }
-{
-}
+{}
 
 /// A zone that is in alarm in a word kept was confirmed by an answer, and no floor before the word's stamp undid it.
 pub fn kept_zone_is_caused()
     ensures { KeptZoneIsCaused }
-{
-}
+{}
 
 /// The same of a zone that is released in a word kept.
 pub fn kept_release_is_caused()
     ensures { KeptReleaseIsCaused }
-{
-}
+{}
 
 /// The same of a zone that is by hand in a word kept.
 pub fn kept_hand_is_caused()
     ensures { KeptHandIsCaused }
-{
-}
+{}
