@@ -1,7 +1,6 @@
 -- What is kept after an operation stands for one more operation.
-use Rattle.std.proofs.Common.{◌≡◌, ◌≢◌, ◌⊎◌, inl, inr, ⊎_elim, ℕ, zero, suc, ◌+◌, ◌<◌, ◌≤◌, max, Bool, true, false, not, List, [], ◌∷◌, ◌++◌, length, set, length-set, Option, Some, None, slice_get, get_or, ◌==◌, ◌&&◌, ◌||◌, nat_lt, nat_le, if◌then◌else◌, refl, sym, ◌∙◌, ap, subst, arith}
+use Rattle.std.proofs.Common.{◌≡◌, ◌≢◌, ◌⊎◌, inl, inr, ℕ, suc, ◌<◌, ◌≤◌, max, Bool, true, false, not, List, [], ◌∷◌, length, Option, Some, None, slice_get, get_or, ◌==◌, ◌&&◌, ◌||◌, nat_lt, if◌then◌else◌, refl, sym, ◌∙◌, ap, subst, arith}
 use Rattle.std.proofs.lemmas.Bool.Decides.{nat_tests}
-use Rattle.std.specs.Vec.{with_item}
 use Rattle.tick_units.specs.declared.tick.Tick.{Tick}
 use Rattle.tick_units.specs.declared.switch.Switch.{Switch}
 use Rattle.site_types.specs.declared.site.Site.{Site}
@@ -10,12 +9,9 @@ use Rattle.site_types.specs.declared.zone.Zone.{Zone as ZonePlan}
 use Rattle.site_types.specs.declared.answer.Answer.{Answer}
 use Rattle.site_types.specs.declared.rule.Rule.{Rule}
 use Rattle.site_types.specs.declared.retained.Retained.{Retained}
-use Rattle.site_types.specs.declared.item.Item.{Item}
-use Rattle.site_types.specs.declared.item.Item.TheVariants.{Point, Zone, Output}
 use Rattle.site_types.specs.declared.operation.Operation.{Operation}
-use Rattle.site_types.specs.declared.operation.Operation.TheVariants.{Mute, Override, Silence, Resound, Reset, Cancel, Disable, Enable, Test, Untest, Delays, Clear}
-use Rattle.site_types.specs.Done.{Done, Setting, PointOff, ZoneOff, InTest, is_on, value_set, in_force, latest_before, floor_before, cancels, is_blocked, AreBy}
-use Rattle.site_types.proofs.Done.{lt_tells, lt_true, blocked-later, floor-yet, by_later}
+use Rattle.site_types.specs.Done.{Done, Setting, PointOff, ZoneOff, InTest, is_on, value_set, in_force, latest_before, floor_before, cancels, AreBy}
+use Rattle.site_types.proofs.Done.{lt_tells, lt_true, blocked-later, floor-yet}
 use Rattle.coincidence_rules.specs.Counted.{is_alarm, is_counted}
 use Rattle.coincidence_rules.specs.Places.{is_of, is_detector}
 use Rattle.coincidence_rules.specs.Kept.{run_then, run_of, latest_besides, is_type_C, may_pair}
@@ -23,10 +19,10 @@ use Rattle.coincidence.specs.declared.last_tick.LastTick.{LastTick}
 use Rattle.coincidence.specs.declared.point_watch.PointWatch.{PointWatch}
 use Rattle.coincidence.specs.declared.zone_watch.ZoneWatch.{ZoneWatch}
 use Rattle.coincidence.specs.declared.decide.Decide.{Decide}
-use Rattle.coincidence.specs.Parts.{switch_at, switch_after, last_at, last_after, last_if}
-use Rattle.coincidence.specs.Stands.{resets, moves, set_in, TellsSetting, TellsLast, WatchesPoint, WatchesZone, IsOwn, IsOwnZone, DecidesFor, NoneIn, MayApply, off_operation}
+use Rattle.coincidence.specs.Parts.{switch_after, last_after, last_if}
+use Rattle.coincidence.specs.Stands.{resets, moves, set_in, TellsSetting, TellsLast, WatchesPoint, WatchesZone, IsOwnZone, DecidesFor}
+use Rattle.coincidence.specs.Premises.{IsOwn, NoneIn, MayApply}
 use Rattle.coincidence.proofs.Watched.{read_is, watched, watched_zone}
-use Rattle.coincidence.proofs.Noted.{get_set}
 
 abbrev pub done_now : Tick → ℕ → Operation → Done
 done_now at panel operation = record { tick = at.0; panel = panel; operation = operation }
@@ -94,7 +90,6 @@ module _ (done : List Done) (at : Tick) (panel : ℕ) (operation : Operation) (b
       go true e = raised (h.by at.0 by') (lt_tells last.tick.0 at.0) e
 
 module _ (site : Site) (kept : Retained) (done : List Done) (at : Tick) (panel : ℕ) (operation : Operation) (by' : AreBy at.0 done) where
-
   tells_then : (setting : Setting) (switch : Switch) → (is_on setting (done_now at panel operation) ≡ true → switch.since.0 < at.0) → TellsSetting site kept setting done switch → TellsSetting site kept setting (done_now at panel operation ∷ done) (switch_then at panel operation setting switch)
   tells_then setting switch before h = go (is_on setting (done_now at panel operation)) refl
     where
@@ -173,7 +168,7 @@ pub record IsAfter (at : Tick) (panel : ℕ) (operation : Operation) (old next :
 pub stands_after : (site : Site) (kept : Retained) (panel : ℕ) (done : List Done) (taken : List Answer) (old next : Decide) (at : Tick) (operation : Operation) → DecidesFor site kept panel done taken old → MayApply site panel done taken operation at.0
     → IsAfter at panel operation old next → DecidesFor site kept panel (done_now at panel operation ∷ done) taken next
 stands_after site kept panel done taken old next at operation stands may after =
-    let before = λ (setting : Setting) (e : is_on setting (done_now at panel operation) ≡ true). set_before at.0 setting done may.counted may.since (may.once setting e) in
+    let before = λ (setting : Setting) (e : is_on setting (done_now at panel operation) ≡ true). set_before at.0 setting done may.from_one may.since (may.once setting e) in
     record {
       wired = stands.wired;
       at = after.same_panel ∙ stands.at;
@@ -202,13 +197,14 @@ pub zone_since : {site : Site} {kept : Retained} {panel : ℕ} {done : List Done
     → ((is_on (ZoneOff place) (done_now at panel operation) ≡ true) → watch.off.since.0 < at.0) × ((is_on (InTest place) (done_now at panel operation) ≡ true) → watch.test.since.0 < at.0)
 zone_since {panel = panel} {done = done} {decide = decide} stands operation at may place own watch e =
     let w = watched_zone stands place own.zone own.is own.at in
-    let same : watch ≡ w.over = read_is decide.zones.items place watch w.over e w.is_over in
-    (λ on. subst (λ (o : ZoneWatch). o.off.since.0 < at.0) (sym same) (subst (λ n. n < at.0) (sym w.watches.off.since) (set_before at.0 (ZoneOff place) done may.counted may.since (may.once (ZoneOff place) on))),
-    λ on. subst (λ (o : ZoneWatch). o.test.since.0 < at.0) (sym same) (subst (λ n. n < at.0) (sym w.watches.test.since) (set_before at.0 (InTest place) done may.counted may.since (may.once (InTest place) on))))
+    let same : watch ≡ w.over = read_is decide.zones.items place watch w.over e w.is_over in (
+      λ on. subst (λ (o : ZoneWatch). o.off.since.0 < at.0) (sym same) (subst (λ n. n < at.0) (sym w.watches.off.since) (set_before at.0 (ZoneOff place) done may.from_one may.since (may.once (ZoneOff place) on))),
+      λ on. subst (λ (o : ZoneWatch). o.test.since.0 < at.0) (sym same) (subst (λ n. n < at.0) (sym w.watches.test.since) (set_before at.0 (InTest place) done may.from_one may.since (may.once (InTest place) on))),
+    )
 
 pub point_since : {site : Site} {kept : Retained} {panel : ℕ} {done : List Done} {taken : List Answer} {decide : Decide} → DecidesFor site kept panel done taken decide → (operation : Operation) (at : Tick) → MayApply site panel done taken operation at.0
     → (place : ℕ) → IsOwn site panel place → (watch : PointWatch) → watch ≡ get_or decide.points.items place watch → (is_on (PointOff place) (done_now at panel operation) ≡ true) → watch.off.since.0 < at.0
 point_since {panel = panel} {done = done} {decide = decide} stands operation at may place own watch e on =
     let w = watched stands place own in
     let same : watch ≡ w.watch = read_is decide.points.items place watch w.watch e w.is_watch in
-    subst (λ (o : PointWatch). o.off.since.0 < at.0) (sym same) (subst (λ n. n < at.0) (sym w.watches.off.since) (set_before at.0 (PointOff place) done may.counted may.since (may.once (PointOff place) on)))
+    subst (λ (o : PointWatch). o.off.since.0 < at.0) (sym same) (subst (λ n. n < at.0) (sym w.watches.off.since) (set_before at.0 (PointOff place) done may.from_one may.since (may.once (PointOff place) on)))

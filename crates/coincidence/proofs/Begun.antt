@@ -1,5 +1,5 @@
 -- What is kept at the start stands for no answers and no operations.
-use Rattle.std.proofs.Common.{◌≡◌, ℕ, zero, suc, ◌+◌, ◌<◌, ◌≤◌, Bool, true, false, List, [], ◌∷◌, length, map, Option, Some, None, slice_get, nat_lt, nat_le, if◌then◌else◌, refl, sym, ◌∙◌, ap, subst, arith}
+use Rattle.std.proofs.Common.{◌≡◌, ℕ, zero, suc, ◌≤◌, Bool, true, false, List, [], ◌∷◌, length, map, Some, slice_get, nat_lt, nat_le, if◌then◌else◌, refl, sym, ◌∙◌, ap, subst, arith}
 use Rattle.std.proofs.lemmas.Bool.Decides.{nat_tests}
 use Rattle.site_types.specs.declared.site.Site.{Site}
 use Rattle.site_types.specs.declared.point.Point.{Point as PointPlan}
@@ -9,10 +9,8 @@ use Rattle.site_types.specs.Done.{Done, Setting, PointOff, ZoneOff, InTest, at_o
 use Rattle.site_types.specs.Valid.{IsValid}
 use Rattle.coincidence_rules.specs.Missing.{latest_of, begins_silent}
 use Rattle.coincidence_rules.proofs.ValidWired.{wired_of}
-use Rattle.coincidence.specs.declared.point_watch.PointWatch.{PointWatch}
-use Rattle.coincidence.specs.declared.zone_watch.ZoneWatch.{ZoneWatch}
 use Rattle.coincidence.specs.declared.decide.Decide.{Decide}
-use Rattle.coincidence.specs.Parts.{switch_begun, last_begun, point_begun, zone_begun, point_from, zone_from}
+use Rattle.coincidence.specs.Parts.{switch_begun, last_begun, point_from, zone_from}
 use Rattle.coincidence.specs.Stands.{TellsSetting, TellsLast, WatchesPoint, WatchesZone, DecidesFor}
 
 length_map : {X Y : Type 0} (f : X → Y) (xs : List X) → length (map f xs) ≡ length xs

@@ -1,31 +1,26 @@
 -- The masks that are made of what is seen of an answer are its finding.
-use Rattle.std.proofs.Common.{◌≡◌, ◌≢◌, ◌⊎◌, inl, inr, ℕ, ◌+◌, ◌<◌, ◌≤◌, ◌^◌, Bool, true, false, not, List, [], ◌∷◌, ◌++◌, length, Option, Some, None, slice_get, get_or, ◌==◌, ◌&&◌, ◌||◌, nat_le, if◌then◌else◌, refl, sym, ◌∙◌, ap, subst, arith}
+use Rattle.std.proofs.Common.{◌≡◌, ℕ, ◌+◌, ◌<◌, ◌^◌, Bool, false, List, Option, Some, None, get_or, ◌==◌, ◌&&◌, nat_le, if◌then◌else◌, refl, sym, ◌∙◌, ap, subst, arith}
 use Rattle.tick_units.specs.declared.tick.Tick.{Tick}
 use Rattle.site_types.specs.declared.site.Site.{Site}
-use Rattle.site_types.specs.declared.point.Point.{Point as PointPlan}
-use Rattle.site_types.specs.declared.zone.Zone.{Zone as ZonePlan}
 use Rattle.site_types.specs.declared.answer.Answer.{Answer}
-use Rattle.site_types.specs.declared.rule.Rule.{Rule}
 use Rattle.site_types.specs.declared.retained.Retained.{Retained}
 use Rattle.site_types.specs.Bits.{has_bit}
 use Rattle.site_types.specs.Done.{Done}
 use Rattle.coincidence_rules.specs.declared.finding.Finding.{Finding}
-use Rattle.coincidence_rules.specs.Places.{is_of, zones_where}
+use Rattle.coincidence_rules.specs.Places.{is_of}
 use Rattle.coincidence_rules.specs.Counted.{is_counted}
 use Rattle.coincidence_rules.specs.Confirmed.{confirms}
 use Rattle.coincidence_rules.specs.Alarm.{calls, releases}
-use Rattle.coincidence_rules.specs.Missing.{is_missing}
 use Rattle.coincidence_rules.specs.Findings.{finding_among}
-use Rattle.coincidence_rules.specs.Wired.{IsWired, HasPartner}
 use Rattle.coincidence.specs.declared.point_watch.PointWatch.{PointWatch}
 use Rattle.coincidence.specs.declared.zone_watch.ZoneWatch.{ZoneWatch}
 use Rattle.coincidence.specs.declared.sight.Sight.{Sight}
 use Rattle.coincidence.specs.declared.beside.Beside.{Beside}
 use Rattle.coincidence.specs.declared.decide.Decide.{Decide}
-use Rattle.coincidence.specs.Sights.{own_confirmed, own_released, partner_confirmed, partner_released, Sees, partner_is, SeesBeside}
+use Rattle.coincidence.specs.Sights.{own_confirmed, own_released, Sees, partner_is, SeesBeside}
 use Rattle.coincidence.specs.Stands.{DecidesFor, WatchesZone, Fits}
 use Rattle.coincidence.proofs.Watched.{read_is, Watched, watched, zone_watched}
-use Rattle.coincidence.proofs.Masked.{IsOther, IsSecondBit, bit_of, mask_is}
+use Rattle.coincidence.proofs.Masked.{IsSecondBit, bit_of, mask_is}
 use Rattle.coincidence.proofs.Meant.{own_confirmed_is, own_released_is, partner_confirmed_is, partner_released_is, none_confirmed, none_released, none_called, none_counted, own_called, own_counted}
 
 -- the bits of a mask
@@ -37,7 +32,7 @@ same_finding : (stamp : Tick) (point c d f g m n r q : ℕ) (a b : Bool) → c �
 same_finding stamp point c d f g m n r q a b e1 e2 e3 e4 e5 = cc
 
 module _ {site : Site} {kept : Retained} {panel : ℕ} {done : List Done} {all : List Answer} {decide : Decide} (stands : DecidesFor site kept panel done all decide) (answer : Answer) (fits : Fits site panel done all answer)
-  (r : PointWatch) (z : ZoneWatch) (e : r ≡ get_or decide.points.items answer.point r) (h : z ≡ get_or decide.zones.items r.zone z) (sight : Sight) (beside : Beside) where
+    (r : PointWatch) (z : ZoneWatch) (e : r ≡ get_or decide.points.items answer.point r) (h : z ≡ get_or decide.zones.items r.zone z) (sight : Sight) (beside : Beside) where
   abbrev w : Watched site kept panel done all decide answer.point
   w = watched stands answer.point fits.own
 

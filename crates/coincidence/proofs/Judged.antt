@@ -1,17 +1,13 @@
 -- Whether an answer counts, the floor before it and the latest other answer, as the code reads them, are the definitions'.
-use Rattle.std.proofs.Common.{◌≡◌, ◌⊎◌, inl, inr, ℕ, ◌+◌, ◌<◌, ◌≤◌, max, Bool, true, false, not, List, [], ◌∷◌, Option, Some, None, slice_get, get_or, ◌==◌, ◌&&◌, ◌||◌, nat_lt, if◌then◌else◌, refl, sym, ◌∙◌, ap, subst, arith}
-use Rattle.std.proofs.lemmas.Bool.Decides.{nat_tests}
-use Rattle.tick_units.specs.declared.tick.Tick.{Tick}
+use Rattle.std.proofs.Common.{◌≡◌, ℕ, ◌≤◌, max, Bool, true, false, not, List, [], ◌∷◌, Option, Some, None, slice_get, get_or, ◌==◌, ◌&&◌, ◌||◌, nat_lt, if◌then◌else◌, refl, sym, ◌∙◌, ap, subst, arith}
 use Rattle.site_types.specs.declared.site.Site.{Site}
-use Rattle.site_types.specs.declared.point.Point.{Point as PointPlan}
 use Rattle.site_types.specs.declared.zone.Zone.{Zone as ZonePlan}
 use Rattle.site_types.specs.declared.answer.Answer.{Answer}
 use Rattle.site_types.specs.declared.retained.Retained.{Retained}
-use Rattle.site_types.specs.declared.rule.Rule.{Rule}
 use Rattle.site_types.specs.declared.item.Item.TheVariants.{Point, Zone, Output}
 use Rattle.site_types.specs.declared.operation.Operation.{Operation}
 use Rattle.site_types.specs.declared.operation.Operation.TheVariants.{Mute, Override, Silence, Resound, Reset, Cancel, Disable, Enable, Test, Untest, Delays, Clear}
-use Rattle.site_types.specs.Done.{Done, PointOff, ZoneOff, InTest, in_force, latest_before, is_of_panel, is_floor, moves_floor, floor_before, cancelled_before, is_zone_blocked, is_blocked, AreBy}
+use Rattle.site_types.specs.Done.{Done, PointOff, ZoneOff, in_force, latest_before, is_of_panel, is_floor, moves_floor, floor_before, cancelled_before, is_zone_blocked, AreBy}
 use Rattle.coincidence_rules.specs.Counted.{is_alarm, is_counted}
 use Rattle.coincidence_rules.specs.Kept.{bar, after, may_pair, latest_besides, second_of}
 use Rattle.coincidence.specs.declared.last_tick.LastTick.{LastTick}
@@ -19,7 +15,7 @@ use Rattle.coincidence.specs.declared.point_watch.PointWatch.{PointWatch}
 use Rattle.coincidence.specs.declared.zone_watch.ZoneWatch.{ZoneWatch}
 use Rattle.coincidence.specs.declared.decide.Decide.{Decide}
 use Rattle.coincidence.specs.Parts.{switch_at, last_at, besides}
-use Rattle.coincidence.specs.Stands.{is_reset, resets, is_move, moves, TellsLast, DecidesFor, Fits}
+use Rattle.coincidence.specs.Stands.{is_reset, resets, is_move, moves, DecidesFor, Fits}
 use Rattle.coincidence.proofs.Watched.{read_is, watched, watched_zone, over_read, off_since, zone_off_since, test_since}
 
 -- the latest of two kinds of operations

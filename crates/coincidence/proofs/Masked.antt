@@ -1,12 +1,12 @@
 -- A mask with the bits of a zone and its partner is the mask of a test that no other zone passes.
-use Rattle.std.proofs.Common.{◌≡◌, ◌≢◌, ◌⊎◌, inl, inr, ℕ, ◌+◌, ◌<◌, ◌≤◌, ◌^◌, Bool, true, false, List, Option, Some, None, slice_get, ◌==◌, ◌&&◌, if◌then◌else◌, refl, sym, ◌∙◌, ap, subst, arith}
+use Rattle.std.proofs.Common.{◌≡◌, ◌≢◌, ◌⊎◌, inl, inr, ℕ, ◌+◌, ◌<◌, ◌^◌, Bool, true, false, Option, Some, None, slice_get, ◌==◌, ◌&&◌, if◌then◌else◌, refl, sym, ◌∙◌, ap, subst, arith}
 use Rattle.std.proofs.lemmas.Bool.Decides.{nat_tests, eqb_tells}
 use Rattle.site_types.specs.declared.site.Site.{Site}
 use Rattle.site_types.specs.declared.zone.Zone.{Zone}
 use Rattle.site_types.specs.Bits.{has_bit}
 use Rattle.coincidence_rules.specs.Places.{on_zone, numbered, zones_where}
 use Rattle.coincidence_rules.specs.Wired.{IsWired}
-use Rattle.coincidence_rules.proofs.ZoneMasks.{zones_from_bits, numbered_of, HasNumber, of_numbered}
+use Rattle.coincidence_rules.proofs.ZoneMasks.{zones_from_bits, numbered_of, of_numbered}
 
 -- what the second bit is: of the partner, if there is one
 pub record IsOther (site : Site) (panel : ℕ) (test : ℕ → Bool) (number : ℕ) (also : Bool) (other : ℕ) : Type 0 where
@@ -75,7 +75,7 @@ module _ (site : Site) (wired : IsWired site) (panel place : ℕ) (zone : Zone) 
             let numbers : n ≡ number = sym has.number_is ∙ same_zone q p has.zone s.zone same.1 has.is s.is ∙ sym s.number_is in
             ap (λ b. b && also) (eq_true n number numbers) ∙ sym s.tests ∙ ap test (sym same.1))
         | inr other ↦ ap (λ b. b && also) (eq_false n number (λ x. other.1 (one q p found (subst (λ m. numbered site panel m ≡ Some p) (sym (x ∙ s.number_is)) (number_of p s.zone s.is s.at)))))
-          ∙ sym (rest q apart (λ x. other.1 (let y : Some p ≡ Some q = sym e ∙ x in cc)))
+            ∙ sym (rest q apart (λ x. other.1 (let y : Some p ≡ Some q = sym e ∙ x in cc)))
       ]
 
       go : ((n == zone.number) ≡ true) × (n ≡ zone.number) ⊎ (((n == zone.number) ≡ false) × (n ≢ zone.number)) → bit_of zone.number on number also n ≡ test q

@@ -1,5 +1,5 @@
 -- What is seen of an answer tells which zones it confirms and releases.
-use Rattle.std.proofs.Common.{◌≡◌, ◌≢◌, ◌⊎◌, inl, inr, ℕ, ◌+◌, ◌<◌, ◌≤◌, Bool, true, false, not, List, [], ◌∷◌, Option, Some, None, slice_get, ◌==◌, ◌&&◌, ◌||◌, nat_le, is_some, refl, sym, ◌∙◌, ap, subst, arith}
+use Rattle.std.proofs.Common.{◌≡◌, ◌≢◌, ℕ, Bool, true, false, not, List, Option, Some, None, slice_get, ◌==◌, ◌&&◌, ◌||◌, is_some, refl, sym, ◌∙◌, ap, subst, arith}
 use Rattle.std.specs.List.{list_any}
 use Rattle.std.proofs.lemmas.Bool.{eqb-true}
 use Rattle.std.proofs.lemmas.Bool.Decides.{nat_tests}
@@ -16,11 +16,10 @@ use Rattle.coincidence_rules.specs.Places.{lies_in, is_of, is_call_point, is_man
 use Rattle.coincidence_rules.specs.Counted.{is_counted}
 use Rattle.coincidence_rules.specs.Confirmed.{is_second, is_near, is_uncancelled, is_verified, coincides, is_by_call_point, confirms}
 use Rattle.coincidence_rules.specs.Alarm.{calls, has_second, releases_by, releases}
-use Rattle.coincidence_rules.specs.Kept.{run_of, is_long, is_within, second_of}
+use Rattle.coincidence_rules.specs.Kept.{is_long, is_within, second_of}
 use Rattle.coincidence_rules.specs.InOrder.{AreInOrder}
 use Rattle.site_types.specs.Valid.{is_partner_type}
 use Rattle.coincidence_rules.specs.Wired.{IsWired, HasPartner}
-use Rattle.coincidence_rules.proofs.Lists.{and_both}
 use Rattle.coincidence_rules.proofs.Seconds.{AreUpTo, near_by_second, uncancelled_by_second, any_by_second}
 use Rattle.coincidence_rules.proofs.Verified.{verified_by_run}
 use Rattle.coincidence.specs.declared.sight.Sight.{Sight}
@@ -34,7 +33,7 @@ eq_false a b h = grind (arith, nat_tests)
 
 -- a point of a site, its zone, and what is seen of an answer of it among all answers
 module _ (site : Site) (kept : Retained) (done : List Done) (all : List Answer) (answer : Answer) (point : PointPlan) (zone : ZonePlan) (sight : Sight) (wired : IsWired site)
-  (is_point : slice_get site.points answer.point ≡ Some point) (is_zone : slice_get site.zones point.zone ≡ Some zone) (order : AreInOrder all) (late : AreUpTo answer.stamp.0 all) (sees : Sees site kept done all answer point zone sight) where
+    (is_point : slice_get site.points answer.point ≡ Some point) (is_zone : slice_get site.zones point.zone ≡ Some zone) (order : AreInOrder all) (late : AreUpTo answer.stamp.0 all) (sees : Sees site kept done all answer point zone sight) where
   abbrev place : ℕ
   place = point.zone
 

@@ -1,5 +1,5 @@
 -- What is kept after one more answer stands for one more answer.
-use Rattle.std.proofs.Common.{◌≡◌, ◌≢◌, ◌⊎◌, inl, inr, ⊎_elim, ℕ, zero, suc, ◌+◌, ◌<◌, ◌≤◌, Bool, true, false, not, List, [], ◌∷◌, ◌++◌, length, set, length-set, reverse, filter, Option, Some, None, slice_get, get_or, ◌==◌, ◌&&◌, ◌||◌, nat_lt, nat_le, if◌then◌else◌, refl, sym, ◌∙◌, ap, subst, arith}
+use Rattle.std.proofs.Common.{◌≡◌, ◌≢◌, ◌⊎◌, inl, inr, ⊎_elim, ℕ, zero, suc, ◌+◌, ◌≤◌, Bool, true, false, not, List, [], ◌∷◌, ◌++◌, set, length-set, reverse, filter, Option, Some, None, slice_get, get_or, ◌==◌, ◌&&◌, ◌||◌, nat_lt, nat_le, if◌then◌else◌, refl, sym, ◌∙◌, ap, subst, arith}
 use Rattle.std.proofs.lemmas.Bool.Decides.{nat_tests, eqb_tells}
 use Rattle.std.proofs.lemmas.List.{reverse-append}
 use Rattle.std.proofs.lemmas.List.Elements.{filter-append}
@@ -11,7 +11,6 @@ use Rattle.site_types.specs.declared.zone.Zone.{Zone as ZonePlan}
 use Rattle.site_types.specs.declared.heard.Heard.{Heard}
 use Rattle.site_types.specs.declared.heard.Heard.TheVariants.{Quiet, Alarm, Silent}
 use Rattle.site_types.specs.declared.answer.Answer.{Answer}
-use Rattle.site_types.specs.declared.rule.Rule.{Rule}
 use Rattle.site_types.specs.declared.retained.Retained.{Retained}
 use Rattle.site_types.specs.Done.{Done, floor_before}
 use Rattle.coincidence_rules.specs.Places.{lies_in, is_of, detects, is_detector}
@@ -25,8 +24,9 @@ use Rattle.coincidence.specs.declared.point_watch.PointWatch.{PointWatch}
 use Rattle.coincidence.specs.declared.zone_watch.ZoneWatch.{ZoneWatch}
 use Rattle.coincidence.specs.declared.decide.Decide.{Decide}
 use Rattle.coincidence.specs.Parts.{stamp_of, besides_by, besides, other_after, noted, silent_then, point_noted, zone_noted}
-use Rattle.coincidence.specs.Stands.{TellsSetting, WatchesPoint, WatchesZone, IsOwn, DecidesFor, MayTake}
-use Rattle.coincidence.proofs.Watched.{read_is, Watched, watched, zone_read, over_read, fits_next}
+use Rattle.coincidence.specs.Stands.{WatchesPoint, WatchesZone, DecidesFor}
+use Rattle.coincidence.specs.Premises.{IsOwn, MayTake}
+use Rattle.coincidence.proofs.Watched.{read_is, Watched, watched, zone_read, over_read}
 
 -- what stands at a place after a write
 pub get_set : {X : Type 0} (xs : List X) (i k : ℕ) (v w : X) → slice_get (set xs i v) k ≡ Some w → ((k ≡ i) × (v ≡ w)) ⊎ ((k ≢ i) × (slice_get xs k ≡ Some w))
@@ -124,10 +124,10 @@ module _ {site : Site} {kept : Retained} {done : List Done} {taken : List Answer
         silent = λ n le. ap (begins_silent n) latest ∙ silent_more answer.heard answer (latest_of place taken) watch.silent refl h.few h.silent n le;
         few = silent_few answer.heard watch.silent h.few;
         run =
-          let fl = λ (x : ℕ). floor_before site point.zone x done in
-          let old = run_of (is_counted site kept done) fl place None taken in
-          ap (λ b. run_then b floor.0 answer.stamp watch.run) c ∙ ap (λ n. run_then (is_counted site kept done answer) n answer.stamp watch.run) f ∙ ap (run_then (is_counted site kept done answer) (floor_before site point.zone answer.stamp.0 done) answer.stamp) h.run
-          ∙ sym (run_more (is_counted site kept done) fl place None taken answer ∙ ap (λ b. if b then run_then (is_counted site kept done answer) (fl answer.stamp.0) answer.stamp old else old) test);
+            let fl = λ (x : ℕ). floor_before site point.zone x done in
+            let old = run_of (is_counted site kept done) fl place None taken in
+            ap (λ b. run_then b floor.0 answer.stamp watch.run) c ∙ ap (λ n. run_then (is_counted site kept done answer) n answer.stamp watch.run) f ∙ ap (run_then (is_counted site kept done answer) (floor_before site point.zone answer.stamp.0 done) answer.stamp) h.run
+            ∙ sym (run_more (is_counted site kept done) fl place None taken answer ∙ ap (λ b. if b then run_then (is_counted site kept done answer) (fl answer.stamp.0) answer.stamp old else old) test);
       }
 
   point_less : (place : ℕ) (point : PointPlan) (watch : PointWatch) (answer : Answer) → place ≢ answer.point → WatchesPoint site kept done taken place point watch → WatchesPoint site kept done (taken ++ answer ∷ []) place point watch
@@ -141,9 +141,9 @@ module _ {site : Site} {kept : Retained} {done : List Done} {taken : List Answer
         silent = λ n le. ap (begins_silent n) latest ∙ h.silent n le;
         few = h.few;
         run =
-          let fl = λ (x : ℕ). floor_before site point.zone x done in
-          let old = run_of (is_counted site kept done) fl place None taken in
-          h.run ∙ sym (run_more (is_counted site kept done) fl place None taken answer ∙ ap (λ b. if b then run_then (is_counted site kept done answer) (fl answer.stamp.0) answer.stamp old else old) test);
+            let fl = λ (x : ℕ). floor_before site point.zone x done in
+            let old = run_of (is_counted site kept done) fl place None taken in
+            h.run ∙ sym (run_more (is_counted site kept done) fl place None taken answer ∙ ap (λ b. if b then run_then (is_counted site kept done answer) (fl answer.stamp.0) answer.stamp old else old) test);
       }
 
   -- a zone in which the answer may make a pair, and one in which it may not
@@ -180,7 +180,7 @@ module _ {site : Site} {kept : Retained} {done : List Done} {taken : List Answer
       }
 
 module _ {site : Site} {kept : Retained} {panel : ℕ} {done : List Done} {taken : List Answer} {decide : Decide} (stands : DecidesFor site kept panel done taken decide) (answer : Answer) (may : MayTake site panel done taken (answer ∷ []))
-  (r : PointWatch) (z : ZoneWatch) (e : r ≡ get_or decide.points.items answer.point r) (h : z ≡ get_or decide.zones.items r.zone z) (counted : Bool) (floor : Tick) where
+    (r : PointWatch) (z : ZoneWatch) (e : r ≡ get_or decide.points.items answer.point r) (h : z ≡ get_or decide.zones.items r.zone z) (counted : Bool) (floor : Tick) where
   abbrev own : IsOwn site panel answer.point
   own = may.own 0 answer refl
 
@@ -230,8 +230,8 @@ module _ {site : Site} {kept : Retained} {panel : ℕ} {done : List Done} {taken
       let same : w.point ≡ point = same_place site.points answer.point place w.point point (sym here.0) w.is_point is in
       let read : r ≡ w.watch = read_is decide.points.items answer.point r w.watch e w.is_watch in
       let old : WatchesPoint site kept done taken place point r =
-          subst (λ (o : PointPlan). WatchesPoint site kept done taken place o r) same
-          (subst (λ k. WatchesPoint site kept done taken k w.point r) (sym here.0) (subst (WatchesPoint site kept done taken answer.point w.point) (sym read) w.watches)) in
+      subst (λ (o : PointPlan). WatchesPoint site kept done taken place o r) same
+      (subst (λ k. WatchesPoint site kept done taken k w.point r) (sym here.0) (subst (WatchesPoint site kept done taken answer.point w.point) (sym read) w.watches)) in
       subst (WatchesPoint site kept done (taken ++ answer ∷ []) place point) here.1
       (point_more place point r answer counted floor here.0 c (f ∙ ap (λ k. floor_before site k answer.stamp.0 done) old.zone) old))
       (λ other. point_less place point watch answer other.0 (stands.points place watch point other.1 is at))

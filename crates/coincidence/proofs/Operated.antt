@@ -1,5 +1,5 @@
 -- What each operation makes of what is kept.
-use Rattle.std.proofs.Common.{◌≡◌, ◌≢◌, ◌⊎◌, inl, inr, ⊎_elim, ℕ, zero, suc, ◌+◌, ◌<◌, ◌≤◌, Bool, true, false, not, List, [], ◌∷◌, length, set, length-set, Option, Some, None, slice_get, get_or, ◌==◌, ◌&&◌, if◌then◌else◌, refl, sym, ◌∙◌, ap, subst, arith}
+use Rattle.std.proofs.Common.{◌≡◌, ◌≢◌, ◌⊎◌, inl, inr, ⊎_elim, ℕ, ◌<◌, Bool, true, false, List, ◌∷◌, length, length-set, Option, Some, None, slice_get, get_or, ◌==◌, if◌then◌else◌, refl, sym, ◌∙◌, ap, subst, arith}
 use Rattle.std.proofs.lemmas.Bool.Decides.{nat_tests}
 use Rattle.std.proofs.lemmas.Bool.{eqb-true}
 use Rattle.std.proofs.lemmas.Option.{slice_get-get_or}
@@ -14,15 +14,16 @@ use Rattle.site_types.specs.declared.item.Item.{Item}
 use Rattle.site_types.specs.declared.item.Item.TheVariants.{Point, Zone, Output}
 use Rattle.site_types.specs.declared.operation.Operation.{Operation}
 use Rattle.site_types.specs.declared.operation.Operation.TheVariants.{Mute, Override, Silence, Resound, Reset, Cancel, Disable, Enable, Test, Untest, Delays, Clear}
-use Rattle.site_types.specs.Events.{is_some_with, has_operands, has_item, has_zone}
-use Rattle.site_types.specs.Done.{Done, PointOff, ZoneOff, InTest, is_on}
+use Rattle.site_types.specs.Events.{is_some_with, has_operands, has_zone}
+use Rattle.site_types.specs.Done.{Done, PointOff, ZoneOff, is_on}
 use Rattle.coincidence_rules.proofs.Lists.{get_small}
 use Rattle.coincidence.specs.declared.last_tick.LastTick.{LastTick}
 use Rattle.coincidence.specs.declared.point_watch.PointWatch.{PointWatch}
 use Rattle.coincidence.specs.declared.zone_watch.ZoneWatch.{ZoneWatch}
 use Rattle.coincidence.specs.declared.decide.Decide.{Decide}
 use Rattle.coincidence.specs.Parts.{switch_after, last_after, last_if}
-use Rattle.coincidence.specs.Stands.{resets, IsOwn, IsOwnZone, DecidesFor, MayApply, off_operation}
+use Rattle.coincidence.specs.Stands.{resets, IsOwnZone, DecidesFor, off_operation}
+use Rattle.coincidence.specs.Premises.{IsOwn, MayApply}
 use Rattle.coincidence.proofs.Noted.{get_set}
 use Rattle.coincidence.proofs.Applied.{done_now, point_then, zone_then, IsAfter, stands_after}
 

@@ -1,30 +1,30 @@
 -- What is read for an answer is what there is to see of it.
-use Rattle.std.proofs.Common.{◌≡◌, ℕ, zero, suc, ◌+◌, ◌<◌, ◌≤◌, Bool, List, [], ◌∷◌, ◌++◌, length, Option, Some, None, slice_get, get_or, refl, sym, ◌∙◌, ap, subst, arith, ⊎_elim}
+use Rattle.std.proofs.Common.{◌≡◌, ℕ, zero, suc, ◌≤◌, Bool, List, [], ◌∷◌, ◌++◌, Option, Some, slice_get, get_or, refl, sym, ◌∙◌, ap, subst, arith, ⊎_elim}
 use Rattle.tick_units.specs.declared.tick.Tick.{Tick}
 use Rattle.site_types.specs.declared.site.Site.{Site}
 use Rattle.site_types.specs.declared.point.Point.{Point as PointPlan}
 use Rattle.site_types.specs.declared.zone.Zone.{Zone as ZonePlan}
 use Rattle.site_types.specs.declared.answer.Answer.{Answer}
-use Rattle.site_types.specs.declared.rule.Rule.{Rule}
 use Rattle.site_types.specs.declared.retained.Retained.{Retained}
-use Rattle.site_types.specs.Done.{Done, floor_before, AreBy}
+use Rattle.site_types.specs.Done.{Done, floor_before}
 use Rattle.coincidence_rules.specs.Counted.{is_counted}
 use Rattle.coincidence_rules.specs.Kept.{second_of}
-use Rattle.coincidence_rules.proofs.Lists.{get_either, get_left, get_right, get_small}
+use Rattle.coincidence_rules.proofs.Lists.{get_either}
 use Rattle.coincidence.specs.declared.point_watch.PointWatch.{PointWatch}
 use Rattle.coincidence.specs.declared.zone_watch.ZoneWatch.{ZoneWatch}
 use Rattle.coincidence.specs.declared.beside.Beside.{Beside}
 use Rattle.coincidence.specs.declared.sight.Sight.{Sight}
 use Rattle.coincidence.specs.declared.decide.Decide.{Decide}
 use Rattle.coincidence.specs.Sights.{partner_confirmed, partner_released, far_of, Sees, partner_is, SeesBeside}
-use Rattle.coincidence.specs.Stands.{WatchesPoint, WatchesZone, IsOwn, DecidesFor, Fits, MayTake, IsOwnPartner}
-use Rattle.coincidence.proofs.Watched.{read_is, watched, watched_zone, WatchedZone, partner_own, fits_next}
+use Rattle.coincidence.specs.Stands.{WatchesPoint, WatchesZone, DecidesFor, Fits, IsOwnPartner}
+use Rattle.coincidence.specs.Premises.{MayTake}
+use Rattle.coincidence.proofs.Watched.{read_is, watched, watched_zone, partner_own, fits_next}
 
 some_same : {X : Type 0} (x y : X) → Some x ≡ Some y → x ≡ y
 some_same x y e = cc
 
 module _ {site : Site} {kept : Retained} {panel : ℕ} {done : List Done} {taken : List Answer} {decide : Decide} (stands : DecidesFor site kept panel done taken decide) (answer : Answer) (fits : Fits site panel done taken answer)
-  (point : PointPlan) (zone : ZonePlan) (is_point : slice_get site.points answer.point ≡ Some point) (is_zone : slice_get site.zones point.zone ≡ Some zone) where
+    (point : PointPlan) (zone : ZonePlan) (is_point : slice_get site.points answer.point ≡ Some point) (is_zone : slice_get site.zones point.zone ≡ Some zone) where
   pub point_at : point.panel ≡ panel
   point_at = ap (λ (p : PointPlan). p.panel) (some_same point fits.own.point (sym is_point ∙ fits.own.is)) ∙ fits.own.at
 

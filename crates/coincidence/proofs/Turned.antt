@@ -1,5 +1,5 @@
 -- A turn takes answers one after another.
-use Rattle.std.proofs.Common.{◌≡◌, ◌⊎◌, inl, inr, ⊎_elim, ℕ, zero, suc, ◌+◌, ◌<◌, ◌≤◌, List, [], ◌∷◌, ◌++◌, length, take, Option, Some, None, slice_get, get_or, refl, sym, ◌∙◌, ap, subst, arith, append_assoc, add_assoc}
+use Rattle.std.proofs.Common.{◌≡◌, ⊎_elim, ℕ, zero, suc, ◌+◌, ◌<◌, ◌≤◌, List, [], ◌∷◌, ◌++◌, length, take, Some, slice_get, get_or, refl, sym, ◌∙◌, ap, subst, arith, append_assoc}
 use Rattle.std.proofs.lemmas.List.{take_more, take_all}
 use Rattle.std.proofs.lemmas.Option.{slice_get-get_or}
 use Rattle.tick_units.specs.Lane.{LaneState, with_put}
@@ -12,7 +12,8 @@ use Rattle.coincidence_rules.specs.Findings.{finding_of, findings_after}
 use Rattle.coincidence_rules.specs.InOrder.{AreInOrder}
 use Rattle.coincidence_rules.proofs.Lists.{get_either, get_left, get_right, get_take}
 use Rattle.coincidence.specs.declared.decide.Decide.{Decide}
-use Rattle.coincidence.specs.Stands.{IsOwn, DecidesFor, MayTake, CanTake}
+use Rattle.coincidence.specs.Stands.{DecidesFor}
+use Rattle.coincidence.specs.Premises.{IsOwn, MayTake}
 
 -- what stands at a place with a front behind it stands there with the whole
 get_front : (before xs : List Answer) (n i : ℕ) (a : Answer) → slice_get (before ++ take n xs) i ≡ Some a → slice_get (before ++ xs) i ≡ Some a

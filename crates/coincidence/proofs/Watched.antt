@@ -1,5 +1,5 @@
 -- What is kept of a point, its zone and the zone's partner lies where the code reads it.
-use Rattle.std.proofs.Common.{◌≡◌, ◌≢◌, ℕ, zero, suc, ◌+◌, ◌<◌, ◌≤◌, Bool, true, false, List, [], ◌∷◌, length, Option, Some, None, slice_get, get_or, if◌then◌else◌, refl, sym, ◌∙◌, ap, subst, arith}
+use Rattle.std.proofs.Common.{◌≡◌, ℕ, zero, suc, ◌+◌, ◌<◌, ◌≤◌, Bool, true, false, List, [], ◌∷◌, length, Option, Some, None, slice_get, get_or, if◌then◌else◌, refl, sym, ◌∙◌, ap, subst, arith}
 use Rattle.std.proofs.lemmas.Option.{get_or_from_slice_get}
 use Rattle.site_types.specs.declared.site.Site.{Site}
 use Rattle.site_types.specs.declared.point.Point.{Point as PointPlan}
@@ -8,7 +8,6 @@ use Rattle.site_types.specs.declared.answer.Answer.{Answer}
 use Rattle.site_types.specs.declared.retained.Retained.{Retained}
 use Rattle.site_types.specs.Changes.{IsNumber}
 use Rattle.site_types.specs.Done.{Done, Setting, PointOff, ZoneOff, InTest, is_on, AreBy}
-use Rattle.coincidence_rules.specs.Wired.{IsWired}
 use Rattle.coincidence_rules.proofs.Lists.{get_small, get_left, get_right}
 use Rattle.coincidence.specs.declared.point_watch.PointWatch.{PointWatch}
 use Rattle.coincidence.specs.declared.zone_watch.ZoneWatch.{ZoneWatch}
@@ -16,7 +15,8 @@ use Rattle.coincidence.specs.declared.beside.Beside.{Beside}
 use Rattle.coincidence.specs.declared.sight.Sight.{Sight}
 use Rattle.coincidence.specs.declared.decide.Decide.{Decide}
 use Rattle.coincidence.specs.Sights.{SeesBeside, partner_is}
-use Rattle.coincidence.specs.Stands.{TellsSetting, set_in, WatchesPoint, WatchesZone, IsOwn, IsOwnZone, DecidesFor, Fits, CanSee, MayTake, CanTake, IsPlaceIn, IsOwnPartner}
+use Rattle.coincidence.specs.Stands.{set_in, WatchesPoint, WatchesZone, DecidesFor, Fits, CanSee, CanTake, IsPlaceIn, IsOwnPartner}
+use Rattle.coincidence.specs.Premises.{IsOwn, MayTake}
 
 module _ {X : Type 0} where
   pub get_any : (xs : List X) (k : ℕ) → k < length xs → (x : X) × (slice_get xs k ≡ Some x)

@@ -1,11 +1,9 @@
 -- What the parts that decide make of an answer or an operation.
-use Rattle.std.specs.Prelude.{ℕ, ◌+◌, Bool, true, false, not, Option, Some, None, ◌==◌, ◌&&◌, nat_lt, nat_le, if◌then◌else◌}
+use Rattle.std.specs.Prelude.{ℕ, ◌+◌, Bool, Option, Some, None, ◌==◌, nat_lt, if◌then◌else◌}
 use Rattle.tick_units.specs.declared.tick.Tick.{Tick}
 use Rattle.tick_units.specs.declared.switch.Switch.{Switch}
 use Rattle.site_types.specs.declared.heard.Heard.{Heard}
 use Rattle.site_types.specs.declared.heard.Heard.TheVariants.{Silent}
-use Rattle.site_types.specs.declared.rule.Rule.{Rule}
-use Rattle.site_types.specs.declared.rule.Rule.TheVariants.{B}
 use Rattle.coincidence_rules.specs.Kept.{run_then}
 use Rattle.site_types.specs.declared.point.Point.{Point as PointPlan}
 use Rattle.site_types.specs.declared.zone.Zone.{Zone as ZonePlan}

@@ -1,12 +1,12 @@
 -- What an answer with those before it means for its zone and the zone's partner, by what is kept.
-use Rattle.std.specs.Prelude.{◌≡◌, ℕ, ◌+◌, Bool, true, false, not, List, Option, Some, None, slice_get, ◌&&◌, ◌||◌, nat_le, is_some}
+use Rattle.std.specs.Prelude.{◌≡◌, ℕ, Bool, true, false, not, List, Option, Some, None, slice_get, ◌&&◌, ◌||◌, is_some}
 use Rattle.tick_units.specs.declared.tick.Tick.{Tick}
 use Rattle.site_types.specs.declared.site.Site.{Site}
 use Rattle.site_types.specs.declared.point.Point.{Point}
 use Rattle.site_types.specs.declared.zone.Zone.{Zone}
 use Rattle.site_types.specs.declared.answer.Answer.{Answer}
 use Rattle.site_types.specs.declared.rule.Rule.{Rule}
-use Rattle.site_types.specs.declared.rule.Rule.TheVariants.{Plain, A, B, C}
+use Rattle.site_types.specs.declared.rule.Rule.TheVariants.{A, B, C}
 use Rattle.site_types.specs.declared.retained.Retained.{Retained}
 use Rattle.site_types.specs.Done.{Done, floor_before}
 use Rattle.coincidence_rules.specs.Counted.{is_counted}

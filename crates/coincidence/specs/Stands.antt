@@ -1,5 +1,5 @@
 -- The part that decides stands for the operations done and the answers taken.
-use Rattle.std.specs.Prelude.{◌≡◌, ◌≢◌, ◌<◌, ◌≤◌, ℕ, Bool, true, false, List, [], ◌∷◌, ◌++◌, Option, Some, None, length, slice_get, take, ◌==◌, ◌&&◌, nat_le, if◌then◌else◌}
+use Rattle.std.specs.Prelude.{◌≡◌, ◌<◌, ◌≤◌, ℕ, Bool, true, false, List, [], ◌∷◌, Option, Some, None, length, slice_get, take, ◌==◌, ◌&&◌, nat_le, if◌then◌else◌}
 use Rattle.tick_units.specs.Lane.{LaneState, turn_count}
 use Rattle.tick_units.specs.declared.switch.Switch.{Switch}
 use Rattle.site_types.specs.declared.site.Site.{Site}
@@ -8,10 +8,9 @@ use Rattle.site_types.specs.declared.zone.Zone.{Zone as ZonePlan}
 use Rattle.site_types.specs.declared.answer.Answer.{Answer}
 use Rattle.site_types.specs.declared.retained.Retained.{Retained}
 use Rattle.site_types.specs.declared.item.Item.{Item}
-use Rattle.site_types.specs.declared.item.Item.TheVariants.{Point, Zone, Output}
+use Rattle.site_types.specs.declared.item.Item.TheVariants.{Zone}
 use Rattle.site_types.specs.declared.operation.Operation.{Operation}
-use Rattle.site_types.specs.declared.operation.Operation.TheVariants.{Reset, Cancel, Disable, Enable, Test, Untest}
-use Rattle.site_types.specs.Events.{has_operands}
+use Rattle.site_types.specs.declared.operation.Operation.TheVariants.{Reset, Disable, Enable, Test}
 use Rattle.site_types.specs.Done.{Done, Setting, PointOff, ZoneOff, InTest, is_on, in_force, latest_before, floor_before, cancels, AreBy}
 use Rattle.coincidence_rules.specs.Counted.{is_counted}
 use Rattle.coincidence_rules.specs.Missing.{latest_of, begins_silent}
@@ -23,6 +22,7 @@ use Rattle.coincidence.specs.declared.decide.Decide.{Decide}
 use Rattle.coincidence.specs.Parts.{switch_at, last_at, besides}
 use Rattle.coincidence_rules.specs.Kept.{latest_besides, run_of, may_pair}
 use Rattle.coincidence_rules.specs.Wired.{IsWired}
+use Rattle.coincidence.specs.Premises.{IsOwn, MayTake, MayApply}
 
 abbrev pub is_reset : Operation → Bool
 is_reset Reset = true
@@ -74,12 +74,6 @@ pub record WatchesZone (site : Site) (kept : Retained) (done : List Done) (taken
   pub cancelled : TellsLast (cancels place) done watch.cancelled
   pub recent : (point : ℕ) → besides point watch.recent ≡ latest_besides (may_pair site kept done place zone.rule) point None taken
 
--- the point is of the panel
-pub record IsOwn (site : Site) (panel place : ℕ) : Type 0 where
-  pub point : PointPlan
-  pub is : slice_get site.points place ≡ Some point
-  pub at : point.panel ≡ panel
-
 pub record DecidesFor (site : Site) (kept : Retained) (panel : ℕ) (done : List Done) (taken : List Answer) (decide : Decide) : Type 0 where
   pub wired : IsWired site
   pub at : decide.panel ≡ panel
@@ -109,12 +103,6 @@ pub record CanSee (decide : Decide) (answer : Answer) : Type 0 where
   pub stands : DecidesFor site kept panel done taken decide
   pub fits : Fits site panel done taken answer
 
--- answers may be taken after these: all are of the panel, their stamps never fall, no point gives two in one tick, and none is stamped before the tick of an operation done
-pub record MayTake (site : Site) (panel : ℕ) (done : List Done) (taken answers : List Answer) : Type 0 where
-  pub own : (k : ℕ) (answer : Answer) → slice_get answers k ≡ Some answer → IsOwn site panel answer.point
-  pub order : AreInOrder (taken ++ answers)
-  pub since : (k : ℕ) (answer : Answer) → slice_get answers k ≡ Some answer → AreBy answer.stamp.0 done
-
 -- what a turn takes of a lane
 abbrev pub taken_by : LaneState Answer → List Answer
 taken_by lane = take (turn_count lane) lane.items
@@ -128,11 +116,6 @@ pub record CanTake (decide : Decide) (answers : List Answer) : Type 0 where
   pub stands : DecidesFor site kept panel done taken decide
   pub may : MayTake site panel done taken answers
 
--- no operation on the setting was done in a tick
-abbrev pub NoneIn : ℕ → Setting → List Done → Type 0
-NoneIn tick setting [] = Unit {0}
-NoneIn tick setting (d ∷ ds) = (is_on setting d ≡ true → d.tick ≢ tick) × NoneIn tick setting ds
-
 pub record IsOwnZone (site : Site) (panel place : ℕ) : Type 0 where
   pub zone : ZonePlan
   pub is : slice_get site.zones place ≡ Some zone
@@ -141,14 +124,6 @@ pub record IsOwnZone (site : Site) (panel place : ℕ) : Type 0 where
 abbrev pub off_operation : Bool → Item → Operation
 off_operation true item = Disable item
 off_operation false item = Enable item
-
--- an operation may be applied in a tick: it is of the panel, not earlier than those done and the answers taken, and the only one on its setting in that tick; ticks count from 1
-pub record MayApply (site : Site) (panel : ℕ) (done : List Done) (taken : List Answer) (operation : Operation) (tick : ℕ) : Type 0 where
-  pub own : has_operands site panel operation ≡ true
-  pub counted : 1 ≤ tick
-  pub since : AreBy tick done
-  pub late : (k : ℕ) (answer : Answer) → slice_get taken k ≡ Some answer → answer.stamp.0 ≤ tick
-  pub once : (setting : Setting) → is_on setting (record { tick = tick; panel = panel; operation = operation }) ≡ true → NoneIn tick setting done
 
 pub record CanApply (decide : Decide) (operation : Operation) (tick : ℕ) : Type 0 where
   pub site : Site

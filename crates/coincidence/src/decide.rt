@@ -12,21 +12,28 @@ use crate::beside::Beside;
 use crate::bits::two_bits;
 use crate::last_tick::LastTick;
 use crate::point_watch::PointWatch;
+use crate::rules::{after, counts_unless, is_on, may_pair};
 use crate::sight::Sight;
 use crate::watches::{watch_points, watch_zones};
 use crate::zone_watch::ZoneWatch;
 use arrayvec::ArrayVec;
 use coincidence_rules::Finding;
-use site_types::{Answer, Heard, Item, Operation, Retained, Rule, Site};
+use site_types::{Answer, Item, Operation, Retained, Site};
 use std::alloc::Global;
-use tick_units::{Lane, NoMemory, Switch, Tick};
+use tick_units::{Lane, NoMemory, Tick};
 
 /// Decides which answers of a panel's points confirm and release which of its zones.
+///
+/// It has no list of answers. Of each point it keeps where its run of counted answers began and how many of its last answers were silent,
+/// of each zone the latest answers of two points, and of each setting one earlier value: that of the tick in which it was set.
 #[derive(Drop)]
 pub struct Decide {
     panel: u8,
+    /// By the points' places in the site.
     points: Vec<PointWatch>,
+    /// By the zones' places in the site.
     zones: Vec<ZoneWatch>,
+    /// The last reset of the panel.
     reset: LastTick,
 }
 
@@ -35,7 +42,8 @@ impl Decide {
     ghost use Rattle.coincidence_rules.specs.Findings.{finding_among, finding_of, findings_after};
     ghost use Rattle.coincidence_rules.specs.Kept.{second_of};
     ghost use Rattle.coincidence.specs.Sights.{Sees, SeesBeside, far_of};
-    ghost use Rattle.coincidence.specs.Stands.{DecidesFor, WatchesZone, IsPlaceIn, IsOwnPartner, Fits, CanSee, MayTake, CanTake, taken_by, MayApply, CanApply, off_operation};
+    ghost use Rattle.coincidence.specs.Stands.{DecidesFor, WatchesZone, IsPlaceIn, IsOwnPartner, Fits, CanSee, CanTake, taken_by, CanApply, off_operation};
+    ghost use Rattle.coincidence.specs.Premises.{MayTake, MayApply};
 
     /// Begins with what is kept of a panel's site.
     pub fn new(alloc: Global, site: &Site, panel: u8, kept: &Retained) -> Result<Decide, NoMemory>
@@ -80,7 +88,12 @@ impl Decide {
             Operation::Untest(zone) => self.zones[zone as usize].set_test(false, at),
             Operation::Disable(item) => self.set_off(&item, true, at),
             Operation::Enable(item) => self.set_off(&item, false, at),
-            Operation::Mute | Operation::Override | Operation::Silence | Operation::Resound | Operation::Delays(_) | Operation::Clear => {}
+            Operation::Mute
+            | Operation::Override
+            | Operation::Silence
+            | Operation::Resound
+            | Operation::Delays(_)
+            | Operation::Clear => {}
         }
     }
 
@@ -119,7 +132,11 @@ impl Decide {
         watch.note(answer.heard, counted, floor, answer.stamp);
         let manual = watch.manual;
         let watch = &mut self.zones[zone];
-        watch.note(may_pair(counted, manual, watch.rule), answer.point, answer.stamp);
+        watch.note(
+            may_pair(counted, manual, watch.rule),
+            answer.point,
+            answer.stamp,
+        );
     }
 
     // What an answer means, which was the last one taken.
@@ -136,9 +153,19 @@ impl Decide {
             stamp: answer.stamp,
             point: answer.point,
             counted: two_bits(number, sight.counted, number, false),
-            confirmed: two_bits(number, sight.confirms_own(zone.rule), beside.number, beside.confirmed),
+            confirmed: two_bits(
+                number,
+                sight.confirms_own(zone.rule),
+                beside.number,
+                beside.confirmed,
+            ),
             manual: two_bits(number, sight.calls(), number, false),
-            released: two_bits(number, sight.releases_own(zone.rule), beside.number, beside.released),
+            released: two_bits(
+                number,
+                sight.releases_own(zone.rule),
+                beside.number,
+                beside.released,
+            ),
             missing: point.is_missing(),
         }
     }
@@ -184,7 +211,12 @@ impl Decide {
         requires { zone < length self.now.zones.items }
         ensures { (site : SitePlan) (kept : Kept) (panel : ℕ) (done : List Done) (taken : List Taken) → DecidesFor site kept panel done taken self.now → AreBy x.0 done → (plan : ZonePlan) → slice_get site.zones zone ≡ Some plan → plan.panel ≡ panel → result.0 ≡ floor_before site zone x.0 done }
     {
-        Tick(self.reset.before(x).0.max(self.zones[zone].moved.before(x).0))
+        Tick(
+            self.reset
+                .before(x)
+                .0
+                .max(self.zones[zone].moved.before(x).0),
+        )
     }
 
     // The latest answer of another point of a zone that makes a pair with this one.
@@ -194,7 +226,10 @@ impl Decide {
     {
         let floor = self.floor_at(zone, answer.stamp);
         let watch = &self.zones[zone];
-        after(watch.bar(floor, answer.stamp), watch.recent.besides(answer.point))
+        after(
+            watch.bar(floor, answer.stamp),
+            watch.recent.besides(answer.point),
+        )
     }
 
     // The same for the partner of a zone.
@@ -228,52 +263,5 @@ impl Decide {
                 }
             }
         }
-    }
-}
-
-ghost use Rattle.coincidence.specs.Parts.{switch_at};
-ghost use Rattle.coincidence_rules.specs.Kept.{is_type_C, after as after_tick};
-ghost use Rattle.coincidence_rules.specs.Counted.{is_alarm};
-ghost use Rattle.std.specs.Prelude.{not, ◌&&◌, ◌||◌};
-
-fn counts_unless(heard: Heard, off: bool, zone_off: bool, test: bool) -> bool
-    ensures { result ≡ is_alarm heard && not (off || (zone_off || test)) }
-{
-    match heard {
-        Heard::Alarm => !(off || zone_off || test),
-        Heard::Quiet | Heard::Silent => false,
-    }
-}
-
-// Whether an answer may make a pair with others of its zone.
-fn may_pair(counted: bool, manual: bool, rule: Rule) -> bool
-    ensures { result ≡ counted && (is_type_C rule || not manual) }
-{
-    counted && (is_type_c(rule) || !manual)
-}
-
-fn is_type_c(rule: Rule) -> bool
-    ensures { result ≡ is_type_C rule }
-{
-    match rule {
-        Rule::C => true,
-        Rule::Plain | Rule::A { .. } | Rule::B { .. } => false,
-    }
-}
-
-// The value of a switch at a tick that isn't before its own.
-fn is_on(switch: &Switch, x: Tick) -> bool
-    requires { switch.now.since.0 ≤ x.0 }
-    ensures { result ≡ switch_at x.0 switch.entry.now }
-{
-    switch.at(x)
-}
-
-fn after(tick: Tick, stamp: Option<Tick>) -> Option<Tick>
-    ensures { result ≡ after_tick tick.0 stamp }
-{
-    match stamp {
-        Some(stamp) => if tick.0 < stamp.0 { Some(stamp) } else { None },
-        None => None,
     }
 }

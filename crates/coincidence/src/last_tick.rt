@@ -24,7 +24,11 @@ impl LastTick {
     pub fn before(&self, x: Tick) -> Tick
         ensures { result ≡ (if nat_lt self.now.tick.0 x.0 then self.now.tick else self.now.earlier) }
     {
-        if self.tick.0 < x.0 { self.tick } else { self.earlier }
+        if self.tick.0 < x.0 {
+            self.tick
+        } else {
+            self.earlier
+        }
     }
 
     /// It was done again in this tick, which isn't before the latest.

@@ -42,8 +42,10 @@ impl Sight {
     {
         match rule {
             Rule::Plain | Rule::C => true,
-            Rule::A { verify, within } => self.is_verified(verify) || self.is_within(self.near, within),
-            Rule::B { within } => self.is_within(self.near, within) || self.is_within(self.far, within),
+            Rule::A { verify, within } => self.is_verified(verify)
+                || self.is_within(self.near, within),
+            Rule::B { within } => self.is_within(self.near, within)
+                || self.is_within(self.far, within),
         }
     }
 

@@ -13,7 +13,11 @@ use std::alloc::Global;
 use tick_units::NoMemory;
 
 /// What is kept of each point at the start.
-pub fn watch_points(alloc: Global, points: &[Point], kept: &Retained) -> Result<Vec<PointWatch>, NoMemory>
+pub fn watch_points(
+    alloc: Global,
+    points: &[Point],
+    kept: &Retained,
+) -> Result<Vec<PointWatch>, NoMemory>
     requires { (k : ℕ) (point : PointPlan) → slice_get points.now k ≡ Some point → IsPanelNumber point.panel × IsPlace point.line point.address }
     ensures { IfOk result (λ watches. watches.items ≡ map (point_from kept.now) points.now) }
 {
@@ -25,7 +29,11 @@ pub fn watch_points(alloc: Global, points: &[Point], kept: &Retained) -> Result<
 }
 
 /// What is kept of each zone at the start.
-pub fn watch_zones(alloc: Global, zones: &[Zone], kept: &Retained) -> Result<Vec<ZoneWatch>, NoMemory>
+pub fn watch_zones(
+    alloc: Global,
+    zones: &[Zone],
+    kept: &Retained,
+) -> Result<Vec<ZoneWatch>, NoMemory>
     requires { (k : ℕ) (zone : ZonePlan) → slice_get zones.now k ≡ Some zone → IsPanelNumber zone.panel × IsNumber zone.number }
     ensures { IfOk result (λ watches. watches.items ≡ map (zone_from kept.now) zones.now) }
 {

@@ -1,7 +1,7 @@
 use Rattle.std.proofs.Common.{◌<◌, ◌∷◌, sym, subst}
-use Rattle.site_types.specs.declared.operation.Operation.{Operation}
-use Rattle.site_types.specs.declared.operation.Operation.TheVariants.{Reset, Cancel, Disable, Enable, Test, Untest}
-use Rattle.coincidence.specs.Stands.{CanApply, DecidesFor, MayApply, off_operation}
+use Rattle.site_types.specs.declared.operation.Operation.TheVariants.{Test, Untest}
+use Rattle.coincidence.specs.Stands.{CanApply, DecidesFor}
+use Rattle.coincidence.specs.Premises.{MayApply}
 use Rattle.coincidence.proofs.Applied.{done_now, zone_since}
 use Rattle.coincidence.proofs.Operated.{same_place, own_zone, own_small, reset_stands, cancel_stands, test_stands, untest_stands, idle_is, idle_stands}
 use Rattle.coincidence.proofs.decide.Decide.apply.Goals as goal
@@ -50,5 +50,5 @@ returns-in-Enable c site kept panel done taken stands may =
     (c.set_off-in-Enable.ensures site kept panel done taken stands (subst (λ o. MayApply site panel done taken o c.args.at.0) c.in-Enable.is may))
 
 pub returns-in-Mute : goal.returns-in-Mute
-returns-in-Mute c site kept panel done taken stands may = 
+returns-in-Mute c site kept panel done taken stands may =
     idle_stands stands c.args.at c.args.operation.now (idle_is c.args.operation.now c.in-Mute.is) may

@@ -1,7 +1,5 @@
 use Rattle.std.proofs.Common.{◌<◌, sym, subst}
-use Rattle.tick_units.specs.declared.tick.Tick.{Tick}
-use Rattle.site_types.specs.declared.item.Item.{Item}
-use Rattle.site_types.specs.declared.item.Item.TheVariants.{Point, Zone, Output}
+use Rattle.site_types.specs.declared.item.Item.TheVariants.{Point, Zone}
 use Rattle.coincidence.specs.Stands.{CanApply, off_operation}
 use Rattle.coincidence.proofs.Applied.{zone_since, point_since}
 use Rattle.coincidence.proofs.Operated.{own_zone_off, own_point_off, on_zone_off, on_point_off, own_small, zone_off_stands, point_off_stands, output_off_stands}

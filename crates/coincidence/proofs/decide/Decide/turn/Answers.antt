@@ -1,8 +1,8 @@
-use Rattle.std.proofs.Common.{◌≡◌, ◌++◌, ◌+◌, ◌∷◌, length, take, sym, ◌∙◌, ap, subst, arith}
-use Rattle.site_types.specs.declared.answer.Answer.{Answer}
+use Rattle.std.proofs.Common.{◌≡◌, ◌++◌, length, take, sym, ◌∙◌, ap, subst}
 use Rattle.tick_units.specs.Lane.{LaneState}
 use Rattle.coincidence_rules.specs.declared.finding.Finding.{Finding}
-use Rattle.coincidence.specs.Stands.{DecidesFor, MayTake, taken_by}
+use Rattle.coincidence.specs.Stands.{DecidesFor, taken_by}
+use Rattle.coincidence.specs.Premises.{MayTake}
 use Rattle.coincidence.proofs.Turned.{one_more, may_next, found_more, items_more, puts_more, stands_front}
 use Rattle.coincidence.proofs.decide.Decide.turn.Goals as goal
 

@@ -1,11 +1,12 @@
-use Rattle.std.proofs.Common.{◌≡◌, ◌≤◌, ◌+◌, ◌++◌, ℕ, List, length, take}
+use Rattle.std.proofs.Common.{◌≡◌, ◌+◌, ◌++◌, ℕ, List, length, take}
 use Rattle.site_types.specs.declared.site.Site.{Site}
 use Rattle.site_types.specs.declared.answer.Answer.{Answer}
 use Rattle.site_types.specs.declared.retained.Retained.{Retained}
 use Rattle.site_types.specs.Done.{Done}
 use Rattle.tick_units.specs.Lane.{with_put}
 use Rattle.coincidence_rules.specs.Findings.{findings_after}
-use Rattle.coincidence.specs.Stands.{DecidesFor, MayTake}
+use Rattle.coincidence.specs.Stands.{DecidesFor}
+use Rattle.coincidence.specs.Premises.{MayTake}
 use Rattle.coincidence.proofs.decide.Decide.turn.Given as goal
 
 abbrev pub invariant-loop-answer : goal.invariant-loop-answer
