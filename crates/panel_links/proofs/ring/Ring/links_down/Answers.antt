@@ -1,0 +1,12 @@
+use Rattle.std.proofs.Common.{◌≡◌, ◌∙◌, ◌+◌, ap, arith, false, slice_index_or}
+use Rattle.site_types.specs.Bits.{mask_of}
+use Rattle.site_types.proofs.Masks.{mask_same}
+use Rattle.panel_links.specs.Stands.{is_down_at}
+use Rattle.panel_links.proofs.ring.Ring.links_down.Goals as goal
+
+pub returns : goal.returns
+returns c panels calls stands =
+    let end : c.loop-link.link ≡ 9 = omega arith in
+    c.mask_from_8.ensures
+    ∙ ap (λ n. mask_of n (λ k. slice_index_or c.loop-link.down k false)) c.loop-link.invariant.size
+    ∙ mask_same 8 (λ k. slice_index_or c.loop-link.down k false) (λ k. is_down_at panels c.args.panel calls (k + 1)) (λ k small. c.loop-link.invariant.known panels calls stands k (omega arith))
