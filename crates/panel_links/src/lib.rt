@@ -10,6 +10,8 @@
 
 mod frame;
 mod ring;
+#[cfg(test)]
+mod tests;
 
 pub use frame::Frame;
 pub use ring::Ring;

@@ -1,6 +1,6 @@
 ghost use Rattle.std.specs.Prelude.{◌≡◌, ◌+◌, ◌-◌, ◌*◌, ◌≤◌, ◌<◌, ◌==◌, ◌&&◌, [], ◌∷◌, List, ℕ, length, nat_le, slice_index_or, if◌then◌else◌};
 ghost use Rattle.site_types.specs.Bits.{mask_of};
-ghost use Rattle.panel_links.specs.Words.{Call, Linked, Took, IsNewest, OwnStampsRise, carries, empty_word, group_of, left_of, right_of};
+ghost use Rattle.panel_links.specs.Words.{Call, Linked, Took, IsHeard, IsNewest, OwnStampsRise, carries, empty_word, group_of, left_of, right_of};
 ghost use Rattle.panel_links.specs.Kept.{after_word, kept_word, newest};
 ghost use Rattle.panel_links.specs.Frames.{after_frame, group_words};
 
@@ -27,7 +27,8 @@ impl Ring {
     /// A ring of 1 to 8 panels. All links are up, and nothing was heard.
     pub fn new(panels: u8) -> Ring
         requires { (1 ≤ panels) × (panels ≤ 8) }
-        ensures { StandsFor panels [] result }
+        ensures stands { StandsFor panels [] result }
+        ensures panels { result.panels ≡ panels }
     {
         Ring {
             panels,
@@ -39,7 +40,8 @@ impl Ring {
     /// Takes a report on a link, 1 to the panels of the ring.
     pub fn set_link(&mut self, link: u8, up: bool)
         requires { (1 ≤ link) × (link ≤ 8) }
-        ensures { (panels : ℕ) (calls : List Call) → StandsFor panels calls self.old → StandsFor panels (Linked link up ∷ calls) self.new }
+        ensures stands { (panels : ℕ) (calls : List Call) → StandsFor panels calls self.old → StandsFor panels (Linked link up ∷ calls) self.new }
+        ensures panels { self.new.panels ≡ self.old.panels }
     {
         self.up[link as usize - 1] = up;
     }
@@ -47,7 +49,8 @@ impl Ring {
     /// Makes the turn of a panel in a tick: it keeps its own word, then takes what is newer from its neighbours.
     pub fn turn(&mut self, now: Tick, panel: u8, own: Word)
         requires { HasPanel self.old panel }
-        ensures { (panels : ℕ) (calls : List Call) → StandsFor panels calls self.old → StandsFor panels (Took now.0 panel own ∷ calls) self.new }
+        ensures stands { (panels : ℕ) (calls : List Call) → StandsFor panels calls self.old → StandsFor panels (Took now.0 panel own ∷ calls) self.new }
+        ensures panels { self.new.panels ≡ self.old.panels }
     {
         self.keep(panel, panel, own);
         if self.panels > 1 {
@@ -63,6 +66,7 @@ impl Ring {
         requires at { HasPanel self.now at }
         requires from { HasPanel self.now of }
         ensures kept { (panels : ℕ) (calls : List Call) → StandsFor panels calls self.now → result ≡ (kept_word panels of at calls).stamp }
+        ensures newest { (panels : ℕ) (calls : List Call) → StandsFor panels calls self.now → OwnStampsRise calls → IsHeard panels of at calls result.0 }
     {
         self.word(at, of).stamp
     }

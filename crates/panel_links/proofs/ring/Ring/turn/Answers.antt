@@ -4,8 +4,8 @@ use Rattle.panel_links.specs.Stands.{is_up_in, kept_in}
 use Rattle.panel_links.proofs.Turns.{InRing, left_in, turned}
 use Rattle.panel_links.proofs.ring.Ring.turn.Goals as goal
 
-pub returns-then-self-gt1 : goal.returns-then-self-gt1
-returns-then-self-gt1 c panels calls stands =
+pub returns-then-self-gt1-clause-stands : goal.returns-then-self-gt1-clause-stands
+returns-then-self-gt1-clause-stands c panels calls stands =
     let before = c.args.self.now in
     let mid = c.keep.new.self in
     let half = c.take_over.new.self in

@@ -1,0 +1,8 @@
+use Rattle.std.proofs.Common.{◌≡◌}
+use Rattle.panel_links.proofs.tests.first_heard.Given as goal
+
+abbrev pub invariant-loop-turned : goal.invariant-loop-turned
+invariant-loop-turned g l = l.ring.panels ≡ 8
+
+abbrev pub invariant-loop-tick : goal.invariant-loop-tick
+invariant-loop-tick g l = l.ring.panels ≡ 8
