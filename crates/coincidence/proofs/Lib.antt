@@ -9,3 +9,4 @@ pub mod Applied
 pub mod Operated
 pub mod Turned
 pub mod Begun
+pub mod Elsewhere

@@ -1,22 +1,18 @@
 -- What is found answer by answer is what the definition says of all answers.
-use Rattle.std.proofs.Common.{◌≡◌, ◌≢◌, ◌⊎◌, inl, inr, ⊎_elim, ℕ, zero, suc, ◌+◌, ◌<◌, ◌≤◌, Bool, true, false, not, List, [], ◌∷◌, ◌++◌, length, take, Option, Some, None, slice_get, ◌==◌, ◌&&◌, ◌||◌, nat_lt, nat_le, refl, sym, ◌∙◌, ap, subst, arith, append_assoc}
-use Rattle.std.specs.List.{list_any, list_all}
-use Rattle.std.proofs.lemmas.Bool.{eqb-true}
+use Rattle.std.proofs.Common.{◌≡◌, ◌≢◌, ◌⊎◌, inl, inr, ℕ, zero, suc, ◌<◌, ◌≤◌, Bool, true, false, not, List, [], ◌∷◌, ◌++◌, take, Option, Some, None, slice_get, ◌==◌, ◌&&◌, ◌||◌, nat_lt, nat_le, refl, sym, ◌∙◌, ap, subst, arith, append_assoc}
+use Rattle.std.specs.List.{list_any}
 use Rattle.std.proofs.lemmas.Bool.Decides.{nat_tests}
 use Rattle.site_types.specs.declared.site.Site.{Site}
 use Rattle.site_types.specs.declared.answer.Answer.{Answer}
-use Rattle.site_types.specs.declared.rule.Rule.{Rule}
-use Rattle.site_types.specs.declared.rule.Rule.TheVariants.{Plain, A, B, C}
 use Rattle.site_types.specs.declared.retained.Retained.{Retained}
 use Rattle.site_types.specs.Done.{Done, floor_before, cancelled_before, cancels}
-use Rattle.site_types.proofs.Done.{floor_below, latest_below, lt_tells}
-use Rattle.coincidence_rules.specs.Places.{is_of, is_manual, is_detector, rule_of, partner_of, on_zone, on_partner, pairs_up}
+use Rattle.site_types.proofs.Done.{floor_below, latest_below}
+use Rattle.coincidence_rules.specs.Places.{is_of, is_detector, partner_of, on_zone, on_partner, pairs_up}
 use Rattle.coincidence_rules.specs.Counted.{is_counted}
-use Rattle.coincidence_rules.specs.Confirmed.{is_second, is_near, is_uncancelled, is_between, is_first_of_run, counts_throughout, is_verified, coincides, is_by_call_point, confirms}
-use Rattle.coincidence_rules.specs.Alarm.{calls, has_second, releases_by, releases}
+use Rattle.coincidence_rules.specs.Confirmed.{is_second, is_near, is_uncancelled}
 use Rattle.coincidence_rules.specs.InOrder.{AreInOrder}
 use Rattle.coincidence_rules.specs.Found.{any_found}
-use Rattle.coincidence_rules.proofs.Lists.{and_both, both_and, or_either, or_left, or_right, same_test, any_place, place_any, all_place, place_all, get_take, take_get, get_small, same_place}
+use Rattle.coincidence_rules.proofs.Lists.{and_both, both_and, or_either, or_left, or_right, any_place, place_any, take_get}
 
 -- an answer at a place, which passes a test with those up to it
 pub record Passes (test : List Answer → Answer → Bool) (answers : List Answer) : Type 0 where

@@ -1,5 +1,5 @@
 -- A zone is confirmed and released by all answers exactly where one of them, with those taken up to it, confirms or releases it.
-use Rattle.std.proofs.Common.{◌≡◌, ◌⊎◌, inl, inr, ℕ, suc, ◌+◌, ◌<◌, ◌≤◌, Bool, true, false, not, List, [], take, Option, Some, None, slice_get, ◌==◌, ◌&&◌, ◌||◌, nat_lt, nat_le, refl, sym, ◌∙◌, ap, subst, arith}
+use Rattle.std.proofs.Common.{◌≡◌, ◌⊎◌, inl, inr, ℕ, suc, ◌+◌, ◌<◌, ◌≤◌, Bool, true, false, not, List, [], take, Option, Some, None, slice_get, ◌==◌, ◌&&◌, ◌||◌, nat_lt, nat_le, refl, sym, subst, arith}
 use Rattle.std.specs.List.{list_any}
 use Rattle.std.proofs.lemmas.Bool.{eqb-true}
 use Rattle.std.proofs.lemmas.Bool.Decides.{nat_tests}
@@ -9,14 +9,14 @@ use Rattle.site_types.specs.declared.rule.Rule.{Rule}
 use Rattle.site_types.specs.declared.rule.Rule.TheVariants.{Plain, A, B, C}
 use Rattle.site_types.specs.declared.retained.Retained.{Retained}
 use Rattle.site_types.specs.Done.{Done, floor_before}
-use Rattle.coincidence_rules.specs.Places.{is_of, is_manual, is_detector, rule_of, pairs_up}
+use Rattle.coincidence_rules.specs.Places.{is_of, is_detector, rule_of, pairs_up}
 use Rattle.coincidence_rules.specs.Counted.{is_counted}
 use Rattle.coincidence_rules.specs.Confirmed.{is_second, is_near, is_uncancelled, is_between, is_first_of_run, counts_throughout, is_verified, coincides, is_by_call_point, confirms}
 use Rattle.coincidence_rules.specs.Alarm.{calls, has_second, releases_by, releases}
 use Rattle.coincidence_rules.specs.InOrder.{AreInOrder}
 use Rattle.coincidence_rules.specs.Found.{any_found}
 use Rattle.coincidence_rules.proofs.Lists.{and_both, both_and, or_either, or_left, or_right, same_test, any_place, place_any, all_place, place_all, get_take, take_get}
-use Rattle.coincidence_rules.proofs.Found.{Passes, passes_from, from_passes, AreLinked, turned_link, Pair, pair_from, from_link, Paired, paired, pairing_second, pairing_near, pairing_uncancelled, detected}
+use Rattle.coincidence_rules.proofs.Found.{passes_from, from_passes, AreLinked, turned_link, pair_from, from_link, Paired, paired, pairing_second, pairing_near, pairing_uncancelled, detected}
 
 -- an answer of a stamp that passes a test with those up to it
 pub record PassesAt (test : List Answer → Answer → Bool) (answers : List Answer) (stamp : ℕ) : Type 0 where
@@ -188,8 +188,8 @@ module _ (site : Site) (kept : Retained) (done : List Done) (answers : List Answ
       elim (or_either (is_verified site kept done answers verify zone a) (list_any (is_near site kept done within zone a) answers) both.1) [
         | inl one ↦ by_itself (Some (A verify within)) k a is counts (or_right (is_by_call_point site zone a.point) _ (both_and _ _ detector (both_and _ _ both.0 (or_left _ _ (verified_found verify k a is one)))))
         | inr two ↦ from_pair (confirms_by (Some (A verify within))) (detected site kept done) (λ z x o. is_near site kept done within z x o) both_of a.stamp.0
-          (paired site kept done (detected site kept done) (λ z x o. is_near site kept done within z x o) both_of (λ x y l. (l.1, l.0)) answers k a (pairing_near site kept done within) order is (both_and _ _ counts detector) zone zone (refl, refl) both.0 two)
-          (λ j b fit one other linked of has. near_confirms verify within j b fit one other linked of has)
+            (paired site kept done (detected site kept done) (λ z x o. is_near site kept done within z x o) both_of (λ x y l. (l.1, l.0)) answers k a (pairing_near site kept done within) order is (both_and _ _ counts detector) zone zone (refl, refl) both.0 two)
+            (λ j b fit one other linked of has. near_confirms verify within j b fit one other linked of has)
       ]
   coincides_found (Some (B within)) k a is counts detector h =
       let p = pair_from site kept done zone a.point (λ z. list_any (is_uncancelled site kept done within z a) answers) h in

@@ -8,3 +8,4 @@ pub mod FoundZones
 pub mod ZoneMasks
 pub mod FoundFindings
 pub mod ValidWired
+pub mod Later

@@ -1,5 +1,5 @@
 -- Tests over lists, and what stands at a place.
-use Rattle.std.proofs.Common.{◌≡◌, ◌⊎◌, inl, inr, ℕ, zero, suc, ◌+◌, ◌<◌, ◌≤◌, Bool, true, false, not, List, [], ◌∷◌, ◌++◌, length, take, Option, Some, None, slice_get, ◌&&◌, ◌||◌, refl, sym, ◌∙◌, ap, subst, arith, add-suc, add-zero, zero-add}
+use Rattle.std.proofs.Common.{◌≡◌, ◌⊎◌, inl, inr, ℕ, zero, suc, ◌+◌, ◌<◌, Bool, true, false, List, [], ◌∷◌, ◌++◌, length, take, Some, slice_get, ◌&&◌, ◌||◌, refl, sym, ◌∙◌, ap, subst, arith, zero-add}
 use Rattle.std.specs.List.{list_any, list_all}
 
 pub and_both : (a b : Bool) → (a && b) ≡ true → (a ≡ true) × (b ≡ true)
@@ -77,6 +77,10 @@ module _ {X : Type 0} where
   pub any_same : (f g : X → Bool) (xs : List X) → ((k : ℕ) (x : X) → slice_get xs k ≡ Some x → f x ≡ g x) → list_any f xs ≡ list_any g xs
   any_same f g [] h = refl
   any_same f g (x ∷ xs) h = ap (λ b. b || list_any f xs) (h 0 x refl) ∙ ap (λ b. g x || b) (any_same f g xs (λ k y at. h (suc k) y at))
+
+  pub all_same : (f g : X → Bool) (xs : List X) → ((k : ℕ) (x : X) → slice_get xs k ≡ Some x → f x ≡ g x) → list_all f xs ≡ list_all g xs
+  all_same f g [] h = refl
+  all_same f g (x ∷ xs) h = ap (λ b. b && list_all f xs) (h 0 x refl) ∙ ap (λ b. g x && b) (all_same f g xs (λ k y at. h (suc k) y at))
 
   pub any_or : (f g : X → Bool) (xs : List X) → list_any (λ x. f x || g x) xs ≡ (list_any f xs || list_any g xs)
   any_or f g [] = refl

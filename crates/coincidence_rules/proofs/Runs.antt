@@ -1,22 +1,11 @@
 -- A run's beginning is all that is to be kept of a point's own answers.
-use Rattle.std.proofs.Common.{◌≡◌, ◌⊎◌, inl, inr, ⊎_elim, ℕ, zero, suc, ◌+◌, ◌<◌, ◌≤◌, Bool, true, false, not, List, [], ◌∷◌, ◌++◌, length, Option, Some, None, slice_get, ◌==◌, ◌&&◌, ◌||◌, nat_lt, nat_le, if◌then◌else◌, refl, sym, ◌∙◌, ap, subst, arith, append_assoc}
-use Rattle.std.specs.List.{list_any, list_all}
-use Rattle.std.proofs.lemmas.Bool.{eqb-true}
+use Rattle.std.proofs.Common.{◌≡◌, ◌⊎◌, inl, inr, ℕ, ◌+◌, ◌<◌, ◌≤◌, Bool, true, false, List, [], ◌∷◌, Option, Some, None, ◌==◌, ◌&&◌, ◌||◌, nat_lt, nat_le, if◌then◌else◌, refl, sym, ◌∙◌, ap, arith}
 use Rattle.std.proofs.lemmas.Bool.Decides.{nat_tests}
-use Rattle.std.proofs.lemmas.List.Folds.{list_all-append}
 use Rattle.tick_units.specs.declared.tick.Tick.{Tick}
-use Rattle.site_types.specs.declared.site.Site.{Site}
 use Rattle.site_types.specs.declared.answer.Answer.{Answer}
-use Rattle.site_types.specs.declared.retained.Retained.{Retained}
-use Rattle.site_types.specs.Done.{Done, floor_before}
-use Rattle.site_types.proofs.Done.{lt_tells, floor_up, floor_between}
-use Rattle.coincidence_rules.specs.Counted.{is_counted}
-use Rattle.coincidence_rules.specs.Confirmed.{is_between, is_first_of_run, counts_throughout, is_verified}
+use Rattle.site_types.proofs.Done.{lt_tells}
 use Rattle.coincidence_rules.specs.Kept.{run_then, run_of, is_long}
-use Rattle.coincidence_rules.specs.InOrder.{AreInOrder}
-use Rattle.coincidence_rules.proofs.Lists.{any_same, and_both, or_right, get_left, get_right}
-use Rattle.coincidence_rules.proofs.Latest.{AreOrdered, ordered, ordered_last}
-use Rattle.coincidence_rules.proofs.Seconds.{AreUpTo}
+use Rattle.coincidence_rules.proofs.Latest.{AreOrdered, ordered_last}
 
 -- a floor by stamps: it rises, and one that is seen at a later stamp alone lies at or after the earlier one
 pub record IsFloor (floor : ℕ → ℕ) : Type 0 where

@@ -1,18 +1,16 @@
 -- The latest answer of another point tells whether there is a second one, of each type of zone.
-use Rattle.std.proofs.Common.{◌≡◌, ℕ, ◌+◌, ◌<◌, ◌≤◌, max, Bool, true, false, not, List, Option, Some, None, slice_get, is_some, ◌==◌, ◌&&◌, ◌||◌, nat_lt, nat_le, refl, sym, ◌∙◌, ap, arith}
+use Rattle.std.proofs.Common.{◌≡◌, ℕ, ◌+◌, ◌≤◌, max, Bool, true, false, not, List, Some, None, slice_get, is_some, ◌==◌, ◌&&◌, ◌||◌, nat_lt, nat_le, ◌∙◌, ap, arith}
 use Rattle.std.specs.List.{list_any}
 use Rattle.std.proofs.lemmas.Bool.Decides.{nat_tests}
-use Rattle.tick_units.specs.declared.tick.Tick.{Tick}
 use Rattle.site_types.specs.declared.site.Site.{Site}
 use Rattle.site_types.specs.declared.answer.Answer.{Answer}
-use Rattle.site_types.specs.declared.rule.Rule.{Rule}
 use Rattle.site_types.specs.declared.rule.Rule.TheVariants.{A, B, C}
 use Rattle.site_types.specs.declared.retained.Retained.{Retained}
 use Rattle.site_types.specs.Done.{Done, floor_before, cancelled_before}
 use Rattle.coincidence_rules.specs.Places.{is_of, is_detector}
 use Rattle.coincidence_rules.specs.Counted.{is_counted}
 use Rattle.coincidence_rules.specs.Confirmed.{is_second, is_near, is_uncancelled}
-use Rattle.coincidence_rules.specs.Kept.{may_pair, second_of, bar_before, is_within}
+use Rattle.coincidence_rules.specs.Kept.{may_pair, second_of, is_within}
 use Rattle.coincidence_rules.specs.InOrder.{AreInOrder}
 use Rattle.coincidence_rules.proofs.Lists.{any_same}
 use Rattle.coincidence_rules.proofs.Latest.{AreOrdered, ordered, Rises, latest_tells, within_after, some_after}
@@ -71,8 +69,8 @@ uncancelled_by_second site kept done taken own within zone answer order late =
     within_after within x (max floor cancelled) _
     ∙ latest_tells (may_pair site kept done zone (B own)) answer.point x 0 (λ s. nat_lt (max floor cancelled) s.0 && nat_le x (s.0 + within)) None taken (rises_near x (max floor cancelled) within) tt (up_to x taken order late)
     ∙ any_same _ _ taken (λ k a at.
-        ap (λ b. may_pair site kept done zone (B own) a && not (a.point == answer.point) && (b && nat_le x (a.stamp.0 + within))) (after_both floor cancelled a.stamp.0)
-        ∙ as_uncancelled (is_of site zone a.point) (a.point == answer.point) (is_counted site kept done a) (is_detector site a.point) (nat_lt floor a.stamp.0) (nat_le a.stamp.0 x) (nat_le x (a.stamp.0 + within)) (nat_lt cancelled a.stamp.0) (le_true a.stamp.0 x (late k a at)))
+    ap (λ b. may_pair site kept done zone (B own) a && not (a.point == answer.point) && (b && nat_le x (a.stamp.0 + within))) (after_both floor cancelled a.stamp.0)
+    ∙ as_uncancelled (is_of site zone a.point) (a.point == answer.point) (is_counted site kept done a) (is_detector site a.point) (nat_lt floor a.stamp.0) (nat_le a.stamp.0 x) (nat_le x (a.stamp.0 + within)) (nat_lt cancelled a.stamp.0) (le_true a.stamp.0 x (late k a at)))
 
 -- type C: another point of the zone, whenever it was
 pub any_by_second : (site : Site) (kept : Retained) (done : List Done) (taken : List Answer) (zone : ℕ) (answer : Answer) → AreInOrder taken → AreUpTo answer.stamp.0 taken

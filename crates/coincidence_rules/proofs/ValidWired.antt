@@ -1,10 +1,9 @@
 -- A valid site has its points, zones and partners together.
-use Rattle.std.proofs.Common.{◌≡◌, ℕ, List, [], ◌∷◌, Some, slice_get, ap, sym, ◌∙◌}
+use Rattle.std.proofs.Common.{◌≡◌, ℕ, List, [], ◌∷◌}
 use Rattle.site_types.specs.declared.site.Site.{Site}
-use Rattle.site_types.specs.declared.zone.Zone.{Zone}
 use Rattle.site_types.specs.Valid.{IsValid}
 use Rattle.site_types.proofs.ValidSites.{zone_numbers, point_numbers, zone_of_point, partner_of_zone}
-use Rattle.coincidence_rules.specs.Wired.{IsWired, HasPartner}
+use Rattle.coincidence_rules.specs.Wired.{IsWired}
 
 two : (a b c d : ℕ) → a ≡ c → b ≡ d → ◌≡◌ {A = List ℕ} (a ∷ b ∷ []) (c ∷ d ∷ [])
 two a b c d p q = cc

@@ -4,7 +4,7 @@ use Rattle.tick_units.specs.declared.tick.Tick.{Tick}
 use Rattle.site_types.specs.declared.site.Site.{Site}
 use Rattle.site_types.specs.declared.answer.Answer.{Answer}
 use Rattle.site_types.specs.declared.rule.Rule.{Rule}
-use Rattle.site_types.specs.declared.rule.Rule.TheVariants.{Plain, A, B, C}
+use Rattle.site_types.specs.declared.rule.Rule.TheVariants.{B, C}
 use Rattle.site_types.specs.declared.retained.Retained.{Retained}
 use Rattle.site_types.specs.Done.{Done, floor_before, cancelled_before}
 use Rattle.coincidence_rules.specs.Places.{is_of, is_detector}
