@@ -3,14 +3,20 @@
 //! Begin with [`read_draft`]. Names still stand in the draft where a site has places.
 #![tactic(auto)]
 
+mod form;
 mod key;
 mod key_text;
 mod refusal;
-mod row_kind;
 mod place;
+mod row_kind;
+mod rules;
+mod words;
 
+pub use form::Form;
 pub use key::Key;
 pub use key_text::KeyText;
 pub use place::Place;
 pub use refusal::SiteRefusal;
 pub use row_kind::RowKind;
+pub use rules::{form_of, keys_of};
+pub use words::{MarkerKind, ZoneType, manual_of, marker_kind_of, output_kind_of, zone_type_of};
