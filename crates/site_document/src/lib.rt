@@ -10,6 +10,7 @@ mod refusal;
 mod place;
 mod row_kind;
 mod rules;
+mod tables;
 mod words;
 
 pub use form::Form;
@@ -19,4 +20,7 @@ pub use place::Place;
 pub use refusal::SiteRefusal;
 pub use row_kind::RowKind;
 pub use rules::{form_of, keys_of};
+pub use tables::{
+    format_at, integer_at, items_at, list_key, look_up, marker_kind_at, natural, natural_at, text_at, type_at,
+};
 pub use words::{MarkerKind, ZoneType, manual_of, marker_kind_of, output_kind_of, zone_type_of};
