@@ -1,7 +1,9 @@
 pub mod Missing
 pub mod Needs
+pub mod Ranges
 pub mod Refusals
 pub mod Rules
 pub mod Tables
 pub mod Texts
+pub mod Unknown
 pub mod Words

@@ -8,12 +8,15 @@ mod key;
 mod key_text;
 mod missing;
 mod needs;
+mod out_of_range;
 mod place;
+mod ranges;
 mod refusal;
 mod refusals;
 mod row_kind;
 mod rules;
 mod tables;
+mod unknown;
 mod words;
 
 pub use form::Form;
@@ -21,11 +24,14 @@ pub use key::Key;
 pub use key_text::KeyText;
 pub use missing::check_missing;
 pub use needs::{is_allowed, is_needed};
+pub use out_of_range::check_range;
 pub use place::Place;
+pub use ranges::{Range, length_range, range_of};
 pub use refusal::SiteRefusal;
 pub use row_kind::RowKind;
 pub use rules::{form_of, keys_of};
 pub use tables::{
     format_at, integer_at, items_at, list_key, look_up, marker_kind_at, natural, natural_at, text_at, type_at,
 };
+pub use unknown::check_unknown;
 pub use words::{MarkerKind, ZoneType, manual_of, marker_kind_of, output_kind_of, zone_type_of};

@@ -1,4 +1,4 @@
-ghost use Rattle.std.specs.Prelude.{◌≡◌, option_map, option_copied};
+ghost use Rattle.std.specs.Prelude.{◌≡◌, ◌<◌, ◌^◌, Some, option_map, option_copied};
 ghost use Rattle.toml.specs.Data.{get_member};
 ghost use Rattle.toml.specs.View.{items_view, table_view, view};
 ghost use Rattle.site_document.specs.Tables.{
@@ -49,7 +49,8 @@ pub fn integer_at(table: &Table, key: Key) -> Option<i64>
 /// The number at a key; 0 where none stands there or it is below 0.
 #[tactic(auto, unfolding(crate::specs::Tables::natural_at))]
 pub fn natural_at(table: &Table, key: Key) -> u64
-    ensures { result ≡ natural_under key (table_view table.now) }
+    ensures value { result ≡ natural_under key (table_view table.now) }
+    ensures below { result < 2 ^ 63 }
 {
     match integer_at(table, key) {
         Some(number) => natural(number),
@@ -59,7 +60,8 @@ pub fn natural_at(table: &Table, key: Key) -> u64
 
 /// A number; 0 in place of one below 0.
 pub fn natural(number: i64) -> u64
-    ensures { result ≡ natural_from (Some number) }
+    ensures value { result ≡ natural_from (Some number) }
+    ensures below { result < 2 ^ 63 }
 {
     if number >= 0 { number as u64 } else { 0 }
 }
