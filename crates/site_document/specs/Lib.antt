@@ -4,6 +4,9 @@ pub mod Ranges
 pub mod Refusals
 pub mod Rules
 pub mod Tables
+pub mod Terms
 pub mod Texts
 pub mod Unknown
+pub mod Walk
 pub mod Words
+pub mod WrongKind

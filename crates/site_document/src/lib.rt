@@ -16,8 +16,11 @@ mod refusals;
 mod row_kind;
 mod rules;
 mod tables;
+mod terms;
 mod unknown;
+mod walk;
 mod words;
+mod wrong_kind;
 
 pub use form::Form;
 pub use key::Key;
@@ -31,7 +34,10 @@ pub use refusal::SiteRefusal;
 pub use row_kind::RowKind;
 pub use rules::{form_of, keys_of};
 pub use tables::{
-    format_at, integer_at, items_at, list_key, look_up, marker_kind_at, natural, natural_at, text_at, type_at,
+    format_at, integer_at, items_at, list_key, items_of, look_up, marker_kind_at, natural, natural_at, text_at, type_at,
 };
+pub use terms::{TermKind, is_digest, is_name, is_term, split_term};
 pub use unknown::check_unknown;
+pub use walk::{Pass, check_document};
 pub use words::{MarkerKind, ZoneType, manual_of, marker_kind_of, output_kind_of, zone_type_of};
+pub use wrong_kind::check_kind;

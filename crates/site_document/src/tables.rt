@@ -2,7 +2,7 @@ ghost use Rattle.std.specs.Prelude.{◌≡◌, ◌<◌, ◌^◌, Some, option_ma
 ghost use Rattle.toml.specs.Data.{get_member};
 ghost use Rattle.toml.specs.View.{items_view, table_view, view};
 ghost use Rattle.site_document.specs.Tables.{
-  format_at as format_in, integer_at as integer_in, items_at as items_in, list_key as list_key_in,
+  format_at as format_in, integer_at as integer_in, items_at as items_in, items_in as items_from, list_key as list_key_in,
   marker_kind_at as marker_kind_in, natural_at as natural_under, natural_in as natural_from, text_at as text_in, type_at as type_in, value_at
 };
 
@@ -31,6 +31,16 @@ pub fn items_at(table: &Table, key: Key) -> &[Value]
 {
     match look_up(table, key) {
         Some(Value::Array(items)) => items.as_slice(),
+        _ => &[],
+    }
+}
+
+/// The items of a list; none of what isn't a list.
+pub fn items_of(value: &Value) -> &[Value]
+    ensures { items_view result.now ≡ items_from (Some (view value.now)) }
+{
+    match value {
+        Value::Array(items) => items.as_slice(),
         _ => &[],
     }
 }

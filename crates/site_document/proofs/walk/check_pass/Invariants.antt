@@ -1,0 +1,10 @@
+use Rattle.std.proofs.Common.{◌≡◌, drop}
+use Rattle.toml.specs.View.{table_view}
+use Rattle.site_document.specs.Refusals.{first_found}
+use Rattle.site_document.specs.Rules.{row_kinds}
+use Rattle.site_document.specs.Walk.{found_in_list}
+use Rattle.site_document.proofs.walk.check_pass.Given as goal
+
+abbrev pub invariant-kinds : goal.invariant-kinds
+invariant-kinds l =
+    first_found (found_in_list l.pass (table_view l.top)) (drop l.kind-index l.kind-items) ≡ first_found (found_in_list l.pass (table_view l.top)) row_kinds
