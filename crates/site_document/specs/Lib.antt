@@ -1,3 +1,4 @@
+pub mod Drafts
 pub mod Missing
 pub mod Needs
 pub mod Ranges

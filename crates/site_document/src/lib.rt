@@ -3,6 +3,14 @@
 //! Begin with [`read_draft`]. Names still stand in the draft where a site has places.
 #![tactic(auto)]
 
+mod collect;
+mod draft;
+mod draft_marker;
+mod draft_output;
+mod draft_point;
+mod draft_reading;
+mod draft_term;
+mod draft_zone;
 mod form;
 mod key;
 mod key_text;
@@ -22,6 +30,14 @@ mod walk;
 mod words;
 mod wrong_kind;
 
+pub use collect::FromValue;
+pub use draft::Draft;
+pub use draft_marker::DraftMarker;
+pub use draft_output::DraftOutput;
+pub use draft_point::DraftPoint;
+pub use draft_reading::spell_draft;
+pub use draft_term::DraftTerm;
+pub use draft_zone::DraftZone;
 pub use form::Form;
 pub use key::Key;
 pub use key_text::KeyText;

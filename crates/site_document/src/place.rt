@@ -15,26 +15,17 @@ pub struct Place {
 
 impl Place {
     /// The table, as `zone[2]`.
-    #[tactic(auto, unfolding(crate::specs::Texts::row_text))]
     pub fn row_text(&self, alloc: Global) -> Result<KeyText, AllocError>
         ensures { IfOk result (λ k. k ≡ row_text self.now) }
     {
-        let word = self.kind.word();
-        let number = self.number;
-        Ok(KeyText::from_string(format!(in alloc; "{word}[{number}]")?))
+        Ok(KeyText::from_string(self.row_string(alloc)?))
     }
 
     /// A key of the table, as `zone[2].panel`; of the table of the whole file the key alone.
-    #[tactic(auto, unfolding(crate::specs::Texts::key_text))]
     pub fn key_text(&self, alloc: Global, name: &str) -> Result<KeyText, AllocError>
         ensures { IfOk result (λ k. k ≡ key_text_of self.now name.now) }
     {
-        if self.number == 0 {
-            return KeyText::from_str(alloc, name);
-        }
-        let row = self.row_text(alloc)?;
-        let row = row.as_str();
-        Ok(KeyText::from_string(format!(in alloc; "{row}.{name}")?))
+        Ok(KeyText::from_string(self.key_string(alloc, name)?))
     }
 
     /// An item of the list at a key of the table, as `marker[1].terms[3]`; places of items count from 1.
@@ -42,8 +33,29 @@ impl Place {
     pub fn item_text(&self, alloc: Global, name: &str, item: usize) -> Result<KeyText, AllocError>
         ensures { IfOk result (λ k. k ≡ item_text_of self.now name.now item) }
     {
-        let key = self.key_text(alloc, name)?;
+        let key = self.key_string(alloc, name)?;
         let key = key.as_str();
         Ok(KeyText::from_string(format!(in alloc; "{key}[{item}]")?))
+    }
+
+    #[tactic(auto, unfolding(crate::specs::Texts::row_text))]
+    fn row_string(&self, alloc: Global) -> Result<String, AllocError>
+        ensures { IfOk result (λ s. string_bytes s ≡ row_text self.now) }
+    {
+        let word = self.kind.word();
+        let number = self.number;
+        format!(in alloc; "{word}[{number}]")
+    }
+
+    #[tactic(auto, unfolding(crate::specs::Texts::key_text))]
+    fn key_string(&self, alloc: Global, name: &str) -> Result<String, AllocError>
+        ensures { IfOk result (λ s. string_bytes s ≡ key_text_of self.now name.now) }
+    {
+        if self.number == 0 {
+            return String::from_str(alloc, name);
+        }
+        let row = self.row_string(alloc)?;
+        let row = row.as_str();
+        format!(in alloc; "{row}.{name}")
     }
 }
