@@ -54,8 +54,9 @@ impl Place {
         if self.number == 0 {
             return String::from_str(alloc, name);
         }
-        let row = self.row_string(alloc)?;
-        let row = row.as_str();
-        format!(in alloc; "{row}.{name}")
+        let mut text = self.row_string(alloc)?;
+        text.push_str(".")?;
+        text.push_str(name)?;
+        Ok(text)
     }
 }
