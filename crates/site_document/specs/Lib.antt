@@ -1,3 +1,4 @@
+pub mod Documents
 pub mod Drafts
 pub mod Missing
 pub mod Needs

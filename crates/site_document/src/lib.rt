@@ -1,6 +1,11 @@
 //! Reads the bytes of a site file into a draft: every key is there, of its kind, known and in its range.
 //!
-//! Begin with [`read_draft`]. Names still stand in the draft where a site has places.
+//! Begin with [`read_draft`]. A refusal is a function of the document that the bytes spell: four passes look at the whole file, one
+//! after the other, for absent keys, values of a wrong kind, unknown keys, and numbers and lists out of their range. Each looks at the
+//! table of the whole file first, then at the lists of loops, zones, points, outputs and markers in their order, and in each table at
+//! the keys in alphabetical order; the first finding is answered. What a table may say stands as data: which keys it has, what each
+//! asks for, and which numbers it may have. A file without a finding becomes a [`Draft`], in which names still stand where a site has
+//! places. The time is about that of reading the TOML document, and the memory some times the file's length.
 #![tactic(auto)]
 
 mod collect;
@@ -19,6 +24,7 @@ mod needs;
 mod out_of_range;
 mod place;
 mod ranges;
+mod reading;
 mod refusal;
 mod refusals;
 mod row_kind;
@@ -30,30 +36,14 @@ mod walk;
 mod words;
 mod wrong_kind;
 
-pub use collect::FromValue;
 pub use draft::Draft;
 pub use draft_marker::DraftMarker;
 pub use draft_output::DraftOutput;
 pub use draft_point::DraftPoint;
-pub use draft_reading::spell_draft;
 pub use draft_term::DraftTerm;
 pub use draft_zone::DraftZone;
-pub use form::Form;
-pub use key::Key;
 pub use key_text::KeyText;
-pub use missing::check_missing;
-pub use needs::{is_allowed, is_needed};
-pub use out_of_range::check_range;
 pub use place::Place;
-pub use ranges::{Range, length_range, range_of};
+pub use reading::read_draft;
 pub use refusal::SiteRefusal;
 pub use row_kind::RowKind;
-pub use rules::{form_of, keys_of};
-pub use tables::{
-    format_at, integer_at, items_at, list_key, items_of, look_up, marker_kind_at, natural, natural_at, text_at, type_at,
-};
-pub use terms::{TermKind, is_digest, is_name, is_term, split_term};
-pub use unknown::check_unknown;
-pub use walk::{Pass, check_document};
-pub use words::{MarkerKind, ZoneType, manual_of, marker_kind_of, output_kind_of, zone_type_of};
-pub use wrong_kind::check_kind;
