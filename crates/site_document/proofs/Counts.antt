@@ -1,5 +1,5 @@
 -- The items of a list are as many as its values.
-use Rattle.std.proofs.Common.{◌≡◌, ◌+◌, length, List, [], ◌∷◌, arith}
+use Rattle.std.proofs.Common.{◌≡◌, length, List, [], ◌∷◌, arith}
 use Rattle.toml.specs.declared.value.Value.{Value}
 use Rattle.toml.specs.View.{items_view}
 use Rattle.site_document.specs.Tables.{count_of}

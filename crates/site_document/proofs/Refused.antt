@@ -1,10 +1,10 @@
 -- What is found in the document of the bytes refuses them.
-use Rattle.std.proofs.Common.{◌≡◌, ◌≤◌, ℕ, List, Option, Some, None, true, false, IfSome, length}
+use Rattle.std.proofs.Common.{◌≤◌, ℕ, List, Option, length}
 use Rattle.toml.specs.Data.{Members}
 use Rattle.site_types.specs.Limits.{site_bytes}
 use Rattle.site_document.specs.declared.refusal.SiteRefusal.{SiteRefusal}
 use Rattle.site_document.specs.declared.refusal.SiteRefusal.TheVariants as code
-use Rattle.site_document.specs.Documents.{IsDocument, IsFoundBy, IsRefusedBy}
+use Rattle.site_document.specs.Documents.{IsDocument, IsRefusedBy}
 use Rattle.site_document.specs.Refusals.{Refusal, IsSaid}
 
 pub refused_by : (find : Members → Option Refusal) (bytes : List ℕ) (doc : Members) (e : SiteRefusal) → length bytes ≤ site_bytes → IsDocument bytes doc

@@ -1,6 +1,6 @@
 -- The draft that a document spells: the records of a site with names where a site has places. It is the document's, field by field,
 -- where nothing is absent, of a wrong kind, unknown or out of range.
-use Rattle.std.specs.Prelude.{ℕ, ℤ, pos, negsuc, List, [], ◌∷◌, ◌++◌, Option, Some, None, Bool, true, false, Result, nat_lt, codes, option_to_list, option_map, if◌then◌else◌}
+use Rattle.std.specs.Prelude.{ℕ, ℤ, List, [], ◌∷◌, ◌++◌, Option, Some, None, Bool, false, nat_lt, option_to_list, option_map, if◌then◌else◌}
 use Rattle.std.specs.Result.{result_ok}
 use Rattle.hex.specs.Hex.{decode_sized}
 use Rattle.toml.specs.Data.{Data, Items, no_items, item, Members, as_integer, as_str, as_table}

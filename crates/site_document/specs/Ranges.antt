@@ -1,6 +1,6 @@
 -- Fifth refusal of a site file: a number outside its range, an isolator that isn't above the one before, a list that is too long or empty.
-use Rattle.std.specs.Prelude.{ℕ, ℤ, List, pos, negsuc, ◌+◌, Bool, true, false, ◌&&◌, nat_le, nat_lt, Option, Some, None, if◌then◌else◌}
-use Rattle.toml.specs.Data.{Data, Items, no_items, item, Members, as_integer}
+use Rattle.std.specs.Prelude.{ℕ, ℤ, List, pos, negsuc, ◌+◌, Bool, false, ◌&&◌, nat_le, nat_lt, Option, Some, None, if◌then◌else◌}
+use Rattle.toml.specs.Data.{Items, no_items, item, Members, as_integer}
 use Rattle.site_types.specs.Limits.{most_panels, most_loops, most_zones, most_markers, most_terms, most_codes}
 use Rattle.site_types.specs.Profile.{last_address_of, greatest_mains_wait_of, greatest_standby_wait_of, greatest_voltage_wait_of, greatest_charger_wait_of, greatest_delay_of, least_verify_of, greatest_verify_of, least_within_a_of, least_within_b_of, greatest_within_of}
 use Rattle.site_document.specs.declared.form.Form.{Form}

@@ -1,5 +1,5 @@
 -- What a table of a site file says at its keys.
-use Rattle.std.specs.Prelude.{ℕ, ℤ, pos, negsuc, ◌+◌, ◌==◌, List, Option, Some, None, Bool, true, false, if◌then◌else◌}
+use Rattle.std.specs.Prelude.{ℕ, ℤ, pos, negsuc, ◌+◌, ◌==◌, List, Option, Some, None, if◌then◌else◌}
 use Rattle.toml.specs.Data.{Data, string, integer, float, boolean, datetime, array, table, Items, no_items, item, Members, get_member, as_integer, as_str}
 use Rattle.site_document.specs.declared.key.Key.{Key}
 use Rattle.site_document.specs.declared.key.Key.TheVariants as key

@@ -1,5 +1,5 @@
 -- How keys of a site file are written in a refusal.
-use Rattle.std.specs.Prelude.{ℕ, List, [], ◌∷◌, ◌++◌, codes, if◌then◌else◌, ◌==◌}
+use Rattle.std.specs.Prelude.{ℕ, List, [], ◌++◌, codes, if◌then◌else◌, ◌==◌}
 use Rattle.std.specs.Fmt.{decimal}
 use Rattle.site_document.specs.declared.key.Key.{Key}
 use Rattle.site_document.specs.declared.key.Key.TheVariants as key

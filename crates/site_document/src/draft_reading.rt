@@ -3,9 +3,27 @@
 ghost use Rattle.std.specs.Prelude.{◌≡◌, IfOk};
 ghost use Rattle.toml.specs.View.{table_view, view};
 ghost use Rattle.site_document.specs.Drafts.{
-  byte_at as byte_in, byte_of as byte_from, digest_from, draft_of, from_table, is_manual_at as is_manual_in, isolator_from,
-  loop_of, marker_of, name_at as name_in, output_kind_at as output_kind_in, output_of, point_of, rule_as, short_at as short_in,
-  combine_as, term_as as term_of_kind, term_of_parts, term_from, waits_of, zone_of
+  byte_at as byte_in,
+  byte_of as byte_from,
+  digest_from,
+  draft_of,
+  from_table,
+  is_manual_at as is_manual_in,
+  isolator_from,
+  loop_of,
+  marker_of,
+  name_at as name_in,
+  output_kind_at as output_kind_in,
+  output_of,
+  point_of,
+  rule_as,
+  short_at as short_in,
+  combine_as,
+  term_as as term_of_kind,
+  term_of_parts,
+  term_from,
+  waits_of,
+  zone_of,
 };
 ghost use Rattle.site_document.specs.Tables.{text_at as text_in};
 ghost use Rattle.site_document.specs.Terms.{split_term as split_term_of};

@@ -31,6 +31,8 @@ mod row_kind;
 mod rules;
 mod tables;
 mod terms;
+#[cfg(test)]
+mod tests;
 mod unknown;
 mod walk;
 mod words;

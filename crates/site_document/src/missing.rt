@@ -13,7 +13,12 @@ use toml::Table;
 
 /// Refuses a table in which a needed key is absent.
 #[tactic(auto, unfolding(crate::specs::Missing::missing_at))]
-pub fn check_missing(alloc: Global, place: &Place, table: &Table, key: Key) -> Result<(), SiteRefusal>
+pub fn check_missing(
+    alloc: Global,
+    place: &Place,
+    table: &Table,
+    key: Key,
+) -> Result<(), SiteRefusal>
     ensures { Tells result (missing_at place.now (table_view table.now) key) }
 {
     if is_needed(key, table) && look_up(table, key).is_none() {

@@ -1,7 +1,12 @@
 ghost use Rattle.std.specs.Prelude.{◌≡◌};
 ghost use Rattle.toml.specs.View.{table_view};
 ghost use Rattle.site_document.specs.Needs.{
-  is_a as is_type_a, is_a_or_b as is_type_a_or_b, is_allowed as is_allowed_in, is_at_least as is_kind_at_least, is_b_or_c as is_type_b_or_c, is_needed as is_needed_in
+  is_a as is_type_a,
+  is_a_or_b as is_type_a_or_b,
+  is_allowed as is_allowed_in,
+  is_at_least as is_kind_at_least,
+  is_b_or_c as is_type_b_or_c,
+  is_needed as is_needed_in,
 };
 
 use crate::key::Key;

@@ -29,7 +29,12 @@ pub fn check_range(
 {
     match form_of(key) {
         Form::Number => check_number(alloc, place, top, table, key),
-        Form::Numbers => check_isolators(alloc, place, natural_at(table, Key::Last), items_at(table, key)),
+        Form::Numbers => check_isolators(
+            alloc,
+            place,
+            natural_at(table, Key::Last),
+            items_at(table, key),
+        ),
         Form::Digests => check_length(alloc, place, table, key),
         Form::Terms => check_length(alloc, place, table, key),
         Form::Tables => check_length(alloc, place, table, key),
@@ -88,7 +93,12 @@ fn count(items: &[Value]) -> i64
 }
 
 /// Refuses the first isolator that isn't above the one before and below `end`.
-fn check_isolators(alloc: Global, place: &Place, end: u64, items: &[Value]) -> Result<(), SiteRefusal>
+fn check_isolators(
+    alloc: Global,
+    place: &Place,
+    end: u64,
+    items: &[Value],
+) -> Result<(), SiteRefusal>
     ensures { Tells result (first_fall place.now 0 end 1 (items_view items.now)) }
 {
     let mut before = 0;

@@ -5,7 +5,9 @@ ghost use Rattle.site_document.specs.Ranges.{contains as contains_in, length_ran
 use crate::key::Key;
 use crate::tables::{format_at, items_at, natural_at, type_at};
 use crate::words::ZoneType;
-use site_types::{MOST_CODES, MOST_LOOPS, MOST_MARKERS, MOST_PANELS, MOST_TERMS, MOST_ZONES, Profile};
+use site_types::{
+    MOST_CODES, MOST_LOOPS, MOST_MARKERS, MOST_PANELS, MOST_TERMS, MOST_ZONES, Profile,
+};
 use toml::Table;
 
 /// The numbers from `least` to `greatest`.
@@ -79,7 +81,10 @@ fn within_range(zone_type: ZoneType, profile: Profile, verify: u64) -> Range
     ensures { result ≡ within_range_of zone_type profile.format verify }
 {
     match zone_type {
-        ZoneType::A => from_to(verify + profile.least_within_a(0), profile.greatest_within()),
+        ZoneType::A => from_to(
+            verify + profile.least_within_a(0),
+            profile.greatest_within(),
+        ),
         ZoneType::Plain => from_to(profile.least_within_b(), profile.greatest_within()),
         ZoneType::B => from_to(profile.least_within_b(), profile.greatest_within()),
         ZoneType::C => from_to(profile.least_within_b(), profile.greatest_within()),

@@ -22,7 +22,9 @@ const TOP_KEYS: [Key; 15] = [
     Key::VoltageWait,
     Key::Zones,
 ];
+
 const LOOP_KEYS: [Key; 4] = [Key::Isolators, Key::Last, Key::Loop, Key::Panel];
+
 const ZONE_KEYS: [Key; 7] = [
     Key::Name,
     Key::Number,
@@ -32,6 +34,7 @@ const ZONE_KEYS: [Key; 7] = [
     Key::Verify,
     Key::Within,
 ];
+
 const POINT_KEYS: [Key; 6] = [
     Key::Address,
     Key::PointKind,
@@ -40,6 +43,7 @@ const POINT_KEYS: [Key; 6] = [
     Key::Panel,
     Key::Zone,
 ];
+
 const OUTPUT_KEYS: [Key; 6] = [
     Key::Delay,
     Key::OutputKind,
@@ -48,6 +52,7 @@ const OUTPUT_KEYS: [Key; 6] = [
     Key::Panel,
     Key::When,
 ];
+
 const MARKER_KEYS: [Key; 4] = [Key::Count, Key::MarkerKind, Key::Name, Key::Terms];
 
 /// The keys of a kind of table, in alphabetical order.

@@ -2,8 +2,17 @@ ghost use Rattle.std.specs.Prelude.{◌≡◌, ◌<◌, ◌^◌, Some, option_ma
 ghost use Rattle.toml.specs.Data.{get_member};
 ghost use Rattle.toml.specs.View.{items_view, table_view, view};
 ghost use Rattle.site_document.specs.Tables.{
-  format_at as format_in, integer_at as integer_in, items_at as items_in, items_in as items_from, list_key as list_key_in,
-  marker_kind_at as marker_kind_in, natural_at as natural_under, natural_in as natural_from, text_at as text_in, type_at as type_in, value_at
+  format_at as format_in,
+  integer_at as integer_in,
+  items_at as items_in,
+  items_in as items_from,
+  list_key as list_key_in,
+  marker_kind_at as marker_kind_in,
+  natural_at as natural_under,
+  natural_in as natural_from,
+  text_at as text_in,
+  type_at as type_in,
+  value_at,
 };
 
 use crate::key::Key;
@@ -120,7 +129,11 @@ pub fn marker_kind_at(table: &Table) -> MarkerKind
 pub fn format_at(top: &Table) -> u8
     ensures { result ≡ format_in (table_view top.now) }
 {
-    if natural_at(top, Key::Format) == 2 { 2 } else { 1 }
+    if natural_at(top, Key::Format) == 2 {
+        2
+    } else {
+        1
+    }
 }
 
 /// The key at which the list of a kind of table stands.

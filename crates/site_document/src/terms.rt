@@ -3,7 +3,12 @@ ghost use Rattle.std.specs.List.{list_all};
 ghost use Rattle.site_types.specs.Names.{is_name as is_name_text};
 ghost use Rattle.site_types.specs.Numbers.{number_of};
 ghost use Rattle.site_document.specs.Terms.{
-  after as after_word, is_digest as is_digest_text, is_hex_digit as is_hex_digit_byte, is_operand as is_operand_text, is_term as is_term_text, split_term as split_term_of
+  after as after_word,
+  is_digest as is_digest_text,
+  is_hex_digit as is_hex_digit_byte,
+  is_operand as is_operand_text,
+  is_term as is_term_text,
+  split_term as split_term_of,
 };
 
 use site_types::{read_name, read_number};

@@ -1,7 +1,15 @@
 ghost use Rattle.toml.specs.View.{items_view, table_view, view};
 ghost use Rattle.site_document.specs.Refusals.{Tells};
 ghost use Rattle.site_document.specs.Walk.{
-  finding, found_at, found_at_keys, found_by, found_in, found_in_list, found_in_row, found_in_rows, found_stray
+  finding,
+  found_at,
+  found_at_keys,
+  found_by,
+  found_in,
+  found_in_list,
+  found_in_row,
+  found_in_rows,
+  found_stray,
 };
 
 use crate::key::Key;
@@ -33,6 +41,7 @@ const PASSES: [Pass; 4] = [
     Pass::Unknown,
     Pass::OutOfRange,
 ];
+
 const ROW_KINDS: [RowKind; 5] = [
     RowKind::Loop,
     RowKind::Zone,

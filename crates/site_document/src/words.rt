@@ -1,6 +1,9 @@
 ghost use Rattle.std.specs.Prelude.{◌≡◌};
 ghost use Rattle.site_document.specs.Words.{
-  is_manual_of, marker_kind_of as marker_kind_in, output_kind_of as output_kind_in, zone_type_of as zone_type_in
+  is_manual_of,
+  marker_kind_of as marker_kind_in,
+  output_kind_of as output_kind_in,
+  zone_type_of as zone_type_in,
 };
 
 use site_types::OutputKind;
