@@ -68,8 +68,8 @@ fn name_at(alloc: Global, key: Key, table: &Table) -> Result<KeyText, AllocError
     ensures { IfOk result (λ name. name ≡ name_in key (table_view table.now)) }
 {
     match text_at(table, key) {
-        Some(text) => KeyText::from_slice(alloc, text.as_bytes()),
-        None => KeyText::from_slice(alloc, &[]),
+        Some(text) => KeyText::from_str(alloc, text),
+        None => KeyText::from_str(alloc, ""),
     }
 }
 
@@ -122,23 +122,23 @@ impl FromValue for DraftTerm {
 fn read_term(alloc: Global, text: &str) -> Result<Option<DraftTerm>, AllocError>
     ensures { IfOk result (λ term. term ≡ term_of_parts (split_term_of text.now)) }
 {
-    match split_term(text.as_bytes()) {
+    match split_term(text) {
         None => Ok(None),
         Some((kind, rest)) => read_operand(alloc, kind, rest),
     }
 }
 
-fn read_operand(alloc: Global, kind: TermKind, rest: &[u8]) -> Result<Option<DraftTerm>, AllocError>
+fn read_operand(alloc: Global, kind: TermKind, rest: &str) -> Result<Option<DraftTerm>, AllocError>
     ensures { IfOk result (λ term. term ≡ term_of_kind kind rest.now) }
 {
     match kind {
-        TermKind::Zone => Ok(Some(DraftTerm::Zone(KeyText::from_slice(alloc, rest)?))),
-        TermKind::Manual => Ok(Some(DraftTerm::Manual(KeyText::from_slice(alloc, rest)?))),
-        TermKind::Fault => match read_number(rest) {
+        TermKind::Zone => Ok(Some(DraftTerm::Zone(KeyText::from_str(alloc, rest)?))),
+        TermKind::Manual => Ok(Some(DraftTerm::Manual(KeyText::from_str(alloc, rest)?))),
+        TermKind::Fault => match read_number(rest.as_bytes()) {
             None => Ok(None),
             Some(panel) => Ok(Some(DraftTerm::Fault(panel))),
         },
-        TermKind::Marker => Ok(Some(DraftTerm::Marker(KeyText::from_slice(alloc, rest)?))),
+        TermKind::Marker => Ok(Some(DraftTerm::Marker(KeyText::from_str(alloc, rest)?))),
     }
 }
 
@@ -243,7 +243,7 @@ fn partner_at(alloc: Global, table: &Table) -> Result<Option<KeyText>, AllocErro
 {
     match text_at(table, Key::Partner) {
         None => Ok(None),
-        Some(text) => Ok(Some(KeyText::from_slice(alloc, text.as_bytes())?)),
+        Some(text) => Ok(Some(KeyText::from_str(alloc, text)?)),
     }
 }
 

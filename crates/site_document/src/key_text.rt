@@ -6,18 +6,18 @@ use std::marker::Model;
 /// A key or a name of a site file, of any length. Contracts see it as its bytes.
 #[derive(Drop)]
 pub struct KeyText {
-    bytes: Vec<u8>,
+    text: String,
 }
 
 impl Model for KeyText {
-    ghost use Rattle.std.specs.Prelude.{ℕ, List};
+    ghost use Rattle.std.specs.Prelude.{ℕ, List, string_bytes};
     ghost use Rattle.std.specs.Coded.{coded_list, coded_ℕ};
 
     ghost Value = { List ℕ };
 
     ghost coded = { coded_list coded_ℕ };
 
-    ghost view = { λ k. k.bytes.items };
+    ghost view = { λ k. string_bytes k.text };
 }
 
 impl KeyText {
@@ -25,24 +25,20 @@ impl KeyText {
     pub fn from_string(text: String) -> KeyText
         ensures { result ≡ string_bytes text }
     {
-        KeyText {
-            bytes: text.into_bytes(),
-        }
+        KeyText { text }
     }
 
-    /// A copy of the bytes.
-    pub fn from_slice(alloc: Global, bytes: &[u8]) -> Result<KeyText, AllocError>
-        ensures { IfOk result (λ k. k ≡ bytes.now) }
+    /// A copy of the text.
+    pub fn from_str(alloc: Global, text: &str) -> Result<KeyText, AllocError>
+        ensures { IfOk result (λ k. k ≡ text.now) }
     {
-        Ok(KeyText {
-            bytes: Vec::from_slice(alloc, bytes)?,
-        })
+        Ok(KeyText::from_string(String::from_str(alloc, text)?))
     }
 
-    /// The bytes.
-    pub fn as_bytes(&self) -> &[u8]
+    /// The text.
+    pub fn as_str(&self) -> &str
         ensures { result.now ≡ self.now }
     {
-        self.bytes.as_slice()
+        self.text.as_str()
     }
 }

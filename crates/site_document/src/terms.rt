@@ -24,26 +24,26 @@ pub enum TermKind {
 
 /// The kind of a term, and what follows its word.
 #[tactic(auto, unfolding(crate::specs::Terms::split_term))]
-pub fn split_term(text: &[u8]) -> Option<(TermKind, &[u8])>
+pub fn split_term(text: &str) -> Option<(TermKind, &str)>
     ensures { option_map (λ parts. (parts.0, parts.1.now)) result ≡ split_term_of text.now }
 {
-    if let Some(rest) = after(text, b"zone:".as_slice()) {
+    if let Some(rest) = after(text, "zone:") {
         return Some((TermKind::Zone, rest));
     }
-    if let Some(rest) = after(text, b"manual:".as_slice()) {
+    if let Some(rest) = after(text, "manual:") {
         return Some((TermKind::Manual, rest));
     }
-    if let Some(rest) = after(text, b"fault:".as_slice()) {
+    if let Some(rest) = after(text, "fault:") {
         return Some((TermKind::Fault, rest));
     }
-    if let Some(rest) = after(text, b"marker:".as_slice()) {
+    if let Some(rest) = after(text, "marker:") {
         return Some((TermKind::Marker, rest));
     }
     None
 }
 
 /// What follows a word at the beginning of a text.
-fn after<'a>(text: &'a [u8], word: &[u8]) -> Option<&'a [u8]>
+fn after<'a>(text: &'a str, word: &str) -> Option<&'a str>
     ensures { option_copied result ≡ after_word word.now text.now }
 {
     text.strip_prefix(word)
@@ -51,7 +51,7 @@ fn after<'a>(text: &'a [u8], word: &[u8]) -> Option<&'a [u8]>
 
 /// Whether a text is a term.
 #[tactic(auto, unfolding(crate::specs::Terms::is_term))]
-pub fn is_term(text: &[u8]) -> bool
+pub fn is_term(text: &str) -> bool
     ensures { result ≡ is_term_text text.now }
 {
     match split_term(text) {
@@ -60,14 +60,14 @@ pub fn is_term(text: &[u8]) -> bool
     }
 }
 
-fn is_operand(kind: TermKind, rest: &[u8]) -> bool
+fn is_operand(kind: TermKind, rest: &str) -> bool
     ensures { result ≡ is_operand_text kind rest.now }
 {
     match kind {
-        TermKind::Zone => is_name(rest),
-        TermKind::Manual => is_name(rest),
-        TermKind::Fault => read_number(rest).is_some(),
-        TermKind::Marker => is_name(rest),
+        TermKind::Zone => is_name(rest.as_bytes()),
+        TermKind::Manual => is_name(rest.as_bytes()),
+        TermKind::Fault => read_number(rest.as_bytes()).is_some(),
+        TermKind::Marker => is_name(rest.as_bytes()),
     }
 }
 

@@ -14,10 +14,7 @@ fn describe(alloc: Global, refusal: &SiteRefusal) -> Result<String, AllocError> 
         SiteRefusal::OutOfRange(key, number) => (5, key, Some(*number)),
         _ => return String::from_str(alloc, "another"),
     };
-    let text = match str::from_utf8(text.as_bytes()) {
-        Ok(text) => text,
-        Err(_) => "?",
-    };
+    let text = text.as_str();
     match range {
         None => format!(in alloc; "{number} {text}"),
         Some(range) => format!(in alloc; "{number} {text} {range}"),

@@ -79,7 +79,7 @@ fn item_fits(form: Form, value: &Value) -> bool
         },
         Form::Numbers => value.is_integer(),
         Form::Terms => match value.as_str() {
-            Some(text) => is_term(text.as_bytes()),
+            Some(text) => is_term(text),
             None => false,
         },
         Form::Number => true,
