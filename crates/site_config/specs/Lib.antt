@@ -1,6 +1,9 @@
 pub mod Claims
 pub mod Crossing
 pub mod Held
+pub mod NamedList
 pub mod Names
 pub mod NoSuch
 pub mod Partners
+pub mod Placing
+pub mod Sites

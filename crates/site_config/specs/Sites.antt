@@ -1,0 +1,27 @@
+-- What is wrong in a document, and the site that it spells where nothing is.
+use Rattle.std.specs.Prelude.{Option, map}
+use Rattle.toml.specs.Data.{Members}
+use Rattle.site_document.specs.declared.draft.Draft.{Draft}
+use Rattle.site_document.specs.Drafts.{draft_of}
+use Rattle.site_document.specs.Refusals.{Refusal, or_later}
+use Rattle.site_document.specs.Walk.{finding}
+use Rattle.site_config.specs.Claims.{named_in, twice_in}
+use Rattle.site_config.specs.Crossing.{crossing_in, spot_of}
+use Rattle.site_config.specs.NoSuch.{no_such_in}
+use Rattle.site_config.specs.Partners.{unmutual_in}
+use Rattle.site_config.specs.Placing.{SeenSite, placed_site}
+
+-- what is wrong in a draft: names and numbers given twice, then names of nothing, sections that cross zones, partners that aren't mutual
+unfoldable pub draft_finding : Draft → Option Refusal
+draft_finding draft =
+    or_later (twice_in draft)
+    (or_later (no_such_in (named_in draft) draft)
+    (or_later (crossing_in (map (spot_of (named_in draft)) draft.points) draft.loops) (unmutual_in (named_in draft) draft.zones)))
+
+-- what is wrong in a document: its keys and values first
+unfoldable pub site_finding : Members → Option Refusal
+site_finding doc = or_later (finding doc) (draft_finding (draft_of doc))
+
+-- the site that a document spells
+unfoldable pub site_of : Members → SeenSite
+site_of doc = placed_site (named_in (draft_of doc)) (draft_of doc)

@@ -1,0 +1,54 @@
+ghost use Rattle.std.specs.Prelude.{◌≡◌, IfErr, IfOk};
+ghost use Rattle.toml.specs.Data.{Members};
+ghost use Rattle.site_document.specs.Documents.{IsAccepted, IsRefusedBy};
+ghost use Rattle.site_document.specs.Refusals.{Tells};
+ghost use Rattle.site_config.specs.Claims.{named_in, twice_in};
+ghost use Rattle.site_config.specs.Names.{look_up};
+ghost use Rattle.site_config.specs.Placing.{placed_site, site_view};
+ghost use Rattle.site_config.specs.Sites.{draft_finding, site_finding, site_of};
+
+use crate::claims::claims_of;
+use crate::crossing::{check_sections, spots_of};
+use crate::names::Names;
+use crate::no_such::check_references;
+use crate::partners::check_mutual;
+use crate::placing::place_site;
+use crate::twice::{check_claims, check_loops};
+use site_document::{Draft, SiteRefusal, read_draft};
+use site_types::Site;
+use std::alloc::Global;
+
+/// Reads a site file of any bytes, or answers why it is refused. Takes memory some times the file's length, and time about that length
+/// times its logarithm.
+pub fn read_site(alloc: Global, bytes: &[u8]) -> Result<Site, SiteRefusal>
+    ensures site { IfOk result (λ site. (doc : Members) × IsAccepted site_finding bytes.now doc × (site_view site ≡ site_of doc)) }
+    ensures refused { IfErr result (IsRefusedBy site_finding bytes.now) }
+{
+    let draft = read_draft(alloc, bytes)?;
+    finish(alloc, draft)
+}
+
+/// The site of a draft, or what is wrong in it.
+#[tactic(auto, unfolding(crate::specs::Sites::draft_finding))]
+fn finish(alloc: Global, draft: Draft) -> Result<Site, SiteRefusal>
+    ensures told { Tells result (draft_finding draft) }
+    ensures site { IfOk result (λ site. site_view site ≡ placed_site (named_in draft) draft) }
+{
+    let names = names_in(alloc, &draft)?;
+    check_references(alloc, &names, &draft)?;
+    let spots = spots_of(alloc, &names, draft.points.as_slice())?;
+    check_sections(alloc, spots.as_slice(), draft.loops.as_slice())?;
+    check_mutual(&names, draft.zones.as_slice())?;
+    Ok(place_site(alloc, &names, draft)?)
+}
+
+/// What each name of a draft stands for, or the first name or number that stands there twice.
+#[tactic(auto, unfolding(crate::specs::Claims::twice_in))]
+fn names_in(alloc: Global, draft: &Draft) -> Result<Names, SiteRefusal>
+    ensures told { Tells result (twice_in draft.now) }
+    ensures named { IfOk result (λ names. look_up names ≡ named_in draft.now) }
+{
+    check_loops(alloc, draft.loops.as_slice())?;
+    let claims = claims_of(alloc, draft)?;
+    check_claims(alloc, claims.as_slice())
+}
