@@ -1,13 +1,18 @@
 -- What the reader of drafts finds is what is wrong in the document.
-use Rattle.std.proofs.Common.{◌≡◌, ℕ, List, Option, Some, None, refl}
+use Rattle.std.proofs.Common.{◌≡◌, ℕ, List, Option, Some, None, Result, Ok, Err, IfOk, IfErr, refl, ap, sym, subst, ◌∙◌}
 use Rattle.toml.specs.Data.{Members}
+use Rattle.site_types.specs.declared.site.Site.{Site}
+use Rattle.site_document.specs.declared.draft.Draft.{Draft}
 use Rattle.site_document.specs.declared.refusal.SiteRefusal.{SiteRefusal}
 use Rattle.site_document.specs.declared.refusal.SiteRefusal.TheVariants as code
-use Rattle.site_document.specs.Documents.{IsDocument, IsFoundBy, IsRefusedBy}
+use Rattle.site_document.specs.Documents.{IsAccepted, IsFoundBy, IsRefusedBy}
 use Rattle.site_document.specs.Drafts.{draft_of}
-use Rattle.site_document.specs.Refusals.{Refusal, or_later, IsSaid}
+use Rattle.site_document.specs.Refusals.{Refusal, or_later, IsSaid, Tells}
 use Rattle.site_document.specs.Walk.{finding}
-use Rattle.site_config.specs.Sites.{draft_finding, site_finding}
+use Rattle.site_document.proofs.Refused.{refused_by}
+use Rattle.site_config.specs.Claims.{named_in}
+use Rattle.site_config.specs.Placing.{placed_site, site_view}
+use Rattle.site_config.specs.Sites.{draft_finding, site_finding, site_of}
 
 earlier : (o later : Option Refusal) (r : Refusal) → o ≡ Some r → or_later o later ≡ Some r
 earlier o later r e = rw e
@@ -36,3 +41,21 @@ refused_so bytes code.NoMemory h = h
 pub left : (doc : Members) → finding doc ≡ None → draft_finding (draft_of doc) ≡ site_finding doc
 unfolding site_finding
 left doc e = rw e
+
+pub accepted : (r : Result Site SiteRefusal) (bytes : List ℕ) (draft : Draft) (doc : Members) → IsAccepted finding bytes doc → draft ≡ draft_of doc
+    → Tells r (draft_finding draft) → IfOk r (λ site. site_view site ≡ placed_site (named_in draft) draft)
+    → IfOk r (λ site. (d : Members) × IsAccepted site_finding bytes d × (site_view site ≡ site_of d))
+unfolding site_of
+accepted (Ok site) bytes draft doc a e told placed = (
+  doc,
+  record { short = a.short; spelled = a.spelled; clean = sym (left doc a.clean) ∙ ap draft_finding (sym e) ∙ told },
+  placed ∙ ap (λ d. placed_site (named_in d) d) e,
+)
+accepted (Err refusal) bytes draft doc a e told placed = tt
+
+pub refused : (r : Result Site SiteRefusal) (bytes : List ℕ) (draft : Draft) (doc : Members) → IsAccepted finding bytes doc → draft ≡ draft_of doc
+    → Tells r (draft_finding draft) → IfErr r (IsRefusedBy site_finding bytes)
+refused (Ok site) bytes draft doc a e told = tt
+refused (Err refusal) bytes draft doc a e told =
+    let P : Option Refusal → Type 0 = λ o. IsSaid refusal o in
+    refused_by site_finding bytes doc refusal a.short a.spelled (subst P (ap draft_finding e ∙ left doc a.clean) told)

@@ -1,0 +1,17 @@
+use Rattle.std.proofs.lemmas.Result.{err_from_is_err_and}
+use Rattle.site_config.proofs.Later.{accepted, refused, refused_so}
+use Rattle.site_config.proofs.reading.read_site.Goals as goal
+
+pub returns-in_err-draft-clause-refused : goal.returns-in_err-draft-clause-refused
+returns-in_err-draft-clause-refused c =
+    let p = err_from_is_err_and c.from_residual.result c.from_residual.ensures.1 in
+    rw (p.1, p.2) (refused_so c.args.bytes.now _ c.in_err-draft.ensures.refused)
+
+pub returns-clause-site : goal.returns-clause-site
+returns-clause-site c =
+    let (doc, a, e) = c.in_ok-draft.ensures.draft in
+    accepted c.finish.result c.args.bytes.now c.in_ok-draft.draft doc a e c.finish.ensures.told c.finish.ensures.site
+
+pub returns-clause-refused : goal.returns-clause-refused
+returns-clause-refused c =
+    let (doc, a, e) = c.in_ok-draft.ensures.draft in refused c.finish.result c.args.bytes.now c.in_ok-draft.draft doc a e c.finish.ensures.told
