@@ -1,5 +1,5 @@
 -- Sections of a loop that hold points of two zones.
-use Rattle.std.specs.Prelude.{ℕ, ◌&&◌, ◌==◌, List, [], ◌∷◌, Bool, true, false, not, Option, Some, None, map, filter, if◌then◌else◌}
+use Rattle.std.specs.Prelude.{ℕ, ◌&&◌, ◌==◌, List, [], ◌∷◌, Bool, false, not, Option, Some, None, map, filter, if◌then◌else◌}
 use Rattle.std.specs.List.{list_any}
 use Rattle.site_types.specs.declared.loop_plan.LoopPlan.{LoopPlan}
 use Rattle.site_types.specs.declared.named.Thing.{Thing}

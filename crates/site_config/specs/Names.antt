@@ -1,5 +1,5 @@
 -- What a map of names has at a name, and a map of numbers at a number.
-use Rattle.std.specs.Prelude.{ℕ, List, Bool, Option, Some, None, is_some, String}
+use Rattle.std.specs.Prelude.{ℕ, List, Bool, Option, is_some, String}
 use Rattle.std.specs.BTreeMap.{BTreeMap, get_by, get_by_text}
 use Rattle.std.specs.Cmp.Lexicographic.{slice_cmp}
 use Rattle.std.specs.Ordering.{nat_cmp}

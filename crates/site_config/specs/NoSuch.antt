@@ -1,5 +1,5 @@
 -- Names and numbers of a draft that name nothing of their kind, where this says what a name stands for.
-use Rattle.std.specs.Prelude.{ℕ, ◌&&◌, ◌==◌, ◌++◌, List, Bool, true, false, nat_le, Option, Some, None, is_some, slice_get, codes, if◌then◌else◌}
+use Rattle.std.specs.Prelude.{ℕ, ◌&&◌, ◌==◌, ◌++◌, List, Bool, false, nat_le, Option, Some, None, is_some, slice_get, codes, if◌then◌else◌}
 use Rattle.std.specs.Fmt.{decimal}
 use Rattle.std.specs.List.{list_any}
 use Rattle.site_types.specs.declared.loop_plan.LoopPlan.{LoopPlan}

@@ -3,7 +3,6 @@ use Rattle.std.specs.Prelude.{ℕ, List, Bool, Option, Some, None, map}
 use Rattle.site_types.specs.declared.combine.Combine.{Combine}
 use Rattle.site_types.specs.declared.loop_plan.LoopPlan.{LoopPlan}
 use Rattle.site_types.specs.declared.marker.Marker.{Marker}
-use Rattle.site_types.specs.declared.named.Named.{Named}
 use Rattle.site_types.specs.declared.named.Thing.{Thing}
 use Rattle.site_types.specs.declared.output.Output.{Output}
 use Rattle.site_types.specs.declared.output_kind.OutputKind.{OutputKind}

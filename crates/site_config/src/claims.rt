@@ -1,6 +1,11 @@
 ghost use Rattle.std.specs.Prelude.{◌≡◌, ◌++◌, ◌<◌, ℕ, IfOk, OnOk, is_ok};
 ghost use Rattle.site_config.specs.Claims.{
-  claims_from, claims_of as claims_in, marker_claim as marker_claim_of, output_claim as output_claim_of, point_claim as point_claim_of, zone_claim as zone_claim_of
+  claims_from,
+  claims_of as claims_in,
+  marker_claim as marker_claim_of,
+  output_claim as output_claim_of,
+  point_claim as point_claim_of,
+  zone_claim as zone_claim_of,
 };
 ghost use Rattle.site_config.specs.declared.claim.Claim.{Claim as ClaimOf};
 

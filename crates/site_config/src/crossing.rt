@@ -3,8 +3,15 @@ ghost use Rattle.std.specs.List.{list_any};
 ghost use Rattle.site_types.specs.Sections.{section_of as section_in};
 ghost use Rattle.site_document.specs.Refusals.{Tells, first_found};
 ghost use Rattle.site_config.specs.Crossing.{
-  crossing_at, crossing_in, has_two_zones as has_two_zones_in, in_section as in_section_of, is_on as is_on_loop, loop_crossing,
-  on_loop as points_on, section_point as section_point_of, spot_of as spot_in
+  crossing_at,
+  crossing_in,
+  has_two_zones as has_two_zones_in,
+  in_section as in_section_of,
+  is_on as is_on_loop,
+  loop_crossing,
+  on_loop as points_on,
+  section_point as section_point_of,
+  spot_of as spot_in,
 };
 ghost use Rattle.site_config.specs.Names.{look_up};
 
@@ -17,7 +24,11 @@ use site_types::LoopPlan;
 use std::alloc::{AllocError, Global};
 
 /// Where each point stands, with the place of its zone.
-pub fn spots_of(alloc: Global, names: &Names, points: &[DraftPoint]) -> Result<Vec<Spot>, AllocError>
+pub fn spots_of(
+    alloc: Global,
+    names: &Names,
+    points: &[DraftPoint],
+) -> Result<Vec<Spot>, AllocError>
     ensures { IfOk result (λ spots. spots.items ≡ map (spot_in (look_up names.now)) points.now) }
 {
     points
@@ -130,7 +141,11 @@ fn next_section(section: u8, place: u8, address: u8) -> u8
     }
 }
 
-fn in_section(alloc: Global, place: u8, points: &[SectionPoint]) -> Result<Vec<SectionPoint>, AllocError>
+fn in_section(
+    alloc: Global,
+    place: u8,
+    points: &[SectionPoint],
+) -> Result<Vec<SectionPoint>, AllocError>
     ensures { IfOk result (λ inside. inside.items ≡ in_section_of place points.now) }
 {
     points

@@ -4,7 +4,15 @@ ghost use Rattle.std.specs.List.{list_any};
 ghost use Rattle.site_document.specs.Refusals.{IsSaid, Tells, first_found, no_such as is_no_such};
 ghost use Rattle.site_config.specs.Names.{look_up};
 ghost use Rattle.site_config.specs.NoSuch.{
-  is_loop_of as is_loop_in, is_zone_of as is_zone_in, marker_fault, no_such_in, output_fault, partner_fault, point_fault, term_fault, zone_missing
+  is_loop_of as is_loop_in,
+  is_zone_of as is_zone_in,
+  marker_fault,
+  no_such_in,
+  output_fault,
+  partner_fault,
+  point_fault,
+  term_fault,
+  zone_missing,
 };
 
 use crate::lookups::{marker_place, zone_place};
@@ -47,7 +55,11 @@ fn check_partner(
     match &zone.partner {
         None => Ok(()),
         Some(name) => {
-            if is_zone_of(zones, zone.panel, zone_place(thing_of(names, name.as_str()))) {
+            if is_zone_of(
+                zones,
+                zone.panel,
+                zone_place(thing_of(names, name.as_str())),
+            ) {
                 Ok(())
             } else {
                 Err(no_such(alloc, name))
@@ -94,7 +106,11 @@ fn check_point(
     if !has_address(loops, point) {
         return Err(no_such(alloc, &point.name));
     }
-    if is_zone_of(zones, point.panel, zone_place(thing_of(names, point.zone.as_str()))) {
+    if is_zone_of(
+        zones,
+        point.panel,
+        zone_place(thing_of(names, point.zone.as_str())),
+    ) {
         Ok(())
     } else {
         Err(no_such(alloc, &point.zone))
@@ -175,12 +191,7 @@ fn check_terms(
 }
 
 #[tactic(auto, unfolding(crate::specs::NoSuch::term_fault))]
-fn check_term(
-    alloc: Global,
-    names: &Names,
-    panels: u8,
-    term: &DraftTerm,
-) -> Result<(), SiteRefusal>
+fn check_term(alloc: Global, names: &Names, panels: u8, term: &DraftTerm) -> Result<(), SiteRefusal>
     ensures { Tells result (term_fault (look_up names.now) panels term.now) }
 {
     match term {

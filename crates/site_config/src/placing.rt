@@ -4,16 +4,24 @@ ghost use Rattle.site_config.specs.Crossing.{place_or_zero};
 ghost use Rattle.site_config.specs.Names.{look_up};
 ghost use Rattle.site_config.specs.NoSuch.{marker_place as marker_place_of, zone_place as zone_place_of};
 ghost use Rattle.site_config.specs.Placing.{
-  marker_view, output_view, partner_place as partner_place_of, placed_marker, placed_output, placed_point, placed_site, placed_term,
-  placed_zone, point_view, site_view, zone_view
+  marker_view,
+  output_view,
+  partner_place as partner_place_of,
+  placed_marker,
+  placed_output,
+  placed_point,
+  placed_site,
+  placed_term,
+  placed_zone,
+  point_view,
+  site_view,
+  zone_view,
 };
 
 use crate::lookups::{marker_place, zone_place};
 use crate::named_list::names_of;
 use crate::names::{Names, thing_of};
-use site_document::{
-    Draft, DraftMarker, DraftOutput, DraftPoint, DraftTerm, DraftZone, KeyText,
-};
+use site_document::{Draft, DraftMarker, DraftOutput, DraftPoint, DraftTerm, DraftZone, KeyText};
 use site_types::{Label, Marker, Output, Point, Site, Term, Zone, read_name};
 use std::alloc::{AllocError, Global};
 use tick_units::Items;
@@ -86,7 +94,11 @@ fn place_point(names: &Names, point: &DraftPoint) -> Result<Point, AllocError>
     })
 }
 
-fn place_points(alloc: Global, names: &Names, points: &[DraftPoint]) -> Result<Items<Point>, AllocError>
+fn place_points(
+    alloc: Global,
+    names: &Names,
+    points: &[DraftPoint],
+) -> Result<Items<Point>, AllocError>
     ensures { IfOk result (λ placed. map point_view placed ≡ map (placed_point (look_up names.now)) points.now) }
 {
     let mut placed = Vec::new(alloc);
@@ -110,7 +122,11 @@ fn place_output(names: &Names, output: &DraftOutput) -> Result<Output, AllocErro
     })
 }
 
-fn place_outputs(alloc: Global, names: &Names, outputs: &[DraftOutput]) -> Result<Items<Output>, AllocError>
+fn place_outputs(
+    alloc: Global,
+    names: &Names,
+    outputs: &[DraftOutput],
+) -> Result<Items<Output>, AllocError>
     ensures { IfOk result (λ placed. map output_view placed ≡ map (placed_output (look_up names.now)) outputs.now) }
 {
     let mut placed = Vec::new(alloc);
@@ -163,7 +179,11 @@ fn place_marker(alloc: Global, names: &Names, marker: &DraftMarker) -> Result<Ma
     })
 }
 
-fn place_markers(alloc: Global, names: &Names, markers: &[DraftMarker]) -> Result<Items<Marker>, AllocError>
+fn place_markers(
+    alloc: Global,
+    names: &Names,
+    markers: &[DraftMarker],
+) -> Result<Items<Marker>, AllocError>
     ensures { IfOk result (λ placed. map marker_view placed ≡ map (placed_marker (look_up names.now)) markers.now) }
 {
     let mut placed = Vec::new(alloc);

@@ -1,4 +1,4 @@
-use Rattle.std.proofs.Common.{◌≡◌, map, Option, Some, None, sym, ap, ◌∙◌}
+use Rattle.std.proofs.Common.{◌≡◌, map, None, sym, ap, ◌∙◌}
 use Rattle.std.proofs.lemmas.Result.{err_from_is_err_and}
 use Rattle.site_config.specs.Crossing.{crossing_in, spot_of}
 use Rattle.site_config.specs.Names.{look_up}
@@ -15,9 +15,9 @@ returns-in_err-check_references-clause-told c =
 pub returns-clause-told : goal.returns-clause-told
 returns-clause-told c =
     let stand : c.as_slice-2.result.now ≡ map (spot_of (look_up c.in_ok-names.names)) c.args.draft.points =
-        c.as_slice-2.ensures.value ∙ c.in_ok-spots.ensures ∙ ap (map (spot_of (look_up c.in_ok-names.names))) c.as_slice.ensures in
+    c.as_slice-2.ensures.value ∙ c.in_ok-spots.ensures ∙ ap (map (spot_of (look_up c.in_ok-names.names))) c.as_slice.ensures in
     let crossed : crossing_in c.as_slice-2.result.now c.args.draft.loops ≡ None = ap (crossing_in c.as_slice-2.result.now) (sym c.as_slice-3.ensures) ∙ c.in_ok-check_sections.ensures in
     let paired : unmutual_in (look_up c.in_ok-names.names) c.args.draft.zones ≡ None =
-        ap (unmutual_in (look_up c.in_ok-names.names)) (sym c.as_slice-4.ensures) ∙ c.in_ok-check_mutual.ensures in
+    ap (unmutual_in (look_up c.in_ok-names.names)) (sym c.as_slice-4.ensures) ∙ c.in_ok-check_mutual.ensures in
     nothing c.args.draft (look_up c.in_ok-names.names) c.as_slice-2.result.now c.in_ok-names.ensures.named c.in_ok-names.ensures.told c.in_ok-check_references.ensures stand
     crossed paired
