@@ -10,9 +10,7 @@ use Rattle.site_document.specs.Drafts.{draft_of}
 use Rattle.site_document.specs.Refusals.{Refusal, or_later, IsSaid, Tells}
 use Rattle.site_document.specs.Walk.{finding}
 use Rattle.site_document.proofs.Refused.{refused_by}
-use Rattle.site_config.specs.Claims.{named_in}
-use Rattle.site_config.specs.Placing.{placed_site, site_view}
-use Rattle.site_config.specs.Sites.{draft_finding, site_finding, site_of}
+use Rattle.site_config.specs.Sites.{IsPlaced, IsSpelled, draft_finding, site_finding}
 
 earlier : (o later : Option Refusal) (r : Refusal) → o ≡ Some r → or_later o later ≡ Some r
 earlier o later r e = rw e
@@ -43,14 +41,12 @@ unfolding site_finding
 left doc e = rw e
 
 pub accepted : (r : Result Site SiteRefusal) (bytes : List ℕ) (draft : Draft) (doc : Members) → IsAccepted finding bytes doc → draft ≡ draft_of doc
-    → Tells r (draft_finding draft) → IfOk r (λ site. site_view site ≡ placed_site (named_in draft) draft)
-    → IfOk r (λ site. (d : Members) × IsAccepted site_finding bytes d × (site_view site ≡ site_of d))
-unfolding site_of
-accepted (Ok site) bytes draft doc a e told placed = (
-  doc,
-  record { short = a.short; spelled = a.spelled; clean = sym (left doc a.clean) ∙ ap draft_finding (sym e) ∙ told },
-  placed ∙ ap (λ d. placed_site (named_in d) d) e,
-)
+    → Tells r (draft_finding draft) → IfOk r (IsPlaced draft) → IfOk r (IsSpelled bytes)
+accepted (Ok site) bytes draft doc a e told placed = record {
+  document = doc;
+  accepted = record { short = a.short; spelled = a.spelled; clean = sym (left doc a.clean) ∙ ap draft_finding (sym e) ∙ told };
+  placed = let P : Draft → Type 0 = λ d. IsPlaced d site in subst P e placed;
+}
 accepted (Err refusal) bytes draft doc a e told placed = tt
 
 pub refused : (r : Result Site SiteRefusal) (bytes : List ℕ) (draft : Draft) (doc : Members) → IsAccepted finding bytes doc → draft ≡ draft_of doc

@@ -1,3 +1,4 @@
 pub mod Later
+pub mod Listed
 pub mod Named
 pub mod Numbers

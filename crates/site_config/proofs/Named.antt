@@ -1,7 +1,8 @@
 -- What is found in a draft by the map of its names is what is wrong in it.
-use Rattle.std.proofs.Common.{◌≡◌, ℕ, List, [], Option, Some, None, IfSome, map, ap, ◌∙◌}
+use Rattle.std.proofs.Common.{◌≡◌, ℕ, List, [], Option, Some, None, IfSome, map, false, ap, subst, ◌∙◌}
 use Rattle.std.proofs.Math.Path.{fun_ext}
 use Rattle.site_types.specs.declared.named.Thing.{Thing}
+use Rattle.site_types.specs.declared.site.Site.{Site}
 use Rattle.site_document.specs.declared.draft.Draft.{Draft}
 use Rattle.site_document.specs.declared.refusal.SiteRefusal.{SiteRefusal}
 use Rattle.site_document.specs.Refusals.{Refusal, IsSaid, or_later, refusal_of}
@@ -11,7 +12,9 @@ use Rattle.site_config.specs.Claims.{claims_of, named_in, onto, thing_named, twi
 use Rattle.site_config.specs.Crossing.{crossing_in, spot_of}
 use Rattle.site_config.specs.NoSuch.{no_such_in}
 use Rattle.site_config.specs.Partners.{unmutual_in}
-use Rattle.site_config.specs.Sites.{draft_finding}
+use Rattle.site_config.specs.NamedList.{AreListed}
+use Rattle.site_config.specs.Placing.{placed_site, site_view}
+use Rattle.site_config.specs.Sites.{IsPlaced, draft_finding}
 
 pub same_names : (draft : Draft) (claims : List Claim) (look : List ℕ → Option Thing) → claims ≡ claims_of draft
     → ((q : List ℕ) → look q ≡ thing_named (onto [] claims) q) → look ≡ named_in draft
@@ -41,3 +44,10 @@ nothing draft look spots same clean there stand crossed paired =
     let crossed' = rw stand' at crossed in
     let paired' = rw same at paired in
     rw (clean, there', crossed', paired')
+
+pub placed : (draft : Draft) (look : List ℕ → Option Thing) (site : Site) → look ≡ named_in draft → site_view site ≡ placed_site look draft
+    → AreListed look site.names → IsPlaced draft site
+placed draft look site same seen named = record {
+  seen = seen ∙ ap (λ l. placed_site l draft) same;
+  named = let P : (List ℕ → Option Thing) → Type 0 = λ l. AreListed l site.names in subst P same named;
+}

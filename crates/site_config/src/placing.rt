@@ -1,6 +1,7 @@
 ghost use Rattle.std.specs.Prelude.{◌≡◌, IfOk, map};
 ghost use Rattle.site_document.specs.Drafts.{byte_of as byte_from};
 ghost use Rattle.site_config.specs.Crossing.{place_or_zero};
+ghost use Rattle.site_config.specs.NamedList.{AreListed};
 ghost use Rattle.site_config.specs.Names.{look_up};
 ghost use Rattle.site_config.specs.NoSuch.{marker_place as marker_place_of, zone_place as zone_place_of};
 ghost use Rattle.site_config.specs.Placing.{
@@ -196,7 +197,8 @@ fn place_markers(
 /// The site that a draft spells, with places in place of names.
 #[tactic(auto, unfolding(crate::specs::Placing::placed_site))]
 pub fn place_site(alloc: Global, names: &Names, draft: Draft) -> Result<Site, AllocError>
-    ensures { IfOk result (λ site. site_view site ≡ placed_site (look_up names.now) draft) }
+    ensures seen { IfOk result (λ site. site_view site ≡ placed_site (look_up names.now) draft) }
+    ensures named { IfOk result (λ site. AreListed (look_up names.now) site.names) }
 {
     let name = label_of(draft.name.as_str())?;
     let zones = place_zones(alloc, names, draft.zones.as_slice())?;

@@ -1,11 +1,9 @@
 ghost use Rattle.std.specs.Prelude.{◌≡◌, IfErr, IfOk};
-ghost use Rattle.toml.specs.Data.{Members};
-ghost use Rattle.site_document.specs.Documents.{IsAccepted, IsRefusedBy};
+ghost use Rattle.site_document.specs.Documents.{IsRefusedBy};
 ghost use Rattle.site_document.specs.Refusals.{Tells};
 ghost use Rattle.site_config.specs.Claims.{named_in, twice_in};
 ghost use Rattle.site_config.specs.Names.{look_up};
-ghost use Rattle.site_config.specs.Placing.{placed_site, site_view};
-ghost use Rattle.site_config.specs.Sites.{draft_finding, site_finding, site_of};
+ghost use Rattle.site_config.specs.Sites.{IsPlaced, IsSpelled, draft_finding, site_finding};
 
 use crate::claims::claims_of;
 use crate::crossing::{check_sections, spots_of};
@@ -21,7 +19,7 @@ use std::alloc::Global;
 /// Reads a site file of any bytes, or answers why it is refused. Takes memory some times the file's length, and time about that length
 /// times its logarithm.
 pub fn read_site(alloc: Global, bytes: &[u8]) -> Result<Site, SiteRefusal>
-    ensures site { IfOk result (λ site. (doc : Members) × IsAccepted site_finding bytes.now doc × (site_view site ≡ site_of doc)) }
+    ensures site { IfOk result (IsSpelled bytes.now) }
     ensures refused { IfErr result (IsRefusedBy site_finding bytes.now) }
 {
     let draft = read_draft(alloc, bytes)?;
@@ -32,7 +30,7 @@ pub fn read_site(alloc: Global, bytes: &[u8]) -> Result<Site, SiteRefusal>
 #[tactic(auto, unfolding(crate::specs::Sites::draft_finding))]
 fn finish(alloc: Global, draft: Draft) -> Result<Site, SiteRefusal>
     ensures told { Tells result (draft_finding draft) }
-    ensures site { IfOk result (λ site. site_view site ≡ placed_site (named_in draft) draft) }
+    ensures site { IfOk result (IsPlaced draft) }
 {
     let names = names_in(alloc, &draft)?;
     check_references(alloc, &names, &draft)?;

@@ -3,7 +3,7 @@ use Rattle.std.proofs.lemmas.Result.{err_from_is_err_and}
 use Rattle.site_config.specs.Crossing.{crossing_in, spot_of}
 use Rattle.site_config.specs.Names.{look_up}
 use Rattle.site_config.specs.Partners.{unmutual_in}
-use Rattle.site_config.proofs.Named.{nothing, references_said}
+use Rattle.site_config.proofs.Named.{nothing, placed, references_said}
 use Rattle.site_config.proofs.reading.finish.Goals as goal
 
 pub returns-in_err-check_references-clause-told : goal.returns-in_err-check_references-clause-told
@@ -21,3 +21,8 @@ returns-clause-told c =
     ap (unmutual_in (look_up c.in_ok-names.names)) (sym c.as_slice-4.ensures) ∙ c.in_ok-check_mutual.ensures in
     nothing c.args.draft (look_up c.in_ok-names.names) c.as_slice-2.result.now c.in_ok-names.ensures.named c.in_ok-names.ensures.told c.in_ok-check_references.ensures stand
     crossed paired
+
+pub returns-clause-site : goal.returns-clause-site
+returns-clause-site c =
+    placed c.args.draft (look_up c.in_ok-names.names) c.in_ok-place_site.field-0 c.in_ok-names.ensures.named c.in_ok-place_site.ensures.seen
+    c.in_ok-place_site.ensures.named
