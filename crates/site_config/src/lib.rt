@@ -13,6 +13,8 @@ mod placing;
 mod reading;
 mod section_point;
 mod spot;
+#[cfg(test)]
+mod tests;
 mod twice;
 
 pub use reading::read_site;
