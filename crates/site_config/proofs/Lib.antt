@@ -2,3 +2,5 @@ pub mod Later
 pub mod Listed
 pub mod Named
 pub mod Numbers
+pub mod Rows
+pub mod Values
