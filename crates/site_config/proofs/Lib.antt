@@ -1,3 +1,4 @@
+pub mod DraftForms
 pub mod Later
 pub mod Listed
 pub mod Named
