@@ -1,0 +1,12 @@
+pub mod Each
+pub mod Bits
+pub mod Latest
+pub mod Told
+pub mod Firsts
+pub mod Watched
+pub mod Masked
+pub mod Addressed
+pub mod Yet
+pub mod Turned
+pub mod Tells
+pub mod ByAnswers

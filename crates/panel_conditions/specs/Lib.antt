@@ -1,0 +1,9 @@
+pub mod Turns
+pub mod Points
+pub mod Zones
+pub mod Missing
+pub mod Words
+pub mod Answered
+pub mod Shown
+pub mod Parts
+pub mod Stands

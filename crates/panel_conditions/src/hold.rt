@@ -1,0 +1,171 @@
+ghost use Rattle.std.specs.Prelude.{◌≡◌, ◌<◌, ◌≤◌, ◌^◌, ◌++◌, [], ◌∷◌, ℕ, List, take, IfOk};
+ghost use Rattle.tick_units.specs.Lane.{turn_count, after_turn};
+ghost use Rattle.site_types.specs.declared.site.Site.{Site as SitePlan};
+ghost use Rattle.site_types.specs.declared.retained.Retained.{Retained as Kept};
+ghost use Rattle.site_types.specs.Done.{Done, AreBy, muted_before};
+ghost use Rattle.site_types.specs.Valid.{IsValid};
+ghost use Rattle.coincidence_rules.specs.declared.finding.Finding.{Finding as Found};
+ghost use Rattle.panel_conditions.specs.Turns.{HoldTurn, findings_taken};
+
+use crate::last_tick::LastTick;
+use crate::outside::Outside;
+use crate::points::Points;
+use crate::shown::{Shown, has_fault};
+use crate::sign::Sign;
+use crate::zones::Zones;
+use arrayvec::ArrayVec;
+use coincidence_rules::Finding;
+use site_types::{Buzzer, FaultSet, Operation, Retained, Site, Word};
+use std::alloc::Global;
+use tick_units::{Lane, NoMemory, Tick};
+
+/// Holds the conditions of a panel: its zones, faults and buzzer, and how often it entered the fire alarm condition.
+#[derive(Drop)]
+pub struct Hold {
+    zones: Zones,
+    points: Points,
+    muted: LastTick,
+    shown: Shown,
+}
+
+impl Hold {
+    ghost use Rattle.panel_conditions.specs.Words.{faults_after, faults_at, word_after, word_at};
+    ghost use Rattle.panel_conditions.specs.Shown.{buzzer_after, entries_after};
+    ghost use Rattle.panel_conditions.specs.Stands.{HoldsFor, MayApply, MayTurn, Watches, shown_then};
+
+    /// Nothing found or shown, with what is retained in force.
+    pub fn new(alloc: Global, site: &Site, panel: u8, kept: &Retained) -> Result<Hold, NoMemory>
+        ensures { IfOk result (λ hold. IsValid site.now → HoldsFor site.now kept.now panel [] [] hold) }
+    {
+        let zones = Zones::new(alloc, site, panel)?;
+        let points = Points::new(alloc, site, panel, kept)?;
+        Ok(Hold {
+            zones,
+            points,
+            muted: LastTick::never(),
+            shown: Shown::nothing(),
+        })
+    }
+
+    /// Takes the findings that a turn moves, and shows what follows from them, from the operations done before the tick and
+    /// from what the other parts tell.
+    pub fn turn(&mut self, now: Tick, findings: &mut Lane<Finding>, outside: &Outside)
+        requires { findings.old.quota ≤ 32 }
+        ensures stands { (site : SitePlan) (kept : Kept) (panel : ℕ) (done : List Done) (turns : List HoldTurn) → HoldsFor site kept panel done turns self.old → MayTurn done turns now.0 → HoldsFor site kept panel done (record { tick = now.0; found = take (turn_count findings.old) findings.old.items; outside = outside.now } ∷ turns) self.new }
+        ensures lane { findings.new ≡ after_turn findings.old }
+    {
+        let mut batch: ArrayVec<Finding, 32> = ArrayVec::new();
+        findings.take_turn(&mut batch);
+        self.take_all(batch.as_slice());
+        self.show(now, outside);
+    }
+
+    /// Takes an operation that was done in a tick. It is in force from the next tick on, so what is shown stays until then.
+    pub fn apply(&mut self, operation: &Operation, at: Tick)
+        ensures { (site : SitePlan) (kept : Kept) (panel : ℕ) (done : List Done) (turns : List HoldTurn) → HoldsFor site kept panel done turns self.old → MayApply panel done turns operation.now at.0 → HoldsFor site kept panel (record { tick = at.0; panel = panel; operation = operation.now } ∷ done) turns self.new }
+    {
+        self.zones.apply(operation, at);
+        self.points.apply(operation, at);
+        self.muted.raise_if(is_mute(operation), at);
+    }
+
+    /// The panel's word, made in its latest turn.
+    pub fn word(&self) -> Word
+        ensures { (site : SitePlan) (kept : Kept) (panel : ℕ) (done : List Done) (turns : List HoldTurn) → HoldsFor site kept panel done turns self.now → result ≡ word_after site kept panel done turns }
+    {
+        self.shown.word
+    }
+
+    /// The zones in alarm, bit `number - 1`.
+    pub fn zones(&self) -> u32
+        ensures { (site : SitePlan) (kept : Kept) (panel : ℕ) (done : List Done) (turns : List HoldTurn) → HoldsFor site kept panel done turns self.now → result ≡ (word_after site kept panel done turns).alarm }
+    {
+        self.shown.word.alarm
+    }
+
+    /// The faults that are shown.
+    pub fn faults(&self) -> FaultSet
+        ensures { (site : SitePlan) (kept : Kept) (panel : ℕ) (done : List Done) (turns : List HoldTurn) → HoldsFor site kept panel done turns self.now → result ≡ faults_after site kept panel done turns }
+    {
+        self.shown.faults
+    }
+
+    /// What the buzzer sounds.
+    pub fn buzzer(&self) -> Buzzer
+        ensures { (site : SitePlan) (kept : Kept) (panel : ℕ) (done : List Done) (turns : List HoldTurn) → HoldsFor site kept panel done turns self.now → result ≡ buzzer_after site kept panel done turns }
+    {
+        self.shown.buzzer
+    }
+
+    /// How often the panel entered the fire alarm condition since opening.
+    pub fn counter_entries(&self) -> u64
+        ensures { (site : SitePlan) (kept : Kept) (panel : ℕ) (done : List Done) (turns : List HoldTurn) → HoldsFor site kept panel done turns self.now → result ≡ entries_after site kept panel done turns }
+    {
+        self.shown.entries
+    }
+
+    // Takes findings, one after the other.
+    fn take_all(&mut self, findings: &[Finding])
+        ensures watches { (site : SitePlan) (kept : Kept) (panel : ℕ) (done : List Done) (taken : List Found) → Watches site kept panel done taken self.old → Watches site kept panel done (taken ++ findings.now) self.new }
+        ensures shown { self.new.shown ≡ self.old.shown }
+    {
+        for finding in findings {
+            self.take(finding);
+        }
+    }
+
+    fn take(&mut self, finding: &Finding)
+        ensures watches { (site : SitePlan) (kept : Kept) (panel : ℕ) (done : List Done) (taken : List Found) → Watches site kept panel done taken self.old → Watches site kept panel done (taken ++ finding.now ∷ []) self.new }
+        ensures shown { self.new.shown ≡ self.old.shown }
+    {
+        self.zones.take(finding);
+        self.points.take(finding);
+    }
+
+    // Shows what follows at a tick.
+    fn show(&mut self, now: Tick, outside: &Outside)
+        ensures fits { now.0 < 2 ^ 64 }
+        ensures shows { (site : SitePlan) (kept : Kept) (panel : ℕ) (done : List Done) (taken : List Found) → Watches site kept panel done taken self.old → AreBy now.0 done → ShowsThen site kept panel done taken now.0 outside.now self.old self.new }
+    {
+        let faults = self.faults_at(now, outside);
+        let word = self.word_at(now, has_fault(&faults));
+        let muted = self.muted.before(now);
+        self.shown = self.shown.after(word, faults, muted);
+    }
+
+    fn faults_at(&self, now: Tick, outside: &Outside) -> FaultSet
+        ensures { (site : SitePlan) (kept : Kept) (panel : ℕ) (done : List Done) (taken : List Found) → Watches site kept panel done taken self.now → AreBy now.0 done → result ≡ faults_at site kept panel done taken now.0 outside.now }
+    {
+        FaultSet {
+            missing: self.points.showing(now),
+            broken: outside.broken,
+            shorted: outside.shorted,
+            supply: outside.supply,
+            silent: outside.silent,
+            links: outside.links,
+            unconfirmed: outside.unconfirmed,
+        }
+    }
+
+    fn word_at(&self, now: Tick, fault: bool) -> Word
+        ensures { (site : SitePlan) (kept : Kept) (panel : ℕ) (done : List Done) (taken : List Found) → Watches site kept panel done taken self.now → AreBy now.0 done → result ≡ word_at site panel done taken now.0 fault }
+    {
+        Word {
+            stamp: now,
+            alarm: self.zones.showing(Sign::Alarm, now),
+            manual: self.zones.showing(Sign::Manual, now),
+            released: self.zones.showing(Sign::Released, now),
+            first: self.zones.showing(Sign::First, now),
+            fault,
+        }
+    }
+}
+
+ghost use Rattle.site_types.specs.Done.{is_mute as mutes_all};
+ghost use Rattle.panel_conditions.specs.Stands.{ShowsThen};
+
+fn is_mute(operation: &Operation) -> bool
+    ensures { result ≡ mutes_all operation.now }
+{
+    matches!(operation, Operation::Mute)
+}

@@ -1,0 +1,32 @@
+//! The conditions of one panel: which of its zones it holds in alarm, alarm by hand, release and first state, which faults it shows, what
+//! its buzzer sounds, and how often it entered the fire alarm condition.
+//!
+//! Begin with [`Hold`]. At each turn it takes findings of answers from a lane and what the other parts of the panel tell
+//! ([`Outside`]), and shows what follows. Operations that were done are given to it by [`Hold::apply`]; each is in force from the tick
+//! after its own. [`Hold::word`], [`Hold::zones`], [`Hold::faults`], [`Hold::buzzer`] and [`Hold::counter_entries`] tell what the latest
+//! turn showed.
+//!
+//! Contracts speak of all that was ever taken: `HoldsFor` joins a [`Hold`] to the operations done and the turns made, and each call
+//! answers by definitions over these lists. The files of specs/ say, in the order of a turn: what a turn is (`Turns`), what findings tell
+//! of a zone (`Zones`) and of a point (`Missing`), the faults and the word (`Words`), what is new, the buzzer and the entries (`Shown`).
+//!
+//! [`Hold::new`] alone takes memory: a few dozen bytes for each point of the site, and 768 places for the addresses of the panel's loops. A
+//! turn goes over 32 numbers of zones for each finding and over the 768 addresses once.
+#![tactic(auto)]
+
+mod hold;
+mod last_tick;
+mod laws;
+mod outside;
+mod point_watch;
+mod points;
+mod shown;
+mod sign;
+mod zone_watch;
+mod zones;
+
+pub use coincidence_rules::Finding;
+pub use hold::Hold;
+pub use laws::{answers_tell, missing_tells, zones_tell};
+pub use outside::Outside;
+pub use site_types::Word;

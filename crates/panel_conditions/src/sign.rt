@@ -1,0 +1,8 @@
+/// What a word tells of a zone.
+#[derive(Clone, Copy)]
+pub enum Sign {
+    Alarm,
+    Manual,
+    Released,
+    First,
+}

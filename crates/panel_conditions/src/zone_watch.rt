@@ -1,0 +1,150 @@
+ghost use Rattle.std.specs.Prelude.{◌≡◌, ◌&&◌, nat_lt, if◌then◌else◌};
+ghost use Rattle.site_types.specs.Bits.{has_bit};
+ghost use Rattle.site_types.specs.Done.{is_cancel};
+ghost use Rattle.panel_conditions.specs.Parts.{first_shows, on_watched, raises, stamp_if, zone_done, zone_shows, zone_taken};
+
+use crate::last_tick::LastTick;
+use crate::sign::Sign;
+use coincidence_rules::Finding;
+use site_types::{Item, Operation, has_bit_32};
+use tick_units::Tick;
+
+/// What is kept of the zone with one number.
+#[derive(Clone, Copy)]
+pub struct ZoneWatch {
+    /// Its place in the site's list, if the panel has a zone with this number.
+    pub place: Option<usize>,
+    /// Its bit in masks: its number less one.
+    pub bit: u8,
+    /// How long a first state lasts, for type B.
+    pub within: Option<u16>,
+    /// The last reset, disabling or test.
+    pub floor: LastTick,
+    pub cancelled: LastTick,
+    /// The latest stamp at which an answer confirmed it; 0 for none, as below.
+    pub confirmed: Tick,
+    /// The same of a manual call point.
+    pub called: Tick,
+    /// The latest stamp at which an answer released it.
+    pub released: Tick,
+    /// The latest stamp at which an answer of a detector counted.
+    pub told: Tick,
+}
+
+impl ZoneWatch {
+    ghost use Rattle.panel_conditions.specs.Stands.{no_zone_yet};
+
+    /// A zone of which nothing was told.
+    pub fn new(place: Option<usize>, bit: u8, within: Option<u16>) -> ZoneWatch
+        ensures { result ≡ no_zone_yet place bit within }
+    {
+        ZoneWatch {
+            place,
+            bit,
+            within,
+            floor: LastTick::never(),
+            cancelled: LastTick::never(),
+            confirmed: Tick(0),
+            called: Tick(0),
+            released: Tick(0),
+            told: Tick(0),
+        }
+    }
+
+    /// Takes note of a finding.
+    pub fn take(&mut self, finding: &Finding)
+        ensures { self.new ≡ zone_taken finding.now self.old }
+    {
+        let manual = has(finding.manual, self.bit);
+        let told = has(finding.counted, self.bit) && !manual;
+        let confirmed = has(finding.confirmed, self.bit);
+        let released = has(finding.released, self.bit);
+        self.confirmed = later_if(confirmed, finding.stamp, self.confirmed);
+        self.called = later_if(manual, finding.stamp, self.called);
+        self.released = later_if(released, finding.stamp, self.released);
+        self.told = later_if(told, finding.stamp, self.told);
+    }
+
+    /// Takes note of an operation that was done in a tick.
+    pub fn apply(&mut self, operation: &Operation, at: Tick)
+        ensures { self.new ≡ zone_done operation.now at self.old }
+    {
+        let (moved, cancelled) = match self.place {
+            None => (false, false),
+            Some(place) => (moves_floor(operation, place), cancels(operation, place)),
+        };
+        self.floor.raise_if(moved, at);
+        self.cancelled.raise_if(cancelled, at);
+    }
+
+    /// Whether the zone is in alarm, and the like, at a tick.
+    pub fn shows(&self, sign: Sign, now: Tick) -> bool
+        ensures { result ≡ zone_shows sign now.0 self.now }
+    {
+        if self.place.is_none() {
+            return false;
+        }
+        let floor = self.floor.before(now);
+        match sign {
+            Sign::Alarm => floor.0 < self.confirmed.0,
+            Sign::Manual => floor.0 < self.called.0,
+            Sign::Released => floor.0 < self.released.0,
+            Sign::First => self.is_first(now),
+        }
+    }
+
+    // Whether the zone is in first state at a tick.
+    fn is_first(&self, now: Tick) -> bool
+        ensures { result ≡ first_shows now.0 self.now self.now.within }
+    {
+        let floor = self.floor.before(now);
+        let cancelled = self.cancelled.before(now);
+        match self.within {
+            None => false,
+            Some(within) => {
+                !(floor.0 < self.confirmed.0)
+                    && (floor.0 < self.told.0
+                        && cancelled.0 < self.told.0
+                        && now.0.saturating_sub(self.told.0) <= within as u64)
+            }
+        }
+    }
+}
+
+// Whether a mask has a bit; it has none past its end.
+fn has(mask: u32, bit: u8) -> bool
+    ensures { result ≡ has_bit mask bit }
+{
+    bit < 32 && has_bit_32(mask, bit)
+}
+
+// The later of two stamps, where something was told at the first one.
+fn later_if(on: bool, stamp: Tick, latest: Tick) -> Tick
+    ensures { result ≡ stamp_if on stamp latest }
+{
+    if on && latest.0 < stamp.0 {
+        stamp
+    } else {
+        latest
+    }
+}
+
+// Whether an operation moves the floor of the zone at a place of its panel.
+fn moves_floor(operation: &Operation, place: usize) -> bool
+    ensures { result ≡ raises place operation.now }
+{
+    match *operation {
+        Operation::Reset => true,
+        Operation::Disable(Item::Zone(zone)) | Operation::Test(zone) => zone as usize == place,
+        _ => false,
+    }
+}
+
+fn cancels(operation: &Operation, place: usize) -> bool
+    ensures { result ≡ is_cancel place operation.now }
+{
+    match *operation {
+        Operation::Cancel(zone) => zone as usize == place,
+        _ => false,
+    }
+}
