@@ -1,0 +1,11 @@
+pub mod Reports
+pub mod Fronts
+pub mod Steps
+pub mod Rooms
+pub mod Orders
+pub mod Panels
+pub mod Events
+pub mod Takes
+pub mod Holds
+pub mod ZonesShown
+pub mod Shows

@@ -1,0 +1,79 @@
+-- What a turn of Decide takes.
+use Rattle.std.proofs.Common.{◌≡◌, ℕ, zero, suc, ◌+◌, List, [], ◌∷◌, ◌++◌, take, drop, Some, slice_get, sym, ◌∙◌, ap, subst, arith}
+use Rattle.tick_units.specs.Lane.{LaneState, with_put, after_turn, turn_count}
+use Rattle.tick_units.specs.declared.task.Task.TheVariants.{Decide}
+use Rattle.site_types.specs.declared.answer.Answer.{Answer}
+use Rattle.site_types.specs.declared.retained.Retained.{Retained}
+use Rattle.site_types.specs.declared.site.Site.{Site}
+use Rattle.coincidence_rules.specs.declared.finding.Finding.{Finding}
+use Rattle.coincidence_rules.specs.Findings.{findings_after}
+use Rattle.coincidence_rules.specs.InOrder.{AreInOrder}
+use Rattle.coincidence.specs.declared.decide.Decide.{Decide as DecidePart}
+use Rattle.coincidence.specs.Premises.{MayTake}
+use Rattle.coincidence.specs.Stands.{DecidesFor, CanTake, taken_by}
+use Rattle.panel_rules.specs.Moments.{Moment, Turned, IsRun, IsPanel, present}
+use Rattle.panel_rules.specs.Answers.{answers}
+use Rattle.panel_rules.specs.Counts.{taken_by_decide}
+use Rattle.panel_rules.proofs.Places.{take_get}
+use Rattle.panel_rules.proofs.Told.{told_by}
+use Rattle.panel_rules.proofs.Order.{answers_in_order}
+use Rattle.panel_core.specs.declared.parts.Parts.{Parts}
+use Rattle.panel_core.specs.Lanes.{answer_lane, decided}
+use Rattle.panel_core.specs.Stands.{PanelStands}
+use Rattle.panel_core.proofs.Fronts.{front_more}
+use Rattle.panel_core.proofs.Steps.{decided_answers, decided_more, decided_findings}
+
+drop_get : {X : Type 0} (d : ℕ) (xs : List X) (k : ℕ) (x : X) → slice_get (drop d xs) k ≡ Some x → slice_get xs (d + k) ≡ Some x
+drop_get zero xs k x h = let e : k ≡ 0 + k = omega arith in subst (λ n. slice_get xs n ≡ Some x) e h
+drop_get (suc d) [] k x h = cc
+drop_get (suc d) (y ∷ xs) k x h = let e : suc (d + k) ≡ suc d + k = omega arith in subst (λ n. slice_get (y ∷ xs) n ≡ Some x) e (drop_get d xs k x h)
+
+pub order_front : (n : ℕ) (xs : List Answer) → AreInOrder xs → AreInOrder (take n xs)
+order_front n xs order =
+    record {
+      rising = λ i j a b l h g. order.rising i j a b l (take_get n xs i a h).1 (take_get n xs j b g).1;
+      once = λ i j a b h g e s. order.once i j a b (take_get n xs i a h).1 (take_get n xs j b g).1 e s;
+    }
+
+-- what lies before Decide may be taken
+pub may_take : (site : Site) (panel : ℕ) (before : List Moment) → IsPanel site.panels panel → IsRun site.panels before → MayTake site panel [] (decided site panel before) (taken_by (answer_lane site panel before))
+may_take site panel before p run =
+    let d = taken_by_decide site panel before in
+    let n = turn_count (answer_lane site panel before) in
+    record {
+      own = λ k answer is. (
+          let got = take_get n (drop d (answers site panel before)) k answer is in
+          let tells = told_by site site.panels panel before before (d + k) answer run present (drop_get d (answers site panel before) k answer got.1) in
+          record { point = tells.plan; is = tells.is; at = tells.of_panel });
+      order = subst AreInOrder (sym (front_more d n (answers site panel before))) (order_front (d + n) (answers site panel before) (answers_in_order site site.panels panel before p run));
+      since = λ k answer is. tt;
+    }
+
+pub can_take : (site : Site) (kept : Retained) (panel : ℕ) (before : List Moment) (parts : Parts) → PanelStands site kept panel before parts → IsRun site.panels before → CanTake parts.decide (taken_by parts.answers)
+can_take site kept panel before parts h run =
+    record {
+      site = site;
+      kept = kept;
+      panel = panel;
+      done = [];
+      taken = decided site panel before;
+      stands = h.decides;
+      may = subst (λ (l : LaneState Answer). MayTake site panel [] (decided site panel before) (taken_by l)) (sym h.answers) (may_take site panel before h.member run);
+    }
+
+pub after_decide : (site : Site) (kept : Retained) (panel : ℕ) (before : List Moment) (parts : Parts) (decide : DecidePart) (answers' : LaneState Answer) (findings' : LaneState Finding) → PanelStands site kept panel before parts → IsRun site.panels before → answers' ≡ after_turn parts.answers → (DecidesFor site kept panel [] (decided site panel before) parts.decide → MayTake site panel [] (decided site panel before) (taken_by parts.answers) → DecidesFor site kept panel [] (decided site panel before ++ taken_by parts.answers) decide) → (DecidesFor site kept panel [] (decided site panel before) parts.decide → MayTake site panel [] (decided site panel before) (taken_by parts.answers) → findings' ≡ with_put parts.findings (findings_after site kept panel [] (decided site panel before) (taken_by parts.answers))) → PanelStands site kept panel (Turned panel Decide ∷ before) (record { poller = parts.poller; decide = decide; hold = parts.hold; answers = answers'; findings = findings' })
+after_decide site kept panel before parts decide answers' findings' h run taken stands found =
+    let may = subst (λ (l : LaneState Answer). MayTake site panel [] (decided site panel before) (taken_by l)) (sym h.answers) (may_take site panel before h.member run) in
+    record {
+      member = h.member;
+      polls = h.polls;
+      answers = taken ∙ ap after_turn h.answers ∙ decided_answers site panel before;
+      decides =
+          subst (λ xs. DecidesFor site kept panel [] xs decide) (ap (λ (l : LaneState Answer). decided site panel before ++ taken_by l) h.answers ∙ decided_more site panel before) (stands h.decides may);
+      findings =
+          found h.decides may
+          ∙ ap (λ (l : LaneState Answer). with_put parts.findings (findings_after site kept panel [] (decided site panel before) (taken_by l))) h.answers
+          ∙ ap (λ l. with_put l (findings_after site kept panel [] (decided site panel before) (taken_by (answer_lane site panel before)))) h.findings
+          ∙ decided_findings site kept [] panel before;
+      holds = h.holds;
+    }

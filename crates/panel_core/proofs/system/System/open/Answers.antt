@@ -1,0 +1,21 @@
+use Rattle.std.proofs.Common.{refl, arith}
+use Rattle.panel_core.proofs.Panels.{panel_added, panels_counted}
+use Rattle.panel_core.proofs.system.System.open.Goals as goal
+
+pub loop-before-preserved : goal.loop-before-preserved
+loop-before-preserved c =
+    let pushed = c.in_ok-push.ensures.items in
+    record {
+      count = panels_counted c.loop-before.panels.items c.push.new.self.items c.in_ok-new.field-0 c.loop-before.before pushed c.loop-before.invariant.count;
+      each = λ place parts is. panel_added c.args.site c.args.kept.now c.loop-before.panels.items c.push.new.self.items c.in_ok-new.field-0 c.loop-before.before pushed c.loop-before.invariant.count c.loop-before.invariant.each c.in_ok-new.ensures place parts is;
+    }
+
+pub returns : goal.returns
+returns c =
+    record {
+      valid = c.requires;
+      same = refl;
+      tick = refl;
+      count = (let count = c.loop-before.invariant.count in omega (arith, count));
+      each = c.loop-before.invariant.each;
+    }

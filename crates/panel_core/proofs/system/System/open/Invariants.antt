@@ -1,0 +1,13 @@
+use Rattle.std.proofs.Common.{◌≡◌, ◌+◌, ℕ, [], length}
+use Rattle.std.specs.Prelude.{Some, slice_get}
+use Rattle.panel_core.specs.declared.parts.Parts.{Parts}
+use Rattle.panel_core.specs.Stands.{PanelStands}
+use Rattle.panel_core.proofs.system.System.open.Given as goal
+
+-- the panels so far stand for the empty history
+abbrev pub invariant-loop-before : goal.invariant-loop-before
+invariant-loop-before l =
+    record {
+      count : length l.panels.items ≡ l.before;
+      each : (place : ℕ) (parts : Parts) → slice_get l.panels.items place ≡ Some parts → PanelStands l.site l.kept (place + 1) [] parts;
+    }

@@ -1,0 +1,4 @@
+pub mod Reports
+pub mod Lanes
+pub mod Turns
+pub mod Stands

@@ -1,0 +1,101 @@
+ghost use Rattle.std.specs.Prelude.{◌≡◌, ◌≤◌, [], ◌∷◌, List, ℕ, IfOk, true, slice_get};
+ghost use Rattle.site_types.specs.declared.event.Event.TheVariants.{Point as PointEvent, Cable as CableEvent};
+ghost use Rattle.site_types.specs.declared.retained.Retained.{Retained as RetainedOf};
+ghost use Rattle.site_types.specs.declared.site.Site.{Site as SiteOf};
+ghost use Rattle.site_types.specs.Valid.{IsValid};
+ghost use Rattle.loop_poller.specs.Stands.{HasPoint};
+ghost use Rattle.panel_rules.specs.Moments.{Moment, Happened, Turned, IsPanel, IsRun, tick_of};
+
+use coincidence::{Decide, Finding};
+use loop_poller::Poller;
+use panel_conditions::{Hold, Outside};
+use site_types::{Answer, PieceState, PointState, Retained, Site, mask_from_8};
+use std::alloc::Global;
+use tick_units::{Lane, NoMemory, Task, Tick};
+
+/// The parts of a panel, joined by lanes.
+#[derive(Drop)]
+pub struct Parts {
+    pub(crate) poller: Poller,
+    pub(crate) decide: Decide,
+    pub(crate) hold: Hold,
+    pub(crate) answers: Lane<Answer>,
+    pub(crate) findings: Lane<Finding>,
+}
+
+impl Parts {
+    ghost use Rattle.loop_poller.specs.Calls.{Call, told_cable};
+    ghost use Rattle.loop_poller.specs.Stands.{StandsFor as PollsFor};
+    ghost use Rattle.panel_core.specs.Reports.{stands_at};
+    ghost use Rattle.panel_core.specs.Turns.{outside_of};
+    ghost use Rattle.panel_core.specs.Stands.{PanelStands, MayTurn};
+
+    pub fn new(alloc: Global, site: &Site, panel: u8, kept: &Retained) -> Result<Parts, NoMemory>
+        requires valid { IsValid site.now }
+        requires member { IsPanel site.now.panels panel }
+        ensures { IfOk result (λ parts. PanelStands site.now kept.now panel [] parts) }
+    {
+        let poller = Poller::new(alloc, site, panel)?;
+        let decide = Decide::new(alloc, site, panel, kept)?;
+        let hold = Hold::new(alloc, site, panel, kept)?;
+        let answers = Lane::new(alloc, 32, 64)?;
+        let findings = Lane::new(alloc, 32, 64)?;
+        Ok(Parts {
+            poller,
+            decide,
+            hold,
+            answers,
+            findings,
+        })
+    }
+
+    /// A report comes on a point of the panel.
+    pub fn set_point(&mut self, point: u16, state: PointState)
+        requires { HasPoint self.old.poller point }
+        ensures { (site : SiteOf) (kept : RetainedOf) (panel : ℕ) (before : List Moment) → PanelStands site kept panel before self.old → stands_at panel (slice_get site.points point) ≡ true → PanelStands site kept panel (Happened (PointEvent point state) ∷ before) self.new }
+    {
+        self.poller.set_point(point, state);
+    }
+
+    /// A report comes on a piece of cable of the panel.
+    pub fn set_piece(&mut self, line: u8, piece: u8, state: PieceState)
+        requires { (1 ≤ line) × (line ≤ 4) }
+        ensures { (site : SiteOf) (kept : RetainedOf) (panel : ℕ) (before : List Moment) → PanelStands site kept panel before self.old → PanelStands site kept panel (Happened (CableEvent panel line piece state) ∷ before) self.new }
+    {
+        self.poller.set_piece(line, piece, state);
+    }
+
+    /// A task has its turn.
+    pub fn turn(&mut self, task: Task, now: Tick)
+        requires { MayTurn task now.0 self.old }
+        ensures { (site : SiteOf) (kept : RetainedOf) (panel : ℕ) (before : List Moment) → PanelStands site kept panel before self.old → now.0 ≡ tick_of before → IsRun site.panels (Turned panel task ∷ before) → PanelStands site kept panel (Turned panel task ∷ before) self.new }
+    {
+        match task {
+            Task::Poll => self.poller.turn(now, &mut self.answers),
+            Task::Decide => self.decide.turn(&mut self.answers, &mut self.findings),
+            Task::Hold => {
+                let outside = self.outside();
+                self.hold.turn(now, &mut self.findings, &outside);
+            }
+            Task::Supply | Task::Desk | Task::Link | Task::Effect | Task::Drive | Task::Keep => {}
+        }
+    }
+
+    // What the other parts tell Hold.
+    fn outside(&self) -> Outside
+        ensures { (site : SiteOf) (panel : ℕ) (calls : List Call) → PollsFor site panel calls self.now.poller → result ≡ outside_of site panel (told_cable calls) }
+    {
+        let first = self.poller.status(1);
+        let second = self.poller.status(2);
+        let third = self.poller.status(3);
+        let fourth = self.poller.status(4);
+        Outside {
+            supply: 0,
+            broken: mask_from_8(&[first.broken, second.broken, third.broken, fourth.broken]),
+            shorted: mask_from_8(&[first.shorted, second.shorted, third.shorted, fourth.shorted]),
+            silent: 0,
+            links: 0,
+            unconfirmed: 0,
+        }
+    }
+}
