@@ -106,7 +106,7 @@ partner_allowed : (row : Members) → is_known kind.Zone row (key_word key.Partn
 unfolding is_known keys_of key_word is_allowed
 partner_allowed row e = or_false (is_b_or_c (type_at row)) e
 
-panel_clean : (top row : Members) (n : ℕ) → HasPanels top → InRange (from_to 1 (natural_at key.Panels top)) n → (1 ≤ byte_of n) × (byte_of n ≤ byte_at key.Panels top)
+pub panel_clean : (top row : Members) (n : ℕ) → HasPanels top → InRange (from_to 1 (natural_at key.Panels top)) n → (1 ≤ byte_of n) × (byte_of n ≤ byte_at key.Panels top)
 panel_clean top row n panels is =
     let few : natural_at key.Panels top ≤ most_panels = panels.few.high in
     let low : 1 ≤ n = is.low in
@@ -138,7 +138,7 @@ pub record IsDraftPoint (format panels : ℕ) (p : DraftPoint) : Type 0 where
   pub line : (1 ≤ p.line) × (p.line ≤ most_loops)
   pub address : (1 ≤ p.address) × (p.address ≤ last_address_of format)
 
-last_in : (format n : ℕ) → format ≤ 2 → InRange (from_to 1 (last_address_of format)) n → (1 ≤ byte_of n) × (byte_of n ≤ last_address_of format)
+pub last_in : (format n : ℕ) → format ≤ 2 → InRange (from_to 1 (last_address_of format)) n → (1 ≤ byte_of n) × (byte_of n ≤ last_address_of format)
 last_in format n few is =
     let low : 1 ≤ n = is.low in
     let high : n ≤ last_address_of format = is.high in

@@ -1,4 +1,5 @@
 pub mod DraftForms
+pub mod DraftLists
 pub mod Later
 pub mod Listed
 pub mod Named
