@@ -1,8 +1,7 @@
 -- The forms and ranges of the records of a draft whose document is clean.
-use Rattle.std.proofs.Common.{◌≡◌, ◌≤◌, ◌<◌, ℕ, ◌+◌, ◌*◌, List, [], ◌∷◌, Bool, true, false, ◌||◌, ◌&&◌, ◌==◌, Option, Some, None, is_some, IsTrue, nat_lt, length, refl, ap, sym, ◌∙◌, arith, if◌then◌else◌, inl, inr}
+use Rattle.std.proofs.Common.{◌≡◌, ◌≤◌, ◌<◌, ℕ, List, Bool, true, false, ◌||◌, ◌==◌, Option, Some, None, is_some, IsTrue, nat_lt, refl, arith, if◌then◌else◌}
 use Rattle.std.proofs.lemmas.Bool.{lt-ltb}
-use Rattle.std.specs.List.{AllByRecursion}
-use Rattle.toml.specs.Data.{Data, Members, get_member, as_str}
+use Rattle.toml.specs.Data.{Data, Members, get_member}
 use Rattle.site_types.specs.Limits.{most_panels, most_loops, most_zones, most_outputs}
 use Rattle.site_types.specs.Names.{is_name}
 use Rattle.site_types.specs.Profile.{greatest_delay_of, least_verify_of, greatest_verify_of, least_within_a_of, least_within_b_of, greatest_within_of, last_address_of}
@@ -10,15 +9,11 @@ use Rattle.site_types.specs.Valid.{IsRule, may_have_partner}
 use Rattle.site_document.specs.declared.draft_output.DraftOutput.{DraftOutput}
 use Rattle.site_document.specs.declared.draft_point.DraftPoint.{DraftPoint}
 use Rattle.site_document.specs.declared.draft_zone.DraftZone.{DraftZone}
-use Rattle.site_document.specs.declared.key.Key.{Key}
 use Rattle.site_document.specs.declared.key.Key.TheVariants as key
-use Rattle.site_document.specs.declared.place.Place.{Place}
-use Rattle.site_document.specs.declared.ranges.Range.{Range}
-use Rattle.site_document.specs.declared.row_kind.RowKind.{RowKind}
 use Rattle.site_document.specs.declared.row_kind.RowKind.TheVariants as kind
 use Rattle.site_document.specs.declared.words.ZoneType.{ZoneType}
 use Rattle.site_document.specs.declared.words.ZoneType.TheVariants as zone
-use Rattle.site_document.specs.Drafts.{byte_at, byte_of, name_at, output_of, point_of, rule_as, short_at, short_of, zone_of}
+use Rattle.site_document.specs.Drafts.{byte_at, byte_of, output_of, point_of, rule_as, short_of, zone_of}
 use Rattle.site_document.specs.Needs.{is_a, is_a_or_b, is_b_or_c, is_allowed, is_needed}
 use Rattle.site_document.specs.Ranges.{from_to, range_of, within_range}
 use Rattle.site_document.specs.Rules.{form_of, keys_of}

@@ -1,5 +1,5 @@
 -- The loops and markers of a draft whose document is clean, and what its table of the whole file says.
-use Rattle.std.proofs.Common.{◌≡◌, ◌≤◌, ◌<◌, ℕ, ℤ, pos, negsuc, ◌+◌, List, [], ◌∷◌, ◌++◌, Bool, true, false, ◌&&◌, nat_lt, nat_le, Option, Some, None, is_some, IsTrue, length, option_to_list, refl, ap, sym, ◌∙◌, arith, if◌then◌else◌}
+use Rattle.std.proofs.Common.{◌≡◌, ◌≤◌, ◌<◌, ℕ, ℤ, pos, negsuc, ◌+◌, List, ◌++◌, Bool, true, false, nat_lt, nat_le, Option, Some, None, is_some, IsTrue, length, option_to_list, refl, arith, if◌then◌else◌}
 use Rattle.std.proofs.lemmas.Bool.{and_parts, leb-true, ltb-true}
 use Rattle.toml.specs.Data.{Data, Items, no_items, item, Members, as_integer, as_str}
 use Rattle.site_types.specs.Limits.{most_panels, most_loops, most_codes, most_terms, most_markers}
@@ -9,8 +9,6 @@ use Rattle.site_types.specs.Profile.{last_address_of, greatest_mains_wait_of, gr
 use Rattle.site_types.specs.Valid.{AreIsolators, AreWaits, IsCombine}
 use Rattle.site_types.specs.declared.loop_plan.LoopPlan.{LoopPlan}
 use Rattle.site_document.specs.declared.draft_marker.DraftMarker.{DraftMarker}
-use Rattle.site_document.specs.declared.draft_term.DraftTerm.{DraftTerm}
-use Rattle.site_document.specs.declared.form.Form.{Form}
 use Rattle.site_document.specs.declared.form.Form.TheVariants as form
 use Rattle.site_document.specs.declared.key.Key.{Key}
 use Rattle.site_document.specs.declared.key.Key.TheVariants as key
@@ -26,7 +24,7 @@ use Rattle.site_document.specs.Needs.{is_at_least, is_needed}
 use Rattle.site_document.specs.Ranges.{contains, fall_at, first_fall, from_to, is_between, length_out, length_range, next_before, out_at, range_of}
 use Rattle.site_document.specs.Refusals.{Refusal, out_of_range, wrong_kind}
 use Rattle.site_document.specs.Rules.{form_of, keys_of}
-use Rattle.site_document.specs.Tables.{count_of, format_at, items_at, items_in, marker_kind_at, natural_at, natural_in, value_at}
+use Rattle.site_document.specs.Tables.{count_of, format_at, items_at, items_in, marker_kind_at, natural_at, value_at}
 use Rattle.site_document.specs.Terms.{is_split_term, is_term, split_term}
 use Rattle.site_document.specs.Texts.{item_text, key_text, key_word}
 use Rattle.site_document.specs.Walk.{whole}
@@ -42,7 +40,7 @@ isolators_step : (place : Place) (before end n : ℕ) (o : Option ℤ) (rest : L
 isolators_step place before end n None rest small fall are = are
 isolators_step place before end n (Some (pos m)) rest small fall are =
     let parts = and_parts (nat_lt before m) (nat_lt m end)
-        (passed (is_between before end (pos m)) None (out_of_range (item_text place (key_word key.Isolators) n) (pos m)) fall) in
+    (passed (is_between before end (pos m)) None (out_of_range (item_text place (key_word key.Isolators) n) (pos m)) fall) in
     let above : before < m = ltb-true before m parts.0 in
     let below : m < end = ltb-true m end parts.1 in
     rw (byte_small m (omega arith)) (above, below, are)
@@ -182,7 +180,7 @@ marker_clean top n row clean =
     let w = wrong_keys top place row clean in
     let o = out_keys top place row clean in
     let many : length (collected term_from (items_at key.Terms row)) ≡ count_of (items_at key.Terms row) =
-        all_terms 1 (items_at key.Terms row) (items_fit place row w.1.1.1.0) in
+    all_terms 1 (items_at key.Terms row) (items_fit place row w.1.1.1.0) in
     let size = sized _ _ many (terms_at place top row o.1.1.1.0) in record {
       name = name_clean place row key.Name refl refl m.1.1.0 w.1.1.0;
       terms = size;

@@ -1,5 +1,5 @@
 -- What is found in a draft by the map of its names is what is wrong in it.
-use Rattle.std.proofs.Common.{◌≡◌, ℕ, List, [], Option, Some, None, IfSome, map, false, ap, subst, ◌∙◌}
+use Rattle.std.proofs.Common.{◌≡◌, ℕ, List, [], Option, Some, None, IfSome, map, ap, subst, ◌∙◌}
 use Rattle.std.proofs.Math.Path.{fun_ext}
 use Rattle.site_types.specs.declared.named.Thing.{Thing}
 use Rattle.site_types.specs.declared.site.Site.{Site}

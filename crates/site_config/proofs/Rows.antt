@@ -1,13 +1,11 @@
 -- The tables of a list in which no pass finds anything.
-use Rattle.std.proofs.Common.{◌≡◌, ℕ, ◌+◌, List, [], ◌∷◌, Bool, true, false, ◌||◌, Option, Some, None, is_some, ◌⊎◌, inl, inr, Ordering, Less, Equal, Greater, refl, ap, sym, subst, ◌∙◌, if◌then◌else◌}
+use Rattle.std.proofs.Common.{◌≡◌, ℕ, ◌+◌, List, [], ◌∷◌, true, Option, Some, None, is_some, ◌⊎◌, inl, inr, Ordering, Less, Equal, Greater, refl, ap, sym, subst, ◌∙◌, if◌then◌else◌}
 use Rattle.std.proofs.lemmas.Map.Text.{is_eq-slice_cmp}
 use Rattle.std.proofs.lemmas.Slice.Eq.{bytes_eq-Decides}
 use Rattle.std.specs.Cmp.Lexicographic.{slice_cmp}
 use Rattle.std.specs.List.{AllByRecursion}
 use Rattle.std.specs.Ordering.{nat_cmp, is_eq, match_ordering}
-use Rattle.std.specs.Str.{bytes_eq}
 use Rattle.toml.specs.Data.{Data, string, integer, float, boolean, datetime, array, table, Items, no_items, item, Members, no_members, member, get_member}
-use Rattle.site_document.specs.declared.key.Key.{Key}
 use Rattle.site_document.specs.declared.key.Key.TheVariants as key
 use Rattle.site_document.specs.declared.place.Place.{Place}
 use Rattle.site_document.specs.declared.row_kind.RowKind.{RowKind}
@@ -17,9 +15,9 @@ use Rattle.site_document.specs.declared.walk.Pass.TheVariants as pass
 use Rattle.site_document.specs.Drafts.{collected, from_table}
 use Rattle.site_document.specs.Missing.{missing_at}
 use Rattle.site_document.specs.Ranges.{out_at}
-use Rattle.site_document.specs.Refusals.{Refusal, or_later, unknown}
+use Rattle.site_document.specs.Refusals.{or_later, unknown}
 use Rattle.site_document.specs.Rules.{keys_of}
-use Rattle.site_document.specs.Tables.{items_at, list_key}
+use Rattle.site_document.specs.Tables.{items_at}
 use Rattle.site_document.specs.Texts.{key_text}
 use Rattle.site_document.specs.Unknown.{is_known, unknown_among, unknown_in}
 use Rattle.site_document.specs.Walk.{finding, found_at, found_by, found_in, found_in_list, found_in_row, found_in_rows, whole}

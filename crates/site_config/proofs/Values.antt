@@ -1,6 +1,6 @@
 -- What stands at a key where no pass finds anything there.
-use Rattle.std.proofs.Common.{◌≡◌, ◌≤◌, ℕ, ℤ, pos, negsuc, List, [], ◌∷◌, Bool, true, false, ◌&&◌, nat_le, Option, Some, None, is_some, is_none, IsTrue, refl, ap, sym, ◌∙◌, rules, arith, if◌then◌else◌}
-use Rattle.std.proofs.lemmas.Bool.{and_parts, leb-true, false≢true}
+use Rattle.std.proofs.Common.{◌≡◌, ◌≤◌, ℕ, ℤ, pos, negsuc, List, [], ◌∷◌, Bool, true, false, ◌&&◌, nat_le, Option, Some, None, is_some, is_none, IsTrue, refl, arith, if◌then◌else◌}
+use Rattle.std.proofs.lemmas.Bool.{and_parts, leb-true}
 use Rattle.std.specs.List.{AllByRecursion}
 use Rattle.toml.specs.Data.{Data, string, integer, float, boolean, datetime, array, table, Members, as_integer, as_str}
 use Rattle.site_types.specs.Names.{is_name}
@@ -17,7 +17,7 @@ use Rattle.site_document.specs.Refusals.{Refusal, first_found, or_later, out_of_
 use Rattle.site_document.specs.Rules.{form_of}
 use Rattle.site_document.specs.Tables.{integer_at, integer_in, natural_at, natural_in, text_at, text_in, value_at}
 use Rattle.site_document.specs.Texts.{key_text, key_word}
-use Rattle.site_document.specs.WrongKind.{fits, text_passes, wrong_at, wrong_value}
+use Rattle.site_document.specs.WrongKind.{fits, wrong_at, wrong_value}
 
 -- ---- findings that aren't there
 

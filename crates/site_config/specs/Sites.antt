@@ -12,7 +12,7 @@ use Rattle.site_config.specs.Crossing.{crossing_in, spot_of}
 use Rattle.site_config.specs.NamedList.{AreListed}
 use Rattle.site_config.specs.NoSuch.{no_such_in}
 use Rattle.site_config.specs.Partners.{unmutual_in}
-use Rattle.site_config.specs.Placing.{SeenSite, placed_site, site_view}
+use Rattle.site_config.specs.Placing.{placed_site, site_view}
 
 -- what is wrong in a draft: names and numbers given twice, then names of nothing, sections that cross zones, partners that aren't mutual
 unfoldable pub draft_finding : Draft → Option Refusal

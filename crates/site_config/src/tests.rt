@@ -90,9 +90,21 @@ fn faults_of_a_site(rt: HostRuntime) -> Result<(), Fail> {
             "\"hall\", panel = 1, number = 1, type = \"c\", partner = \"lab\"",
             "9 hall",
         ),
-        ("number = 2 }", "number = 2, type = \"a\", verify = 12, within = 35 }", "5 zone[2].within 35"),
-        ("number = 2 }", "number = 2, type = \"a\", verify = 12, within = 36 }", "accepted"),
-        ("isolators = [16]", "isolators = [16, 96]", "5 loop[1].isolators[2] 96"),
+        (
+            "number = 2 }",
+            "number = 2, type = \"a\", verify = 12, within = 35 }",
+            "5 zone[2].within 35",
+        ),
+        (
+            "number = 2 }",
+            "number = 2, type = \"a\", verify = 12, within = 36 }",
+            "accepted",
+        ),
+        (
+            "isolators = [16]",
+            "isolators = [16, 96]",
+            "5 loop[1].isolators[2] 96",
+        ),
     ];
     for (from, to, want) in cases {
         let got = read_changed(alloc, from, to)?;
