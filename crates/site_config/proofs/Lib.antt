@@ -1,8 +1,12 @@
+pub mod Alike
 pub mod DraftForms
 pub mod DraftLists
+pub mod Holders
 pub mod Later
 pub mod Listed
 pub mod Named
 pub mod Numbers
 pub mod Rows
+pub mod SiteForms
+pub mod Standing
 pub mod Values
