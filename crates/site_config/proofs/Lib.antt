@@ -9,4 +9,5 @@ pub mod Numbers
 pub mod Rows
 pub mod SiteForms
 pub mod Standing
+pub mod Twins
 pub mod Values
