@@ -1,4 +1,6 @@
 pub mod Alike
+pub mod Apart
+pub mod Couples
 pub mod DraftForms
 pub mod DraftLists
 pub mod Holders
@@ -6,8 +8,10 @@ pub mod Later
 pub mod Listed
 pub mod Named
 pub mod Numbers
+pub mod References
 pub mod Rows
 pub mod SiteForms
 pub mod Standing
 pub mod Twins
+pub mod Validity
 pub mod Values

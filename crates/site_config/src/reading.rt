@@ -1,4 +1,5 @@
 ghost use Rattle.std.specs.Prelude.{◌≡◌, IfErr, IfOk};
+ghost use Rattle.site_types.specs.Valid.{IsValid};
 ghost use Rattle.site_document.specs.Documents.{IsRefusedBy};
 ghost use Rattle.site_document.specs.Refusals.{Tells};
 ghost use Rattle.site_config.specs.Claims.{named_in, twice_in};
@@ -20,6 +21,7 @@ use std::alloc::Global;
 /// times its logarithm.
 pub fn read_site(alloc: Global, bytes: &[u8]) -> Result<Site, SiteRefusal>
     ensures site { IfOk result (IsSpelled bytes.now) }
+    ensures valid { IfOk result IsValid }
     ensures refused { IfErr result (IsRefusedBy site_finding bytes.now) }
 {
     let draft = read_draft(alloc, bytes)?;

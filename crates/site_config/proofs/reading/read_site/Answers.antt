@@ -1,5 +1,6 @@
-use Rattle.std.proofs.lemmas.Result.{err_from_is_err_and}
+use Rattle.std.proofs.lemmas.Result.{IfOk-weaker, err_from_is_err_and}
 use Rattle.site_config.proofs.Later.{accepted, refused, refused_so}
+use Rattle.site_config.proofs.Validity.{valid_spelled}
 use Rattle.site_config.proofs.reading.read_site.Goals as goal
 
 pub returns-in_err-draft-clause-refused : goal.returns-in_err-draft-clause-refused
@@ -15,3 +16,9 @@ returns-clause-site c =
 pub returns-clause-refused : goal.returns-clause-refused
 returns-clause-refused c =
     let (doc, a, e) = c.in_ok-draft.ensures.draft in refused c.finish.result c.args.bytes.now c.in_ok-draft.draft doc a e c.finish.ensures.told
+
+pub returns-clause-valid : goal.returns-clause-valid
+returns-clause-valid c =
+    let (doc, a, e) = c.in_ok-draft.ensures.draft in
+    IfOk-weaker c.finish.result _ _ (λ site is. valid_spelled c.args.bytes.now site is)
+    (accepted c.finish.result c.args.bytes.now c.in_ok-draft.draft doc a e c.finish.ensures.told c.finish.ensures.site)
