@@ -10,8 +10,7 @@ use Rattle.site_types.specs.declared.named.Thing.{Thing}
 use Rattle.site_types.specs.declared.point.Point.{Point as PointOf}
 use Rattle.site_types.specs.declared.site.Site.{Site}
 use Rattle.site_document.specs.declared.draft.Draft.{Draft}
-use Rattle.site_document.specs.declared.draft_point.DraftPoint.{DraftPoint}
-use Rattle.site_document.specs.Refusals.{Refusal, first_found, or_later, section_crosses_zones}
+use Rattle.site_document.specs.Refusals.{section_crosses_zones}
 use Rattle.site_config.specs.declared.section_point.SectionPoint.{SectionPoint}
 use Rattle.site_config.specs.declared.spot.Spot.{Spot}
 use Rattle.site_config.specs.Crossing.{crossing_at, crossing_in, has_two_zones, in_section, is_on, loop_crossing, on_loop, section_point, spot_of}
@@ -144,11 +143,11 @@ zones_agree look draft site seen clean i plan at j p pt k q qt on same =
     let (d, dt, ds) = like_at point_view (placed_point look) site.points draft.points seen.points j p pt in
     let (e, et, es) = like_at point_view (placed_point look) site.points draft.points seen.points k q qt in
     let one = stands_in plan spots (spot_of look d) (among_map (spot_of look) draft.points d (among_get draft.points j d dt))
-        (ap (λ (s : SeenPoint). s.panel) (sym ds) ∙ on.panels.0) (ap (λ (s : SeenPoint). s.line) (sym ds) ∙ on.lines.0) place
-        (ap (λ (s : SeenPoint). section_of plan.isolators s.address) (sym ds)) in
+    (ap (λ (s : SeenPoint). s.panel) (sym ds) ∙ on.panels.0) (ap (λ (s : SeenPoint). s.line) (sym ds) ∙ on.lines.0) place
+    (ap (λ (s : SeenPoint). section_of plan.isolators s.address) (sym ds)) in
     let other = stands_in plan spots (spot_of look e) (among_map (spot_of look) draft.points e (among_get draft.points k e et))
-        (ap (λ (s : SeenPoint). s.panel) (sym es) ∙ on.panels.1) (ap (λ (s : SeenPoint). s.line) (sym es) ∙ on.lines.1) place
-        (ap (λ (s : SeenPoint). section_of plan.isolators s.address) (sym es) ∙ sym same) in
+    (ap (λ (s : SeenPoint). s.panel) (sym es) ∙ on.panels.1) (ap (λ (s : SeenPoint). s.line) (sym es) ∙ on.lines.1) place
+    (ap (λ (s : SeenPoint). section_of plan.isolators s.address) (sym es) ∙ sym same) in
     ap (λ (s : SeenPoint). s.zone) ds
     ∙ same_zone (in_section place (on_loop plan spots)) (section_point plan (spot_of look d)) (section_point plan (spot_of look e)) two one other
     ∙ ap (λ (s : SeenPoint). s.zone) (sym es)
@@ -157,8 +156,8 @@ pub sections : (look : List ℕ → Option Thing) (draft : Draft) (site : Site) 
     → crossing_in (map (spot_of look) draft.points) draft.loops ≡ None → SectionsCrossNoZones site
 sections look draft site seen clean =
     all_by_place (λ (plan : LoopPlan). All (λ (p : PointOf). All (λ (q : PointOf). AreOnLoop plan p q →
-      section_of plan.isolators p.address ≡ section_of plan.isolators q.address → p.zone ≡ q.zone) site.points) site.points) site.loops
+    section_of plan.isolators p.address ≡ section_of plan.isolators q.address → p.zone ≡ q.zone) site.points) site.points) site.loops
     (λ i plan at. all_by_place (λ (p : PointOf). All (λ (q : PointOf). AreOnLoop plan p q →
-      section_of plan.isolators p.address ≡ section_of plan.isolators q.address → p.zone ≡ q.zone) site.points) site.points
+    section_of plan.isolators p.address ≡ section_of plan.isolators q.address → p.zone ≡ q.zone) site.points) site.points
     (λ j p pt. all_by_place (λ (q : PointOf). AreOnLoop plan p q → section_of plan.isolators p.address ≡ section_of plan.isolators q.address → p.zone ≡ q.zone) site.points
     (λ k q qt on same. zones_agree look draft site seen clean i plan at j p pt k q qt on same)))

@@ -1,5 +1,5 @@
 -- Partners of a site read name each other.
-use Rattle.std.proofs.Common.{◌≡◌, ◌≢◌, ℕ, List, Bool, true, false, not, ◌&&◌, Option, Some, None, IsTrue, refl, ap, sym, subst, ◌∙◌, if◌then◌else◌}
+use Rattle.std.proofs.Common.{◌≡◌, ℕ, List, Bool, true, false, not, ◌&&◌, Option, Some, None, refl, ap, sym, ◌∙◌}
 use Rattle.std.proofs.lemmas.Bool.{and_parts}
 use Rattle.std.proofs.lemmas.Slice.Eq.{bytes_eq-Decides}
 use Rattle.std.specs.List.{AllByRecursion}
@@ -8,12 +8,11 @@ use Rattle.std.specs.Str.{bytes_eq}
 use Rattle.site_types.specs.Valid.{IsMutual, PartnersAreMutual, is_partner_type}
 use Rattle.site_types.specs.declared.named.Thing.{Thing}
 use Rattle.site_types.specs.declared.named.Thing.TheVariants.{Point, Zone, Output, Marker}
-use Rattle.site_types.specs.declared.rule.Rule.{Rule}
 use Rattle.site_types.specs.declared.site.Site.{Site}
 use Rattle.site_types.specs.declared.zone.Zone.{Zone as ZoneOf}
 use Rattle.site_document.specs.declared.draft.Draft.{Draft}
 use Rattle.site_document.specs.declared.draft_zone.DraftZone.{DraftZone}
-use Rattle.site_document.specs.Refusals.{Refusal, first_found, partner_not_mutual}
+use Rattle.site_document.specs.Refusals.{partner_not_mutual}
 use Rattle.site_config.specs.Claims.{named_in, twice_in}
 use Rattle.site_config.specs.Crossing.{place_or_zero}
 use Rattle.site_config.specs.NoSuch.{zone_place}
@@ -100,12 +99,12 @@ mutual_by draft site place other zone partner d q None once clean at bt seen see
 mutual_by draft site place other zone partner d q (Some name) once clean at bt seen seen' is =
     let look = named_in draft in
     let couple = couple_of draft d name (look name)
-        (passed (is_mutual d name (zone_at draft.zones (zone_place (look name)))) None (partner_not_mutual d.name) clean) in
+    (passed (is_mutual d name (zone_at draft.zones (zone_place (look name)))) None (partner_not_mutual d.name) clean) in
     let here : couple.place ≡ other = inner couple.place other (sym (ap (λ o. Some (place_or_zero (zone_place o))) couple.is) ∙ is) in
     let same : couple.partner ≡ q = one_at draft.zones couple.place other couple.partner q here couple.at bt in
     let facts = sure d name couple.partner couple.true_of in
     let back : partner_place look q.partner ≡ Some place =
-        back_place draft d place q.partner once at (ap (λ (z : DraftZone). is_named d.name z.partner) (sym same) ∙ facts.back) in
+    back_place draft d place q.partner once at (ap (λ (z : DraftZone). is_named d.name z.partner) (sym same) ∙ facts.back) in
     let types : is_partner_type d.rule q.rule ≡ true = ap (λ (z : DraftZone). is_partner_type d.rule z.rule) (sym same) ∙ facts.same_type in record {
       apart = λ e. apart_so draft place couple.place d couple.partner name at couple.at couple.is facts.apart (here ∙ e);
       back = ap (λ (s : SeenZone). s.partner) seen' ∙ back;

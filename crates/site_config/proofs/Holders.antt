@@ -4,7 +4,7 @@ use Rattle.std.proofs.lemmas.Slice.Eq.{bytes_eq-Decides}
 use Rattle.std.specs.Prelude.{slice_get}
 use Rattle.std.specs.Str.{bytes_eq}
 use Rattle.site_types.specs.declared.named.Thing.{Thing}
-use Rattle.site_document.specs.Refusals.{Refusal, or_later, twice}
+use Rattle.site_document.specs.Refusals.{twice}
 use Rattle.site_config.specs.declared.claim.Claim.{Claim}
 use Rattle.site_config.specs.Claims.{claims_from, first_twice, has_number, is_claimed, is_number_claimed, is_number_of, onto, thing_named}
 use Rattle.site_config.proofs.Alike.{inner}

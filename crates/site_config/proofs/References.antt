@@ -1,5 +1,5 @@
 -- What is named in a site read is there.
-use Rattle.std.proofs.Common.{◌≡◌, ◌≤◌, ◌<◌, ℕ, zero, suc, List, [], ◌∷◌, Bool, true, false, ◌&&◌, ◌||◌, ◌==◌, ◌+◌, nat_le, Option, Some, None, is_some, option_map, map, length, refl, ap, sym, subst, ◌∙◌, arith, eqb-true, if◌then◌else◌}
+use Rattle.std.proofs.Common.{◌≡◌, ◌≤◌, ◌<◌, ℕ, zero, suc, List, [], ◌∷◌, Bool, true, false, ◌&&◌, ◌||◌, ◌==◌, nat_le, Option, Some, None, is_some, option_map, map, length, refl, ap, sym, subst, ◌∙◌, arith, eqb-true, if◌then◌else◌}
 use Rattle.std.proofs.lemmas.Bool.{and_parts, leb-true}
 use Rattle.std.proofs.lemmas.Option.{slice_get_within}
 use Rattle.std.specs.Fmt.{decimal}
@@ -23,8 +23,7 @@ use Rattle.site_document.specs.declared.draft_point.DraftPoint.{DraftPoint}
 use Rattle.site_document.specs.declared.draft_term.DraftTerm.{DraftTerm}
 use Rattle.site_document.specs.declared.draft_term.DraftTerm.TheVariants as term
 use Rattle.site_document.specs.declared.draft_zone.DraftZone.{DraftZone}
-use Rattle.site_document.specs.Drafts.{byte_of}
-use Rattle.site_document.specs.Refusals.{Refusal, first_found, no_such, or_later}
+use Rattle.site_document.specs.Refusals.{first_found, no_such}
 use Rattle.site_config.specs.Claims.{named_in, twice_in}
 use Rattle.site_config.specs.Crossing.{place_or_zero}
 use Rattle.site_config.specs.NoSuch.{is_loop_of, is_panel_of, is_zone_of, marker_fault, marker_place, no_such_in, output_fault, partner_fault, partner_missing, point_fault, term_fault, zone_place}
@@ -32,7 +31,7 @@ use Rattle.site_config.specs.Placing.{SeenMarker, SeenOutput, SeenPoint, SeenZon
 use Rattle.site_config.proofs.Alike.{all_by_place, all_from, as_long, by_place, like_at}
 use Rattle.site_config.proofs.DraftForms.{byte_small}
 use Rattle.site_config.proofs.SiteForms.{HasDraftForms, SeenAs}
-use Rattle.site_config.proofs.Standing.{borne_by, draft_name}
+use Rattle.site_config.proofs.Standing.{borne_by}
 use Rattle.site_config.proofs.Values.{all_none, none_first, none_later, passed}
 
 -- ---- what is found nowhere
@@ -99,7 +98,7 @@ unfolding point_fault
 point_parts look loops zones p e = (
   passed (list_any (is_loop_of p) loops) None (no_such p.name) (none_first (if list_any (is_loop_of p) loops then None else Some (no_such p.name)) _ e),
   passed (is_zone_of zones p.panel (zone_place (look p.zone))) None (no_such p.zone)
-    (none_later (if list_any (is_loop_of p) loops then None else Some (no_such p.name)) _ e),
+      (none_later (if list_any (is_loop_of p) loops then None else Some (no_such p.name)) _ e),
 )
 
 abbrev IsSome : (LoopPlan → Bool) → List LoopPlan → Type 0
@@ -233,7 +232,7 @@ term_there draft site seen once few (term.Marker name) e =
     (marker_by draft name (named_in draft name) once refl (passed (is_some (marker_place (named_in draft name))) None (no_such name) e))
 term_there draft site seen once few (term.Fault panel) e =
     let parts = and_parts (nat_le 1 panel) (nat_le panel draft.panels)
-        (passed (nat_le 1 panel && nat_le panel draft.panels) None (no_such (codes "fault:" ++ decimal panel)) e) in
+    (passed (nat_le 1 panel && nat_le panel draft.panels) None (no_such (codes "fault:" ++ decimal panel)) e) in
     let low : 1 ≤ panel = leb-true 1 panel parts.0 in
     let high : panel ≤ draft.panels = leb-true panel draft.panels parts.1 in
     rw (byte_small panel (omega arith), seen.panels) (low, high)

@@ -1,12 +1,12 @@
 -- The forms and ranges of a site that a clean document spells.
-use Rattle.std.proofs.Common.{◌≡◌, ◌≤◌, ℕ, ◌+◌, List, [], ◌∷◌, Option, Some, None, IsTrue, map, length, refl, ap, sym, subst, ◌∙◌, arith}
+use Rattle.std.proofs.Common.{◌≡◌, ◌≤◌, ℕ, List, Option, Some, None, IsTrue, map, length, refl, ap, sym, ◌∙◌, arith}
 use Rattle.std.proofs.lemmas.List.{length-map}
 use Rattle.std.specs.List.{AllByRecursion}
-use Rattle.std.specs.Prelude.{slice_get, All}
+use Rattle.std.specs.Prelude.{slice_get}
 use Rattle.toml.specs.Data.{Members}
 use Rattle.site_types.specs.Limits.{most_codes, most_markers, most_panels}
 use Rattle.site_types.specs.Names.{is_name}
-use Rattle.site_types.specs.Valid.{AreWaits, HasForms, IsCombine, IsLoop, IsMarker, IsOutput, IsPoint, IsRule, IsZone, may_have_partner}
+use Rattle.site_types.specs.Valid.{AreWaits, HasForms, IsCombine, IsLoop, IsMarker, IsOutput, IsPoint, IsZone, may_have_partner}
 use Rattle.site_types.specs.declared.combine.Combine.{Combine}
 use Rattle.site_types.specs.declared.loop_plan.LoopPlan.{LoopPlan}
 use Rattle.site_types.specs.declared.marker.Marker.{Marker}
@@ -19,14 +19,14 @@ use Rattle.site_types.specs.declared.zone.Zone.{Zone}
 use Rattle.site_document.specs.declared.draft.Draft.{Draft}
 use Rattle.site_document.specs.declared.key.Key.TheVariants as key
 use Rattle.site_document.specs.declared.row_kind.RowKind.TheVariants as kind
-use Rattle.site_document.specs.Drafts.{byte_at, collected, digest_from, draft_of, from_table, loop_of, marker_of, name_at, output_of, point_of, waits_of, zone_of}
-use Rattle.site_document.specs.Tables.{count_of, format_at, items_at}
-use Rattle.site_document.specs.Walk.{finding, whole}
+use Rattle.site_document.specs.Drafts.{byte_at, digest_from, draft_of, from_table, loop_of, marker_of, output_of, point_of, zone_of}
+use Rattle.site_document.specs.Tables.{format_at, items_at}
+use Rattle.site_document.specs.Walk.{finding}
 use Rattle.site_config.specs.Placing.{SeenMarker, SeenOutput, SeenPoint, SeenSite, SeenZone, marker_view, output_view, partner_place, placed_marker, placed_output, placed_point, placed_site, placed_term, placed_zone, point_view, site_view, zone_view}
 use Rattle.site_config.proofs.Alike.{all_by_place, all_from, as_long, by_place, like_at}
 use Rattle.site_config.proofs.DraftForms.{IsDraftOutput, IsDraftPoint, IsDraftZone, format_small, output_clean, point_clean, zone_clean}
-use Rattle.site_config.proofs.DraftLists.{IsDraftLoop, IsDraftMarker, IsDraftTop, collected_most, loop_clean, marker_clean, panels_clean, top_clean}
-use Rattle.site_config.proofs.Rows.{ListsAreClean, clean_lists, clean_top, rows_all}
+use Rattle.site_config.proofs.DraftLists.{IsDraftLoop, IsDraftMarker, collected_most, loop_clean, marker_clean, panels_clean, top_clean}
+use Rattle.site_config.proofs.Rows.{clean_lists, clean_top, rows_all}
 
 -- ---- the draft
 
@@ -59,8 +59,10 @@ draft_forms doc e =
       waits = top.waits;
       codes = (
         few_of _ _ most_codes (collected_most digest_from (items_at key.Level2 doc)) top.second,
-        (few_of _ _ most_codes (collected_most digest_from (items_at key.Level3 doc)) top.third,
-        (few_of _ _ most_codes (collected_most digest_from (items_at key.Level4 doc)) top.fourth, tt)),
+        (
+          few_of _ _ most_codes (collected_most digest_from (items_at key.Level3 doc)) top.third,
+          (few_of _ _ most_codes (collected_most digest_from (items_at key.Level4 doc)) top.fourth, tt),
+        ),
       );
       loops = rows_all loop_of (IsDraftLoop (format_at doc) (byte_at key.Panels doc)) doc kind.Loop (loop_clean doc panels) 1 (items_at key.Loops doc) lists.loops;
       zones = rows_all zone_of (IsDraftZone (format_at doc) (byte_at key.Panels doc)) doc kind.Zone (zone_clean doc panels) 1 (items_at key.Zones doc) lists.zones;

@@ -1,9 +1,8 @@
 -- What a name of a draft stands for is what bears it, where no name or number stands twice.
-use Rattle.std.proofs.Common.{◌≡◌, ℕ, zero, suc, ◌+◌, List, [], ◌∷◌, ◌++◌, Bool, true, false, Option, Some, None, option_map, ◌⊎◌, inl, inr, refl, ap, sym, subst, ◌∙◌, arith, zero-add}
+use Rattle.std.proofs.Common.{◌≡◌, ℕ, zero, ◌+◌, List, [], ◌++◌, true, Option, Some, None, option_map, ◌⊎◌, inl, inr, refl, ap, sym, subst, ◌∙◌, zero-add}
 use Rattle.std.proofs.lemmas.Slice.Eq.{bytes_eq-Decides}
 use Rattle.std.specs.Prelude.{slice_get}
 use Rattle.std.specs.Str.{bytes_eq}
-use Rattle.site_types.specs.Things.{name_at}
 use Rattle.site_types.specs.declared.named.Thing.{Thing}
 use Rattle.site_types.specs.declared.named.Thing.TheVariants.{Point, Zone, Output, Marker}
 use Rattle.site_document.specs.declared.draft.Draft.{Draft}
@@ -11,11 +10,10 @@ use Rattle.site_document.specs.declared.draft_marker.DraftMarker.{DraftMarker}
 use Rattle.site_document.specs.declared.draft_output.DraftOutput.{DraftOutput}
 use Rattle.site_document.specs.declared.draft_point.DraftPoint.{DraftPoint}
 use Rattle.site_document.specs.declared.draft_zone.DraftZone.{DraftZone}
-use Rattle.site_document.specs.Refusals.{Refusal}
 use Rattle.site_config.specs.declared.claim.Claim.{Claim}
-use Rattle.site_config.specs.Claims.{claims_from, claims_of, first_twice, loop_twice, marker_claim, named_in, onto, output_claim, point_claim, thing_named, twice_in, zone_claim}
+use Rattle.site_config.specs.Claims.{claims_from, claims_of, first_twice, loop_twice, marker_claim, named_in, onto, output_claim, point_claim, twice_in, zone_claim}
 use Rattle.site_config.proofs.Alike.{inner}
-use Rattle.site_config.proofs.Holders.{Fresh, IsHeld, IsIn, IsOf, fresh_names, fresh_numbers, held, holder, in_either, in_from, in_left, in_right, is_held, name_test, named_holder, number_test, of_from}
+use Rattle.site_config.proofs.Holders.{IsHeld, IsIn, IsOf, fresh_names, fresh_numbers, held, in_either, in_from, in_left, in_right, is_held, name_test, named_holder, number_test, of_from}
 use Rattle.site_config.proofs.Values.{none_later}
 
 -- the name of a thing of a draft

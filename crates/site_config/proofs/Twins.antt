@@ -1,5 +1,5 @@
 -- Nothing occurs twice in a site read, and its list of names is that of its things.
-use Rattle.std.proofs.Common.{◌≡◌, ◌<◌, ◌≢◌, ℕ, zero, suc, ◌+◌, List, [], ◌∷◌, ◌++◌, Bool, true, false, ◌||◌, ◌&&◌, ◌==◌, Option, Some, None, option_map, ◌⊎◌, inl, inr, Ordering, Less, refl, ap, sym, subst, ◌∙◌, arith, map, eq-eqb, if◌then◌else◌}
+use Rattle.std.proofs.Common.{◌≡◌, ◌<◌, ℕ, zero, suc, ◌+◌, List, [], ◌∷◌, ◌++◌, Bool, true, false, ◌||◌, ◌&&◌, ◌==◌, Option, Some, None, option_map, ◌⊎◌, inl, inr, Less, refl, ap, sym, subst, ◌∙◌, arith, map, eq-eqb, if◌then◌else◌}
 use Rattle.std.proofs.lemmas.List.Folds.{list_any-append}
 use Rattle.std.proofs.lemmas.Map.Text.{is_eq-slice_cmp}
 use Rattle.std.proofs.lemmas.Option.{slice_get-map}
@@ -10,28 +10,23 @@ use Rattle.std.specs.Ordering.{is_eq, nat_cmp}
 use Rattle.std.specs.Prelude.{slice_get, codes}
 use Rattle.std.specs.Str.{bytes_eq}
 use Rattle.site_types.specs.Things.{name_at}
-use Rattle.site_types.specs.Valid.{AreNames, HasNoTwins, IsUniqueBy, loop_key, output_key, point_key, zone_key}
+use Rattle.site_types.specs.Valid.{AreNames, HasNoTwins, IsUniqueBy, loop_key}
 use Rattle.site_types.specs.declared.loop_plan.LoopPlan.{LoopPlan}
-use Rattle.site_types.specs.declared.marker.Marker.{Marker as MarkerOf}
 use Rattle.site_types.specs.declared.named.Named.{Named}
 use Rattle.site_types.specs.declared.named.Thing.{Thing}
 use Rattle.site_types.specs.declared.named.Thing.TheVariants.{Point, Zone, Output, Marker}
-use Rattle.site_types.specs.declared.output.Output.{Output as OutputOf}
-use Rattle.site_types.specs.declared.point.Point.{Point as PointOf}
 use Rattle.site_types.specs.declared.site.Site.{Site}
-use Rattle.site_types.specs.declared.zone.Zone.{Zone as ZoneOf}
 use Rattle.site_document.specs.declared.draft.Draft.{Draft}
 use Rattle.site_document.specs.declared.draft_output.DraftOutput.{DraftOutput}
 use Rattle.site_document.specs.declared.draft_point.DraftPoint.{DraftPoint}
 use Rattle.site_document.specs.declared.draft_zone.DraftZone.{DraftZone}
 use Rattle.site_document.specs.declared.row_kind.RowKind.TheVariants as kind
-use Rattle.site_document.specs.Refusals.{Refusal, twice, or_later}
+use Rattle.site_document.specs.Refusals.{Refusal, twice}
 use Rattle.site_document.specs.Texts.{key_text}
 use Rattle.site_config.specs.Claims.{claims_of, first_twice, is_same_loop, loop_twice, named_in, output_claim, point_claim, twice_in, zone_claim}
 use Rattle.site_config.specs.NamedList.{AreListed, Rise, named_view, thing_among}
 use Rattle.site_config.specs.Placing.{SeenMarker, SeenOutput, SeenPoint, SeenZone, marker_view, output_view, placed_marker, placed_output, placed_point, placed_zone, point_view, zone_view}
 use Rattle.site_config.proofs.Alike.{all_by_place, inner, like_at}
-use Rattle.site_config.proofs.Holders.{number_test}
 use Rattle.site_config.proofs.SiteForms.{SeenAs}
 use Rattle.site_config.proofs.Standing.{bears, borne_by, draft_name, one_number, output_made, point_made, zone_made}
 use Rattle.site_config.proofs.Values.{none_first, none_later, not_failed}
@@ -173,7 +168,7 @@ in_order before n (plan ∷ rest) e j zero a b at bt same lt = omega arith
 in_order before n (plan ∷ rest) e zero (suc k) a b at bt same lt =
     let more = none_before (before ++ plan ∷ []) (n + 1) rest (none_later (loop_fault before n plan) (loop_twice (before ++ plan ∷ []) (n + 1) rest) e) k b bt in
     let apart =
-        either_false (list_any (is_same_loop b) before) (list_any (is_same_loop b) (plan ∷ [])) (sym (list_any-append (is_same_loop b) before (plan ∷ [])) ∙ more) in
+    either_false (list_any (is_same_loop b) before) (list_any (is_same_loop b) (plan ∷ [])) (sym (list_any-append (is_same_loop b) before (plan ∷ [])) ∙ more) in
     let here : is_same_loop b plan ≡ false = (either_false (is_same_loop b plan) false apart.1).0 in
     cc (ap (is_same_loop b) (sym (inner plan a at)), same, here)
 in_order before n (plan ∷ rest) e (suc j) (suc k) a b at bt same lt =

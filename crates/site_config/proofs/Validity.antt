@@ -1,11 +1,10 @@
 -- A site that the bytes of a site file spell is valid.
-use Rattle.std.proofs.Common.{◌≡◌, ℕ, List, Option, Some, None, map}
+use Rattle.std.proofs.Common.{◌≡◌, ℕ, List, None, map}
 use Rattle.toml.specs.Data.{Members}
 use Rattle.site_types.specs.Valid.{IsValid}
 use Rattle.site_types.specs.declared.site.Site.{Site}
 use Rattle.site_document.specs.declared.draft.Draft.{Draft}
 use Rattle.site_document.specs.Drafts.{draft_of}
-use Rattle.site_document.specs.Refusals.{Refusal, or_later}
 use Rattle.site_document.specs.Walk.{finding}
 use Rattle.site_config.specs.Claims.{named_in, twice_in}
 use Rattle.site_config.specs.Crossing.{crossing_in, spot_of}
