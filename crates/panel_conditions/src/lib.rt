@@ -22,6 +22,8 @@ mod point_watch;
 mod points;
 mod shown;
 mod sign;
+#[cfg(test)]
+mod tests;
 mod zone_watch;
 mod zones;
 
