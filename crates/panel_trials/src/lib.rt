@@ -1,0 +1,13 @@
+//! Trials that cross crates: sites read from their files and driven through the parts that stand on them.
+//!
+//! Nothing stands on this crate and it promises nothing. Its tests read whole sites as texts, and compare what is read, polled and decided with
+//! values worked out by hand. What a clause of another crate says for all inputs isn't tried again here, but for the examples that show that
+//! the clause says what was meant.
+#![tactic(auto)]
+
+#[cfg(test)]
+mod reading_tests;
+#[cfg(test)]
+mod site_tests;
+#[cfg(test)]
+mod sites;
