@@ -6,6 +6,8 @@
 #![tactic(auto)]
 
 #[cfg(test)]
+mod level_tests;
+#[cfg(test)]
 mod reading_tests;
 #[cfg(test)]
 mod site_tests;
