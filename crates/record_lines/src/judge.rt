@@ -1,0 +1,107 @@
+//! One line, judged by the first row of the refusals that applies.
+
+ghost use Rattle.std.specs.Prelude.{◌≡◌, ◌<◌, ◌≤◌, MatchResult, length, ◌^◌};
+ghost use Rattle.record_lines.specs.Judged.{content_of, event_line, judged, line_view, may_stand, order_line, tick_line};
+ghost use Rattle.site_types.specs.Valid.{IsValid};
+
+use crate::event_lines::read_event;
+use crate::fields::field;
+use crate::form::Form;
+use crate::form_words::form;
+use crate::line::Line;
+use crate::number_fields::has_numbers;
+use crate::order_lines::read_order;
+use crate::standing::Standing;
+use crate::why::Why;
+use site_types::{Site, read_number};
+use tick_units::{LAST_TICK, Tick};
+
+/// The line that a text of printable bytes is where a record stands so.
+pub fn judge(site: &Site, standing: &Standing, text: &[u8]) -> Result<Line, Why>
+    requires valid { IsValid site.now }
+    requires short { length text.now ≤ 512 }
+    ensures { MatchResult result (λ line. judged site.now standing.now text.now ≡ Ok (line_view line)) (λ why. judged site.now standing.now text.now ≡ Err why) }
+{
+    let form = match form(text) {
+        Some(form) => form,
+        None => return Err(Why::BadWord),
+    };
+    if !may_come(standing, form) {
+        return Err(Why::BeforeFirstTick);
+    }
+    if !has_numbers(form, text) {
+        return Err(Why::BadNumber);
+    }
+    content(site, standing, form, text)
+}
+
+/// Whether a row may come where a record stands so: before the first tick a tick or the end alone may.
+fn may_come(standing: &Standing, form: Form) -> bool
+    ensures { result ≡ may_stand standing.now form }
+{
+    match form {
+        Form::Tick | Form::End => true,
+        _ => standing.ticks > 0,
+    }
+}
+
+fn content(site: &Site, standing: &Standing, form: Form, text: &[u8]) -> Result<Line, Why>
+    requires valid { IsValid site.now }
+    requires short { length text.now ≤ 512 }
+    ensures { MatchResult result (λ line. content_of site.now standing.now form text.now ≡ Ok (line_view line)) (λ why. content_of site.now standing.now form text.now ≡ Err why) }
+{
+    match form {
+        Form::Tick => tick(standing, text),
+        Form::Order => order(site, standing, text),
+        Form::End => Ok(Line::End),
+        _ => event(site, form, text),
+    }
+}
+
+fn tick(standing: &Standing, text: &[u8]) -> Result<Line, Why>
+    ensures { result ≡ tick_line standing.now text.now }
+{
+    let found = match read_number(field(text, 1)) {
+        Some(found) => found,
+        None => return Err(Why::BadNumber),
+    };
+    if standing.ticks >= LAST_TICK {
+        return Err(Why::TickLimit);
+    }
+    let expected = standing.ticks + 1;
+    if found == expected {
+        Ok(Line::Tick(Tick(found)))
+    } else {
+        Err(Why::BadTick { expected, found })
+    }
+}
+
+fn order(site: &Site, standing: &Standing, text: &[u8]) -> Result<Line, Why>
+    requires valid { IsValid site.now }
+    requires short { length text.now ≤ 512 }
+    ensures { result ≡ order_line site.now standing.now text.now }
+{
+    if standing.has_order {
+        return Err(Why::BadOrder { place: 0 });
+    }
+    match read_order(site.panels, text) {
+        Ok(order) => Ok(Line::Order(order)),
+        Err(why) => Err(why),
+    }
+}
+
+fn event(site: &Site, form: Form, text: &[u8]) -> Result<Line, Why>
+    requires { IsValid site.now }
+    ensures { MatchResult result (λ line. event_line site.now form text.now ≡ Ok (line_view line)) (λ why. event_line site.now form text.now ≡ Err why) }
+{
+    match read_event(site, form, text) {
+        Some(event) => {
+            if site.has_event(&event) {
+                Ok(Line::Event(event))
+            } else {
+                Err(Why::NoSuch)
+            }
+        }
+        None => Err(Why::NoSuch),
+    }
+}

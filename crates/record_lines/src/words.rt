@@ -1,0 +1,126 @@
+//! The fixed words of lines.
+
+ghost use Rattle.std.specs.Prelude.{◌≡◌, bytes_eq};
+ghost use Rattle.record_lines.specs.Words.{kind_of, is_bad_of, is_on_of, is_up_of, piece_state_of, point_state_of, supply_kind_of, task_of};
+
+use crate::form::Kind;
+use site_types::{PieceState, PointState, SupplyKind};
+use tick_units::Task;
+
+/// Whether a field is a word.
+pub fn is_word(field: &[u8], word: &[u8]) -> bool
+    ensures { result ≡ bytes_eq field.now word.now }
+{
+    field == word
+}
+
+pub fn point_state(word: &[u8]) -> Option<PointState>
+    ensures { result ≡ point_state_of word.now }
+{
+    if is_word(word, b"quiet") {
+        Some(PointState::Quiet)
+    } else if is_word(word, b"alarm") {
+        Some(PointState::Alarm)
+    } else if is_word(word, b"gone") {
+        Some(PointState::Gone)
+    } else {
+        None
+    }
+}
+
+pub fn piece_state(word: &[u8]) -> Option<PieceState>
+    ensures { result ≡ piece_state_of word.now }
+{
+    if is_word(word, b"sound") {
+        Some(PieceState::Sound)
+    } else if is_word(word, b"open") {
+        Some(PieceState::Open)
+    } else if is_word(word, b"short") {
+        Some(PieceState::Short)
+    } else {
+        None
+    }
+}
+
+pub fn supply_kind(word: &[u8]) -> Option<SupplyKind>
+    ensures { result ≡ supply_kind_of word.now }
+{
+    if is_word(word, b"mains") {
+        Some(SupplyKind::Mains)
+    } else if is_word(word, b"standby") {
+        Some(SupplyKind::Standby)
+    } else if is_word(word, b"voltage") {
+        Some(SupplyKind::Voltage)
+    } else if is_word(word, b"charger") {
+        Some(SupplyKind::Charger)
+    } else {
+        None
+    }
+}
+
+pub fn is_bad(word: &[u8]) -> Option<bool>
+    ensures { result ≡ is_bad_of word.now }
+{
+    if is_word(word, b"ok") {
+        Some(false)
+    } else if is_word(word, b"bad") {
+        Some(true)
+    } else {
+        None
+    }
+}
+
+pub fn is_up(word: &[u8]) -> Option<bool>
+    ensures { result ≡ is_up_of word.now }
+{
+    if is_word(word, b"up") {
+        Some(true)
+    } else if is_word(word, b"down") {
+        Some(false)
+    } else {
+        None
+    }
+}
+
+pub fn is_on(word: &[u8]) -> Option<bool>
+    ensures { result ≡ is_on_of word.now }
+{
+    if is_word(word, b"on") {
+        Some(true)
+    } else if is_word(word, b"off") {
+        Some(false)
+    } else {
+        None
+    }
+}
+
+pub fn item_kind(word: &[u8]) -> Option<Kind>
+    ensures { result ≡ kind_of word.now }
+{
+    if is_word(word, b"point") {
+        Some(Kind::Point)
+    } else if is_word(word, b"zone") {
+        Some(Kind::Zone)
+    } else if is_word(word, b"output") {
+        Some(Kind::Output)
+    } else {
+        None
+    }
+}
+
+/// The task that a seat's letter stands for. A panel's number follows each letter but that of Keep.
+pub fn task(letter: u8) -> Option<Task>
+    ensures { result ≡ task_of letter }
+{
+    match letter {
+        b'p' => Some(Task::Poll),
+        b'd' => Some(Task::Decide),
+        b's' => Some(Task::Supply),
+        b'o' => Some(Task::Desk),
+        b'h' => Some(Task::Hold),
+        b'l' => Some(Task::Link),
+        b'e' => Some(Task::Effect),
+        b'r' => Some(Task::Drive),
+        _ => None,
+    }
+}
