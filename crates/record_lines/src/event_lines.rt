@@ -7,9 +7,7 @@ ghost use Rattle.site_types.specs.Valid.{IsValid};
 use crate::fields::field;
 use crate::form::{Action, Form, Kind};
 use crate::number_fields::octet;
-use site_types::{
-    Event, Item, Label, Operation, PieceState, Site, SupplyKind, Thing, read_code,
-};
+use site_types::{Event, Item, Label, Operation, PieceState, Site, SupplyKind, Thing, read_code};
 
 /// The event of a line whose fixed words and numbers are of their forms. Where a name or a number names nothing there is none.
 pub fn read_event(site: &Site, form: Form, text: &[u8]) -> Option<Event>

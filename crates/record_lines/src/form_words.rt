@@ -44,7 +44,11 @@ fn tick(text: &[u8]) -> Option<Form>
     requires { length text.now ≤ 512 }
     ensures { result ≡ tick_form text.now }
 {
-    if field_count(text) == 2 { Some(Form::Tick) } else { None }
+    if field_count(text) == 2 {
+        Some(Form::Tick)
+    } else {
+        None
+    }
 }
 
 fn point(text: &[u8]) -> Option<Form>
@@ -138,7 +142,11 @@ fn end(text: &[u8]) -> Option<Form>
     requires { length text.now ≤ 512 }
     ensures { result ≡ end_form text.now }
 {
-    if field_count(text) == 1 { Some(Form::End) } else { None }
+    if field_count(text) == 1 {
+        Some(Form::End)
+    } else {
+        None
+    }
 }
 
 /// Whether a field is a code, or `-` for none.

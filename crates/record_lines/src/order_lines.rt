@@ -53,7 +53,9 @@ pub fn read_order(panels: u8, text: &[u8]) -> Result<Order, Why>
     let seats = read_seats(text);
     match Order::new(&seats, panels) {
         Ok(order) => Ok(order),
-        Err(fault) => Err(Why::BadOrder { place: place(seats.len(), fault) }),
+        Err(fault) => Err(Why::BadOrder {
+            place: place(seats.len(), fault),
+        }),
     }
 }
 
@@ -105,10 +107,19 @@ fn seat(text: &[u8]) -> Seat
     ensures { result ≡ seat_in text.now }
 {
     match text {
-        [] => Seat { panel: 0, task: Task::Keep },
+        [] => Seat {
+            panel: 0,
+            task: Task::Keep,
+        },
         [letter, number @ ..] => match task(*letter) {
-            Some(task) => Seat { panel: panel_of(number), task },
-            None => Seat { panel: 0, task: Task::Keep },
+            Some(task) => Seat {
+                panel: panel_of(number),
+                task,
+            },
+            None => Seat {
+                panel: 0,
+                task: Task::Keep,
+            },
         },
     }
 }
