@@ -1,1 +1,5 @@
+pub mod Cuts
+pub mod Openings
+pub mod Pieces
+pub mod Refusals
 pub mod Spaces
