@@ -1,17 +1,17 @@
 -- A reader that waits, and what a byte more makes of it.
-use Rattle.std.proofs.Common.{◌≡◌, ◌∙◌, ◌+◌, ◌<◌, ◌≤◌, ◌++◌, ℕ, Bool, true, false, List, [], ◌∷◌, Option, Some, None, Ok, Err, length, refl, sym, ap, subst, arith}
+use Rattle.std.proofs.Common.{◌≡◌, ◌∙◌, ◌<◌, ◌≤◌, ◌++◌, ℕ, true, false, List, [], ◌∷◌, Option, Some, None, Ok, Err, length, refl, sym, ap, subst, arith}
 use Rattle.std.specs.Prelude.{◌==◌}
 use Rattle.std.proofs.lemmas.List.Sums.{fold_push}
 use Rattle.site_types.specs.declared.site.Site.{Site}
 use Rattle.record_lines.specs.Judged.{judged, line_view}
-use Rattle.record_lines.specs.Lines.{Reading, Cut, at_start, accepted, by_bytes, by_ending, byte_refusal, cut, ends_with, is_printable, lines_read, next_line, next_number, reading_of, refusal_within, refused, refused_rest, rest_by_ending, stands_behind, verdict, with_rest}
-use Rattle.record_lines.specs.Stands.{Accepts, IsOpen, Refuses, StandsBy, StandsFor, TakesByte, TakesLine, Tells}
+use Rattle.record_lines.specs.Lines.{Reading, at_start, accepted, by_bytes, by_ending, byte_refusal, cut, ends_with, is_printable, lines_read, next_line, next_number, reading_of, refused, refused_rest, rest_by_ending, stands_behind, verdict, with_rest}
+use Rattle.record_lines.specs.Stands.{Accepts, IsOpen, Refuses, StandsBy, TakesByte, TakesLine, Tells}
 use Rattle.record_lines.specs.declared.line.Line.{Line}
 use Rattle.record_lines.specs.declared.line.Line.TheVariants.{Tick, Event, Order, End}
 use Rattle.record_lines.specs.declared.step.Step.{Step}
 use Rattle.record_lines.specs.declared.step.Step.TheVariants.{Need, Line as LineStep, Refused as RefusedStep}
 use Rattle.record_lines.specs.declared.over.Over.{Over}
-use Rattle.record_lines.specs.declared.over.Over.TheVariants.{Ended, Refused}
+use Rattle.record_lines.specs.declared.over.Over.TheVariants.{Refused}
 use Rattle.record_lines.specs.declared.reader.LineReader.{LineReader}
 use Rattle.record_lines.specs.declared.standing.Standing.{Standing}
 use Rattle.record_lines.specs.declared.why.Why.{Why}
@@ -85,7 +85,7 @@ told_refused : (site : Site) (bytes : List ℕ) (byte : ℕ) (why : Why) (old re
     reading_of site (bytes ++ byte ∷ []) ≡ refused (lines_read site (cut bytes).whole) why → IsOpen site bytes old → Refuses old why reader step → TakesByte site bytes byte reader step
 told_refused site bytes byte why old reader step is waiting refuses =
     let ending : (reading_of site (bytes ++ byte ∷ [])).ending ≡ Some (Refused (record { line = old.number; why = why })) =
-        ap (λ r. r.ending) is ∙ sym (ap (λ n. Some (Refused (record { line = n; why = why }))) waiting.counts) in
+    ap (λ r. r.ending) is ∙ sym (ap (λ n. Some (Refused (record { line = n; why = why }))) waiting.counts) in
     record {
       stands = subst (λ o. StandsBy site (bytes ++ byte ∷ []) reader o) (sym refuses.over) ending;
       tells = subst (λ s. Tells (reading_of site bytes) (reading_of site (bytes ++ byte ∷ [])) s) (sym refuses.told) (

@@ -2,7 +2,7 @@
 use Rattle.std.proofs.Common.{◌≡◌, ◌<◌, ◌≤◌, ◌+◌, ◌-◌, ◌++◌, ◌&&◌, ◌∙◌, ℕ, zero, suc, Bool, true, false, List, [], ◌∷◌, refl, sym, ap, length, get_or, take, drop, append_assoc, arith}
 use Rattle.std.specs.Prelude.{◌==◌, if◌then◌else◌}
 use Rattle.std.proofs.lemmas.List.{append-nil}
-use Rattle.std.proofs.lemmas.Bool.{eqb-true, eq-eqb, ne_eqb}
+use Rattle.std.proofs.lemmas.Bool.{eq-eqb, ne_eqb}
 use Rattle.tick_units.specs.declared.seat.Seat.{Seat}
 use Rattle.record_lines.specs.Fields.{before_space, after_space, field, each_field}
 use Rattle.record_lines.specs.Seats.{seat_of, seats_of}

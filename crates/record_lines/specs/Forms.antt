@@ -2,7 +2,6 @@
 use Rattle.std.specs.Prelude.{◌==◌, ◌&&◌, ◌||◌, ℕ, Bool, false, nat_le, List, [], ◌∷◌, codes, bytes_eq, Option, Some, None, option_map, is_some, if◌then◌else◌}
 use Rattle.std.specs.Option.{option_and_then}
 use Rattle.site_types.specs.Names.{is_code}
-use Rattle.site_types.specs.declared.operation.Operation.{Operation}
 use Rattle.site_types.specs.declared.operation.Operation.TheVariants.{Mute, Override, Silence, Resound, Reset, Delays, Clear}
 use Rattle.record_lines.specs.Fields.{field, field_count, space_count, after_space, each_field}
 use Rattle.record_lines.specs.Words.{point_state_of, piece_state_of, supply_kind_of, is_bad_of, is_up_of, is_on_of, kind_of, task_of}

@@ -1,5 +1,5 @@
 -- What a line says where a record stands so, or the first of the refusals that applies to it.
-use Rattle.std.specs.Prelude.{◌==◌, ◌+◌, ◌&&◌, ◌||◌, ℕ, Bool, true, false, not, nat_le, nat_lt, List, [], ◌∷◌, Option, Some, None, Result, Ok, Err, if◌then◌else◌}
+use Rattle.std.specs.Prelude.{◌==◌, ◌+◌, ℕ, Bool, true, nat_le, nat_lt, List, Option, Some, None, Result, Ok, Err, if◌then◌else◌}
 use Rattle.site_types.specs.Events.{has_event}
 use Rattle.site_types.specs.Numbers.{number_of}
 use Rattle.site_types.specs.declared.site.Site.{Site}

@@ -1,5 +1,5 @@
 -- What a reader stands for, and what it answers to a piece.
-use Rattle.std.specs.Prelude.{◌≡◌, ◌≢◌, ◌+◌, ◌<◌, ◌++◌, ℕ, Bool, true, false, List, [], ◌∷◌, take, length, Option, Some, None, Result, Ok, Err}
+use Rattle.std.specs.Prelude.{◌≡◌, ◌+◌, ◌<◌, ◌++◌, ℕ, List, [], ◌∷◌, take, length, Option, Some, None, Ok, Err}
 use Rattle.site_types.specs.declared.site.Site.{Site}
 use Rattle.record_lines.specs.Judged.{judged, line_view}
 use Rattle.record_lines.specs.Lines.{Reading, byte_refusal, cut, ends_with, lines_read, next_number, reading_of, stands_behind}
@@ -11,7 +11,6 @@ use Rattle.record_lines.specs.declared.step.Step.TheVariants.{Need, Line as Line
 use Rattle.record_lines.specs.declared.over.Over.{Over}
 use Rattle.record_lines.specs.declared.over.Over.TheVariants.{Ended, Refused}
 use Rattle.record_lines.specs.declared.reader.LineReader.{LineReader}
-use Rattle.record_lines.specs.declared.refusal.Refusal.{Refusal}
 use Rattle.record_lines.specs.declared.why.Why.{Why}
 
 -- the reader waits for more: it keeps what has come of the next line

@@ -1,0 +1,72 @@
+use crate::form_words::form;
+use crate::order_lines::read_order;
+use crate::{LineReader, Refusal, Why};
+
+#[test]
+fn knows_the_rows_by_their_words(rt: HostRuntime) {
+    let table = [
+        (b"tick 1".as_slice(), true),
+        (b"point d9 alarm", true),
+        (b"cable 1 1 10 short", true),
+        (b"supply 1 mains bad", true),
+        (b"link 7 down", true),
+        (b"routing brigade confirmed", true),
+        (b"op 1 - mute", true),
+        (b"op 1 1234 delays off", true),
+        (b"op 1 1234 cancel hall", true),
+        (b"op 1 1234 disable point d9", true),
+        (b"order p1 d1 s1 o1 h1 l1 e1 r1 k", true),
+        (b"order pp1", true),
+        (b"end", true),
+        (b"", false),
+        (b"tick", false),
+        (b"tick 1 ", false),
+        (b"point d9 loud", false),
+        (b"cable 1 1 10", false),
+        (b"op 1 A mute", false),
+        (b"op 1 1234 disable marker east", false),
+        (b"order", false),
+        (b"order k1", false),
+        (b"End", false),
+    ];
+    for (text, known) in table {
+        let found = text.len() <= 512 && form(text).is_some();
+        assert_eq!(rt; found, known, "at {text:?}");
+    }
+}
+
+#[test]
+fn tells_the_place_of_a_bad_seat(rt: HostRuntime) {
+    let table = [
+        (b"order p1 d1 s1 o1 h1 l1 e1 r1 k".as_slice(), None),
+        (b"order k r1 e1 l1 h1 o1 s1 d1 p1", None),
+        (b"order p1 d1 p2", Some(3)),
+        (b"order p0", Some(1)),
+        (b"order p1 d1 p1", Some(3)),
+        (b"order p1 d1", Some(3)),
+    ];
+    for (text, place) in table {
+        let found = if text.len() <= 512 {
+            match read_order(1, text) {
+                Ok(_) => None,
+                Err(why) => Some(why),
+            }
+        } else {
+            None
+        };
+        let expected = match place {
+            Some(place) => Some(Why::BadOrder { place }),
+            None => None,
+        };
+        assert_eq!(rt; found, expected, "at {text:?}");
+    }
+}
+
+#[test]
+fn an_empty_record_ends_too_early(rt: HostRuntime) {
+    let expected = Refusal {
+        line: 1,
+        why: Why::Truncated,
+    };
+    assert_eq!(rt; LineReader::new().finish(), expected);
+}
