@@ -1,8 +1,10 @@
+pub mod Belongs
 pub mod Events
 pub mod Fields
 pub mod Forms
 pub mod Judged
 pub mod Lines
+pub mod Printed
 pub mod Seats
 pub mod Stands
 pub mod Words

@@ -1,6 +1,8 @@
 //! One line, judged by the first row of the refusals that applies.
 
-ghost use Rattle.std.specs.Prelude.{◌≡◌, ◌<◌, ◌≤◌, MatchResult, length, ◌^◌};
+ghost use Rattle.std.specs.Prelude.{◌≡◌, ◌≤◌, IfOk, MatchResult, length};
+ghost use Rattle.record_lines.specs.Belongs.{Belongs};
+ghost use Rattle.site_types.specs.declared.site.Site.{Site as SiteOf};
 ghost use Rattle.record_lines.specs.Judged.{content_of, event_line, judged, line_view, may_stand, order_line, tick_line};
 ghost use Rattle.site_types.specs.Valid.{IsValid};
 
@@ -20,7 +22,8 @@ use tick_units::{LAST_TICK, Tick};
 pub fn judge(site: &Site, standing: &Standing, text: &[u8]) -> Result<Line, Why>
     requires valid { IsValid site.now }
     requires short { length text.now ≤ 512 }
-    ensures { MatchResult result (λ line. judged site.now standing.now text.now ≡ Ok (line_view line)) (λ why. judged site.now standing.now text.now ≡ Err why) }
+    ensures answer { MatchResult result (λ line. judged site.now standing.now text.now ≡ Ok (line_view line)) (λ why. judged site.now standing.now text.now ≡ Err why) }
+    ensures belongs { IfOk result (λ line. Belongs site.now line) }
 {
     let form = match form(text) {
         Some(form) => form,
@@ -48,7 +51,8 @@ fn may_come(standing: &Standing, form: Form) -> bool
 fn content(site: &Site, standing: &Standing, form: Form, text: &[u8]) -> Result<Line, Why>
     requires valid { IsValid site.now }
     requires short { length text.now ≤ 512 }
-    ensures { MatchResult result (λ line. content_of site.now standing.now form text.now ≡ Ok (line_view line)) (λ why. content_of site.now standing.now form text.now ≡ Err why) }
+    ensures answer { MatchResult result (λ line. content_of site.now standing.now form text.now ≡ Ok (line_view line)) (λ why. content_of site.now standing.now form text.now ≡ Err why) }
+    ensures belongs { IfOk result (λ line. Belongs site.now line) }
 {
     match form {
         Form::Tick => tick(standing, text),
@@ -59,7 +63,8 @@ fn content(site: &Site, standing: &Standing, form: Form, text: &[u8]) -> Result<
 }
 
 fn tick(standing: &Standing, text: &[u8]) -> Result<Line, Why>
-    ensures { result ≡ tick_line standing.now text.now }
+    ensures answer { result ≡ tick_line standing.now text.now }
+    ensures belongs { (site : SiteOf) → IfOk result (λ line. Belongs site line) }
 {
     let found = match read_number(field(text, 1)) {
         Some(found) => found,
@@ -79,7 +84,8 @@ fn tick(standing: &Standing, text: &[u8]) -> Result<Line, Why>
 fn order(site: &Site, standing: &Standing, text: &[u8]) -> Result<Line, Why>
     requires valid { IsValid site.now }
     requires short { length text.now ≤ 512 }
-    ensures { result ≡ order_line site.now standing.now text.now }
+    ensures answer { result ≡ order_line site.now standing.now text.now }
+    ensures belongs { IfOk result (λ line. Belongs site.now line) }
 {
     if standing.has_order {
         return Err(Why::BadOrder { place: 0 });
@@ -92,7 +98,8 @@ fn order(site: &Site, standing: &Standing, text: &[u8]) -> Result<Line, Why>
 
 fn event(site: &Site, form: Form, text: &[u8]) -> Result<Line, Why>
     requires { IsValid site.now }
-    ensures { MatchResult result (λ line. event_line site.now form text.now ≡ Ok (line_view line)) (λ why. event_line site.now form text.now ≡ Err why) }
+    ensures answer { MatchResult result (λ line. event_line site.now form text.now ≡ Ok (line_view line)) (λ why. event_line site.now form text.now ≡ Err why) }
+    ensures belongs { IfOk result (λ line. Belongs site.now line) }
 {
     match read_event(site, form, text) {
         Some(event) => {

@@ -23,6 +23,8 @@ mod line;
 mod number_fields;
 mod order_lines;
 mod over;
+mod print;
+mod print_words;
 mod reader;
 mod refusal;
 mod standing;
@@ -34,6 +36,7 @@ mod words;
 
 pub use fed::Fed;
 pub use line::Line;
+pub use print::print_line;
 pub use reader::LineReader;
 pub use refusal::Refusal;
 pub use step::Step;

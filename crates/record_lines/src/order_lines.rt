@@ -1,11 +1,11 @@
 //! The line that gives a tick its order.
 
-ghost use Rattle.std.specs.Prelude.{◌≡◌, ◌≤◌, MatchResult, length};
+ghost use Rattle.std.specs.Prelude.{◌≡◌, ◌≤◌, IfOk, length};
 ghost use Rattle.record_lines.specs.Fields.{after_space as behind_space, each_field, space_count as spaces_in};
 ghost use Rattle.record_lines.specs.Forms.{is_seat as is_seat_field};
 ghost use Rattle.site_types.specs.Numbers.{number_of};
 ghost use Rattle.record_lines.specs.Seats.{is_numbered as is_numbered_seat, order_of, panel_of as panel_number, place_of, seat_of as seat_in, seats_of};
-ghost use Rattle.tick_units.specs.Orders.{IsPanelCount};
+ghost use Rattle.tick_units.specs.Orders.{IsOrder, IsPanelCount};
 
 use crate::fields::{after_space, before_space, space_count};
 use crate::why::Why;
@@ -48,7 +48,8 @@ pub fn are_numbered(text: &[u8]) -> bool
 pub fn read_order(panels: u8, text: &[u8]) -> Result<Order, Why>
     requires panels { IsPanelCount panels }
     requires short { length text.now ≤ 512 }
-    ensures { result ≡ order_of panels (seats_of (spaces_in text.now) (behind_space text.now)) }
+    ensures answer { result ≡ order_of panels (seats_of (spaces_in text.now) (behind_space text.now)) }
+    ensures order { IfOk result (λ order. IsOrder panels order) }
 {
     let seats = read_seats(text);
     match Order::new(&seats, panels) {

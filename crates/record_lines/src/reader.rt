@@ -1,6 +1,7 @@
 //! Reading a record that comes in pieces.
 
 ghost use Rattle.std.specs.Prelude.{◌≡◌, [], ℕ, List, None};
+ghost use Rattle.record_lines.specs.Belongs.{StepBelongs};
 ghost use Rattle.record_lines.specs.Lines.{is_printable as is_printable_byte, reading_of};
 ghost use Rattle.record_lines.specs.Stands.{Accepts, Feeds, IsOpen, OnNeed, Refuses, StandsFor, TakesByte, TakesLine, over_step};
 ghost use Rattle.site_types.specs.Valid.{IsValid};
@@ -48,7 +49,10 @@ impl LineReader {
     /// the line `end` or a refusal the answer is the same for every piece, and none of its bytes is used.
     pub fn feed(&mut self, site: &Site, piece: &[u8]) -> Fed
         requires { IsValid site.now }
-        ensures { (before : List ℕ) → StandsFor site.now before self.old → Feeds site.now before piece.now result self.new }
+        ensures feeds { (before : List ℕ) → StandsFor site.now before self.old → Feeds site.now before piece.now result self.new }
+
+        // A tick, an event and an order are the site's.
+        ensures belongs { StepBelongs site.now result.step }
     {
         if let Some(over) = self.over {
             return Fed {
@@ -93,6 +97,7 @@ impl LineReader {
         requires valid { IsValid site.now }
         requires open { self.old.over ≡ None }
         ensures need { OnNeed result (self.new.over ≡ None) }
+        ensures belongs { StepBelongs site.now result }
         ensures takes { (before : List ℕ) → IsOpen site.now before self.old → TakesByte site.now before byte self.new result }
     {
         if byte == b'\n' {
@@ -109,7 +114,8 @@ impl LineReader {
 
     fn take_line(&mut self, site: &Site) -> Step
         requires { IsValid site.now }
-        ensures { TakesLine site.now self.old self.new result }
+        ensures takes { TakesLine site.now self.old self.new result }
+        ensures belongs { StepBelongs site.now result }
     {
         match judge(site, &self.standing, &self.text) {
             Ok(line) => {
@@ -140,7 +146,8 @@ impl LineReader {
     }
 
     fn refuse(&mut self, why: Why) -> Step
-        ensures { Refuses self.old why self.new result }
+        ensures refuses { Refuses self.old why self.new result }
+        ensures belongs { (site : SiteOf) → StepBelongs site result }
     {
         let refusal = Refusal {
             line: self.number,
@@ -153,7 +160,8 @@ impl LineReader {
 
 // The answer of a reader that is over.
 fn again(over: Over) -> Step
-    ensures { result ≡ over_step over }
+    ensures step { result ≡ over_step over }
+    ensures belongs { (site : SiteOf) → StepBelongs site result }
 {
     match over {
         Over::Ended => Step::Line(Line::End),

@@ -5,20 +5,20 @@ use Rattle.record_lines.proofs.reader.LineReader.take_byte.Goals as goal
 
 pub returns-then-byte-eq10-clause-takes : goal.returns-then-byte-eq10-clause-takes
 returns-then-byte-eq10-clause-takes c before waiting =
-    line_taken c.args.site.now before c.args.byte c.args.self.now c.take_line.new.self c.take_line.result (eq-eqb c.args.byte 10 c.if-byte-eq10.true) c.requires.open c.take_line.ensures waiting
+    line_taken c.args.site.now before c.args.byte c.args.self.now c.take_line.new.self c.take_line.result (eq-eqb c.args.byte 10 c.if-byte-eq10.true) c.requires.open c.take_line.ensures.takes waiting
 
 pub returns-then-is_full-clause-takes : goal.returns-then-is_full-clause-takes
 returns-then-is_full-clause-takes c before waiting =
     let full = eqb-true (length c.args.self.now.text.items) 512 (sym c.if-is_full.ensures.value) in
     let many : 512 ≤ length c.args.self.now.text.items = omega (arith, full) in
-    too_long c.args.site.now before c.args.byte c.args.self.now c.refuse.new.self c.refuse.result (ne_eqb c.args.byte 10 c.if-byte-eq10.false) many c.refuse.ensures waiting
+    too_long c.args.site.now before c.args.byte c.args.self.now c.refuse.new.self c.refuse.result (ne_eqb c.args.byte 10 c.if-byte-eq10.false) many c.refuse.ensures.refuses waiting
 
 pub returns-then-not-is_printable-clause-takes : goal.returns-then-not-is_printable-clause-takes
 returns-then-not-is_printable-clause-takes c before waiting =
     let room = eqb-false (length c.args.self.now.text.items) 512 (sym c.if-is_full.ensures.value) in
     let few : length c.args.self.now.text.items < 512 = omega (arith, room, c.if-is_full.ensures.fits) in
     not_ascii c.args.site.now before c.args.byte c.args.self.now c.refuse-then-not-is_printable.new.self c.refuse-then-not-is_printable.result (ne_eqb c.args.byte 10 c.if-byte-eq10.false) few
-    (sym c.if-not-is_printable.ensures) c.refuse-then-not-is_printable.ensures waiting
+    (sym c.if-not-is_printable.ensures) c.refuse-then-not-is_printable.ensures.refuses waiting
 
 pub returns-else-not-is_printable-clause-takes : goal.returns-else-not-is_printable-clause-takes
 returns-else-not-is_printable-clause-takes c before waiting =
