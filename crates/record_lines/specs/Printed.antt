@@ -1,5 +1,5 @@
 -- The text of a line.
-use Rattle.std.specs.Prelude.{◌++◌, ◌+◌, ℕ, Bool, true, false, List, [], ◌∷◌, map, codes, decimal, slice_get, Option, Some, None}
+use Rattle.std.specs.Prelude.{◌++◌, ℕ, Bool, true, false, List, [], ◌∷◌, map, codes, decimal, Option, Some, None}
 use Rattle.site_types.specs.Things.{name_at}
 use Rattle.site_types.specs.declared.site.Site.{Site}
 use Rattle.site_types.specs.declared.event.Event.{Event}

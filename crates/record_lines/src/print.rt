@@ -13,7 +13,7 @@ use itoa::Buffer;
 use site_types::{Event, Item, Label, Operation, Site};
 use tick_units::{Order, Seat, Task};
 
-/// Writes the text of a line, without its line end.
+/// Writes the text of a line, without its line end. A name that the site hasn't is written as nothing.
 pub fn print_line(site: &Site, line: &Line, out: &mut ArrayVec<u8, 512>)
     requires { out.old.items ≡ [] }
     ensures { out.new.items ≡ line_text site.now line.now }

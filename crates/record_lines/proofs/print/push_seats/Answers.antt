@@ -1,4 +1,4 @@
-use Rattle.std.proofs.Common.{◌≡◌, ◌++◌, ◌∷◌, ◌∙◌, ◌<◌, length, sym, ap, get_or, arith}
+use Rattle.std.proofs.Common.{◌++◌, ◌∷◌, ◌∙◌, ◌<◌, length, sym, ap, arith}
 use Rattle.std.proofs.lemmas.Option.{get_or_from_slice_get}
 use Rattle.record_lines.specs.Printed.{seat_text}
 use Rattle.record_lines.proofs.Printing.{joined_more}
