@@ -6,9 +6,13 @@
 #![tactic(auto)]
 
 #[cfg(test)]
+mod key_tests;
+#[cfg(test)]
 mod level_tests;
 #[cfg(test)]
 mod reading_tests;
+#[cfg(test)]
+mod refusals;
 #[cfg(test)]
 mod site_tests;
 #[cfg(test)]
