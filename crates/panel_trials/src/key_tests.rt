@@ -354,7 +354,8 @@ fn each_key_is_needed_of_its_kind_and_in_its_range(rt: HostRuntime) -> Result<()
 fn filled_to(alloc: Global, bytes: usize) -> Result<String, Fail> {
     let mut text = String::from_str(alloc, EVERY_KEY)?;
     text.push_str("#")?;
-    while text.len() < bytes {
+    let missing = bytes.saturating_sub(text.len());
+    for _ in 0..missing {
         text.push_str("x")?;
     }
     Ok(text)
