@@ -1,6 +1,14 @@
 pub mod Cuts
+pub mod Joins
 pub mod Openings
 pub mod Pieces
+pub mod Plain
+pub mod PointLines
+pub mod PrintedNames
+pub mod PrintedWords
 pub mod Printing
 pub mod Refusals
+pub mod Rows
 pub mod Spaces
+pub mod TickLines
+pub mod Verdicts

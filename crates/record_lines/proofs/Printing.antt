@@ -28,7 +28,7 @@ abbrev pub all_clear : List (List ℕ) → Bool
 all_clear [] = true
 all_clear (first ∷ fields) = is_clear first && all_clear fields
 
-both : (a b : Bool) → (a && b) ≡ true → (a ≡ true) × (b ≡ true)
+pub both : (a b : Bool) → (a && b) ≡ true → (a ≡ true) × (b ≡ true)
 both true true is = (refl, refl)
 both true false is = cc
 both false b is = cc
@@ -63,7 +63,7 @@ after_word (byte ∷ word) first fields clear =
     let p = both (not (byte == 32)) (is_clear word) clear in
     after_byte (byte == 32) (word ++ spaced (first ∷ fields)) (after_space (word ++ spaced (first ∷ fields))) (first ++ spaced fields) p.0 (after_word word first fields p.1)
 
-after_last : (word : List ℕ) → is_clear word ≡ true → after_space (word ++ []) ≡ []
+pub after_last : (word : List ℕ) → is_clear word ≡ true → after_space (word ++ []) ≡ []
 after_last [] clear = refl
 after_last (byte ∷ word) clear =
     let p = both (not (byte == 32)) (is_clear word) clear in

@@ -5,6 +5,7 @@ pub mod Forms
 pub mod Judged
 pub mod Lines
 pub mod Printed
+pub mod ReadBack
 pub mod Seats
 pub mod Stands
 pub mod Words

@@ -1,0 +1,64 @@
+-- When a line is judged to be one, step by step.
+use Rattle.std.proofs.Common.{◌≡◌, ◌∙◌, ◌<◌, ◌≤◌, ◌^◌, ℕ, Bool, true, false, List, [], ◌∷◌, Option, Some, None, Ok, Err, is_some, refl, sym, ap, arith}
+use Rattle.std.specs.Prelude.{◌==◌, nat_lt, decimal, Result, if◌then◌else◌}
+use Rattle.std.specs.Option.{option_and_then}
+use Rattle.std.proofs.lemmas.Bool.{cond-true, eq-eqb, lt-ltb}
+use Rattle.site_types.specs.Events.{has_event}
+use Rattle.site_types.specs.Numbers.{number_of}
+use Rattle.site_types.specs.declared.site.Site.{Site}
+use Rattle.site_types.specs.declared.event.Event.{Event}
+use Rattle.site_types.proofs.Spelling.{number_of-decimal}
+use Rattle.record_lines.specs.Events.{event_of, has_numbers, is_number, octet_of}
+use Rattle.record_lines.specs.Forms.{form_of}
+use Rattle.record_lines.specs.Judged.{content_of, event_in, event_line, judged, judged_as, line_view, may_stand}
+use Rattle.record_lines.specs.declared.form.Form.{Form}
+use Rattle.record_lines.specs.declared.line.Line.{Line}
+use Rattle.record_lines.specs.declared.line.Line.TheVariants.{Event as EventLine}
+use Rattle.record_lines.specs.declared.standing.Standing.{Standing}
+use Rattle.record_lines.specs.declared.why.Why.{Why}
+use Rattle.record_lines.specs.declared.why.Why.TheVariants.{BadNumber, BeforeFirstTick, NoSuch}
+use Rattle.record_lines.proofs.Joins.{IsLineText}
+
+-- a line whose row, turn, numbers and content are right
+pub judged_from : (site : Site) (standing : Standing) (text : List ℕ) (form : Form) (line : Line) → form_of text ≡ Some form → may_stand standing form ≡ true → has_numbers form text ≡ true →
+    content_of site standing form text ≡ Ok line → judged site standing text ≡ Ok line
+judged_from site standing text form line row due numbers content =
+    let numbered = if has_numbers form text then content_of site standing form text else Err BadNumber in
+    ap (judged_as site standing text) row ∙ cond-true (may_stand standing form) numbered (Err BeforeFirstTick) due
+    ∙ cond-true (has_numbers form text) (content_of site standing form text) (Err BadNumber) numbers ∙ content
+
+-- an event that the site has
+pub event_from : (site : Site) (form : Form) (text : List ℕ) (event : Event) → event_of site form text ≡ Some event → has_event site event ≡ true → event_line site form text ≡ Ok (EventLine event)
+event_from site form text event is has = ap (event_in site) is ∙ cond-true (has_event site event) (Ok (EventLine event)) (Err NoSuch) has
+
+-- ---- numbers
+
+pub number_back : (field : List ℕ) (n : ℕ) → field ≡ decimal n → n < 2 ^ 64 → number_of field ≡ Some n
+number_back field n is small = ap number_of is ∙ number_of-decimal n small
+
+pub number_there : (field : List ℕ) (n : ℕ) → field ≡ decimal n → n < 2 ^ 64 → is_number field ≡ true
+number_there field n is small = ap is_some (number_back field n is small)
+
+pub octet_back : (field : List ℕ) (n : ℕ) → field ≡ decimal n → n < 256 → octet_of field ≡ Some n
+octet_back field n is small =
+    ap (option_and_then (λ number. if nat_lt number 256 then Some number else None)) (number_back field n is (omega (arith, small)))
+    ∙ cond-true (nat_lt n 256) (Some n) None (lt-ltb n 256 small)
+
+-- ---- rows
+
+-- so many fields
+pub counted : {A : Type 0} (n k : ℕ) (x y : A) → n ≡ k → (if n == k then x else y) ≡ x
+counted n k x y is = cond-true (n == k) x y (eq-eqb n k is)
+
+pub passed : {A : Type 0} (test : Bool) (x y : A) → test ≡ true → (if test then x else y) ≡ x
+passed test x y is = cond-true test x y is
+
+-- ---- what is to be shown of each line
+
+pub record IsTextOf (site : Site) (standing : Standing) (line : Line) (text : List ℕ) : Type 0 where
+  pub bytes : IsLineText text
+  pub says : judged site standing text ≡ Ok (line_view line)
+
+-- a tick has begun
+pub begun : (standing : Standing) → 1 ≤ standing.ticks → nat_lt 0 standing.ticks ≡ true
+begun standing due = lt-ltb 0 standing.ticks (omega (arith, due))

@@ -1,0 +1,56 @@
+-- Where a line may come, and what its text is read as there.
+use Rattle.std.specs.Prelude.{◌≡◌, ◌+◌, ◌++◌, ◌≤◌, ℕ, false, List, [], ◌∷◌, Option, Some, None, IsTrue}
+use Rattle.arrayvec.specs.ArrayString.{ArrayString}
+use Rattle.site_types.specs.Names.{is_code}
+use Rattle.site_types.specs.declared.site.Site.{Site}
+use Rattle.site_types.specs.declared.event.Event.{Event}
+use Rattle.site_types.specs.declared.event.Event.TheVariants.{Point, Cable, Supply, Link, Confirmed, Op}
+use Rattle.record_lines.specs.Belongs.{Belongs}
+use Rattle.record_lines.specs.Judged.{line_view}
+use Rattle.record_lines.specs.Lines.{accepted, cut, reading_of}
+use Rattle.record_lines.specs.declared.line.Line.{Line}
+use Rattle.record_lines.specs.declared.line.Line.TheVariants.{Tick, Event as EventLine, Order, End}
+use Rattle.record_lines.specs.declared.standing.Standing.{Standing}
+
+-- the record stands at the beginning of a line, and neither its end nor a refusal has come
+pub record IsBetweenLines (site : Site) (before : List ℕ) : Type 0 where
+  pub going : (reading_of site before).ending ≡ None
+  pub fresh : (cut before).rest ≡ []
+
+-- a code, if there is one, is of a code's form
+abbrev pub IsCode : Option ArrayString → Type 0
+IsCode None = Unit {0}
+IsCode (Some code) = IsTrue (is_code code.bytes)
+
+abbrev pub HasCode : Event → Type 0
+HasCode (Op panel code operation) = IsCode code
+HasCode (Point point state) = Unit {0}
+HasCode (Cable panel line piece state) = Unit {0}
+HasCode (Supply panel kind bad) = Unit {0}
+HasCode (Link link up) = Unit {0}
+HasCode (Confirmed output) = Unit {0}
+
+-- the code of a line can be spelled
+abbrev pub HasSpelling : Line → Type 0
+HasSpelling (EventLine event) = HasCode event
+HasSpelling (Tick tick) = Unit {0}
+HasSpelling (Order order) = Unit {0}
+HasSpelling End = Unit {0}
+
+-- where a record stands so, this line's turn has come: a tick follows the one before, an event and an order come in a tick, a tick has at most one order
+abbrev pub IsDue : Standing → Line → Type 0
+IsDue standing (Tick tick) = tick.0 ≡ standing.ticks + 1
+IsDue standing (EventLine event) = 1 ≤ standing.ticks
+IsDue standing (Order order) = (1 ≤ standing.ticks) × (standing.has_order ≡ false)
+IsDue standing End = Unit {0}
+
+-- the line may come where a record of the site stands so
+pub record MayCome (site : Site) (standing : Standing) (line : Line) : Type 0 where
+  pub belongs : Belongs site line
+  pub spelled : HasSpelling line
+  pub due : IsDue standing line
+
+-- wherever the line may come, a text with a line end behind it is read as that line
+abbrev pub IsReadAs : Site → Line → List ℕ → Type 0
+IsReadAs site line text = (before : List ℕ) → IsBetweenLines site before → MayCome site (reading_of site before).standing line →
+    reading_of site (before ++ text ++ 10 ∷ []) ≡ accepted (reading_of site before) (line_view line)
