@@ -1,6 +1,9 @@
+pub mod CableLines
 pub mod Cuts
 pub mod Joins
 pub mod Openings
+pub mod OpLines
+pub mod OrderLines
 pub mod Pieces
 pub mod Plain
 pub mod PointLines
@@ -10,5 +13,6 @@ pub mod Printing
 pub mod Refusals
 pub mod Rows
 pub mod Spaces
+pub mod SupplyLines
 pub mod TickLines
 pub mod Verdicts

@@ -85,3 +85,6 @@ decimal_plain n small = digits_plain (decimal n) (number_parts (decimal n) n (nu
 pub number_fit : (n : ℕ) → n < 2 ^ 64 → is_fit 20 (decimal n) ≡ true
 number_fit n small =
     and_from (list_all is_plain (decimal n)) (nat_le (length (decimal n)) 20) (decimal_plain n small) (le-leb (length (decimal n)) 20 (length-decimal-le 20 n (omega arith) (omega (arith, small)) small))
+
+pub octet_small : (n : ℕ) → n < 256 → n < 2 ^ 64
+octet_small n below = omega (arith, below)

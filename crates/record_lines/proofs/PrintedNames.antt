@@ -30,7 +30,7 @@ named_from site valid thing name has form =
     }
 
 -- an element that is there has what holds of all
-at_place : {X : Type 0} (P : X → Type 0) (xs : List X) (place : ℕ) (x : X) → All P xs → slice_get xs place ≡ Some x → P x
+pub at_place : {X : Type 0} (P : X → Type 0) (xs : List X) (place : ℕ) (x : X) → All P xs → slice_get xs place ≡ Some x → P x
 at_place P xs place x all at = subst P (get_or_from_slice_get xs place x x at) (all place x (slice_get_within xs place x at))
 
 pub point_named : (site : Site) → IsValid site → (place : ℕ) (point : PointOf) → slice_get site.points place ≡ Some point → IsNamed site (PointThing place)
