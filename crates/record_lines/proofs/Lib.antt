@@ -7,9 +7,11 @@ pub mod OrderLines
 pub mod Pieces
 pub mod Plain
 pub mod PointLines
+pub mod PrintedLines
 pub mod PrintedNames
 pub mod PrintedWords
 pub mod Printing
+pub mod ReadBack
 pub mod Refusals
 pub mod Rows
 pub mod Spaces

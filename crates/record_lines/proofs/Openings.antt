@@ -27,12 +27,12 @@ open_is site bytes reader waiting =
     ap (rest_by_ending (lines_read site (cut bytes).whole) (cut bytes).rest) waiting.going ∙ ap (refused_rest (lines_read site (cut bytes).whole)) waiting.fine
 
 -- one whole line more
-read_more : (site : Site) (whole : List (List ℕ)) (text : List ℕ) → (lines_read site whole).ending ≡ None → byte_refusal text ≡ None →
+pub read_more : (site : Site) (whole : List (List ℕ)) (text : List ℕ) → (lines_read site whole).ending ≡ None → byte_refusal text ≡ None →
     lines_read site (whole ++ text ∷ []) ≡ verdict (lines_read site whole) (judged site (lines_read site whole).standing text)
 read_more site whole text going fine =
     fold_push (next_line site) at_start whole text ∙ ap (by_ending site (lines_read site whole) text) going ∙ ap (by_bytes site (lines_read site whole) text) fine
 
-no_rest : (reading : Reading) (ending : Option Over) → rest_by_ending reading [] ending ≡ reading
+pub no_rest : (reading : Reading) (ending : Option Over) → rest_by_ending reading [] ending ≡ reading
 no_rest reading None = refl
 no_rest reading (Some over) = refl
 
@@ -48,7 +48,7 @@ rest_behind : (bytes : List ℕ) (byte : ℕ) → (byte == 10) ≡ true → (cut
 rest_behind bytes byte is = ap (λ c. c.rest) (cut_end bytes byte is)
 
 -- and what was read behind it
-reading_behind : (site : Site) (bytes : List ℕ) (byte : ℕ) → (byte == 10) ≡ true → reading_of site (bytes ++ byte ∷ []) ≡ lines_read site (cut (bytes ++ byte ∷ [])).whole
+pub reading_behind : (site : Site) (bytes : List ℕ) (byte : ℕ) → (byte == 10) ≡ true → reading_of site (bytes ++ byte ∷ []) ≡ lines_read site (cut (bytes ++ byte ∷ [])).whole
 reading_behind site bytes byte is =
     let reading = lines_read site (cut (bytes ++ byte ∷ [])).whole in
     ap (λ t. rest_by_ending reading t reading.ending) (rest_behind bytes byte is) ∙ no_rest reading reading.ending

@@ -1,5 +1,5 @@
 -- Where a line may come, and what its text is read as there.
-use Rattle.std.specs.Prelude.{◌≡◌, ◌+◌, ◌++◌, ◌≤◌, ℕ, false, List, [], ◌∷◌, Option, Some, None, IsTrue}
+use Rattle.std.specs.Prelude.{◌≡◌, ◌+◌, ◌++◌, ◌≤◌, ℕ, false, List, [], ◌∷◌, length, Option, Some, None, IsTrue}
 use Rattle.arrayvec.specs.ArrayString.{ArrayString}
 use Rattle.site_types.specs.Names.{is_code}
 use Rattle.site_types.specs.declared.site.Site.{Site}
@@ -8,6 +8,11 @@ use Rattle.site_types.specs.declared.event.Event.TheVariants.{Point, Cable, Supp
 use Rattle.record_lines.specs.Belongs.{Belongs}
 use Rattle.record_lines.specs.Judged.{line_view}
 use Rattle.record_lines.specs.Lines.{accepted, cut, reading_of}
+use Rattle.record_lines.specs.Stands.{Feeds}
+use Rattle.record_lines.specs.declared.fed.Fed.{Fed}
+use Rattle.record_lines.specs.declared.reader.LineReader.{LineReader}
+use Rattle.record_lines.specs.declared.step.Step.{Step}
+use Rattle.record_lines.specs.declared.step.Step.TheVariants.{Need, Line as LineStep, Refused as RefusedStep}
 use Rattle.record_lines.specs.declared.line.Line.{Line}
 use Rattle.record_lines.specs.declared.line.Line.TheVariants.{Tick, Event as EventLine, Order, End}
 use Rattle.record_lines.specs.declared.standing.Standing.{Standing}
@@ -50,7 +55,17 @@ pub record MayCome (site : Site) (standing : Standing) (line : Line) : Type 0 wh
   pub spelled : HasSpelling line
   pub due : IsDue standing line
 
--- wherever the line may come, a text with a line end behind it is read as that line
-abbrev pub IsReadAs : Site → Line → List ℕ → Type 0
-IsReadAs site line text = (before : List ℕ) → IsBetweenLines site before → MayCome site (reading_of site before).standing line →
-    reading_of site (before ++ text ++ 10 ∷ []) ≡ accepted (reading_of site before) (line_view line)
+-- the answer is the line
+abbrev pub IsAnswer : Line → Step → Type 0
+IsAnswer line Need = ⊥
+IsAnswer line (LineStep read) = line_view read ≡ line_view line
+IsAnswer line (RefusedStep refusal) = ⊥
+
+-- behind these bytes the text and a line end are read as the line, and a reader that is fed them answers the line and uses all of them
+pub record IsReadAs (site : Site) (line : Line) (text before : List ℕ) : Type 0 where
+  pub told : reading_of site (before ++ text ++ 10 ∷ []) ≡ accepted (reading_of site before) (line_view line)
+  pub answered : (fed : Fed) (reader : LineReader) → Feeds site before (text ++ 10 ∷ []) fed reader → IsAnswer line fed.step × (fed.used ≡ length text + 1)
+
+-- the text is read as the line wherever the line may come
+abbrev pub ReadsBack : Site → Line → List ℕ → Type 0
+ReadsBack site line text = (before : List ℕ) → IsBetweenLines site before → MayCome site (reading_of site before).standing line → IsReadAs site line text before

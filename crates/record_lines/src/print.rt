@@ -2,6 +2,8 @@
 
 ghost use Rattle.std.specs.Prelude.{◌≡◌, ◌<◌, ◌≤◌, ◌+◌, ◌++◌, ◌∷◌, [], decimal, length, map};
 ghost use Rattle.record_lines.specs.Printed.{action_fields, code_text, event_text, item_fields, joined, line_text, seat_text};
+ghost use Rattle.record_lines.specs.ReadBack.{ReadsBack};
+ghost use Rattle.site_types.specs.Valid.{IsValid};
 
 use crate::line::Line;
 use crate::print_words::{
@@ -15,6 +17,16 @@ use tick_units::{Order, Seat, Task};
 
 /// Writes the text of a line, without its line end. A name that the site hasn't is written as nothing.
 pub fn print_line(site: &Site, line: &Line, out: &mut ArrayVec<u8, 512>)
+    requires { out.old.items ≡ [] }
+    ensures text { out.new.items ≡ line_text site.now line.now }
+
+    // With a line end behind it, what is printed is read as the line by a reader that stands where the line may come.
+    ensures read_back { IsValid site.now → ReadsBack site.now line.now out.new.items }
+{
+    write_line(site, line, out);
+}
+
+fn write_line(site: &Site, line: &Line, out: &mut ArrayVec<u8, 512>)
     requires { out.old.items ≡ [] }
     ensures { out.new.items ≡ line_text site.now line.now }
 {
