@@ -1,5 +1,5 @@
 -- The printed line of a piece of cable.
-use Rattle.std.proofs.Common.{◌≡◌, ◌∙◌, ◌&&◌, ◌||◌, ◌+◌, ◌<◌, ◌≤◌, ◌^◌, inl, inr, ℕ, zero, suc, Bool, true, List, [], ◌∷◌, Some, None, Ok, refl, ap, arith}
+use Rattle.std.proofs.Common.{◌≡◌, ◌∙◌, ◌&&◌, ◌+◌, ◌<◌, ◌≤◌, inl, inr, ℕ, suc, Bool, true, List, [], ◌∷◌, Some, None, refl, ap, arith}
 use Rattle.std.specs.Prelude.{codes, decimal, nat_le, option_map, slice_get, ◌==◌}
 use Rattle.std.specs.List.{list_any}
 use Rattle.std.specs.Option.{option_and_then}
@@ -8,7 +8,6 @@ use Rattle.site_types.specs.Events.{has_event, has_piece}
 use Rattle.site_types.specs.Valid.{IsLoop, IsValid}
 use Rattle.site_types.specs.declared.site.Site.{Site}
 use Rattle.site_types.specs.declared.loop_plan.LoopPlan.{LoopPlan}
-use Rattle.site_types.specs.declared.event.Event.{Event}
 use Rattle.site_types.specs.declared.event.Event.TheVariants.{Cable}
 use Rattle.site_types.specs.declared.piece_state.PieceState.{PieceState}
 use Rattle.record_lines.specs.Events.{cable_of, has_numbers, is_number, octet_of}
@@ -107,5 +106,5 @@ cable_printed site valid standing due panel line piece state there =
     record {
       bytes = joined_text 20 (codes "cable") fields refl fit (omega arith);
       says = judged_from site standing text (CableForm state) (EventLine (Cable panel line piece state)) (cable_form_is text panel line piece state has) (begun standing due)
-      (cable_numbers text panel line piece state are has) (event_from site (CableForm state) text (Cable panel line piece state) (cable_back text panel line piece state are has) there);
+          (cable_numbers text panel line piece state are has) (event_from site (CableForm state) text (Cable panel line piece state) (cable_back text panel line piece state are has) there);
     }

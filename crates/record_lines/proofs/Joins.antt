@@ -1,11 +1,11 @@
 -- What a text has that was joined of fields without spaces: its fields, how many they are, and its bytes.
-use Rattle.std.proofs.Common.{◌≡◌, ◌∙◌, ◌+◌, ◌*◌, ◌≤◌, ◌++◌, ◌&&◌, ℕ, zero, suc, Bool, true, false, cond, List, [], ◌∷◌, Some, None, length, get_or, map, refl, sym, ap, subst, arith, length-append, zero-add}
+use Rattle.std.proofs.Common.{◌≡◌, ◌∙◌, ◌+◌, ◌*◌, ◌≤◌, ◌++◌, ◌&&◌, ℕ, zero, suc, Bool, true, cond, List, [], ◌∷◌, Some, None, length, get_or, map, refl, sym, ap, subst, arith, length-append, zero-add}
 use Rattle.std.specs.Prelude.{◌==◌, nat_le, not, if◌then◌else◌}
 use Rattle.std.specs.List.{list_all}
 use Rattle.std.proofs.lemmas.Bool.{and_from, and_parts, le-leb, leb-true, ne_eqb, not-true, not_from_false}
 use Rattle.std.proofs.lemmas.List.Folds.{list_all-append}
 use Rattle.std.proofs.lemmas.List.Sums.{sum_by-append}
-use Rattle.record_lines.specs.Fields.{after_space, before_space, each_field, field, space_count}
+use Rattle.record_lines.specs.Fields.{after_space, each_field, field, space_count}
 use Rattle.record_lines.specs.Lines.{is_printable, refusal_within}
 use Rattle.record_lines.specs.Printed.{joined}
 use Rattle.record_lines.specs.declared.why.Why.TheVariants.{NotAscii}

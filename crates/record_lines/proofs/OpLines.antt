@@ -1,15 +1,14 @@
 -- The printed line of an operation.
-use Rattle.std.proofs.Common.{◌≡◌, ◌∙◌, ◌&&◌, ◌+◌, ◌<◌, ◌≤◌, ℕ, Bool, true, List, [], ◌∷◌, Option, Some, None, Ok, length, refl, ap, arith}
+use Rattle.std.proofs.Common.{◌≡◌, ◌∙◌, ◌+◌, ◌<◌, ◌≤◌, ℕ, true, List, [], ◌∷◌, Option, Some, None, length, refl, ap, arith}
 use Rattle.std.specs.Prelude.{codes, bytes_eq, decimal, option_map, ◌==◌, if◌then◌else◌}
 use Rattle.std.specs.Option.{option_and_then}
 use Rattle.std.proofs.lemmas.Bool.{and_parts, or_right}
 use Rattle.arrayvec.specs.ArrayString.{ArrayString}
 use Rattle.site_types.specs.Events.{has_event, has_item, has_operands, is_panel}
-use Rattle.site_types.specs.Names.{code_of, is_code}
+use Rattle.site_types.specs.Names.{is_code}
 use Rattle.site_types.specs.Things.{thing_named}
 use Rattle.site_types.specs.Valid.{IsValid}
 use Rattle.site_types.specs.declared.site.Site.{Site}
-use Rattle.site_types.specs.declared.event.Event.{Event}
 use Rattle.site_types.specs.declared.event.Event.TheVariants.{Op}
 use Rattle.site_types.specs.declared.item.Item.{Item}
 use Rattle.site_types.specs.declared.item.Item.TheVariants.{Point as PointItem, Zone as ZoneItem, Output as OutputItem}
@@ -17,12 +16,11 @@ use Rattle.site_types.specs.declared.named.Thing.{Thing}
 use Rattle.site_types.specs.declared.named.Thing.TheVariants.{Point as PointThing, Zone as ZoneThing, Output as OutputThing}
 use Rattle.site_types.specs.declared.operation.Operation.{Operation}
 use Rattle.site_types.specs.declared.operation.Operation.TheVariants.{Mute, Override, Silence, Resound, Reset, Cancel as CancelZone, Disable as DisableItem, Enable as EnableItem, Test as TestZone, Untest as UntestZone, Delays, Clear}
-use Rattle.record_lines.specs.Events.{code_in, event_view, item_of, label_view, labelled, octet_of, op_of, operation_of, output_in, point_in, zone_in}
+use Rattle.record_lines.specs.Events.{code_in, event_view, item_of, label_view, labelled, op_of, operation_of, output_in, point_in, zone_in}
 use Rattle.record_lines.specs.Fields.{field, field_count}
 use Rattle.record_lines.specs.Forms.{action_of, form_of, is_code_field, named_action_of, plain_action_of, zone_action_of}
 use Rattle.record_lines.specs.Printed.{action_fields, code_text, event_text, item_fields, joined, name_text, on_word}
 use Rattle.record_lines.specs.ReadBack.{IsCode}
-use Rattle.record_lines.specs.declared.form.Form.{Form}
 use Rattle.record_lines.specs.declared.form.Form.TheVariants.{Op as OpForm}
 use Rattle.record_lines.specs.declared.form.Action.{Action}
 use Rattle.record_lines.specs.declared.form.Action.TheVariants.{Plain, Cancel, Test, Untest, Disable, Enable}
@@ -258,6 +256,6 @@ op_printed site valid standing due panel code operation spelled there =
     record {
       bytes = joined_text 20 (codes "op") fields refl fit (omega (arith, few));
       says = judged_from site standing text (OpForm (action_for operation)) (EventLine (event_view (Op panel code operation))) (op_form_is text site (decimal panel) code operation spelled has) (begun standing due)
-      (number_there (field 1 text) panel (has.at 1) (octet_small panel below))
-      (event_from site (OpForm (action_for operation)) text (event_view (Op panel code operation)) (op_back text site panel code operation below spelled named has) there);
+          (number_there (field 1 text) panel (has.at 1) (octet_small panel below))
+          (event_from site (OpForm (action_for operation)) text (event_view (Op panel code operation)) (op_back text site panel code operation below spelled named has) there);
     }

@@ -1,7 +1,7 @@
 -- The printed line of an order.
-use Rattle.std.proofs.Common.{◌≡◌, ◌≢◌, ◌∙◌, ◌&&◌, ◌||◌, ◌+◌, ◌*◌, ◌<◌, ◌≤◌, ◌^◌, inl, inr, ℕ, Bool, true, false, List, [], ◌∷◌, Option, Some, None, Ok, Err, is_some, length, get_or, map, refl, sym, ap, subst, arith}
-use Rattle.std.specs.Prelude.{◌⊎◌, codes, bytes_eq, decimal, min, nat_le, if◌then◌else◌}
-use Rattle.std.specs.List.{All, AllByRecursion, Contains, list_all}
+use Rattle.std.proofs.Common.{◌≡◌, ◌≢◌, ◌∙◌, ◌&&◌, ◌+◌, ◌*◌, ◌<◌, ◌≤◌, ◌^◌, inl, inr, ℕ, Bool, true, false, List, [], ◌∷◌, Some, None, Ok, Err, is_some, length, get_or, map, refl, sym, ap, subst, arith}
+use Rattle.std.specs.Prelude.{◌⊎◌, codes, bytes_eq, decimal, nat_le}
+use Rattle.std.specs.List.{AllByRecursion, list_all}
 use Rattle.std.proofs.lemmas.Bool.{and_from, cond-false, le-leb, or_right}
 use Rattle.std.proofs.lemmas.Fmt.{length-decimal-le}
 use Rattle.std.proofs.lemmas.List.{length-map}
@@ -9,7 +9,7 @@ use Rattle.std.proofs.lemmas.List.Elements.{recursion_from_All}
 use Rattle.site_types.specs.Numbers.{number_of}
 use Rattle.site_types.specs.Valid.{IsValid}
 use Rattle.site_types.specs.declared.site.Site.{Site}
-use Rattle.tick_units.specs.Orders.{IsOrder, canonical_seats, keep_seat, order_fault, seat_of as seat_at}
+use Rattle.tick_units.specs.Orders.{IsOrder, keep_seat, seat_of as seat_at}
 use Rattle.tick_units.specs.declared.seat.Seat.{Seat}
 use Rattle.tick_units.specs.declared.task.Task.{Task}
 use Rattle.tick_units.specs.declared.task.Task.TheVariants.{Poll, Decide, Supply, Desk, Hold, Link, Effect, Drive, Keep}
@@ -23,15 +23,12 @@ use Rattle.record_lines.specs.Judged.{order_line, ordered}
 use Rattle.record_lines.specs.Printed.{joined, line_text, seat_text}
 use Rattle.record_lines.specs.Seats.{is_numbered, order_of, order_unless, panel_of, seat_of, seat_with, seats_of}
 use Rattle.record_lines.specs.Words.{task_of}
-use Rattle.record_lines.specs.declared.form.Form.{Form}
 use Rattle.record_lines.specs.declared.form.Form.TheVariants.{Order as OrderForm}
-use Rattle.record_lines.specs.declared.line.Line.{Line}
 use Rattle.record_lines.specs.declared.line.Line.TheVariants.{Order as OrderLine}
 use Rattle.record_lines.specs.declared.standing.Standing.{Standing}
-use Rattle.record_lines.specs.declared.why.Why.{Why}
 use Rattle.record_lines.specs.declared.why.Why.TheVariants.{BadOrder}
-use Rattle.record_lines.proofs.Joins.{HasFields, after_joined, each_parted, fields_of, fit_all_clear, fit_clear, joined_text, seats_parted}
-use Rattle.record_lines.proofs.Plain.{are_fit, decimal_plain, is_fit, is_plain}
+use Rattle.record_lines.proofs.Joins.{after_joined, each_parted, fields_of, fit_all_clear, joined_text, seats_parted}
+use Rattle.record_lines.proofs.Plain.{decimal_plain, is_fit, is_plain}
 use Rattle.record_lines.proofs.Rows.{order_row}
 use Rattle.record_lines.proofs.Verdicts.{IsTextOf, begun, judged_from, number_back, passed}
 

@@ -1,5 +1,5 @@
 -- Fields without spaces: words, names, codes and numbers.
-use Rattle.std.proofs.Common.{◌≡◌, ◌<◌, ◌≤◌, ◌^◌, ◌&&◌, ◌||◌, inl, inr, ℕ, Bool, true, false, List, [], ◌∷◌, length, refl, arith}
+use Rattle.std.proofs.Common.{◌≡◌, ◌<◌, ◌≤◌, ◌^◌, ◌&&◌, ◌||◌, inl, inr, ℕ, Bool, true, List, [], ◌∷◌, length, refl, arith}
 use Rattle.std.specs.Prelude.{◌==◌, nat_le, decimal}
 use Rattle.std.specs.List.{list_all}
 use Rattle.std.proofs.lemmas.Bool.{and_from, and_parts, or_cases, le-leb, leb-true, eqb-true}
@@ -49,10 +49,10 @@ dash_plain : (byte : ℕ) → (byte == 45) ≡ true → is_plain byte ≡ true
 dash_plain byte is = plain_within byte (omega (arith, eqb-true byte 45 is)) (omega (arith, eqb-true byte 45 is))
 
 code_byte_plain : (byte : ℕ) → is_code_byte byte ≡ true → is_plain byte ≡ true
-code_byte_plain byte is = elim (or_cases (is_letter byte) (is_digit byte) is) [ | inl letter ↦ letter_plain byte letter | inr digit ↦ digit_plain byte digit ]
+code_byte_plain byte is = elim (or_cases (is_letter byte) (is_digit byte) is) [ inl letter ↦ letter_plain byte letter | inr digit ↦ digit_plain byte digit ]
 
 name_byte_plain : (byte : ℕ) → is_name_byte byte ≡ true → is_plain byte ≡ true
-name_byte_plain byte is = elim (or_cases (is_letter byte || is_digit byte) (byte == 45) is) [ | inl code ↦ code_byte_plain byte code | inr dash ↦ dash_plain byte dash ]
+name_byte_plain byte is = elim (or_cases (is_letter byte || is_digit byte) (byte == 45) is) [ inl code ↦ code_byte_plain byte code | inr dash ↦ dash_plain byte dash ]
 
 -- the length of a field with a greater bound
 fit_from : (least most : ℕ) (field : List ℕ) → least ≤ most → list_all is_plain field ≡ true → nat_le (length field) least ≡ true → is_fit most field ≡ true

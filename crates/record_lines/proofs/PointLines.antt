@@ -1,12 +1,11 @@
 -- The printed line of a point's state, and that of a confirmed output.
-use Rattle.std.proofs.Common.{◌≡◌, ◌∙◌, ◌&&◌, ◌+◌, ◌≤◌, ℕ, true, List, [], ◌∷◌, Some, None, Ok, refl, ap, arith}
+use Rattle.std.proofs.Common.{◌≡◌, ◌∙◌, ◌&&◌, ◌+◌, ◌≤◌, ℕ, true, List, [], ◌∷◌, Some, None, refl, ap, arith}
 use Rattle.std.specs.Prelude.{codes, bytes_eq, option_map, ◌==◌}
 use Rattle.std.proofs.lemmas.Bool.{and_from, eq-eqb}
 use Rattle.site_types.specs.Events.{has_event}
 use Rattle.site_types.specs.Things.{thing_named}
 use Rattle.site_types.specs.Valid.{IsValid}
 use Rattle.site_types.specs.declared.site.Site.{Site}
-use Rattle.site_types.specs.declared.event.Event.{Event}
 use Rattle.site_types.specs.declared.event.Event.TheVariants.{Point, Confirmed}
 use Rattle.site_types.specs.declared.named.Thing.TheVariants.{Point as PointThing, Output as OutputThing}
 use Rattle.site_types.specs.declared.point_state.PointState.{PointState}
@@ -19,7 +18,7 @@ use Rattle.record_lines.specs.declared.form.Form.TheVariants.{Point as PointForm
 use Rattle.record_lines.specs.declared.line.Line.TheVariants.{Event as EventLine}
 use Rattle.record_lines.specs.declared.standing.Standing.{Standing}
 use Rattle.record_lines.proofs.Joins.{HasFields, fields_of, fit_more, joined_text}
-use Rattle.record_lines.proofs.PrintedNames.{IsNamed, output_there, point_there}
+use Rattle.record_lines.proofs.PrintedNames.{output_there, point_there}
 use Rattle.record_lines.proofs.PrintedWords.{point_word}
 use Rattle.record_lines.proofs.Rows.{point_row, routing_row}
 use Rattle.record_lines.proofs.Verdicts.{IsTextOf, begun, counted, event_from, judged_from, passed}

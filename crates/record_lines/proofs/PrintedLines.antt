@@ -1,5 +1,5 @@
 -- The printed text of a line that may come is judged to be that line.
-use Rattle.std.proofs.Common.{◌≤◌, ◌≡◌, true, List, ℕ}
+use Rattle.std.proofs.Common.{◌≤◌, ◌≡◌, true}
 use Rattle.site_types.specs.Events.{has_event}
 use Rattle.site_types.specs.Valid.{IsValid}
 use Rattle.site_types.specs.declared.site.Site.{Site}

@@ -1,12 +1,12 @@
 -- The printed name of a thing that the site has is short and plain, and names that thing.
-use Rattle.std.proofs.Common.{◌≡◌, ◌∙◌, ◌<◌, ℕ, zero, suc, Bool, true, false, List, [], ◌∷◌, Option, Some, None, length, get_or, refl, sym, ap, subst, arith}
-use Rattle.std.specs.Prelude.{nat_lt, option_map, slice_get, IsTrue, All}
+use Rattle.std.proofs.Common.{◌≡◌, ◌∙◌, ◌<◌, ℕ, zero, suc, Bool, true, List, [], ◌∷◌, Option, Some, None, length, refl, ap, subst, arith}
+use Rattle.std.specs.Prelude.{nat_lt, option_map, slice_get, All}
 use Rattle.std.proofs.lemmas.Bool.{ltb-true}
-use Rattle.std.proofs.lemmas.Option.{get_or_from_slice_get, slice_get-get_or, slice_get_within}
-use Rattle.site_types.specs.Events.{has_zone, is_some_with}
+use Rattle.std.proofs.lemmas.Option.{get_or_from_slice_get, slice_get_within}
+use Rattle.site_types.specs.Events.{is_some_with}
 use Rattle.site_types.specs.Names.{is_name}
 use Rattle.site_types.specs.Things.{name_at, thing_named}
-use Rattle.site_types.specs.Valid.{HasForms, IsOutput, IsPoint, IsValid, IsZone}
+use Rattle.site_types.specs.Valid.{IsOutput, IsPoint, IsValid, IsZone}
 use Rattle.site_types.specs.declared.site.Site.{Site}
 use Rattle.site_types.specs.declared.named.Thing.{Thing}
 use Rattle.site_types.specs.declared.named.Thing.TheVariants.{Point as PointThing, Zone as ZoneThing, Output as OutputThing}

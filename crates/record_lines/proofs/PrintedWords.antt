@@ -1,5 +1,5 @@
 -- Each fixed word that is printed is short and plain, and is read as what it was printed for.
-use Rattle.std.proofs.Common.{◌≡◌, ℕ, Option, Bool, true, false, List, [], ◌∷◌, Some, refl}
+use Rattle.std.proofs.Common.{◌≡◌, ℕ, Option, Bool, true, false, List, Some, refl}
 use Rattle.site_types.specs.declared.point_state.PointState.{PointState}
 use Rattle.site_types.specs.declared.point_state.PointState.TheVariants.{Quiet, Alarm, Gone}
 use Rattle.site_types.specs.declared.piece_state.PieceState.{PieceState}

@@ -1,5 +1,5 @@
 -- A text with a line end behind it, read where a line begins.
-use Rattle.std.proofs.Common.{◌≡◌, ◌∙◌, ◌+◌, ◌<◌, ◌≤◌, ◌++◌, ◌&&◌, inl, inr, ℕ, zero, suc, Bool, true, false, List, [], ◌∷◌, Option, Some, None, Ok, length, get_or, take, drop, refl, sym, ap, subst, append_assoc, length-append, arith}
+use Rattle.std.proofs.Common.{◌≡◌, ◌∙◌, ◌+◌, ◌<◌, ◌≤◌, ◌++◌, inl, inr, ℕ, zero, suc, true, false, List, [], ◌∷◌, None, length, get_or, take, drop, refl, sym, ap, subst, append_assoc, length-append, arith}
 use Rattle.std.specs.Prelude.{◌==◌, nat_le}
 use Rattle.std.specs.List.{list_all}
 use Rattle.std.proofs.lemmas.Bool.{and_from, and_parts, cases_lt, leb-true, ne_eqb}
@@ -7,15 +7,13 @@ use Rattle.std.proofs.lemmas.List.{append-nil, take-append-le, take_all}
 use Rattle.site_types.specs.Valid.{IsValid}
 use Rattle.site_types.specs.declared.site.Site.{Site}
 use Rattle.record_lines.specs.Judged.{judged, line_view}
-use Rattle.record_lines.specs.Lines.{Cut, Reading, accepted, cut, is_printable, lines_read, reading_of, refused_rest, rest_by_ending, verdict}
+use Rattle.record_lines.specs.Lines.{Cut, accepted, cut, is_printable, lines_read, reading_of, refused_rest, rest_by_ending, verdict}
 use Rattle.record_lines.specs.Printed.{line_text}
-use Rattle.record_lines.specs.ReadBack.{IsAnswer, IsBetweenLines, IsReadAs, ReadsBack}
+use Rattle.record_lines.specs.ReadBack.{IsAnswer, IsBetweenLines, ReadsBack}
 use Rattle.record_lines.specs.Stands.{Answers, Feeds, IsFirst, Tells, Uses}
 use Rattle.record_lines.specs.declared.fed.Fed.{Fed}
 use Rattle.record_lines.specs.declared.line.Line.{Line}
-use Rattle.record_lines.specs.declared.over.Over.{Over}
 use Rattle.record_lines.specs.declared.reader.LineReader.{LineReader}
-use Rattle.record_lines.specs.declared.refusal.Refusal.{Refusal}
 use Rattle.record_lines.specs.declared.step.Step.{Step}
 use Rattle.record_lines.specs.declared.step.Step.TheVariants.{Need, Line as LineStep, Refused as RefusedStep}
 use Rattle.record_lines.proofs.Cuts.{cut_end, cut_more}

@@ -1,12 +1,11 @@
 -- The printed line of a supply's input, and that of a link.
-use Rattle.std.proofs.Common.{◌≡◌, ◌∙◌, ◌&&◌, ◌+◌, ◌<◌, ◌≤◌, ◌^◌, ℕ, Bool, true, List, [], ◌∷◌, Some, None, Ok, refl, ap, arith}
-use Rattle.std.specs.Prelude.{codes, decimal, nat_le, option_map, ◌==◌}
+use Rattle.std.proofs.Common.{◌≡◌, ◌∙◌, ◌&&◌, ◌+◌, ◌<◌, ◌≤◌, ℕ, Bool, true, List, [], ◌∷◌, Some, None, refl, ap, arith}
+use Rattle.std.specs.Prelude.{codes, decimal, nat_le, option_map}
 use Rattle.std.specs.Option.{option_and_then}
 use Rattle.std.proofs.lemmas.Bool.{and_parts, leb-true}
 use Rattle.site_types.specs.Events.{has_event, is_link, is_panel}
 use Rattle.site_types.specs.Valid.{IsValid}
 use Rattle.site_types.specs.declared.site.Site.{Site}
-use Rattle.site_types.specs.declared.event.Event.{Event}
 use Rattle.site_types.specs.declared.event.Event.TheVariants.{Supply, Link}
 use Rattle.site_types.specs.declared.supply_kind.SupplyKind.{SupplyKind}
 use Rattle.record_lines.specs.Events.{link_of, supply_of}
@@ -60,7 +59,7 @@ supply_printed site valid standing due panel kind bad there =
     record {
       bytes = joined_text 20 (codes "supply") fields refl fit (omega arith);
       says = judged_from site standing text (SupplyForm kind bad) (EventLine (Supply panel kind bad)) (supply_form_is text panel kind bad has) (begun standing due)
-      (number_there (field 1 text) panel (has.at 1) (octet_small panel below)) (event_from site (SupplyForm kind bad) text (Supply panel kind bad) is there);
+          (number_there (field 1 text) panel (has.at 1) (octet_small panel below)) (event_from site (SupplyForm kind bad) text (Supply panel kind bad) is there);
     }
 
 -- ---- links
@@ -82,5 +81,5 @@ link_printed site valid standing due link up there =
     record {
       bytes = joined_text 20 (codes "link") fields refl fit (omega arith);
       says = judged_from site standing text (LinkForm up) (EventLine (Link link up)) (link_form_is text link up has) (begun standing due)
-      (number_there (field 1 text) link (has.at 1) (octet_small link below)) (event_from site (LinkForm up) text (Link link up) is there);
+          (number_there (field 1 text) link (has.at 1) (octet_small link below)) (event_from site (LinkForm up) text (Link link up) is there);
     }

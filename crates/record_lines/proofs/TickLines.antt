@@ -1,22 +1,19 @@
 -- The printed line of a tick, and that of the end.
-use Rattle.std.proofs.Common.{◌≡◌, ◌∙◌, ◌+◌, ◌<◌, ◌≤◌, ◌^◌, ℕ, true, false, List, [], ◌∷◌, Some, None, Ok, Err, refl, ap, arith}
+use Rattle.std.proofs.Common.{◌≡◌, ◌∙◌, ◌+◌, ◌<◌, ◌≤◌, ◌^◌, ℕ, [], ◌∷◌, Some, None, Ok, Err, refl, ap, arith}
 use Rattle.std.specs.Prelude.{◌==◌, codes, decimal, nat_le, if◌then◌else◌}
 use Rattle.std.proofs.lemmas.Bool.{cond-false, lt-leb}
 use Rattle.site_types.specs.declared.site.Site.{Site}
 use Rattle.tick_units.specs.declared.tick.Tick.{Tick}
 use Rattle.record_lines.specs.Fields.{field, field_count}
-use Rattle.record_lines.specs.Forms.{form_of}
-use Rattle.record_lines.specs.Judged.{last_tick, tick_as, tick_line}
+use Rattle.record_lines.specs.Judged.{last_tick, tick_as}
 use Rattle.record_lines.specs.Printed.{joined, line_text}
-use Rattle.record_lines.specs.declared.form.Form.TheVariants.{Tick as TickForm, End as EndForm}
-use Rattle.record_lines.specs.declared.line.Line.{Line}
+use Rattle.record_lines.specs.declared.form.Form.TheVariants.{Tick as TickForm}
 use Rattle.record_lines.specs.declared.line.Line.TheVariants.{Tick as TickLine, End}
 use Rattle.record_lines.specs.declared.standing.Standing.{Standing}
-use Rattle.record_lines.specs.declared.why.Why.{Why}
 use Rattle.record_lines.specs.declared.why.Why.TheVariants.{BadTick, TickLimit}
 use Rattle.record_lines.proofs.Joins.{fields_of, fit_more, joined_text}
 use Rattle.record_lines.proofs.Plain.{number_fit}
-use Rattle.record_lines.proofs.Rows.{end_row, tick_row}
+use Rattle.record_lines.proofs.Rows.{tick_row}
 use Rattle.record_lines.proofs.Verdicts.{IsTextOf, counted, judged_from, number_back, number_there}
 
 -- the tick whose turn it is

@@ -1,6 +1,6 @@
 -- When a line is judged to be one, step by step.
-use Rattle.std.proofs.Common.{◌≡◌, ◌∙◌, ◌<◌, ◌≤◌, ◌^◌, ℕ, Bool, true, false, List, [], ◌∷◌, Option, Some, None, Ok, Err, is_some, refl, sym, ap, arith}
-use Rattle.std.specs.Prelude.{◌==◌, nat_lt, decimal, Result, if◌then◌else◌}
+use Rattle.std.proofs.Common.{◌≡◌, ◌∙◌, ◌<◌, ◌≤◌, ◌^◌, ℕ, Bool, true, List, Some, None, Ok, Err, is_some, ap, arith}
+use Rattle.std.specs.Prelude.{◌==◌, nat_lt, decimal, if◌then◌else◌}
 use Rattle.std.specs.Option.{option_and_then}
 use Rattle.std.proofs.lemmas.Bool.{cond-true, eq-eqb, lt-ltb}
 use Rattle.site_types.specs.Events.{has_event}
@@ -15,7 +15,6 @@ use Rattle.record_lines.specs.declared.form.Form.{Form}
 use Rattle.record_lines.specs.declared.line.Line.{Line}
 use Rattle.record_lines.specs.declared.line.Line.TheVariants.{Event as EventLine}
 use Rattle.record_lines.specs.declared.standing.Standing.{Standing}
-use Rattle.record_lines.specs.declared.why.Why.{Why}
 use Rattle.record_lines.specs.declared.why.Why.TheVariants.{BadNumber, BeforeFirstTick, NoSuch}
 use Rattle.record_lines.proofs.Joins.{IsLineText}
 
