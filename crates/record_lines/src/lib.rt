@@ -9,7 +9,8 @@
 //! whether it may come before the first tick; its numbers; what its names stand for (`specs/Events`); the ticks in their order; and the order of a
 //! tick's turns (`specs/Seats`).
 //!
-//! [`print_line`] writes the text of a line, which `line_text` of `specs/Printed` spells. That a printed line is read as itself isn't proved.
+//! [`print_line`] writes the text of a line, which `line_text` of `specs/Printed` spells. With a line end behind it, a printed line is read as itself
+//! wherever it may come (`MayCome` and `ReadsBack` of `specs/ReadBack`).
 //!
 //! No call takes memory. A byte costs the same few steps wherever a piece ends; a line with a name costs steps that grow with the logarithm of the
 //! number of the site's names, and a line `cable` a look at the site's loops.
