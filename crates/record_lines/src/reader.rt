@@ -1,6 +1,6 @@
 //! Reading a record that comes in pieces.
 
-ghost use Rattle.std.specs.Prelude.{◌≡◌, [], ℕ, List, None};
+ghost use Rattle.std.specs.Prelude.{◌≡◌, [], ℕ, List, None, length, nat_le};
 ghost use Rattle.record_lines.specs.Belongs.{StepBelongs};
 ghost use Rattle.record_lines.specs.Lines.{is_printable as is_printable_byte, reading_of};
 ghost use Rattle.record_lines.specs.Stands.{Accepts, Feeds, IsOpen, OnNeed, Refuses, StandsFor, TakesByte, TakesLine, over_step};
@@ -102,7 +102,7 @@ impl LineReader {
     {
         if byte == b'\n' {
             self.take_line(site)
-        } else if self.text.is_full() {
+        } else if self.is_full() {
             self.refuse(Why::LineTooLong)
         } else if !is_printable(byte) {
             self.refuse(Why::NotAscii)
@@ -110,6 +110,13 @@ impl LineReader {
             self.text.push(byte);
             Step::Need
         }
+    }
+
+    // Whether the line has as many bytes as one may have.
+    fn is_full(&self) -> bool
+        ensures { result ≡ nat_le 512 (length self.now.text.items) }
+    {
+        self.text.is_full()
     }
 
     fn take_line(&mut self, site: &Site) -> Step
