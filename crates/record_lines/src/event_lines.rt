@@ -1,7 +1,8 @@
 //! What befalls the site by a line.
 
-ghost use Rattle.std.specs.Prelude.{◌≡◌, option_map};
+ghost use Rattle.std.specs.Prelude.{◌≡◌, option_map, IfSome};
 ghost use Rattle.record_lines.specs.Events.{cable_of, code_in, event_of, event_view, item_of, link_of, op_of, operation_of, output_of, point_of, supply_of, zone_of};
+ghost use Rattle.record_lines.specs.ReadBack.{HasCode, IsCode};
 ghost use Rattle.site_types.specs.Valid.{IsValid};
 
 use crate::fields::field;
@@ -12,7 +13,8 @@ use site_types::{Event, Item, Label, Operation, PieceState, Site, SupplyKind, Th
 /// The event of a line whose fixed words and numbers are of their forms. Where a name or a number names nothing there is none.
 pub fn read_event(site: &Site, form: Form, text: &[u8]) -> Option<Event>
     requires { IsValid site.now }
-    ensures { option_map event_view result ≡ event_of site.now form text.now }
+    ensures event { option_map event_view result ≡ event_of site.now form text.now }
+    ensures code { IfSome result HasCode }
 {
     match form {
         Form::Point(state) => match find_point(site, field(text, 1)) {
@@ -32,7 +34,8 @@ pub fn read_event(site: &Site, form: Form, text: &[u8]) -> Option<Event>
 }
 
 fn cable(state: PieceState, text: &[u8]) -> Option<Event>
-    ensures { result ≡ cable_of state text.now }
+    ensures event { result ≡ cable_of state text.now }
+    ensures code { IfSome result HasCode }
 {
     let panel = octet(field(text, 1))?;
     let line = octet(field(text, 2))?;
@@ -46,14 +49,16 @@ fn cable(state: PieceState, text: &[u8]) -> Option<Event>
 }
 
 fn supply(kind: SupplyKind, bad: bool, text: &[u8]) -> Option<Event>
-    ensures { result ≡ supply_of kind bad text.now }
+    ensures event { result ≡ supply_of kind bad text.now }
+    ensures code { IfSome result HasCode }
 {
     let panel = octet(field(text, 1))?;
     Some(Event::Supply { panel, kind, bad })
 }
 
 fn link(up: bool, text: &[u8]) -> Option<Event>
-    ensures { result ≡ link_of up text.now }
+    ensures event { result ≡ link_of up text.now }
+    ensures code { IfSome result HasCode }
 {
     let link = octet(field(text, 1))?;
     Some(Event::Link { link, up })
@@ -61,7 +66,8 @@ fn link(up: bool, text: &[u8]) -> Option<Event>
 
 fn op(site: &Site, action: Action, text: &[u8]) -> Option<Event>
     requires { IsValid site.now }
-    ensures { option_map event_view result ≡ op_of site.now action text.now }
+    ensures event { option_map event_view result ≡ op_of site.now action text.now }
+    ensures code { IfSome result HasCode }
 {
     let panel = octet(field(text, 1))?;
     let operation = operation(site, action, text)?;
@@ -74,7 +80,8 @@ fn op(site: &Site, action: Action, text: &[u8]) -> Option<Event>
 
 // The code of a field that has a code's form; none for `-`.
 fn code(text: &[u8]) -> Option<Label>
-    ensures { option_map (λ label. label.bytes) result ≡ code_in text.now }
+    ensures bytes { option_map (λ label. label.bytes) result ≡ code_in text.now }
+    ensures form { IsCode result }
 {
     read_code(text)
 }

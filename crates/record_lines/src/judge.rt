@@ -1,9 +1,10 @@
 //! One line, judged by the first row of the refusals that applies.
 
-ghost use Rattle.std.specs.Prelude.{◌≡◌, ◌≤◌, IfOk, MatchResult, length};
-ghost use Rattle.record_lines.specs.Belongs.{Belongs};
+ghost use Rattle.std.specs.Prelude.{◌≡◌, ◌≤◌, IfOk, MatchResult, length, true};
 ghost use Rattle.site_types.specs.declared.site.Site.{Site as SiteOf};
 ghost use Rattle.record_lines.specs.Judged.{content_of, event_line, judged, line_view, may_stand, order_line, tick_line};
+ghost use Rattle.record_lines.specs.ReadBack.{MayCome};
+ghost use Rattle.record_lines.specs.declared.standing.Standing.{Standing as StandingOf};
 ghost use Rattle.site_types.specs.Valid.{IsValid};
 
 use crate::event_lines::read_event;
@@ -23,7 +24,7 @@ pub fn judge(site: &Site, standing: &Standing, text: &[u8]) -> Result<Line, Why>
     requires valid { IsValid site.now }
     requires short { length text.now ≤ 512 }
     ensures answer { MatchResult result (λ line. judged site.now standing.now text.now ≡ Ok (line_view line)) (λ why. judged site.now standing.now text.now ≡ Err why) }
-    ensures belongs { IfOk result (λ line. Belongs site.now line) }
+    ensures may_come { IfOk result (λ line. MayCome site.now standing.now line) }
 {
     let form = match form(text) {
         Some(form) => form,
@@ -51,8 +52,9 @@ fn may_come(standing: &Standing, form: Form) -> bool
 fn content(site: &Site, standing: &Standing, form: Form, text: &[u8]) -> Result<Line, Why>
     requires valid { IsValid site.now }
     requires short { length text.now ≤ 512 }
+    requires may_stand { may_stand standing.now form ≡ true }
     ensures answer { MatchResult result (λ line. content_of site.now standing.now form text.now ≡ Ok (line_view line)) (λ why. content_of site.now standing.now form text.now ≡ Err why) }
-    ensures belongs { IfOk result (λ line. Belongs site.now line) }
+    ensures may_come { IfOk result (λ line. MayCome site.now standing.now line) }
 {
     match form {
         Form::Tick => tick(standing, text),
@@ -64,7 +66,7 @@ fn content(site: &Site, standing: &Standing, form: Form, text: &[u8]) -> Result<
 
 fn tick(standing: &Standing, text: &[u8]) -> Result<Line, Why>
     ensures answer { result ≡ tick_line standing.now text.now }
-    ensures belongs { (site : SiteOf) → IfOk result (λ line. Belongs site line) }
+    ensures may_come { (site : SiteOf) → IfOk result (λ line. MayCome site standing.now line) }
 {
     let found = match read_number(field(text, 1)) {
         Some(found) => found,
@@ -84,8 +86,9 @@ fn tick(standing: &Standing, text: &[u8]) -> Result<Line, Why>
 fn order(site: &Site, standing: &Standing, text: &[u8]) -> Result<Line, Why>
     requires valid { IsValid site.now }
     requires short { length text.now ≤ 512 }
+    requires begun { 1 ≤ standing.now.ticks }
     ensures answer { result ≡ order_line site.now standing.now text.now }
-    ensures belongs { IfOk result (λ line. Belongs site.now line) }
+    ensures may_come { IfOk result (λ line. MayCome site.now standing.now line) }
 {
     if standing.has_order {
         return Err(Why::BadOrder { place: 0 });
@@ -99,7 +102,7 @@ fn order(site: &Site, standing: &Standing, text: &[u8]) -> Result<Line, Why>
 fn event(site: &Site, form: Form, text: &[u8]) -> Result<Line, Why>
     requires { IsValid site.now }
     ensures answer { MatchResult result (λ line. event_line site.now form text.now ≡ Ok (line_view line)) (λ why. event_line site.now form text.now ≡ Err why) }
-    ensures belongs { IfOk result (λ line. Belongs site.now line) }
+    ensures may_come { (standing : StandingOf) → 1 ≤ standing.ticks → IfOk result (λ line. MayCome site.now standing line) }
 {
     match read_event(site, form, text) {
         Some(event) => {
