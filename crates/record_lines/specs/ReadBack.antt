@@ -55,6 +55,12 @@ pub record MayCome (site : Site) (standing : Standing) (line : Line) : Type 0 wh
   pub spelled : HasSpelling line
   pub due : IsDue standing line
 
+-- a line that is answered may come where the record stands so
+abbrev pub StepMayCome : Site → Standing → Step → Type 0
+StepMayCome site standing Need = Unit {0}
+StepMayCome site standing (LineStep line) = MayCome site standing line
+StepMayCome site standing (RefusedStep refusal) = Unit {0}
+
 -- the answer is the line
 abbrev pub IsAnswer : Line → Step → Type 0
 IsAnswer line Need = ⊥

@@ -3,6 +3,8 @@
 ghost use Rattle.std.specs.Prelude.{◌≡◌, [], ℕ, List, None, length, nat_le};
 ghost use Rattle.record_lines.specs.Belongs.{StepBelongs};
 ghost use Rattle.record_lines.specs.Lines.{is_printable as is_printable_byte, reading_of};
+ghost use Rattle.record_lines.specs.ReadBack.{StepMayCome};
+ghost use Rattle.record_lines.specs.declared.standing.Standing.{Standing as StandingOf};
 ghost use Rattle.record_lines.specs.Stands.{Accepts, Feeds, IsOpen, OnNeed, Refuses, StandsFor, TakesByte, TakesLine, over_step};
 ghost use Rattle.site_types.specs.Valid.{IsValid};
 ghost use Rattle.site_types.specs.declared.site.Site.{Site as SiteOf};
@@ -51,8 +53,9 @@ impl LineReader {
         requires { IsValid site.now }
         ensures feeds { (before : List ℕ) → StandsFor site.now before self.old → Feeds site.now before piece.now result self.new }
 
-        // A tick, an event and an order are the site's.
+        // A tick, an event and an order are the site's, and each line comes where it may come.
         ensures belongs { StepBelongs site.now result.step }
+        ensures may_come { (before : List ℕ) → StandsFor site.now before self.old → StepMayCome site.now (reading_of site.now before).standing result.step }
     {
         if let Some(over) = self.over {
             return Fed {
@@ -97,7 +100,9 @@ impl LineReader {
         requires valid { IsValid site.now }
         requires open { self.old.over ≡ None }
         ensures need { OnNeed result (self.new.over ≡ None) }
+        ensures stays { OnNeed result (self.new.standing ≡ self.old.standing) }
         ensures belongs { StepBelongs site.now result }
+        ensures may_come { StepMayCome site.now self.old.standing result }
         ensures takes { (before : List ℕ) → IsOpen site.now before self.old → TakesByte site.now before byte self.new result }
     {
         if byte == b'\n' {
@@ -123,6 +128,7 @@ impl LineReader {
         requires { IsValid site.now }
         ensures takes { TakesLine site.now self.old self.new result }
         ensures belongs { StepBelongs site.now result }
+        ensures may_come { StepMayCome site.now self.old.standing result }
     {
         match judge(site, &self.standing, &self.text) {
             Ok(line) => {
@@ -155,6 +161,7 @@ impl LineReader {
     fn refuse(&mut self, why: Why) -> Step
         ensures refuses { Refuses self.old why self.new result }
         ensures belongs { (site : SiteOf) → StepBelongs site result }
+        ensures may_come { (site : SiteOf) (standing : StandingOf) → StepMayCome site standing result }
     {
         let refusal = Refusal {
             line: self.number,
@@ -169,6 +176,7 @@ impl LineReader {
 fn again(over: Over) -> Step
     ensures step { result ≡ over_step over }
     ensures belongs { (site : SiteOf) → StepBelongs site result }
+    ensures may_come { (site : SiteOf) (standing : StandingOf) → StepMayCome site standing result }
 {
     match over {
         Over::Ended => Step::Line(Line::End),

@@ -8,5 +8,6 @@ abbrev pub invariant-loop-place : goal.invariant-loop-place
 invariant-loop-place l = record {
   began : l.initial.self.over ≡ None;
   over : l.self.over ≡ None;
+  stays : l.self.standing ≡ l.initial.self.standing;
   going : (before : List ℕ) → IsOpen l.site before l.initial.self → Ongoing l.site before (before ++ take l.place l.piece) l.self;
 }
