@@ -6,7 +6,7 @@ pub mod DraftLists
 pub mod Holders
 pub mod Later
 pub mod Listed
-pub mod Named
+pub mod ByName
 pub mod Numbers
 pub mod References
 pub mod Rows

@@ -11,7 +11,7 @@ use Rattle.std.specs.String.{string_cmp}
 use Rattle.site_types.specs.declared.named.Named.{Named}
 use Rattle.site_types.specs.declared.named.Thing.{Thing}
 use Rattle.site_config.specs.NamedList.{AreListed, Rise, entries_view, named_view, thing_among}
-use Rattle.site_config.specs.Names.{look_up}
+use Rattle.site_config.specs.NameMaps.{look_up}
 
 above : (key : String Global) (es : List (String Global × Thing)) → AllByRecursion (λ (y : String Global). string_cmp key y ≡ Less) (keys_of es)
     → AllByRecursion (λ (other : List ℕ × Thing). slice_cmp nat_cmp (string_bytes key) other.0 ≡ Less) (entries_view es)

@@ -5,7 +5,7 @@ use Rattle.std.specs.BTreeMap.{BTreeMap, UpdatesBy}
 use Rattle.std.specs.Cmp.Lexicographic.{slice_cmp}
 use Rattle.std.specs.Ordering.{nat_cmp, is_eq}
 use Rattle.std.specs.Str.{bytes_eq}
-use Rattle.site_config.specs.Names.{is_in}
+use Rattle.site_config.specs.NameMaps.{is_in}
 
 joined : (b c : Bool) (o : Option (Unit {0})) → b ≡ c → is_some (cond b (Some tt) o) ≡ (c || is_some o)
 joined true c o e = rw (← e)

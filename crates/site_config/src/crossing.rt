@@ -13,7 +13,7 @@ ghost use Rattle.site_config.specs.Crossing.{
   section_point as section_point_of,
   spot_of as spot_in,
 };
-ghost use Rattle.site_config.specs.Names.{look_up};
+ghost use Rattle.site_config.specs.NameMaps.{look_up};
 
 use crate::lookups::zone_place;
 use crate::names::{Names, thing_of};

@@ -1,6 +1,6 @@
 ghost use Rattle.std.specs.Prelude.{◌≡◌, ◌||◌, ℕ, List, OnOk, Some, is_some, if◌then◌else◌};
 ghost use Rattle.std.specs.Str.{bytes_eq};
-ghost use Rattle.site_config.specs.Names.{look_up, is_in};
+ghost use Rattle.site_config.specs.NameMaps.{look_up, is_in};
 
 use site_types::Thing;
 use std::alloc::{AllocError, Global};

@@ -2,7 +2,7 @@ ghost use Rattle.std.specs.Prelude.{◌≡◌, ◌++◌, Some, codes};
 ghost use Rattle.std.specs.Fmt.{decimal};
 ghost use Rattle.std.specs.List.{list_any};
 ghost use Rattle.site_document.specs.Refusals.{IsSaid, Tells, first_found, no_such as is_no_such};
-ghost use Rattle.site_config.specs.Names.{look_up};
+ghost use Rattle.site_config.specs.NameMaps.{look_up};
 ghost use Rattle.site_config.specs.NoSuch.{
   is_loop_of as is_loop_in,
   is_zone_of as is_zone_in,

@@ -2,7 +2,7 @@ ghost use Rattle.std.specs.Prelude.{◌≡◌, IfOk, map};
 ghost use Rattle.site_document.specs.Drafts.{byte_of as byte_from};
 ghost use Rattle.site_config.specs.Crossing.{place_or_zero};
 ghost use Rattle.site_config.specs.NamedList.{AreListed};
-ghost use Rattle.site_config.specs.Names.{look_up};
+ghost use Rattle.site_config.specs.NameMaps.{look_up};
 ghost use Rattle.site_config.specs.NoSuch.{marker_place as marker_place_of, zone_place as zone_place_of};
 ghost use Rattle.site_config.specs.Placing.{
   marker_view,

@@ -3,7 +3,7 @@ ghost use Rattle.site_types.specs.Valid.{IsValid};
 ghost use Rattle.site_document.specs.Documents.{IsRefusedBy};
 ghost use Rattle.site_document.specs.Refusals.{Tells};
 ghost use Rattle.site_config.specs.Claims.{named_in, twice_in};
-ghost use Rattle.site_config.specs.Names.{look_up};
+ghost use Rattle.site_config.specs.NameMaps.{look_up};
 ghost use Rattle.site_config.specs.Sites.{IsPlaced, IsSpelled, draft_finding, site_finding};
 
 use crate::claims::claims_of;

@@ -6,7 +6,7 @@ ghost use Rattle.site_document.specs.Texts.{key_text};
 ghost use Rattle.site_config.specs.declared.claim.Claim.{Claim as ClaimOf};
 ghost use Rattle.site_config.specs.Claims.{first_twice, is_claimed as is_claimed_in, is_same_loop as is_same_loop_of, loop_twice, onto, thing_named};
 ghost use Rattle.site_config.specs.Held.{Holds};
-ghost use Rattle.site_config.specs.Names.{look_up};
+ghost use Rattle.site_config.specs.NameMaps.{look_up};
 
 use crate::claim::Claim;
 use crate::names::{Names, Numbers, has_number, put_name, put_number, thing_of};

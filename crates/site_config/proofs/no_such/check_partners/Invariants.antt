@@ -1,6 +1,6 @@
 use Rattle.std.proofs.Common.{◌≡◌, drop}
 use Rattle.site_document.specs.Refusals.{first_found}
-use Rattle.site_config.specs.Names.{look_up}
+use Rattle.site_config.specs.NameMaps.{look_up}
 use Rattle.site_config.specs.NoSuch.{partner_fault}
 use Rattle.site_config.proofs.no_such.check_partners.Given as goal
 

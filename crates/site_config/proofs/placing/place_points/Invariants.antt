@@ -1,5 +1,5 @@
 use Rattle.std.proofs.Common.{◌≡◌, ◌++◌, map, drop}
-use Rattle.site_config.specs.Names.{look_up}
+use Rattle.site_config.specs.NameMaps.{look_up}
 use Rattle.site_config.specs.Placing.{point_view, placed_point}
 use Rattle.site_config.proofs.placing.place_points.Given as goal
 

@@ -1,5 +1,5 @@
 use Rattle.std.proofs.Common.{◌≡◌, ◌++◌, map, drop}
-use Rattle.site_config.specs.Names.{look_up}
+use Rattle.site_config.specs.NameMaps.{look_up}
 use Rattle.site_config.specs.Placing.{zone_view, placed_zone}
 use Rattle.site_config.proofs.placing.place_zones.Given as goal
 

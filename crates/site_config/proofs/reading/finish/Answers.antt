@@ -1,9 +1,9 @@
 use Rattle.std.proofs.Common.{◌≡◌, map, None, sym, ap, ◌∙◌}
 use Rattle.std.proofs.lemmas.Result.{err_from_is_err_and}
 use Rattle.site_config.specs.Crossing.{crossing_in, spot_of}
-use Rattle.site_config.specs.Names.{look_up}
+use Rattle.site_config.specs.NameMaps.{look_up}
 use Rattle.site_config.specs.Partners.{unmutual_in}
-use Rattle.site_config.proofs.Named.{nothing, placed, references_said}
+use Rattle.site_config.proofs.ByName.{nothing, placed, references_said}
 use Rattle.site_config.proofs.reading.finish.Goals as goal
 
 pub returns-in_err-check_references-clause-told : goal.returns-in_err-check_references-clause-told

@@ -1,7 +1,7 @@
 use Rattle.std.proofs.Common.{◌∙◌}
 use Rattle.std.proofs.lemmas.Result.{IfOk-weaker}
-use Rattle.site_config.specs.Names.{look_up}
-use Rattle.site_config.proofs.Named.{same_names}
+use Rattle.site_config.specs.NameMaps.{look_up}
+use Rattle.site_config.proofs.ByName.{same_names}
 use Rattle.site_config.proofs.reading.names_in.Goals as goal
 
 pub returns-clause-named : goal.returns-clause-named
