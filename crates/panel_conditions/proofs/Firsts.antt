@@ -1,17 +1,32 @@
 -- What the parts are at first, one after the other.
-use Rattle.std.proofs.Common.{◌≡◌, ◌⊎◌, inl, inr, ℕ, zero, suc, ◌+◌, List, [], ◌∷◌, ◌++◌, Option, Some, None, length, slice_get, refl, sym, ◌∙◌, ap, subst, add-one}
+use Rattle.std.proofs.Common.{◌≡◌, ◌⊎◌, inl, inr, ℕ, zero, suc, ◌+◌, ◌≤◌, Bool, true, false, List, [], ◌∷◌, ◌++◌, map, Option, Some, None, length, slice_get, ◌==◌, ◌&&◌, nat_lt, if◌then◌else◌, refl, sym, ◌∙◌, ap, subst, add-one, arith}
 use Rattle.std.proofs.lemmas.List.{length_push}
-use Rattle.std.proofs.lemmas.Option.{same_Some}
+use Rattle.std.proofs.lemmas.Option.{same_Some, slice_get_within}
+use Rattle.std.proofs.lemmas.Bool.Decides.{eqb_tells}
+use Rattle.site_types.specs.declared.point_set.PointSet.{PointSet}
+use Rattle.site_types.specs.Valid.{IsValid, HasZone}
+use Rattle.site_types.proofs.Done.{lt_tells, lt_true, lt_false}
+use Rattle.site_types.proofs.Places.{all_at}
 use Rattle.site_types.specs.declared.site.Site.{Site}
 use Rattle.site_types.specs.declared.point.Point.{Point}
 use Rattle.site_types.specs.declared.retained.Retained.{Retained}
 use Rattle.panel_conditions.specs.declared.zone_watch.ZoneWatch.{ZoneWatch}
-use Rattle.panel_conditions.specs.declared.point_watch.PointWatch.{PointWatch}
-use Rattle.panel_conditions.specs.Stands.{are_first_watches, first_watch, first_point, AreFirstPoints, WatchesZone, WatchesZones, WatchesPoint, WatchesPoints, Shows, nothing_shown, HasPlaces, HasZoneNumber}
+use Rattle.panel_conditions.specs.declared.asked.Asked.{Asked}
+use Rattle.panel_conditions.specs.declared.asked.Asked.TheVariants.{Disabled, ZoneDisabled, OfZone}
+use Rattle.panel_conditions.specs.declared.points.Points.{Points}
+use Rattle.panel_conditions.specs.PointSets.{loop_address, no_set, put_at}
+use Rattle.panel_conditions.specs.Points.{points_where}
+use Rattle.panel_conditions.specs.Missing.{zone_is_off}
+use Rattle.panel_conditions.specs.Parts.{is_asked, is_so, points_from}
+use Rattle.panel_conditions.specs.Stands.{are_first_watches, first_watch, AreZoneSets, TellsPoints, WatchesZone, WatchesZones, WatchesPoints, Shows, nothing_shown, HasPlaces, HasZoneNumber, set_or_none, point_is_off, zone_of_is_off}
 use Rattle.site_types.specs.Changes.{HasOwnPlaces}
 use Rattle.site_types.specs.declared.zone.Zone.{Zone}
-use Rattle.site_types.specs.Done.{PointOff, ZoneOff, moves_floor, cancels, kept_point, kept_zone}
-use Rattle.panel_conditions.proofs.Told.{told_never, told_first}
+use Rattle.site_types.specs.Done.{moves_floor, cancels, kept_point}
+use Rattle.panel_conditions.proofs.Told.{told_never, told_from}
+use Rattle.panel_conditions.proofs.Masked.{none_past}
+use Rattle.panel_conditions.proofs.Yet.{points_same}
+use Rattle.panel_conditions.proofs.PointSets.{none_is}
+use Rattle.panel_conditions.proofs.Addressed.{neq_false, put_point}
 
 pub first_more : (site : Site) (panel n : ℕ) → are_first_watches site panel (n + 1) ≡ are_first_watches site panel n ++ first_watch site panel n ∷ []
 unfolding are_first_watches
@@ -40,18 +55,6 @@ first_at site panel (suc n) k watch h = elim (get_push (are_first_watches site p
 
 pub count_more : {X : Type 0} (before after : List X) (x : X) (n : ℕ) → length before ≡ n → after ≡ before ++ x ∷ [] → length after ≡ n + 1
 count_more before after x n count e = ap length e ∙ length_push before x ∙ ap (λ k. k + 1) count
-
-pub points_more : (site : Site) (kept : Retained) (before after : List PointWatch) (w : PointWatch) (n : ℕ) (p : Point) → length before ≡ n → after ≡ before ++ w ∷ [] →
-    slice_get site.points n ≡ Some p → w ≡ first_point site kept n p →
-    ((j : ℕ) (watch : PointWatch) (point : Point) → slice_get before j ≡ Some watch → slice_get site.points j ≡ Some point → watch ≡ first_point site kept j point) →
-    (j : ℕ) (watch : PointWatch) (point : Point) → slice_get after j ≡ Some watch → slice_get site.points j ≡ Some point → watch ≡ first_point site kept j point
-points_more site kept before after w n p count e at is below j watch point h g =
-    elim (get_push before w j watch (subst (λ l. slice_get l j ≡ Some watch) e h)) [
-      | inl earlier ↦ below j watch point earlier g
-      | inr last ↦ (let here : j ≡ n = last.0 ∙ count in
-          let same : p ≡ point = same_Some p point (sym at ∙ ap (slice_get site.points) (sym here) ∙ g) in
-          sym last.1 ∙ is ∙ ap (first_point site kept n) same ∙ ap (λ k. first_point site kept k point) (sym here))
-    ]
 
 -- at first nothing was found or done
 
@@ -82,20 +85,98 @@ zones_first site panel watches e = record {
       subst (WatchesZone site panel [] [] k) (sym (first_at site panel 32 k watch (subst (λ l. slice_get l k ≡ Some watch) e at))) (zone_first site panel k);
 }
 
-point_first : (site : Site) (kept : Retained) (k : ℕ) (point : Point) → slice_get site.points k ≡ Some point → WatchesPoint site kept [] [] k point (first_point site kept k point)
-point_first site kept k point is = record {
-  place = refl;
-  zone = refl;
-  off = told_first site kept (PointOff k) (kept_point kept (Some point)) (ap (kept_point kept) is);
-  zone_off = told_first site kept (ZoneOff point.zone) (kept_zone kept (slice_get site.zones point.zone)) refl;
-  missing = refl;
+-- one point more was asked
+asked_more : (k place : ℕ) (on at : Bool) → (k ≡ place → on ≡ at) → (if k == place then on else (nat_lt place k && at)) ≡ (nat_lt place (k + 1) && at)
+asked_more k place on at here = elim (eqb_tells k place) [
+  | inl same ↦ (let e = same.1 in ap (λ b. if b then on else (nat_lt place k && at)) same.0 ∙ here e ∙ sym (ap (λ b. b && at) (lt_true place (k + 1) (omega (arith, e)))))
+  | inr far ↦ (let f = far.1 in ap (λ b. if b then on else (nat_lt place k && at)) far.0 ∙ ap (λ b. b && at) (elim (lt_tells place k) [
+    | inl less ↦ (let l = less.1 in less.0 ∙ sym (lt_true place (k + 1) (omega (arith, l))))
+    | inr other ↦ (let o = other.1 in other.0 ∙ sym (lt_false place (k + 1) (omega (arith, o, f))))
+  ]))
+]
+
+pub points_asked : (site : Site) (kept : Retained) (panel : ℕ) (asked : Asked) (k : ℕ) (point : Point) (on : Bool) → HasOwnPlaces site → slice_get site.points k ≡ Some point → on ≡ is_so site kept asked point →
+    put_at (loop_address panel point) on (points_where site panel (λ place. nat_lt place k && is_asked site kept asked (slice_get site.points place)))
+    ≡ points_where site panel (λ place. nat_lt place (k + 1) && is_asked site kept asked (slice_get site.points place))
+points_asked site kept panel asked k point on own is so =
+    put_point site panel k on (λ place. nat_lt place k && is_asked site kept asked (slice_get site.points place)) own (Some point) is
+    ∙ points_same site panel _ (λ place. nat_lt place (k + 1) && is_asked site kept asked (slice_get site.points place))
+    (λ place. asked_more k place on (is_asked site kept asked (slice_get site.points place)) (λ e. so ∙ sym (ap (is_asked site kept asked) (ap (slice_get site.points) (sym e) ∙ is))))
+
+pub none_asked : (site : Site) (kept : Retained) (panel : ℕ) (asked : Asked) → no_set ≡ points_where site panel (λ place. nat_lt place 0 && is_asked site kept asked (slice_get site.points place))
+none_asked site kept panel asked =
+    sym (points_same site panel (λ place. nat_lt place 0 && is_asked site kept asked (slice_get site.points place)) (λ place. false)
+    (λ place. ap (λ b. b && is_asked site kept asked (slice_get site.points place)) (lt_false place 0 (omega arith))) ∙ none_is site panel)
+
+pub all_asked : (site : Site) (kept : Retained) (panel : ℕ) (asked : Asked) (k : ℕ) → length site.points ≤ k →
+    points_where site panel (λ place. nat_lt place k && is_asked site kept asked (slice_get site.points place)) ≡ points_where site panel (λ place. is_asked site kept asked (slice_get site.points place))
+all_asked site kept panel asked k whole =
+    points_same site panel (λ place. nat_lt place k && is_asked site kept asked (slice_get site.points place)) (λ place. is_asked site kept asked (slice_get site.points place)) (λ place. one place (slice_get site.points place) refl)
+  where
+    one : (place : ℕ) (o : Option Point) → slice_get site.points place ≡ o → (nat_lt place k && is_asked site kept asked o) ≡ is_asked site kept asked o
+    one place None is = none (nat_lt place k)
+      where
+        none : (b : Bool) → (b && false) ≡ false
+        none true = refl
+        none false = refl
+    one place (Some p) is = ap (λ b. b && is_asked site kept asked (Some p)) (lt_true place k (omega (arith, whole, slice_get_within site.points place p is)))
+
+-- a zone that is not there has no points
+no_zone_asked : (site : Site) (kept : Retained) (panel zone : ℕ) → IsValid site → length site.zones ≤ zone → no_set ≡ points_where site panel (λ place. is_asked site kept (OfZone zone) (slice_get site.points place))
+no_zone_asked site kept panel zone valid past =
+    sym (points_same site panel (λ place. is_asked site kept (OfZone zone) (slice_get site.points place)) (λ place. false) (λ place. one place (slice_get site.points place) refl) ∙ none_is site panel)
+  where
+    one : (place : ℕ) (o : Option Point) → slice_get site.points place ≡ o → is_asked site kept (OfZone zone) o ≡ false
+    one place None is = refl
+    one place (Some p) is =
+        let of_zone = all_at (λ (point : Point). HasZone site point.panel point.zone) site.points place p valid.references.zone_of_point is in
+        let small = slice_get_within site.zones p.zone of_zone.zone of_zone.is in
+        neq_false p.zone zone (λ e. omega (arith, small, past, e))
+
+zones_asked : (site : Site) (kept : Retained) (panel : ℕ) (sets : List PointSet) → IsValid site → AreZoneSets site kept panel (length site.zones) sets → (zone : ℕ) →
+    set_or_none (slice_get sets zone) ≡ points_where site panel (λ place. is_asked site kept (OfZone zone) (slice_get site.points place))
+zones_asked site kept panel sets valid h zone = go (slice_get sets zone) refl
+  where
+    go : (o : Option PointSet) → slice_get sets zone ≡ o → set_or_none o ≡ points_where site panel (λ place. is_asked site kept (OfZone zone) (slice_get site.points place))
+    go (Some points) is = h.each zone points is
+    go None is = elim (lt_tells zone (length sets)) [
+      | inl less ↦ absurd (none_past sets zone less.1 is)
+      | inr past ↦ (let p = past.1 in let c = h.count in no_zone_asked site kept panel zone valid (omega (arith, p, c)))
+    ]
+
+pub zone_sets_more : (site : Site) (kept : Retained) (panel n : ℕ) (before after : List PointSet) (s : PointSet) → AreZoneSets site kept panel n before → after ≡ before ++ s ∷ [] →
+    s ≡ points_where site panel (λ place. is_asked site kept (OfZone n) (slice_get site.points place)) → AreZoneSets site kept panel (n + 1) after
+zone_sets_more site kept panel n before after s h e is = record {
+  count = count_more before after s n h.count e;
+  each = λ zone points at. elim (get_push before s zone points (subst (λ l. slice_get l zone ≡ Some points) e at)) [
+    | inl earlier ↦ h.each zone points earlier
+    | inr last ↦ sym last.1 ∙ is ∙ ap (λ z. points_where site panel (λ place. is_asked site kept (OfZone z) (slice_get site.points place))) (sym (last.0 ∙ h.count))
+  ];
 }
 
-pub points_first : (site : Site) (kept : Retained) (watches : List PointWatch) → AreFirstPoints site kept watches → WatchesPoints site kept [] [] watches
-points_first site kept watches h = record {
-  count = h.count;
-  each = λ place watch point at is. subst (WatchesPoint site kept [] [] place point) (sym (h.each place watch point at is)) (point_first site kept place point is);
+pub points_first : (site : Site) (kept : Retained) (panel : ℕ) (points : Points) → IsValid site → HasOwnPlaces site → points.addresses.items ≡ map (loop_address panel) site.points →
+    AreZoneSets site kept panel (length site.zones) points.of_zones.items → points.missing ≡ no_set →
+    (off zone_off : PointSet) → points.off ≡ points_from off → points.zone_off ≡ points_from zone_off →
+    off ≡ points_where site panel (λ place. is_asked site kept Disabled (slice_get site.points place)) → zone_off ≡ points_where site panel (λ place. is_asked site kept ZoneDisabled (slice_get site.points place)) →
+    WatchesPoints site kept panel [] [] points
+points_first site kept panel points valid own addresses sets missing off zone_off from zone_from is zone_is = record {
+  own = own;
+  addresses = addresses;
+  of_zones = zones_asked site kept panel points.of_zones.items valid sets;
+  missing = missing ∙ sym (none_is site panel);
+  off = subst (TellsPoints site panel (point_is_off site kept []) []) (sym from)
+      (told_from site panel (point_is_off site kept []) off (λ x. is ∙ points_same site panel (λ place. is_asked site kept Disabled (slice_get site.points place)) (point_is_off site kept [] x) (λ place. retained (slice_get site.points place))));
+  zone_off = subst (TellsPoints site panel (zone_of_is_off site kept []) []) (sym zone_from)
+      (told_from site panel (zone_of_is_off site kept []) zone_off (λ x. zone_is ∙ points_same site panel (λ place. is_asked site kept ZoneDisabled (slice_get site.points place)) (zone_of_is_off site kept [] x) (λ place. zone_retained x (slice_get site.points place))));
 }
+  where
+    retained : (o : Option Point) → is_asked site kept Disabled o ≡ kept_point kept o
+    retained None = refl
+    retained (Some p) = refl
+
+    zone_retained : (x : ℕ) (o : Option Point) → is_asked site kept ZoneDisabled o ≡ zone_is_off site kept [] o x
+    zone_retained x None = refl
+    zone_retained x (Some p) = refl
 
 pub shows_nothing : (site : Site) (kept : Retained) (panel : ℕ) → Shows site kept panel [] [] nothing_shown
 shows_nothing site kept panel = record { word = refl; faults = refl; newly = refl; entries = refl; buzzer = refl }

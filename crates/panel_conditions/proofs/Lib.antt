@@ -3,9 +3,10 @@ pub mod Bits
 pub mod Latest
 pub mod Told
 pub mod Firsts
+pub mod PointSets
+pub mod Addressed
 pub mod Watched
 pub mod Masked
-pub mod Addressed
 pub mod Yet
 pub mod Turned
 pub mod Tells

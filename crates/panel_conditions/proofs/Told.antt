@@ -1,14 +1,16 @@
 -- What is kept of operations tells of one more.
-use Rattle.std.proofs.Common.{◌≡◌, ◌⊎◌, inl, inr, ℕ, ◌<◌, ◌≤◌, max, Bool, true, false, List, [], ◌∷◌, Option, Some, None, ◌&&◌, nat_lt, if◌then◌else◌, refl, sym, ◌∙◌, ap, subst, arith}
+use Rattle.std.proofs.Common.{◌≡◌, ◌⊎◌, inl, inr, ℕ, ◌<◌, ◌≤◌, max, Bool, true, false, List, [], ◌∷◌, ◌&&◌, nat_lt, if◌then◌else◌, refl, sym, ◌∙◌, ap, subst, arith}
 use Rattle.tick_units.specs.declared.tick.Tick.{Tick}
-use Rattle.tick_units.specs.declared.switch.Switch.{Switch}
 use Rattle.site_types.specs.declared.site.Site.{Site}
-use Rattle.site_types.specs.declared.retained.Retained.{Retained}
-use Rattle.site_types.specs.Done.{Done, Setting, is_on, is_setting, value_set, in_force, latest_before, AreBy}
-use Rattle.site_types.proofs.Done.{lt_tells, lt_true, lt_false, same_setting_is}
+use Rattle.site_types.specs.declared.point_set.PointSet.{PointSet}
+use Rattle.site_types.specs.Done.{Done, latest_before, AreBy}
+use Rattle.site_types.proofs.Done.{lt_tells, lt_true, lt_false}
 use Rattle.panel_conditions.specs.declared.last_tick.LastTick.{LastTick}
-use Rattle.panel_conditions.specs.Parts.{last_at, last_if, switch_at, switch_if, never_done}
-use Rattle.panel_conditions.specs.Stands.{TellsLast, TellsSetting, NoneIn, set_in, first_switch}
+use Rattle.panel_conditions.specs.declared.point_switch.PointSwitch.{PointSwitch}
+use Rattle.panel_conditions.specs.Parts.{last_at, last_if, never_done, points_from, switch_points}
+use Rattle.panel_conditions.specs.Points.{points_where}
+use Rattle.panel_conditions.specs.Stands.{TellsLast, TellsPoints}
+use Rattle.panel_conditions.proofs.Yet.{points_same}
 
 -- ---- the latest tick of a kind of operations
 
@@ -66,65 +68,80 @@ told_never test = record { at = λ x h. nothing x; by = λ x h. omega arith }
     nothing : (x : ℕ) → 0 ≡ last_at x never_done
     nothing x = elim (lt_tells 0 x) [ inl less ↦ rw less.0 refl | inr other ↦ rw other.0 refl ]
 
--- ---- settings
+-- ---- sets of points
 
--- the last operation on a setting, of which none was done in a tick, was done before it
-set_before : (setting : Setting) (tick : ℕ) (done : List Done) → 1 ≤ tick → AreBy tick done → NoneIn tick setting done → set_in setting done < tick
-set_before setting tick [] one by none = omega (arith, one)
-set_before setting tick (d ∷ ds) one by none = go (is_on setting d) refl (set_before setting tick ds one by.1 none.1)
-  where
-    go : (b : Bool) → is_on setting d ≡ b → set_in setting ds < tick → (if b then d.tick else set_in setting ds) < tick
-    go true e ih = let apart = none.0 e in let le = by.0 in omega (arith, apart, le)
-    go false e ih = ih
+if_on : (b v t : Bool) → (if b && true then v else t) ≡ (if b then v else t)
+if_on true v t = refl
+if_on false v t = refl
 
-set_by : (setting : Setting) (x : ℕ) (done : List Done) → AreBy x done → set_in setting done ≤ x
-set_by setting x [] by = omega arith
-set_by setting x (d ∷ ds) by = go (is_on setting d) (set_by setting x ds by.1)
-  where
-    go : (b : Bool) → set_in setting ds ≤ x → (if b then d.tick else set_in setting ds) ≤ x
-    go true ih = by.0
-    go false ih = ih
+if_off : (b v t : Bool) → (if b && false then v else t) ≡ t
+if_off true v t = refl
+if_off false v t = refl
 
--- a switch that tells a setting is not later than the operations
-pub switch_by : (site : Site) (kept : Retained) (setting : Setting) (x : ℕ) (done : List Done) (switch : Switch) → AreBy x done → TellsSetting site kept setting done switch → switch.since.0 ≤ x
-switch_by site kept setting x done switch by tells = subst (λ n. n ≤ x) (sym tells.since) (set_by setting x done by)
+module _ (site : Site) (panel : ℕ) (test test' : ℕ → ℕ → Bool) (done : List Done) (d : Done) (switch : PointSwitch) (tells : TellsPoints site panel test done switch) where
+  -- one more operation, which changes nothing
+  pub told_same : ((x place : ℕ) → test' x place ≡ test x place) → TellsPoints site panel test' (d ∷ done) switch
+  told_same same = record {
+    at = λ x h. tells.at x h ∙ sym (points_same site panel (test' x) (test x) (same x));
+    by = λ x h. tells.by x h.1;
+  }
 
--- one more operation, which is on the setting or not
-pub told_setting : (site : Site) (kept : Retained) (setting : Setting) (d : Done) (done : List Done) (at : Tick) (switch : Switch) (on value : Bool) → d.tick ≡ at.0 → is_on setting d ≡ on → value_set d.operation ≡ value →
-    1 ≤ at.0 → AreBy at.0 done → (is_on setting d ≡ true → NoneIn at.0 setting done) → TellsSetting site kept setting done switch → TellsSetting site kept setting (d ∷ done) (switch_if on value at switch)
-told_setting site kept setting d done at switch on value tick e is_value one since once tells = go on e
-  where
-    go : (b : Bool) → is_on setting d ≡ b → TellsSetting site kept setting (d ∷ done) (switch_if b value at switch)
-    go false off = record {
-      at = λ x h. ap (λ b. if b && nat_lt d.tick x then value_set d.operation else in_force site kept setting x done) off ∙ tells.at x h;
-      since = tells.since ∙ sym (ap (λ b. if b then d.tick else set_in setting done) off);
-    }
-    go true is = record { at = now_is; since = sym (ap (λ b. if b then d.tick else set_in setting done) is ∙ tick) }
+  -- one more operation, which gives some points a value from the tick after its own on
+  module _ (touches : ℕ → Bool) (value : Bool) (change : PointSet → PointSet) (at : Tick) (tick : d.tick ≡ at.0) (since : AreBy at.0 done)
+      (next : (x place : ℕ) → test' x place ≡ (if touches place && nat_lt at.0 x then value else test x place))
+      (changes : (p : ℕ → Bool) → change (points_where site panel p) ≡ points_where site panel (λ place. if touches place then value else p place)) where
+    changed : (x : ℕ) (set : PointSet) → nat_lt at.0 x ≡ true → set ≡ points_where site panel (test x) → change set ≡ points_where site panel (test' x)
+    changed x set later is =
+        ap change is ∙ changes (test x)
+        ∙ points_same site panel (λ place. if touches place then value else test x place) (test' x)
+        (λ place. sym (next x place ∙ ap (λ b. if touches place && b then value else test x place) later ∙ if_on (touches place) value (test x place)))
+
+    stays : (x : ℕ) (set : PointSet) → nat_lt at.0 x ≡ false → set ≡ points_where site panel (test x) → set ≡ points_where site panel (test' x)
+    stays x set not_yet is =
+        is
+        ∙ points_same site panel (test x) (test' x)
+        (λ place. sym (next x place ∙ ap (λ b. if touches place && b then value else test x place) not_yet ∙ if_off (touches place) value (test x place)))
+
+    -- the tick is a new one
+    moved : switch.since.0 < at.0 → TellsPoints site panel test' (d ∷ done) (record { before = switch.after; after = change switch.after; since = at })
+    moved less = record { at = here; by = λ x h. subst (λ n. n ≤ x) tick h.0 }
       where
-        before : switch.since.0 < at.0
-        before = subst (λ n. n < at.0) (sym tells.since) (set_before setting at.0 done one since (once is))
+        after_is : (x : ℕ) → at.0 ≤ x → switch.after ≡ points_where site panel (test x)
+        after_is x h = sym (ap (λ b. if b then switch.after else switch.before) (lt_true switch.since.0 x (omega (arith, less, h)))) ∙ tells.at x (omega (arith, less, h))
 
-        was : (x : ℕ) → at.0 ≤ x → in_force site kept setting x done ≡ switch.now
-        was x h =
-            let later : switch.since.0 < x = (let b = before in omega (arith, b, h)) in
-            tells.at x (omega (arith, later)) ∙ ap (λ b. if b then switch.now else switch.was) (lt_true switch.since.0 x later)
+        here : (x : ℕ) → at.0 ≤ x → (if nat_lt at.0 x then change switch.after else switch.after) ≡ points_where site panel (test' x)
+        here x h = elim (lt_tells at.0 x) [
+          | inl later ↦ ap (λ b. if b then change switch.after else switch.after) later.0 ∙ changed x switch.after later.0 (after_is x h)
+          | inr other ↦ ap (λ b. if b then change switch.after else switch.after) other.0 ∙ stays x switch.after other.0 (after_is x h)
+        ]
 
-        now_is : (x : ℕ) → at.0 ≤ x → in_force site kept setting x (d ∷ done) ≡ switch_at x (switch_if true value at switch)
-        now_is x h =
-            ap (λ b. if b && nat_lt d.tick x then value_set d.operation else in_force site kept setting x done) is
-            ∙ ap (λ n. if nat_lt n x then value_set d.operation else in_force site kept setting x done) tick
-            ∙ ap (λ v. if nat_lt at.0 x then v else in_force site kept setting x done) is_value
-            ∙ ap (λ v. if nat_lt at.0 x then value else v) (was x h)
+    -- it is that of the last change
+    again : at.0 ≤ switch.since.0 → TellsPoints site panel test' (d ∷ done) (record { before = switch.before; after = change switch.after; since = switch.since })
+    again same = record { at = here; by = λ x h. tells.by x h.1 }
+      where
+        before : switch.since.0 ≤ at.0
+        before = tells.by at.0 since
 
--- at first
-pub told_first : (site : Site) (kept : Retained) (setting : Setting) (value : Bool) → in_force site kept setting 0 [] ≡ value → TellsSetting site kept setting [] (first_switch value)
-told_first site kept setting value e = record { at = λ x h. e ∙ sym (same (nat_lt 0 x)); since = refl }
+        here : (x : ℕ) → switch.since.0 ≤ x → (if nat_lt switch.since.0 x then change switch.after else switch.before) ≡ points_where site panel (test' x)
+        here x h = elim (lt_tells switch.since.0 x) [
+          | inl later ↦ (let l = later.1 in
+              ap (λ b. if b then change switch.after else switch.before) later.0
+              ∙ changed x switch.after (lt_true at.0 x (omega (arith, same, l))) (sym (ap (λ b. if b then switch.after else switch.before) later.0) ∙ tells.at x h))
+          | inr other ↦ (let o = other.1 in
+              ap (λ b. if b then change switch.after else switch.before) other.0
+              ∙ stays x switch.before (lt_false at.0 x (let b = before in omega (arith, b, o))) (sym (ap (λ b. if b then switch.after else switch.before) other.0) ∙ tells.at x h))
+        ]
+
+    pub told_points : TellsPoints site panel test' (d ∷ done) (switch_points change at switch)
+    told_points = elim (lt_tells switch.since.0 at.0) [
+      | inl less ↦ subst (λ b. TellsPoints site panel test' (d ∷ done) (let w : PointSwitch = if b then record { before = switch.after; after = switch.after; since = at } else switch in record w { after = change w.after })) (sym less.0) (moved less.1)
+      | inr same ↦ subst (λ b. TellsPoints site panel test' (d ∷ done) (let w : PointSwitch = if b then record { before = switch.after; after = switch.after; since = at } else switch in record w { after = change w.after })) (sym same.0) (again same.1)
+    ]
+
+-- these points from the opening on
+pub told_from : (site : Site) (panel : ℕ) (test : ℕ → ℕ → Bool) (set : PointSet) → ((x : ℕ) → set ≡ points_where site panel (test x)) → TellsPoints site panel test [] (points_from set)
+told_from site panel test set is = record { at = λ x h. same (nat_lt 0 x) ∙ is x; by = λ x h. omega arith }
   where
-    same : (b : Bool) → (if b then value else value) ≡ value
+    same : (b : Bool) → (if b then set else set) ≡ set
     same true = refl
     same false = refl
-
--- the setting that an operation is on
-pub setting_is : (setting : Setting) (o : Option Setting) → is_setting setting o ≡ true → o ≡ Some setting
-setting_is setting None h = cc
-setting_is setting (Some other) h = ap (λ s. Some s) (sym (same_setting_is setting other h))

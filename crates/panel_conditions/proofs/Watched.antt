@@ -1,6 +1,7 @@
 -- The zones and points that are watched, with one more finding or operation.
-use Rattle.std.proofs.Common.{◌≡◌, ℕ, ◌+◌, Bool, true, false, not, List, [], ◌∷◌, ◌++◌, map, length, Option, Some, None, option_map, slice_get, ◌==◌, ◌&&◌, if◌then◌else◌, refl, sym, ◌∙◌, ap, subst}
+use Rattle.std.proofs.Common.{◌≡◌, ℕ, ◌+◌, Bool, true, false, not, List, [], ◌∷◌, ◌++◌, map, length, inl, inr, Option, Some, None, option_map, slice_get, ◌==◌, ◌&&◌, ◌||◌, nat_lt, if◌then◌else◌, refl, sym, ◌∙◌, ap, subst}
 use Rattle.std.proofs.lemmas.Bool.{eq-eqb}
+use Rattle.std.proofs.lemmas.Bool.Decides.{eqb_tells}
 use Rattle.std.proofs.lemmas.Option.{slice_get-map}
 use Rattle.std.proofs.lemmas.List.{length-map}
 use Rattle.tick_units.specs.declared.tick.Tick.{Tick}
@@ -8,22 +9,29 @@ use Rattle.site_types.specs.declared.site.Site.{Site}
 use Rattle.site_types.specs.declared.point.Point.{Point as PointPlan}
 use Rattle.site_types.specs.declared.zone.Zone.{Zone as ZonePlan}
 use Rattle.site_types.specs.declared.retained.Retained.{Retained}
+use Rattle.site_types.specs.declared.item.Item.{Item}
 use Rattle.site_types.specs.declared.item.Item.TheVariants.{Point, Zone, Output}
 use Rattle.site_types.specs.declared.operation.Operation.{Operation}
-use Rattle.site_types.specs.declared.operation.Operation.TheVariants.{Reset, Disable, Test, Delays, Clear}
+use Rattle.site_types.specs.declared.operation.Operation.TheVariants.{Mute, Override, Silence, Resound, Reset, Cancel, Disable, Enable, Test, Untest, Delays, Clear}
 use Rattle.site_types.specs.Bits.{has_bit}
-use Rattle.site_types.specs.Done.{Done, PointOff, ZoneOff, is_floor, is_of_panel, moves_floor, is_cancel, cancels, is_mute, mutes, is_setting, operation_setting, AreBy}
+use Rattle.site_types.specs.Done.{Done, Setting, PointOff, ZoneOff, same_setting, item_off, is_on, value_set, in_force, is_floor, is_of_panel, moves_floor, is_cancel, cancels, is_mute, mutes, AreBy}
+use Rattle.site_types.specs.declared.point_set.PointSet.{PointSet}
 use Rattle.coincidence_rules.specs.declared.finding.Finding.{Finding}
 use Rattle.coincidence_rules.proofs.ZoneMasks.{of_numbered}
 use Rattle.panel_conditions.specs.declared.zone_watch.ZoneWatch.{ZoneWatch}
-use Rattle.panel_conditions.specs.declared.point_watch.PointWatch.{PointWatch}
+use Rattle.panel_conditions.specs.declared.asked.Asked.TheVariants.{OfZone}
+use Rattle.panel_conditions.specs.declared.points.Points.{Points}
 use Rattle.panel_conditions.specs.declared.last_tick.LastTick.{LastTick}
-use Rattle.panel_conditions.specs.Parts.{zone_taken, zone_done, point_taken, point_done, raises, on_watched, last_if}
-use Rattle.panel_conditions.specs.Turns.{HoldTurn}
-use Rattle.panel_conditions.specs.Missing.{missing_found}
-use Rattle.panel_conditions.specs.Stands.{WatchesZone, WatchesZones, WatchesPoint, WatchesPoints, MayApply, TellsLast}
+use Rattle.panel_conditions.specs.PointSets.{loop_address, address_in, put_at, put_all, either_set, set_without}
+use Rattle.panel_conditions.specs.Parts.{zone_taken, zone_done, points_at, points_taken, points_done, points_shown, item_set, is_asked, raises, on_watched, last_if}
+use Rattle.panel_conditions.specs.Points.{points_where}
+use Rattle.panel_conditions.specs.Missing.{missing_found, zone_is_off, shows_missing}
+use Rattle.panel_conditions.specs.Stands.{WatchesZone, WatchesZones, WatchesPoints, TellsLast, set_or_none, point_is_off, zone_of_is_off}
 use Rattle.panel_conditions.proofs.Latest.{stamp_more, last-push}
-use Rattle.panel_conditions.proofs.Told.{told_last, told_setting, setting_is}
+use Rattle.panel_conditions.proofs.Told.{told_last, told_same, told_points}
+use Rattle.panel_conditions.proofs.Yet.{points_same}
+use Rattle.panel_conditions.proofs.PointSets.{either_is, without_is, none_is}
+use Rattle.panel_conditions.proofs.Addressed.{but_at, neq_false, put_place}
 
 -- what stands in a list that each item was changed in
 pub get_map : {X : Type 0} (f : X → X) (xs : List X) (k : ℕ) (y : X) → slice_get (map f xs) k ≡ Some y → (x : X) × (slice_get xs k ≡ Some x) × (f x ≡ y)
@@ -32,10 +40,6 @@ get_map {X = X} f xs k y h = go (slice_get xs k) refl (sym (slice_get-map f xs k
     go : (o : Option X) → slice_get xs k ≡ o → option_map f o ≡ Some y → (x : X) × (slice_get xs k ≡ Some x) × (f x ≡ y)
     go None e g = cc
     go (Some x) e g = (x, e, cc)
-
-pub get_changed : {X : Type 0} (f : X → X) (o : Option X) (y : X) → option_map f o ≡ Some y → (x : X) × (o ≡ Some x) × (f x ≡ y)
-get_changed f None y h = cc
-get_changed f (Some x) y h = (x, refl, cc)
 
 -- ---- one more finding
 
@@ -64,33 +68,19 @@ zones_more site panel done taken f before after e h = record {
       subst (WatchesZone site panel done (taken ++ f ∷ []) k) w.2 (zone_more site panel done taken f k w.0 (h.each k w.0 w.1));
 }
 
-point_more : (site : Site) (kept : Retained) (done : List Done) (taken : List Finding) (f : Finding) (k : ℕ) (point : PointPlan) (watch : PointWatch) →
-    WatchesPoint site kept done taken k point watch → WatchesPoint site kept done (taken ++ f ∷ []) k point (point_taken k f watch)
-point_more site kept done taken f k point watch h = go (f.point == k) refl
-  where
-    go : (b : Bool) → (f.point == k) ≡ b → WatchesPoint site kept done (taken ++ f ∷ []) k point (if b then record watch { missing = f.missing } else watch)
-    go true e = record {
-      place = h.place;
-      zone = h.zone;
-      off = h.off;
-      zone_off = h.zone_off;
-      missing = sym (last-push k false taken f ∙ ap (λ b. if b then f.missing else missing_found taken k) e);
-    }
-    go false e = record {
-      place = h.place;
-      zone = h.zone;
-      off = h.off;
-      zone_off = h.zone_off;
-      missing = h.missing ∙ sym (last-push k false taken f ∙ ap (λ b. if b then f.missing else missing_found taken k) e);
-    }
-
-pub points_more : (site : Site) (kept : Retained) (done : List Done) (taken : List Finding) (f : Finding) (before after : List PointWatch) → length after ≡ length before →
-    ((place : ℕ) → slice_get after place ≡ option_map (point_taken place f) (slice_get before place)) → WatchesPoints site kept done taken before → WatchesPoints site kept done (taken ++ f ∷ []) after
-points_more site kept done taken f before after count same h = record {
-  count = count ∙ h.count;
-  each = λ place watch point at is.
-      let w = get_changed (point_taken place f) (slice_get before place) watch (sym (same place) ∙ at) in
-      subst (WatchesPoint site kept done (taken ++ f ∷ []) place point) w.2 (point_more site kept done taken f place point w.0 (h.each place w.0 point w.1 is));
+pub points_more : (site : Site) (kept : Retained) (panel : ℕ) (done : List Done) (taken : List Finding) (f : Finding) (points : Points) → WatchesPoints site kept panel done taken points →
+    WatchesPoints site kept panel done (taken ++ f ∷ []) (points_taken f points)
+points_more site kept panel done taken f points h = record {
+  own = h.own;
+  addresses = h.addresses;
+  of_zones = h.of_zones;
+  missing =
+      ap (λ l. put_at (address_in (slice_get l f.point)) f.missing points.missing) h.addresses
+      ∙ ap (put_at (address_in (slice_get (map (loop_address panel) site.points) f.point)) f.missing) h.missing
+      ∙ put_place site panel f.point f.missing (missing_found taken) h.own
+      ∙ points_same site panel (but_at f.point f.missing (missing_found taken)) (missing_found (taken ++ f ∷ [])) (λ place. sym (last-push place false taken f));
+  off = h.off;
+  zone_off = h.zone_off;
 }
 
 -- ---- one more operation
@@ -135,46 +125,147 @@ zones_after site panel done taken operation at before after since e h = record {
       subst (WatchesZone site panel (record { tick = at.0; panel = panel; operation = operation } ∷ done) taken k) w.2 (zone_after site panel done taken operation at k w.0 since (h.each k w.0 w.1));
 }
 
--- what an operation is on doesn't go by the panel, but for delays and counters
-point_of_any : (place panel : ℕ) (operation : Operation) → is_setting (PointOff place) (operation_setting panel operation) ≡ is_setting (PointOff place) (operation_setting 0 operation)
-point_of_any place panel (Delays on) = refl
-point_of_any place panel Clear = refl
-point_of_any place panel _ = refl
+either_if : (t q : Bool) → (q || t) ≡ (if t then true else q)
+either_if true true = refl
+either_if true false = refl
+either_if false true = refl
+either_if false false = refl
 
-zone_of_any : (zone panel : ℕ) (operation : Operation) → is_setting (ZoneOff zone) (operation_setting panel operation) ≡ is_setting (ZoneOff zone) (operation_setting 0 operation)
-zone_of_any zone panel (Delays on) = refl
-zone_of_any zone panel Clear = refl
-zone_of_any zone panel _ = refl
+without_if : (t q : Bool) → (q && not t) ≡ (if t then false else q)
+without_if true true = refl
+without_if true false = refl
+without_if false true = refl
+without_if false false = refl
 
-point_after : (site : Site) (kept : Retained) (panel : ℕ) (done : List Done) (turns : List HoldTurn) (taken : List Finding) (operation : Operation) (at : Tick) (k : ℕ) (point : PointPlan) (watch : PointWatch) →
-    MayApply panel done turns operation at.0 → WatchesPoint site kept done taken k point watch →
-    WatchesPoint site kept (record { tick = at.0; panel = panel; operation = operation } ∷ done) taken k point (point_done operation at watch)
-point_after site kept panel done turns taken operation at k point watch may h = record {
-  place = h.place;
-  zone = h.zone;
-  off =
-      told_setting site kept (PointOff k) d done at watch.off _ _ refl (point_of_any k panel operation ∙ ap (λ p. is_setting (PointOff p) (operation_setting 0 operation)) (sym h.place)) refl
-      may.counted may.since (λ on. may.once (PointOff k) (setting_is (PointOff k) (operation_setting panel operation) on)) h.off;
-  zone_off =
-      told_setting site kept (ZoneOff point.zone) d done at watch.zone_off _ _ refl
-      (zone_of_any point.zone panel operation ∙ ap (λ z. is_setting (ZoneOff z) (operation_setting 0 operation)) (sym h.zone)) refl may.counted may.since
-      (λ on. may.once (ZoneOff point.zone) (setting_is (ZoneOff point.zone) (operation_setting panel operation) on)) h.zone_off;
-  missing = h.missing;
-}
+or_none : (b : Bool) → (b || false) ≡ b
+or_none true = refl
+or_none false = refl
+
+and_all : (b : Bool) → (b && true) ≡ b
+and_all true = refl
+and_all false = refl
+
+-- the points of a zone are put in or taken out
+put_zone : (site : Site) (panel : ℕ) (on : Bool) (o : Option PointSet) (zone test : ℕ → Bool) → set_or_none o ≡ points_where site panel zone →
+    put_all o on (points_where site panel test) ≡ points_where site panel (λ place. if zone place then on else test place)
+put_zone site panel true o zone test is =
+    as_either o ∙ ap (either_set (points_where site panel test)) is ∙ either_is site panel test zone
+    ∙ points_same site panel (λ place. test place || zone place) (λ place. if zone place then true else test place) (λ place. either_if (zone place) (test place))
   where
-    d : Done
-    d = record { tick = at.0; panel = panel; operation = operation }
+    as_either : (o : Option PointSet) → put_all o true (points_where site panel test) ≡ either_set (points_where site panel test) (set_or_none o)
+    as_either (Some set) = refl
+    as_either None =
+        sym (ap (either_set (points_where site panel test)) (sym (none_is site panel)) ∙ either_is site panel test (λ place. false)
+        ∙ points_same site panel (λ place. test place || false) test (λ place. or_none (test place)))
+put_zone site panel false o zone test is =
+    as_without o ∙ ap (set_without (points_where site panel test)) is ∙ without_is site panel test zone
+    ∙ points_same site panel (λ place. test place && not (zone place)) (λ place. if zone place then false else test place) (λ place. without_if (zone place) (test place))
+  where
+    as_without : (o : Option PointSet) → put_all o false (points_where site panel test) ≡ set_without (points_where site panel test) (set_or_none o)
+    as_without (Some set) = refl
+    as_without None =
+        sym (ap (set_without (points_where site panel test)) (sym (none_is site panel)) ∙ without_is site panel test (λ place. false)
+        ∙ points_same site panel (λ place. test place && true) test (λ place. and_all (test place)))
 
-pub points_after : (site : Site) (kept : Retained) (panel : ℕ) (done : List Done) (turns : List HoldTurn) (taken : List Finding) (operation : Operation) (at : Tick) (before after : List PointWatch) →
-    MayApply panel done turns operation at.0 → after ≡ map (point_done operation at) before → WatchesPoints site kept done taken before →
-    WatchesPoints site kept (record { tick = at.0; panel = panel; operation = operation } ∷ done) taken after
-points_after site kept panel done turns taken operation at before after may e h = record {
-  count = ap length e ∙ length-map before (point_done operation at) ∙ h.count;
-  each = λ k watch point here is.
-      let w = get_map (point_done operation at) before k watch (subst (λ l. slice_get l k ≡ Some watch) e here) in
-      subst (WatchesPoint site kept (record { tick = at.0; panel = panel; operation = operation } ∷ done) taken k point) w.2
-      (point_after site kept panel done turns taken operation at k point w.0 may (h.each k w.0 point w.1 is));
-}
+eq_swap : (m n : ℕ) → (m == n) ≡ (n == m)
+eq_swap m n = elim (eqb_tells m n) [ inl same ↦ same.0 ∙ sym (eq-eqb n m (sym same.1)) | inr far ↦ far.0 ∙ sym (neq_false n m (λ e. far.1 (sym e))) ]
+
+module _ (site : Site) (kept : Retained) (panel : ℕ) (done : List Done) (taken : List Finding) (at : Tick) (since : AreBy at.0 done) (points : Points) (h : WatchesPoints site kept panel done taken points) where
+  -- an operation that disables or enables nothing
+  no_item : (operation : Operation) → ((place : ℕ) → is_on (PointOff place) (record { tick = at.0; panel = panel; operation = operation }) ≡ false) →
+      ((zone : ℕ) → is_on (ZoneOff zone) (record { tick = at.0; panel = panel; operation = operation }) ≡ false) →
+      WatchesPoints site kept panel (record { tick = at.0; panel = panel; operation = operation } ∷ done) taken points
+  no_item operation no_point no_zone = record {
+    own = h.own;
+    addresses = h.addresses;
+    of_zones = h.of_zones;
+    missing = h.missing;
+    off = told_same site panel (point_is_off site kept done) (point_is_off site kept (d ∷ done)) done d points.off h.off (λ x place. ap (λ b. if b && nat_lt at.0 x then value_set operation else in_force site kept (PointOff place) x done) (no_point place));
+    zone_off = told_same site panel (zone_of_is_off site kept done) (zone_of_is_off site kept (d ∷ done)) done d points.zone_off h.zone_off (λ x place. zone_same x (slice_get site.points place));
+  }
+    where
+      d : Done
+      d = record { tick = at.0; panel = panel; operation = operation }
+
+      zone_same : (x : ℕ) (o : Option PointPlan) → zone_is_off site kept (d ∷ done) o x ≡ zone_is_off site kept done o x
+      zone_same x None = refl
+      zone_same x (Some p) = ap (λ b. if b && nat_lt at.0 x then value_set operation else in_force site kept (ZoneOff p.zone) x done) (no_zone p.zone)
+
+  -- one that disables or enables an item
+  one_item : (operation : Operation) (item : Item) (on : Bool) → ((setting : Setting) → is_on setting (record { tick = at.0; panel = panel; operation = operation }) ≡ same_setting setting (item_off item)) →
+      value_set operation ≡ on → WatchesPoints site kept panel (record { tick = at.0; panel = panel; operation = operation } ∷ done) taken (item_set item on at points)
+  one_item operation (Point p) on is value = record {
+    own = h.own;
+    addresses = h.addresses;
+    of_zones = h.of_zones;
+    missing = h.missing;
+    off = told_points site panel (point_is_off site kept done) (point_is_off site kept (d ∷ done)) done d points.off h.off (λ place. p == place) on (put_at (address_in (slice_get points.addresses.items p)) on) at refl since
+        (λ x place.
+        ap (λ b. if b && nat_lt at.0 x then value_set operation else in_force site kept (PointOff place) x done) (is (PointOff place) ∙ eq_swap place p)
+        ∙ ap (λ v. if (p == place) && nat_lt at.0 x then v else in_force site kept (PointOff place) x done) value)
+        (λ q. ap (λ l. put_at (address_in (slice_get l p)) on (points_where site panel q)) h.addresses ∙ put_place site panel p on q h.own);
+    zone_off = told_same site panel (zone_of_is_off site kept done) (zone_of_is_off site kept (d ∷ done)) done d points.zone_off h.zone_off (λ x place. zone_same x (slice_get site.points place));
+  }
+    where
+      d : Done
+      d = record { tick = at.0; panel = panel; operation = operation }
+
+      zone_same : (x : ℕ) (o : Option PointPlan) → zone_is_off site kept (d ∷ done) o x ≡ zone_is_off site kept done o x
+      zone_same x None = refl
+      zone_same x (Some q) = ap (λ b. if b && nat_lt at.0 x then value_set operation else in_force site kept (ZoneOff q.zone) x done) (is (ZoneOff q.zone))
+  one_item operation (Zone z) on is value = record {
+    own = h.own;
+    addresses = h.addresses;
+    of_zones = h.of_zones;
+    missing = h.missing;
+    off = told_same site panel (point_is_off site kept done) (point_is_off site kept (d ∷ done)) done d points.off h.off (λ x place. ap (λ b. if b && nat_lt at.0 x then value_set operation else in_force site kept (PointOff place) x done) (is (PointOff place)));
+    zone_off = told_points site panel (zone_of_is_off site kept done) (zone_of_is_off site kept (d ∷ done)) done d points.zone_off h.zone_off (λ place. is_asked site kept (OfZone z) (slice_get site.points place)) on
+        (put_all (slice_get points.of_zones.items z) on) at refl since (λ x place. zone_next x (slice_get site.points place))
+        (λ q. put_zone site panel on (slice_get points.of_zones.items z) (λ place. is_asked site kept (OfZone z) (slice_get site.points place)) q (h.of_zones z));
+  }
+    where
+      d : Done
+      d = record { tick = at.0; panel = panel; operation = operation }
+
+      zone_next : (x : ℕ) (o : Option PointPlan) → zone_is_off site kept (d ∷ done) o x ≡ (if is_asked site kept (OfZone z) o && nat_lt at.0 x then on else zone_is_off site kept done o x)
+      zone_next x None = refl
+      zone_next x (Some p) =
+          ap (λ b. if b && nat_lt at.0 x then value_set operation else in_force site kept (ZoneOff p.zone) x done) (is (ZoneOff p.zone))
+          ∙ ap (λ v. if (p.zone == z) && nat_lt at.0 x then v else in_force site kept (ZoneOff p.zone) x done) value
+  one_item operation (Output o) on is value = no_item operation (λ place. is (PointOff place)) (λ zone. is (ZoneOff zone))
+
+  pub points_after : (operation : Operation) → WatchesPoints site kept panel (record { tick = at.0; panel = panel; operation = operation } ∷ done) taken (points_done operation at points)
+  points_after (Disable item) = one_item (Disable item) item true (λ setting. refl) refl
+  points_after (Enable item) = one_item (Enable item) item false (λ setting. refl) refl
+  points_after (Test zone) = no_item (Test zone) (λ place. refl) (λ zone. refl)
+  points_after (Untest zone) = no_item (Untest zone) (λ place. refl) (λ zone. refl)
+  points_after (Delays on) = no_item (Delays on) (λ place. refl) (λ zone. refl)
+  points_after Clear = no_item Clear (λ place. refl) (λ zone. refl)
+  points_after Mute = no_item Mute (λ place. refl) (λ zone. refl)
+  points_after Override = no_item Override (λ place. refl) (λ zone. refl)
+  points_after Silence = no_item Silence (λ place. refl) (λ zone. refl)
+  points_after Resound = no_item Resound (λ place. refl) (λ zone. refl)
+  points_after Reset = no_item Reset (λ place. refl) (λ zone. refl)
+  points_after (Cancel zone) = no_item (Cancel zone) (λ place. refl) (λ zone. refl)
+
+-- the missing points that are shown
+pub missing_shown : (site : Site) (kept : Retained) (panel : ℕ) (done : List Done) (taken : List Finding) (points : Points) (tick : ℕ) → AreBy tick done → WatchesPoints site kept panel done taken points →
+    points_shown tick points ≡ points_where site panel (shows_missing site kept done taken tick)
+missing_shown site kept panel done taken points tick since h =
+    let off = h.off.at tick (h.off.by tick since) in
+    let zone_off = h.zone_off.at tick (h.zone_off.by tick since) in
+    ap (λ m. set_without (set_without m (points_at tick points.off)) (points_at tick points.zone_off)) h.missing
+    ∙ ap (λ m. set_without (set_without (points_where site panel (missing_found taken)) m) (points_at tick points.zone_off)) off
+    ∙ ap (λ m. set_without m (points_at tick points.zone_off)) (without_is site panel (missing_found taken) (point_is_off site kept done tick))
+    ∙ ap (set_without (points_where site panel (λ place. missing_found taken place && not (point_is_off site kept done tick place)))) zone_off
+    ∙ without_is site panel (λ place. missing_found taken place && not (point_is_off site kept done tick place)) (zone_of_is_off site kept done tick)
+    ∙ points_same site panel (λ place. (missing_found taken place && not (point_is_off site kept done tick place)) && not (zone_of_is_off site kept done tick place)) (shows_missing site kept done taken tick)
+    (λ place. neither (missing_found taken place) (point_is_off site kept done tick place) (zone_of_is_off site kept done tick place))
+  where
+    neither : (m a b : Bool) → ((m && not a) && not b) ≡ (m && not (a || b))
+    neither true true b = refl
+    neither true false b = refl
+    neither false a b = refl
 
 pub muted_after : (panel : ℕ) (done : List Done) (operation : Operation) (at : Tick) (on : Bool) (last : LastTick) → on ≡ is_mute operation → AreBy at.0 done → TellsLast (mutes panel) done last →
     TellsLast (mutes panel) (record { tick = at.0; panel = panel; operation = operation } ∷ done) (last_if on at last)

@@ -5,5 +5,6 @@ pub mod Missing
 pub mod Words
 pub mod Answered
 pub mod Shown
+pub mod PointSets
 pub mod Parts
 pub mod Stands

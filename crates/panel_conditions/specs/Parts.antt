@@ -1,19 +1,27 @@
 -- What the parts that hold make of a finding or an operation, and what they show at a tick.
-use Rattle.std.specs.Prelude.{ℕ, ◌-◌, Bool, true, false, not, Option, Some, None, ◌==◌, ◌&&◌, ◌||◌, nat_lt, nat_le, if◌then◌else◌}
+use Rattle.std.specs.Prelude.{ℕ, ◌-◌, Bool, true, false, not, Option, Some, None, slice_get, ◌==◌, ◌&&◌, nat_lt, nat_le, if◌then◌else◌}
 use Rattle.std.specs.Option.{is_some}
 use Rattle.tick_units.specs.declared.tick.Tick.{Tick}
-use Rattle.tick_units.specs.declared.switch.Switch.{Switch}
-use Rattle.site_types.specs.declared.item.Item.TheVariants.{Zone}
+use Rattle.site_types.specs.declared.site.Site.{Site}
+use Rattle.site_types.specs.declared.point.Point.{Point as PointPlan}
+use Rattle.site_types.specs.declared.point_set.PointSet.{PointSet}
+use Rattle.site_types.specs.declared.retained.Retained.{Retained}
+use Rattle.site_types.specs.declared.item.Item.{Item}
+use Rattle.site_types.specs.declared.item.Item.TheVariants.{Point, Zone, Output}
 use Rattle.site_types.specs.declared.operation.Operation.{Operation}
-use Rattle.site_types.specs.declared.operation.Operation.TheVariants.{Reset, Disable, Test}
+use Rattle.site_types.specs.declared.operation.Operation.TheVariants.{Reset, Disable, Enable, Test}
 use Rattle.site_types.specs.Bits.{has_bit}
-use Rattle.site_types.specs.Done.{PointOff, ZoneOff, is_cancel, is_setting, operation_setting, value_set}
+use Rattle.site_types.specs.Done.{is_cancel, kept_point, kept_zone}
 use Rattle.coincidence_rules.specs.declared.finding.Finding.{Finding}
 use Rattle.panel_conditions.specs.declared.last_tick.LastTick.{LastTick}
 use Rattle.panel_conditions.specs.declared.sign.Sign.{Sign}
 use Rattle.panel_conditions.specs.declared.sign.Sign.TheVariants.{Alarm, Manual, Released, First}
 use Rattle.panel_conditions.specs.declared.zone_watch.ZoneWatch.{ZoneWatch}
-use Rattle.panel_conditions.specs.declared.point_watch.PointWatch.{PointWatch}
+use Rattle.panel_conditions.specs.declared.asked.Asked.{Asked}
+use Rattle.panel_conditions.specs.declared.asked.Asked.TheVariants.{Disabled, ZoneDisabled, OfZone}
+use Rattle.panel_conditions.specs.declared.point_switch.PointSwitch.{PointSwitch}
+use Rattle.panel_conditions.specs.declared.points.Points.{Points}
+use Rattle.panel_conditions.specs.PointSets.{address_in, put_at, put_all, set_without}
 
 abbrev pub never_done : LastTick
 never_done = record { tick = record { 0 = 0 }; earlier = record { 0 = 0 } }
@@ -24,13 +32,6 @@ last_at x last = if nat_lt last.tick.0 x then last.tick.0 else last.earlier.0
 
 abbrev pub last_if : Bool → Tick → LastTick → LastTick
 last_if on at last = if on && nat_lt last.tick.0 at.0 then record { tick = at; earlier = last.tick } else last
-
--- a switch at a tick that isn't before its own
-abbrev pub switch_at : ℕ → Switch → Bool
-switch_at x switch = if nat_lt switch.since.0 x then switch.now else switch.was
-
-abbrev pub switch_if : Bool → Bool → Tick → Switch → Switch
-switch_if on value at switch = if on then record { was = switch.now; now = value; since = at } else switch
 
 -- the later of two stamps, where the second one is of something that was told
 abbrev pub stamp_if : Bool → Tick → Tick → Tick
@@ -87,19 +88,48 @@ watch_shows sign tick (Some watch) = zone_shows sign tick watch
 
 -- ---- points
 
-abbrev pub point_done : Operation → Tick → PointWatch → PointWatch
-point_done operation at watch =
-    record watch {
-      off = switch_if (is_setting (PointOff watch.place) (operation_setting 0 operation)) (value_set operation) at watch.off;
-      zone_off = switch_if (is_setting (ZoneOff watch.zone) (operation_setting 0 operation)) (value_set operation) at watch.zone_off;
-    }
+-- these points from the opening on
+abbrev pub points_from : PointSet → PointSwitch
+points_from points = record { before = points; after = points; since = record { 0 = 0 } }
 
-abbrev pub point_taken : ℕ → Finding → PointWatch → PointWatch
-point_taken place finding watch = if finding.point == place then record watch { missing = finding.missing } else watch
+-- a set that changes, at a tick that isn't before its own
+abbrev pub points_at : ℕ → PointSwitch → PointSet
+points_at x switch = if nat_lt switch.since.0 x then switch.after else switch.before
 
-abbrev pub point_shows : ℕ → PointWatch → Bool
-point_shows tick watch = watch.missing && not (switch_at tick watch.off || switch_at tick watch.zone_off)
+-- what is set from now on is in force after this tick
+abbrev pub begun : Tick → PointSwitch → PointSwitch
+begun at switch = if nat_lt switch.since.0 at.0 then record { before = switch.after; after = switch.after; since = at } else switch
 
-abbrev pub slot_shows : ℕ → Option PointWatch → Bool
-slot_shows tick None = false
-slot_shows tick (Some watch) = point_shows tick watch
+-- the set is changed in a tick
+abbrev pub switch_points : (PointSet → PointSet) → Tick → PointSwitch → PointSwitch
+switch_points change at switch = record (begun at switch) { after = change (begun at switch).after }
+
+-- an item is disabled or enabled in a tick
+abbrev pub item_set : Item → Bool → Tick → Points → Points
+item_set (Point point) on at points = record points { off = switch_points (put_at (address_in (slice_get points.addresses.items point)) on) at points.off }
+item_set (Zone zone) on at points = record points { zone_off = switch_points (put_all (slice_get points.of_zones.items zone) on) at points.zone_off }
+item_set (Output output) on at points = points
+
+abbrev pub points_done : Operation → Tick → Points → Points
+points_done (Disable item) at points = item_set item true at points
+points_done (Enable item) at points = item_set item false at points
+points_done _ at points = points
+
+abbrev pub points_taken : Finding → Points → Points
+points_taken finding points = record points { missing = put_at (address_in (slice_get points.addresses.items finding.point)) finding.missing points.missing }
+
+-- the missing points that aren't disabled, nor their zone
+abbrev pub points_shown : ℕ → Points → PointSet
+points_shown tick points = set_without (set_without points.missing (points_at tick points.off)) (points_at tick points.zone_off)
+
+-- ---- points at the opening
+
+abbrev pub is_so : Site → Retained → Asked → PointPlan → Bool
+is_so site kept Disabled p = kept_point kept (Some p)
+is_so site kept ZoneDisabled p = kept_zone kept (slice_get site.zones p.zone)
+is_so site kept (OfZone zone) p = p.zone == zone
+
+-- there is a point, and what is asked of it is so
+abbrev pub is_asked : Site → Retained → Asked → Option PointPlan → Bool
+is_asked site kept asked None = false
+is_asked site kept asked (Some p) = is_so site kept asked p

@@ -1,7 +1,6 @@
 -- The part that holds stands for the operations done and the turns made.
-use Rattle.std.specs.Prelude.{◌≡◌, ◌≢◌, ◌<◌, ◌≤◌, ◌+◌, ◌-◌, ◌*◌, ◌^◌, min, max, ℕ, zero, suc, Bool, true, false, not, List, [], ◌∷◌, ◌++◌, Option, Some, None, length, slice_get, slice_index_or, ◌&&◌, nat_lt, if◌then◌else◌}
+use Rattle.std.specs.Prelude.{◌≡◌, ◌≢◌, ◌<◌, ◌≤◌, ◌+◌, ◌-◌, ◌^◌, min, max, ℕ, zero, suc, Bool, true, not, List, [], ◌∷◌, ◌++◌, Option, Some, None, length, map, slice_get, ◌&&◌, nat_lt, if◌then◌else◌}
 use Rattle.tick_units.specs.declared.tick.Tick.{Tick}
-use Rattle.tick_units.specs.declared.switch.Switch.{Switch}
 use Rattle.site_types.specs.declared.site.Site.{Site}
 use Rattle.site_types.specs.declared.point.Point.{Point as PointPlan}
 use Rattle.site_types.specs.declared.point_set.PointSet.{PointSet}
@@ -13,21 +12,24 @@ use Rattle.site_types.specs.declared.fault_set.FaultSet.{FaultSet}
 use Rattle.site_types.specs.declared.buzzer.Buzzer.TheVariants.{Off}
 use Rattle.site_types.specs.declared.word.Word.{Word}
 use Rattle.site_types.specs.declared.operation.Operation.{Operation}
-use Rattle.site_types.specs.Bits.{IsPlace, has_bit, mask_of}
-use Rattle.site_types.specs.Changes.{IsPanelNumber, IsNumber}
-use Rattle.site_types.specs.Done.{Done, Setting, PointOff, ZoneOff, is_on, operation_setting, in_force, latest_before, moves_floor, cancels, mutes, muted_before, AreBy, kept_point, kept_zone}
+use Rattle.site_types.specs.Bits.{IsPlace, has_bit}
+use Rattle.site_types.specs.Changes.{IsPanelNumber, IsNumber, HasOwnPlaces}
+use Rattle.site_types.specs.Done.{Done, Setting, PointOff, is_on, operation_setting, in_force, latest_before, moves_floor, cancels, mutes, muted_before, AreBy}
 use Rattle.coincidence_rules.specs.declared.finding.Finding.{Finding}
 use Rattle.coincidence_rules.specs.Places.{numbered}
 use Rattle.panel_conditions.specs.declared.last_tick.LastTick.{LastTick}
 use Rattle.panel_conditions.specs.declared.zone_watch.ZoneWatch.{ZoneWatch}
-use Rattle.panel_conditions.specs.declared.point_watch.PointWatch.{PointWatch}
+use Rattle.panel_conditions.specs.declared.asked.Asked.TheVariants.{OfZone}
+use Rattle.panel_conditions.specs.declared.point_switch.PointSwitch.{PointSwitch}
+use Rattle.panel_conditions.specs.declared.points.Points.{Points}
 use Rattle.panel_conditions.specs.declared.shown.Shown.{Shown}
 use Rattle.panel_conditions.specs.declared.hold.Hold.{Hold}
 use Rattle.panel_conditions.specs.declared.outside.Outside.{Outside}
-use Rattle.panel_conditions.specs.Parts.{never_done, last_at, switch_at, slot_shows}
-use Rattle.panel_conditions.specs.Points.{addressed}
+use Rattle.panel_conditions.specs.PointSets.{loop_address, no_set}
+use Rattle.panel_conditions.specs.Parts.{never_done, last_at, points_at, is_asked}
+use Rattle.panel_conditions.specs.Points.{points_where}
 use Rattle.panel_conditions.specs.Turns.{HoldTurn, findings_taken, latest_tick, AreRising}
-use Rattle.panel_conditions.specs.Missing.{missing_found}
+use Rattle.panel_conditions.specs.Missing.{missing_found, zone_is_off}
 use Rattle.panel_conditions.specs.Words.{empty_word, no_faults, has_fault, word_at, faults_at, word_after, faults_after}
 use Rattle.panel_conditions.specs.Shown.{is_news, is_in_fire_alarm, sounds, last_news, buzzer_after, entries_after}
 
@@ -68,23 +70,6 @@ unfoldable pub are_first_watches : Site → ℕ → ℕ → List ZoneWatch
 are_first_watches site panel zero = []
 are_first_watches site panel (suc n) = are_first_watches site panel n ++ first_watch site panel n ∷ []
 
-abbrev pub first_switch : Bool → Switch
-first_switch value = record { was = value; now = value; since = record { 0 = 0 } }
-
-abbrev pub first_point : Site → Retained → ℕ → PointPlan → PointWatch
-first_point site kept place point =
-    record {
-      place = place;
-      zone = point.zone;
-      off = first_switch (kept_point kept (Some point));
-      zone_off = first_switch (kept_zone kept (slice_get site.zones point.zone));
-      missing = false;
-    }
-
-pub record AreFirstPoints (site : Site) (kept : Retained) (watches : List PointWatch) : Type 0 where
-  pub count : length watches ≡ length site.points
-  pub each : (place : ℕ) (watch : PointWatch) (point : PointPlan) → slice_get watches place ≡ Some watch → slice_get site.points place ≡ Some point → watch ≡ first_point site kept place point
-
 -- the zone, if there is one, has a place in what is retained
 abbrev pub HasZoneNumber : Option ZonePlan → Type 0
 HasZoneNumber None = Unit {0}
@@ -116,42 +101,19 @@ shown_then shown word faults muted =
       buzzer = sounds word (nat_lt muted.0 (newly_then shown word faults).0);
     }
 
--- ---- points by address
-
-abbrev pub is_slot_of : ℕ → List PointWatch → Option ℕ → Bool
-is_slot_of tick watches None = false
-is_slot_of tick watches (Some place) = slot_shows tick (slice_get watches place)
-
--- one of the eight numbers of a panel's four loops
-unfoldable pub part_shows : ℕ → List PointWatch → List (Option ℕ) → ℕ → ℕ
-part_shows tick watches slots part = mask_of 96 (λ k. is_slot_of tick watches (slice_index_or slots (part * 96 + k) None))
-
-unfoldable pub points_show : ℕ → List PointWatch → List (Option ℕ) → PointSet
-points_show tick watches slots =
-    record {
-      loops =
-          (part_shows tick watches slots 0 ∷ part_shows tick watches slots 1 ∷ [])
-          ∷ (part_shows tick watches slots 2 ∷ part_shows tick watches slots 3 ∷ [])
-          ∷ (part_shows tick watches slots 4 ∷ part_shows tick watches slots 5 ∷ [])
-          ∷ (part_shows tick watches slots 6 ∷ part_shows tick watches slots 7 ∷ [])
-          ∷ [];
-    }
-
--- each slot has the place of the point with its address: 192 slots for each loop
-pub record AreSlots (site : Site) (panel : ℕ) (slots : List (Option ℕ)) : Type 0 where
-  pub each : (line address : ℕ) → line < 4 → address < 192 → slice_index_or slots (line * 192 + address) None ≡ addressed site panel (line + 1) (address + 1)
-
 -- ---- what the parts stand for
 
--- the tick of the last operation on a setting, else 0
-abbrev pub set_in : Setting → List Done → ℕ
-set_in setting [] = 0
-set_in setting (d ∷ ds) = if is_on setting d then d.tick else set_in setting ds
+-- which points are disabled at x, and of which the zone is
+abbrev pub point_is_off : Site → Retained → List Done → ℕ → ℕ → Bool
+point_is_off site kept done x place = in_force site kept (PointOff place) x done
 
--- a switch tells a setting at each tick from its own on
-pub record TellsSetting (site : Site) (kept : Retained) (setting : Setting) (done : List Done) (switch : Switch) : Type 0 where
-  pub at : (x : ℕ) → switch.since.0 ≤ x → in_force site kept setting x done ≡ switch_at x switch
-  pub since : switch.since.0 ≡ set_in setting done
+abbrev pub zone_of_is_off : Site → Retained → List Done → ℕ → ℕ → Bool
+zone_of_is_off site kept done x place = zone_is_off site kept done (slice_get site.points place) x
+
+-- a set of points that changes tells a test of them at each tick from its own on
+pub record TellsPoints (site : Site) (panel : ℕ) (test : ℕ → ℕ → Bool) (done : List Done) (switch : PointSwitch) : Type 0 where
+  pub at : (x : ℕ) → switch.since.0 ≤ x → points_at x switch ≡ points_where site panel (test x)
+  pub by : (x : ℕ) → AreBy x done → switch.since.0 ≤ x
 
 -- the latest tick of a kind of operations, at each tick from it on
 pub record TellsLast (test : Done → Bool) (done : List Done) (last : LastTick) : Type 0 where
@@ -178,23 +140,27 @@ pub record WatchesZones (site : Site) (panel : ℕ) (done : List Done) (taken : 
   pub count : length watches ≡ 32
   pub each : (k : ℕ) (watch : ZoneWatch) → slice_get watches k ≡ Some watch → WatchesZone site panel done taken k watch
 
-pub record WatchesPoint (site : Site) (kept : Retained) (done : List Done) (taken : List Finding) (k : ℕ) (point : PointPlan) (watch : PointWatch) : Type 0 where
-  pub place : watch.place ≡ k
-  pub zone : watch.zone ≡ point.zone
-  pub off : TellsSetting site kept (PointOff k) done watch.off
-  pub zone_off : TellsSetting site kept (ZoneOff point.zone) done watch.zone_off
-  pub missing : watch.missing ≡ missing_found taken k
+abbrev pub set_or_none : Option PointSet → PointSet
+set_or_none None = no_set
+set_or_none (Some points) = points
 
-pub record WatchesPoints (site : Site) (kept : Retained) (done : List Done) (taken : List Finding) (watches : List PointWatch) : Type 0 where
-  pub count : length watches ≡ length site.points
-  pub each : (place : ℕ) (watch : PointWatch) (point : PointPlan) → slice_get watches place ≡ Some watch → slice_get site.points place ≡ Some point
-      → WatchesPoint site kept done taken place point watch
+-- the first so many zones have their sets
+pub record AreZoneSets (site : Site) (kept : Retained) (panel n : ℕ) (sets : List PointSet) : Type 0 where
+  pub count : length sets ≡ n
+  pub each : (zone : ℕ) (points : PointSet) → slice_get sets zone ≡ Some points → points ≡ points_where site panel (λ place. is_asked site kept (OfZone zone) (slice_get site.points place))
+
+pub record WatchesPoints (site : Site) (kept : Retained) (panel : ℕ) (done : List Done) (taken : List Finding) (points : Points) : Type 0 where
+  pub own : HasOwnPlaces site
+  pub addresses : points.addresses.items ≡ map (loop_address panel) site.points
+  pub of_zones : (zone : ℕ) → set_or_none (slice_get points.of_zones.items zone) ≡ points_where site panel (λ place. is_asked site kept (OfZone zone) (slice_get site.points place))
+  pub missing : points.missing ≡ points_where site panel (missing_found taken)
+  pub off : TellsPoints site panel (point_is_off site kept done) done points.off
+  pub zone_off : TellsPoints site panel (zone_of_is_off site kept done) done points.zone_off
 
 -- all that is kept of findings and operations
 pub record Watches (site : Site) (kept : Retained) (panel : ℕ) (done : List Done) (taken : List Finding) (hold : Hold) : Type 0 where
   pub zones : WatchesZones site panel done taken hold.zones.watches.items
-  pub points : WatchesPoints site kept done taken hold.points.watches.items
-  pub slots : AreSlots site panel hold.points.slots.items
+  pub points : WatchesPoints site kept panel done taken hold.points
   pub muted : TellsLast (mutes panel) done hold.muted
 
 -- what is shown is what these turns and operations make

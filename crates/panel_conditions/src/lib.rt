@@ -14,11 +14,14 @@
 //! turn goes over 32 numbers of zones for each finding and over the 768 addresses once.
 #![tactic(auto)]
 
+mod asked;
 mod hold;
 mod last_tick;
 mod laws;
+mod loop_address;
 mod outside;
-mod point_watch;
+mod point_sets;
+mod point_switch;
 mod points;
 mod shown;
 mod sign;

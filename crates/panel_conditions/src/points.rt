@@ -1,142 +1,191 @@
-ghost use Rattle.std.specs.Prelude.{◌≡◌, ◌+◌, ◌-◌, ◌*◌, ◌<◌, ◌≤◌, ℕ, map, length, slice_get, slice_index, slice_index_or, false, IfOk, None, Some, option_map, option_copied, ◌∷◌, []};
-ghost use Rattle.site_types.specs.Bits.{has_bit, mask_of};
-ghost use Rattle.site_types.specs.declared.retained.Retained.{Retained as Kept};
-ghost use Rattle.panel_conditions.specs.Points.{addressed};
+ghost use Rattle.std.specs.Prelude.{◌≡◌, ◌-◌, ℕ, map, slice_get, slice_index, IfOk, Some, option_copied};
+ghost use Rattle.site_types.specs.Bits.{has_bit};
+ghost use Rattle.site_types.specs.Valid.{IsValid};
 
-use crate::point_watch::PointWatch;
+use crate::asked::Asked;
+use crate::loop_address::LoopAddress;
+use crate::point_sets::{put, without};
+use crate::point_switch::PointSwitch;
 use coincidence_rules::Finding;
-use site_types::{Operation, Point, PointSet, Retained, Site, Zone, has_bit_32, mask_from_128};
+use site_types::{Item, Operation, Point, PointSet, Retained, Site, Zone, has_bit_32};
 use std::alloc::Global;
-use tick_units::{NoMemory, Switch, Tick};
+use tick_units::{NoMemory, Tick};
 
-/// The points of a site by place, and those of one panel by loop and address.
+/// The points of a panel as sets: the missing ones, and those that are disabled or in a disabled zone.
 #[derive(Drop)]
 pub struct Points {
-    watches: Vec<PointWatch>,
-    slots: Vec<Option<usize>>,
+    /// Where each point of the site stands, by its place, if it is of this panel.
+    addresses: Vec<Option<LoopAddress>>,
+    /// The panel's points of each zone, by the zone's place.
+    of_zones: Vec<PointSet>,
+    /// The points whose last three answers were silent.
+    missing: PointSet,
+    off: PointSwitch,
+    zone_off: PointSwitch,
 }
 
 impl Points {
-    ghost use Rattle.panel_conditions.specs.Parts.{point_done, point_taken, slot_shows};
-    ghost use Rattle.panel_conditions.specs.Stands.{AreFirstPoints, AreSlots, is_slot_of, part_shows, points_show};
+    ghost use Rattle.panel_conditions.specs.PointSets.{address_in};
+    ghost use Rattle.panel_conditions.specs.Parts.{item_set, points_done, points_shown, points_taken};
+    ghost use Rattle.panel_conditions.specs.Stands.{WatchesPoints};
 
-    /// The points of a site, of which nothing was found, with what is retained in force.
+    /// The points of a panel, of which nothing was found, with what is retained in force.
     pub fn new(alloc: Global, site: &Site, panel: u8, kept: &Retained) -> Result<Points, NoMemory>
-        ensures watches { IfOk result (λ points. HasOwnPlaces site.now → AreFirstPoints site.now kept.now points.watches.items) }
-        ensures slots { IfOk result (λ points. AreSlots site.now panel points.slots.items) }
+        ensures { IfOk result (λ points. IsValid site.now → WatchesPoints site.now kept.now panel [] [] points) }
     {
-        let watches = first_watches(alloc, site, kept)?;
-        let slots = slots_of(alloc, site, panel)?;
-        Ok(Points { watches, slots })
+        let addresses = addresses_of(alloc, site, panel)?;
+        let of_zones = sets_of_zones(alloc, site, panel, kept)?;
+        let off = PointSwitch::new(points_that(site, panel, kept, Asked::Disabled));
+        let zone_off = PointSwitch::new(points_that(site, panel, kept, Asked::ZoneDisabled));
+        Ok(Points {
+            addresses,
+            of_zones,
+            missing: no_points(),
+            off,
+            zone_off,
+        })
     }
 
     /// Takes note of a finding.
     pub fn take(&mut self, finding: &Finding)
-        ensures watches { (place : ℕ) → slice_get self.new.watches.items place ≡ option_map (point_taken place finding.now) (slice_get self.old.watches.items place) }
-        ensures count { length self.new.watches.items ≡ length self.old.watches.items }
-        ensures slots { self.new.slots.items ≡ self.old.slots.items }
+        ensures { self.new ≡ points_taken finding.now self.old }
     {
-        let place = finding.point as usize;
-        if place < self.watches.len() {
-            let watch = &mut self.watches[place];
-            watch.missing = finding.missing;
-        }
+        let address = self.address_of(finding.point);
+        put(&mut self.missing, address, finding.missing);
     }
 
     /// Takes note of an operation that was done in a tick.
     pub fn apply(&mut self, operation: &Operation, at: Tick)
-        ensures watches { self.new.watches.items ≡ map (point_done operation.now at) self.old.watches.items }
-        ensures slots { self.new.slots.items ≡ self.old.slots.items }
+        ensures { self.new ≡ points_done operation.now at self.old }
     {
-        for k in 0..self.watches.len() {
-            let watch = &mut self.watches[k];
-            watch.apply(operation, at);
+        match *operation {
+            Operation::Disable(item) => self.set_off(item, true, at),
+            Operation::Enable(item) => self.set_off(item, false, at),
+            _ => {}
         }
     }
 
     /// The points that are shown as missing at a tick.
     pub fn showing(&self, now: Tick) -> PointSet
-        ensures { result ≡ points_show now.0 self.now.watches.items self.now.slots.items }
+        ensures { result ≡ points_shown now.0 self.now }
     {
-        PointSet {
-            loops: [
-                self.on_line(0, now),
-                self.on_line(2, now),
-                self.on_line(4, now),
-                self.on_line(6, now),
-            ],
+        let off = self.off.at(now);
+        let zone_off = self.zone_off.at(now);
+        without(&without(&self.missing, &off), &zone_off)
+    }
+
+    // A point or a zone is disabled or enabled in a tick.
+    fn set_off(&mut self, item: Item, off: bool, at: Tick)
+        ensures { self.new ≡ item_set item off at self.old }
+    {
+        match item {
+            Item::Point(point) => {
+                let address = self.address_of(point);
+                self.off.put(address, off, at);
+            }
+            Item::Zone(zone) => {
+                self.zone_off.put_all(set_at(&self.of_zones, zone), off, at);
+            }
+            Item::Output(_) => {}
         }
     }
 
-    // The two numbers of a loop, of eight.
-    fn on_line(&self, part: usize, now: Tick) -> [u128; 2]
-        requires { part ≤ 6 }
-        ensures { result ≡ part_shows now.0 self.now.watches.items self.now.slots.items part ∷ part_shows now.0 self.now.watches.items self.now.slots.items (part + 1) ∷ [] }
+    // Where the point at a place stands, if it is of this panel.
+    fn address_of(&self, point: u16) -> Option<LoopAddress>
+        ensures { result ≡ address_in (slice_get self.now.addresses.items point) }
     {
-        [self.part(part, now), self.part(part + 1, now)]
-    }
-
-    // One number: 96 addresses of a loop.
-    fn part(&self, part: usize, now: Tick) -> u128
-        requires { part ≤ 7 }
-        ensures { result ≡ part_shows now.0 self.now.watches.items self.now.slots.items part }
-    {
-        let mut flags = no_flags();
-        for k in 0..96 {
-            flags[k] = self.shows(part * 96 + k, now);
-        }
-        mask_from_128(&flags)
-    }
-
-    // Whether the point of a slot is shown as missing.
-    fn shows(&self, slot: usize, now: Tick) -> bool
-        ensures { result ≡ is_slot_of now.0 self.now.watches.items (slice_index_or self.now.slots.items slot None) }
-    {
-        match self.slots.get(slot) {
-            Some(Some(place)) => self.shows_at(*place, now),
-            Some(None) | None => false,
-        }
-    }
-
-    // Whether the point at a place is shown as missing.
-    fn shows_at(&self, place: usize, now: Tick) -> bool
-        ensures { result ≡ slot_shows now.0 (slice_get self.now.watches.items place) }
-    {
-        match self.watches.get(place) {
-            Some(watch) => watch.shows(now),
-            None => false,
+        match self.addresses.get(point as usize) {
+            Some(address) => *address,
+            None => None,
         }
     }
 }
 
+ghost use Rattle.std.specs.Prelude.{[], length};
 ghost use Rattle.site_types.specs.Changes.{HasOwnPlaces, IsNumber, IsPanelNumber};
 ghost use Rattle.site_types.specs.Bits.{IsPlace};
 ghost use Rattle.site_types.specs.Done.{kept_point, kept_zone};
-ghost use Rattle.panel_conditions.specs.Stands.{AreFirstPoints, AreSlots, HasPlaces, HasZoneNumber, first_point};
+ghost use Rattle.panel_conditions.specs.PointSets.{loop_address, no_set};
+ghost use Rattle.panel_conditions.specs.Points.{points_where};
+ghost use Rattle.panel_conditions.specs.Parts.{is_asked, is_so as is_so_of};
+ghost use Rattle.panel_conditions.specs.Stands.{AreZoneSets, HasPlaces, HasZoneNumber};
 
-// Each point of a site as it is at first.
-fn first_watches(alloc: Global, site: &Site, kept: &Retained) -> Result<Vec<PointWatch>, NoMemory>
-    ensures { IfOk result (λ watches. HasOwnPlaces site.now → AreFirstPoints site.now kept.now watches.items) }
+fn addresses_of(alloc: Global, site: &Site, panel: u8) -> Result<Vec<Option<LoopAddress>>, NoMemory>
+    ensures { IfOk result (λ addresses. addresses.items ≡ map (loop_address panel) site.now.points) }
 {
     let points = site.points.as_slice();
-    let mut watches = Vec::with_capacity(alloc, points.len())?;
-    for (place, point) in points.iter().enumerate() {
-        watches.push(first_watch(site, kept, place, point))?;
+    let points = site.points.as_slice();
+    let mut addresses = Vec::with_capacity(alloc, points.len())?;
+    for point in points {
+        addresses.push(address_at(panel, point))?;
     }
-    Ok(watches)
+    Ok(addresses)
 }
 
-fn first_watch(site: &Site, kept: &Retained, place: usize, point: &Point) -> PointWatch
-    ensures { HasPlaces site.now point.now → result ≡ first_point site.now kept.now place point.now }
+fn address_at(panel: u8, point: &Point) -> Option<LoopAddress>
+    ensures { result ≡ loop_address panel point.now }
 {
-    let off = is_point_off(kept, point);
-    let zone_off = is_zone_off(kept, site.zones.get(point.zone as usize));
-    PointWatch {
-        place,
-        zone: point.zone,
-        off: Switch::new(off),
-        zone_off: Switch::new(zone_off),
-        missing: false,
+    if point.panel == panel {
+        Some(LoopAddress {
+            line: point.line,
+            address: point.address,
+        })
+    } else {
+        None
+    }
+}
+
+fn set_at(sets: &[PointSet], zone: u16) -> Option<&PointSet>
+    ensures { option_copied result ≡ slice_get sets.now zone }
+{
+    sets.get(zone as usize)
+}
+
+fn no_points() -> PointSet
+    ensures { result ≡ no_set }
+{
+    PointSet { loops: [[0; 2]; 4] }
+}
+
+// For each zone of the site its points.
+fn sets_of_zones(
+    alloc: Global,
+    site: &Site,
+    panel: u8,
+    kept: &Retained,
+) -> Result<Vec<PointSet>, NoMemory>
+    ensures { IfOk result (λ sets. HasOwnPlaces site.now → AreZoneSets site.now kept.now panel (length site.now.zones) sets.items) }
+{
+    let mut sets = Vec::with_capacity(alloc, site.zones.len())?;
+    for zone in 0..site.zones.len() {
+        sets.push(points_that(site, panel, kept, Asked::OfZone(zone)))?;
+    }
+    Ok(sets)
+}
+
+// The points of a panel of which something is so.
+fn points_that(site: &Site, panel: u8, kept: &Retained, asked: Asked) -> PointSet
+    ensures { HasOwnPlaces site.now → result ≡ points_where site.now panel (λ place. is_asked site.now kept.now asked (slice_get site.now.points place)) }
+{
+    let points = site.points.as_slice();
+    let mut set = no_points();
+    for point in points {
+        put(
+            &mut set,
+            address_at(panel, point),
+            is_so(asked, site, kept, point),
+        );
+    }
+    set
+}
+
+fn is_so(asked: Asked, site: &Site, kept: &Retained, point: &Point) -> bool
+    ensures { HasPlaces site.now point.now → result ≡ is_so_of site.now kept.now asked point.now }
+{
+    match asked {
+        Asked::Disabled => is_point_off(kept, point),
+        Asked::ZoneDisabled => is_zone_off(kept, site.zones.get(point.zone as usize)),
+        Asked::OfZone(zone) => point.zone as usize == zone,
     }
 }
 
@@ -169,29 +218,4 @@ fn is_off(kept: &Retained, panel: u8, number: u8) -> bool
     let at_panel = panel >= 1 && panel <= 8;
     let has_number = number >= 1 && number <= 32;
     at_panel && has_number && has_bit_32(kept.zones[panel as usize - 1], number - 1)
-}
-
-// The places of a panel's points: 192 slots for each of four loops.
-fn slots_of(alloc: Global, site: &Site, panel: u8) -> Result<Vec<Option<usize>>, NoMemory>
-    ensures { IfOk result (λ slots. AreSlots site.now panel slots.items) }
-{
-    let mut slots = Vec::with_capacity(alloc, 768)?;
-    for slot in 0..768u16 {
-        slots.push(place_of(site, panel, (slot / 192) as u8 + 1, (slot % 192) as u8 + 1))?;
-    }
-    Ok(slots)
-}
-
-// The place of the point of a panel that has a line and an address.
-fn place_of(site: &Site, panel: u8, line: u8, address: u8) -> Option<usize>
-    ensures { result ≡ addressed site.now panel line address }
-{
-    site.points.as_slice().iter().position(|point| point.panel == panel
-        && (point.line == line && point.address == address))
-}
-
-fn no_flags() -> [bool; 96]
-    ensures { length result ≡ 96 }
-{
-    [false; 96]
 }

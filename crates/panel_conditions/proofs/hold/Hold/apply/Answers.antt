@@ -1,6 +1,6 @@
 use Rattle.std.proofs.Common.{◌∷◌, sym, subst}
 use Rattle.site_types.specs.Done.{mutes}
-use Rattle.panel_conditions.specs.Stands.{AreSlots, TellsLast}
+use Rattle.panel_conditions.specs.Stands.{WatchesPoints, TellsLast}
 use Rattle.panel_conditions.proofs.Watched.{zones_after, points_after, muted_after}
 use Rattle.panel_conditions.proofs.Turned.{shows_after, few_after}
 use Rattle.panel_conditions.proofs.hold.Hold.apply.Goals as goal
@@ -10,8 +10,8 @@ returns c site kept panel done turns h may = record {
   watches = record {
     zones = zones_after site panel done _ c.args.operation.now c.args.at c.args.self.now.zones.watches.items c.apply.new.self.watches.items may.since c.apply.ensures h.watches.zones;
     points =
-        points_after site kept panel done turns _ c.args.operation.now c.args.at c.args.self.now.points.watches.items c.apply-2.new.self.watches.items may c.apply-2.ensures.watches h.watches.points;
-    slots = subst (AreSlots site panel) (sym c.apply-2.ensures.slots) h.watches.slots;
+        subst (WatchesPoints site kept panel (record { tick = c.args.at.0; panel = panel; operation = c.args.operation.now } ∷ done) _) (sym c.apply-2.ensures)
+        (points_after site kept panel done _ c.args.at may.since c.args.self.now.points h.watches.points c.args.operation.now);
     muted =
         subst (TellsLast (mutes panel) (record { tick = c.args.at.0; panel = panel; operation = c.args.operation.now } ∷ done)) (sym c.raise_if.ensures)
         (muted_after panel done c.args.operation.now c.args.at c.is_mute.result c.args.self.now.muted c.is_mute.ensures may.since h.watches.muted);

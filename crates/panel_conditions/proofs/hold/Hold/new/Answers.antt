@@ -1,17 +1,15 @@
 use Rattle.std.proofs.Common.{[], sym, subst, arith}
 use Rattle.site_types.specs.Done.{mutes}
-use Rattle.site_types.proofs.Places.{places_of}
 use Rattle.panel_conditions.specs.Stands.{Shows, TellsLast}
 use Rattle.panel_conditions.proofs.Told.{told_never}
-use Rattle.panel_conditions.proofs.Firsts.{zones_first, points_first, shows_nothing}
+use Rattle.panel_conditions.proofs.Firsts.{zones_first, shows_nothing}
 use Rattle.panel_conditions.proofs.hold.Hold.new.Goals as goal
 
 pub returns : goal.returns
 returns c valid = record {
   watches = record {
     zones = zones_first c.args.site.now c.args.panel c.in_ok-zones.zones.watches.items c.in_ok-zones.ensures;
-    points = points_first c.args.site.now c.args.kept.now c.in_ok-points.points.watches.items (c.in_ok-points.ensures.watches (places_of c.args.site.now valid));
-    slots = c.in_ok-points.ensures.slots;
+    points = c.in_ok-points.ensures valid;
     muted = subst (TellsLast (mutes c.args.panel) []) (sym c.never.ensures) (told_never (mutes c.args.panel));
   };
   shows = subst (Shows c.args.site.now c.args.kept.now c.args.panel [] []) (sym c.nothing.ensures) (shows_nothing c.args.site.now c.args.kept.now c.args.panel);

@@ -5,7 +5,7 @@ use Rattle.panel_conditions.proofs.hold.Hold.show.Goals as goal
 
 pub returns-clause-shows : goal.returns-clause-shows
 returns-clause-shows c site kept panel done taken h since = record {
-  watches = record { zones = h.zones; points = h.points; slots = h.slots; muted = h.muted };
+  watches = record { zones = h.zones; points = h.points; muted = h.muted };
   shown =
       let faults = c.faults_at-faults.ensures site kept panel done taken h since in
       c.after-self.ensures

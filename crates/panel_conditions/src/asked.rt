@@ -1,0 +1,10 @@
+/// What is asked of a point when its panel opens.
+#[derive(Clone, Copy)]
+pub enum Asked {
+    /// Whether it is retained as disabled.
+    Disabled,
+    /// Whether its zone is retained as disabled.
+    ZoneDisabled,
+    /// Whether it is of the zone at a place.
+    OfZone(usize),
+}
