@@ -12,3 +12,17 @@ pub mod Due
 pub mod Caused
 pub mod Records
 pub mod Laws
+pub mod Latest
+pub mod Operations
+pub mod Examples
+pub mod Words
+pub mod Batches
+pub mod Markers
+pub mod Outputs
+pub mod OutputExamples
+pub mod Faults
+pub mod Run
+pub mod Faces
+pub mod Timeline
+pub mod DueOutputs
+pub mod CausedOutputs

@@ -6,11 +6,13 @@
 //! of a panel's own zones, and [`own_zone_is_caused`], which says that no zone is shown without a cause.
 #![tactic(auto)]
 
+mod examples;
 mod lanes;
 mod records;
 mod words;
 mod zones;
 
+pub use examples::{operations_of_small_cases, outputs_of_small_cases};
 pub use lanes::{lanes_hold_few, lanes_keep_their_tick, taken_by_the_next_tick};
 pub use records::{asked_once_in_a_round, records_are_runs};
 pub use words::{
