@@ -20,6 +20,7 @@ pub mod Batches
 pub mod Markers
 pub mod Outputs
 pub mod OutputExamples
+pub mod AlarmExamples
 pub mod Faults
 pub mod Run
 pub mod Faces

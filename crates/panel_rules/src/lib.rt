@@ -12,7 +12,9 @@ mod records;
 mod words;
 mod zones;
 
-pub use examples::{operations_of_small_cases, outputs_of_small_cases};
+pub use examples::{
+    alarms_of_small_cases, operations_of_small_cases, outputs_of_small_cases, words_of_small_rings,
+};
 pub use lanes::{lanes_hold_few, lanes_keep_their_tick, taken_by_the_next_tick};
 pub use records::{asked_once_in_a_round, records_are_runs};
 pub use words::{
