@@ -25,3 +25,9 @@ pub mod KeptWords
 pub mod Ways
 pub mod Heard
 pub mod Joined
+pub mod Counting
+pub mod Answering
+pub mod OpenRequests
+pub mod AnswerLaws
+pub mod AnswersStay
+pub mod SettingLaws

@@ -3,7 +3,6 @@ use Rattle.std.specs.Prelude.{◌≡◌, ℕ, zero, suc, Bool, true, false, List
 use Rattle.tick_units.specs.Orders.{canonical_seats}
 use Rattle.site_types.specs.declared.answer.Answer.{Answer}
 use Rattle.site_types.specs.declared.event.Event.TheVariants.{Link}
-use Rattle.site_types.specs.declared.heard.Heard.{Heard}
 use Rattle.site_types.specs.declared.heard.Heard.TheVariants.{Quiet, Alarm}
 use Rattle.site_types.specs.declared.operation.Operation.{Operation}
 use Rattle.site_types.specs.declared.operation.Operation.TheVariants.{Reset, Cancel, Disable, Enable, Test}
@@ -15,7 +14,7 @@ use Rattle.site_types.specs.declared.site.Site.{Site}
 use Rattle.site_types.specs.declared.zone.Zone.{Zone as ZonePlan}
 use Rattle.site_types.specs.Changes.{nothing_retained}
 use Rattle.site_types.specs.Done.{Done}
-use Rattle.coincidence_rules.specs.Alarm.{is_in_alarm, is_by_hand, is_released}
+use Rattle.coincidence_rules.specs.Alarm.{is_in_alarm, is_released}
 use Rattle.coincidence_rules.specs.First.{is_first}
 use Rattle.panel_rules.specs.Moments.{TickBlock, moments}
 use Rattle.panel_rules.specs.Kept.{heard}

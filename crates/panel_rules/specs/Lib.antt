@@ -17,6 +17,7 @@ pub mod Operations
 pub mod Examples
 pub mod Words
 pub mod Batches
+pub mod OperationLaws
 pub mod Markers
 pub mod Outputs
 pub mod OutputExamples

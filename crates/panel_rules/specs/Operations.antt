@@ -29,20 +29,15 @@ setting_asked request = operation_setting request.panel request.operation
 abbrev pub requests_in : ℕ → ℕ → List Request → List Request
 requests_in panel tick requests = filter (λ (r : Request). (r.panel == panel) && (r.tick == tick)) requests
 
+-- an operation that is asked for now, after those that came before it
+abbrev pub request_of : ℕ → ℕ → ℕ → Operation → List Request → Request
+request_of tick panel level operation before =
+    record { number = length before + 1; tick = tick; panel = panel; earlier = length (requests_in panel tick before); level = level; operation = operation }
+
 -- the operation of an event, behind those that came before it
 abbrev pub and_request : Site → ℕ → Event → List Request → List Request
-and_request site tick (Op panel code operation) earlier =
-    earlier
-    ++ record {
-      number = length earlier + 1;
-      tick = tick;
-      panel = panel;
-      earlier = length (requests_in panel tick earlier);
-      level = level_of site (option_map (λ label. label.bytes) code);
-      operation = operation;
-    }
-    ∷ []
-and_request site tick _ earlier = earlier
+and_request site tick (Op panel code operation) before = before ++ request_of tick panel (level_of site (option_map (λ label. label.bytes) code)) operation before ∷ []
+and_request site tick _ before = before
 
 -- all operations asked for so far, of all panels, in order of their lines
 abbrev pub requests : Site → List Moment → List Request

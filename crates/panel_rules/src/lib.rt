@@ -8,6 +8,7 @@
 
 mod examples;
 mod lanes;
+mod operations;
 mod records;
 mod words;
 mod zones;
@@ -16,6 +17,10 @@ pub use examples::{
     alarms_of_small_cases, operations_of_small_cases, outputs_of_small_cases, words_of_small_rings,
 };
 pub use lanes::{lanes_hold_few, lanes_keep_their_tick, taken_by_the_next_tick};
+pub use operations::{
+    answered_by_the_next_tick, answered_once, answers_are_to_requests, answers_stay,
+    settings_change_once,
+};
 pub use records::{asked_once_in_a_round, records_are_runs};
 pub use words::{
     due_hand_is_kept, due_release_is_kept, due_zone_is_kept, kept_hand_is_caused,
