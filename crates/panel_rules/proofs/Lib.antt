@@ -31,3 +31,7 @@ pub mod OpenRequests
 pub mod AnswerLaws
 pub mod AnswersStay
 pub mod SettingLaws
+pub mod FactsAgree
+pub mod FaultsTold
+pub mod Unasked
+pub mod DueBySignal

@@ -28,3 +28,4 @@ pub mod Faces
 pub mod Timeline
 pub mod DueOutputs
 pub mod CausedOutputs
+pub mod OutputLaws

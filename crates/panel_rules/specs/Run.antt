@@ -1,5 +1,5 @@
 -- What the words of a run tell, and the facts that its Effect turns solve the markers over.
-use Rattle.std.specs.Prelude.{ℕ, zero, suc, Bool, false, List, length}
+use Rattle.std.specs.Prelude.{ℕ, zero, suc, Bool, false, List, [], ◌∷◌, length}
 use Rattle.site_types.specs.declared.fault_set.FaultSet.{FaultSet}
 use Rattle.site_types.specs.declared.retained.Retained.{Retained}
 use Rattle.site_types.specs.declared.site.Site.{Site}
@@ -27,10 +27,11 @@ module _ (site : Site) (kept : Retained) (done : List Done) where
     abbrev pub faults_with : ℕ → List Moment → FaultSet
     faults_with panel moments = faults_by site facts_with kept done (λ source. heard site.panels panel source moments) (λ link. is_up link moments) panel moments
 
-  -- whether the word of a panel tells a fault: some fault stood at the turn that made it. Outputs without confirmation are faults, so this looks back to words made before; a bound on how far is given
+  -- whether the word of a panel tells a fault: some fault stood at the turn that made it; the empty word tells none. Outputs without confirmation are faults, so this looks back to words made before; a bound on how far is given
   unfoldable pub tells_to : ℕ → ℕ → List Moment → Bool
-  tells_to zero panel word = false
-  tells_to (suc bound) panel word = has_fault (faults_with (tells_to bound) panel word)
+  tells_to bound panel [] = false
+  tells_to zero panel (moment ∷ before) = false
+  tells_to (suc bound) panel (moment ∷ before) = has_fault (faults_with (tells_to bound) panel (moment ∷ before))
 
   -- no word has more words before it than moments
   abbrev pub tells_fault : ℕ → List Moment → Bool

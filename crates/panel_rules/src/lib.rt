@@ -9,6 +9,7 @@
 mod examples;
 mod lanes;
 mod operations;
+mod outputs;
 mod records;
 mod words;
 mod zones;
@@ -21,6 +22,7 @@ pub use operations::{
     answered_by_the_next_tick, answered_once, answers_are_to_requests, answers_stay,
     settings_change_once,
 };
+pub use outputs::{due_needs_a_signal, due_output_needs_a_signal, faults_are_told, unasked_is_off};
 pub use records::{asked_once_in_a_round, records_are_runs};
 pub use words::{
     due_hand_is_kept, due_release_is_kept, due_zone_is_kept, kept_hand_is_caused,
