@@ -35,3 +35,4 @@ pub mod FactsAgree
 pub mod FaultsTold
 pub mod Unasked
 pub mod DueBySignal
+pub mod RingWords

@@ -16,6 +16,7 @@ pub mod Latest
 pub mod Operations
 pub mod Examples
 pub mod Words
+pub mod WordLaws
 pub mod Batches
 pub mod OperationLaws
 pub mod Markers

@@ -25,8 +25,8 @@ pub use operations::{
 pub use outputs::{due_needs_a_signal, due_output_needs_a_signal, faults_are_told, unasked_is_off};
 pub use records::{asked_once_in_a_round, records_are_runs};
 pub use words::{
-    due_hand_is_kept, due_release_is_kept, due_zone_is_kept, kept_hand_is_caused,
-    kept_release_is_caused, kept_zone_is_caused,
+    due_hand_is_kept, due_release_is_kept, due_zone_is_kept, kept_by_the_ring, kept_hand_is_caused,
+    kept_release_is_caused, kept_zone_is_caused, newest_over_chains,
 };
 pub use zones::{
     lone_signal_is_shown, own_hand_is_caused, own_release_is_caused, own_zone_is_by_hand,
