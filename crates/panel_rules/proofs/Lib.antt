@@ -36,3 +36,5 @@ pub mod FaultsTold
 pub mod Unasked
 pub mod DueBySignal
 pub mod RingWords
+pub mod DeskOutcomes
+pub mod StoredSettings

@@ -2,8 +2,10 @@
 use Rattle.std.specs.Prelude.{◌≡◌, ◌≤◌, ◌<◌, ℕ, ◌+◌, true, List, ◌++◌, Some, slice_get}
 use Rattle.site_types.specs.declared.retained.Retained.{Retained}
 use Rattle.site_types.specs.declared.site.Site.{Site}
-use Rattle.site_types.specs.Changes.{HasOwnPlaces, IsSized}
+use Rattle.site_types.specs.Changes.{IsSized}
 use Rattle.site_types.specs.Done.{Done, Setting, IsSetting, at_opening, in_force, is_on}
+use Rattle.site_types.specs.Events.{has_operands}
+use Rattle.site_types.specs.Valid.{IsValid}
 use Rattle.panel_rules.specs.Moments.{Moment, tick_of, IsRun, IsPanel, IsPast, has_kept}
 use Rattle.panel_rules.specs.Operations.{Request, Answered, requests, operations}
 use Rattle.panel_rules.specs.Batches.{kept_after}
@@ -55,8 +57,12 @@ SettingsChangeOnce =
     (site : Site) (kept : Retained) (moments : List Moment) (setting : Setting) (i j : ℕ) (d e : Done) → slice_get (operations site kept moments).done i ≡ Some d
     → slice_get (operations site kept moments).done j ≡ Some e → is_on setting d ≡ true → is_on setting e ≡ true → i < j → e.tick < d.tick
 
+-- each operation asked for is at a panel of the site, which has what it names
+abbrev pub AreOfSite : Site → List Moment → Type 0
+AreOfSite site moments = (place : ℕ) (r : Request) → slice_get (requests site moments) place ≡ Some r → IsPanel site.panels r.panel × (has_operands site r.panel r.operation ≡ true)
+
 -- what is kept of each setting is its value from the next tick on
 abbrev pub KeptIsInForce : Type 0
 KeptIsInForce =
-    (site : Site) (kept : Retained) (moments : List Moment) (setting : Setting) → HasOwnPlaces site → IsSized kept → IsSetting setting
+    (site : Site) (kept : Retained) (moments : List Moment) (setting : Setting) → IsValid site → IsSized kept → AreOfSite site moments → IsSetting setting
     → at_opening site (kept_after site kept moments) setting ≡ in_force site kept setting (tick_of moments + 1) (operations site kept moments).done

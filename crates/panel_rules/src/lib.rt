@@ -20,7 +20,7 @@ pub use examples::{
 pub use lanes::{lanes_hold_few, lanes_keep_their_tick, taken_by_the_next_tick};
 pub use operations::{
     answered_by_the_next_tick, answered_once, answers_are_to_requests, answers_stay,
-    settings_change_once,
+    kept_is_in_force, settings_change_once,
 };
 pub use outputs::{due_needs_a_signal, due_output_needs_a_signal, faults_are_told, unasked_is_off};
 pub use records::{asked_once_in_a_round, records_are_runs};

@@ -1,4 +1,4 @@
-ghost use Rattle.panel_rules.specs.OperationLaws.{AnsweredOnce, AnswersAreToRequests, AnsweredByTheNextTick, AnswersStay, SettingsChangeOnce};
+ghost use Rattle.panel_rules.specs.OperationLaws.{AnsweredOnce, AnswersAreToRequests, AnsweredByTheNextTick, AnswersStay, SettingsChangeOnce, KeptIsInForce};
 
 /// Each operation has at most one answer.
 pub fn answered_once()
@@ -23,4 +23,9 @@ pub fn answers_stay()
 /// A setting changes at most once in a tick.
 pub fn settings_change_once()
     ensures { SettingsChangeOnce }
+{}
+
+/// What is kept over a power cut is, of each setting, the value that is in force from the next tick on.
+pub fn kept_is_in_force()
+    ensures { KeptIsInForce }
 {}
