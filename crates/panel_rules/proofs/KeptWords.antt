@@ -63,7 +63,7 @@ latest_by panel task (Turned other_panel other ∷ before) =
     elim (is_turn panel task other_panel other) as (λ b. (if b then tick_of before else latest_turn panel task before) ≤ tick_of before) [ true ↦ omega arith | false ↦ latest_by panel task before ]
 latest_by panel task (Kept failed ∷ before) = latest_by panel task before
 
-latest_rises : (panel : ℕ) (task : Task) (moment : Moment) (before : List Moment) → latest_turn panel task before ≤ latest_turn panel task (moment ∷ before)
+pub latest_rises : (panel : ℕ) (task : Task) (moment : Moment) (before : List Moment) → latest_turn panel task before ≤ latest_turn panel task (moment ∷ before)
 latest_rises panel task Began before = omega arith
 latest_rises panel task (Happened event) before = omega arith
 latest_rises panel task (Turned other_panel other) before =
@@ -99,9 +99,9 @@ kept_is panels panel source (Turned other Link ∷ before) =
       | inl t ↦
           rw t.0
           (word_on source (Turned other Link) before _ (latest_rises source Hold (Turned other Link) before)
-          (taken_is source before (is_up (below panels panel) before) (carries panels (tick_of before) source) _ _
-          (taken_is source before (is_up panel before) (carries panels (tick_of before) source) _ _ (own_is panels panel source before (kept_is panels panel source before)) (kept_is panels (above panels panel) source before))
-          (kept_is panels (below panels panel) source before)))
+          (taken_is source before (is_up panel before) (carries panels (tick_of before) source) _ _
+          (taken_is source before (is_up (below panels panel) before) (carries panels (tick_of before) source) _ _ (own_is panels panel source before (kept_is panels panel source before)) (kept_is panels (below panels panel) source before))
+          (kept_is panels (above panels panel) source before)))
       | inr t ↦ rw t.0 (word_on source (Turned other Link) before _ (latest_rises source Hold (Turned other Link) before) (kept_is panels panel source before))
     ]
 kept_is panels panel source (Turned other task ∷ before) = word_on source (Turned other task) before _ (latest_rises source Hold (Turned other task) before) (kept_is panels panel source before)
@@ -152,8 +152,8 @@ heard_next panels panel source (Turned other Link) before =
     elim (eqb_tells other panel) [
       | inl t ↦
           (let first = own_keeps panels panel source before in
-          let second = taken_keeps (is_up panel before) (carries panels (tick_of before) source) (if panel == source then made_at panel before else kept_at panels panel source before) (kept_at panels (above panels panel) source before) in
-          let third = taken_keeps (is_up (below panels panel) before) (carries panels (tick_of before) source) (taken_over (is_up panel before) (carries panels (tick_of before) source) (if panel == source then made_at panel before else kept_at panels panel source before) (kept_at panels (above panels panel) source before)) (kept_at panels (below panels panel) source before) in
+          let second = taken_keeps (is_up (below panels panel) before) (carries panels (tick_of before) source) (if panel == source then made_at panel before else kept_at panels panel source before) (kept_at panels (below panels panel) source before) in
+          let third = taken_keeps (is_up panel before) (carries panels (tick_of before) source) (taken_over (is_up (below panels panel) before) (carries panels (tick_of before) source) (if panel == source then made_at panel before else kept_at panels panel source before) (kept_at panels (below panels panel) source before)) (kept_at panels (above panels panel) source before) in
           rw t.0 (omega (arith, first, second, third)))
       | inr t ↦ rw t.0 (omega arith)
     ]
@@ -165,17 +165,17 @@ heard_rises panels panel source past moments present = omega arith
 heard_rises panels panel source past moments (later moment before h) = omega (arith, heard_rises panels panel source past before h, heard_next panels panel source moment before)
 
 -- at its turn of Link a panel takes what its neighbours have, and keeps its own word
-pub takes_above : (panels panel source : ℕ) (before : List Moment) → is_up panel before ≡ true → carries panels (tick_of before) source ≡ true → heard panels (above panels panel) source before ≤ heard panels panel source (Turned panel Link ∷ before)
-takes_above panels panel source before up carried =
-    let one = taken_over (is_up panel before) (carries panels (tick_of before) source) (if panel == source then made_at panel before else kept_at panels panel source before) (kept_at panels (above panels panel) source before) in
-    let first = taken_takes (is_up panel before) (carries panels (tick_of before) source) (if panel == source then made_at panel before else kept_at panels panel source before) (kept_at panels (above panels panel) source before) up carried in
-    let second = taken_keeps (is_up (below panels panel) before) (carries panels (tick_of before) source) one (kept_at panels (below panels panel) source before) in
-    rw (eq_true panel panel refl) (omega (arith, first, second))
-
 pub takes_below : (panels panel source : ℕ) (before : List Moment) → is_up (below panels panel) before ≡ true → carries panels (tick_of before) source ≡ true → heard panels (below panels panel) source before ≤ heard panels panel source (Turned panel Link ∷ before)
 takes_below panels panel source before up carried =
-    let one = taken_over (is_up panel before) (carries panels (tick_of before) source) (if panel == source then made_at panel before else kept_at panels panel source before) (kept_at panels (above panels panel) source before) in
-    let second = taken_takes (is_up (below panels panel) before) (carries panels (tick_of before) source) one (kept_at panels (below panels panel) source before) up carried in
+    let one = taken_over (is_up (below panels panel) before) (carries panels (tick_of before) source) (if panel == source then made_at panel before else kept_at panels panel source before) (kept_at panels (below panels panel) source before) in
+    let first = taken_takes (is_up (below panels panel) before) (carries panels (tick_of before) source) (if panel == source then made_at panel before else kept_at panels panel source before) (kept_at panels (below panels panel) source before) up carried in
+    let second = taken_keeps (is_up panel before) (carries panels (tick_of before) source) one (kept_at panels (above panels panel) source before) in
+    rw (eq_true panel panel refl) (omega (arith, first, second))
+
+pub takes_above : (panels panel source : ℕ) (before : List Moment) → is_up panel before ≡ true → carries panels (tick_of before) source ≡ true → heard panels (above panels panel) source before ≤ heard panels panel source (Turned panel Link ∷ before)
+takes_above panels panel source before up carried =
+    let one = taken_over (is_up (below panels panel) before) (carries panels (tick_of before) source) (if panel == source then made_at panel before else kept_at panels panel source before) (kept_at panels (below panels panel) source before) in
+    let second = taken_takes (is_up panel before) (carries panels (tick_of before) source) one (kept_at panels (above panels panel) source before) up carried in
     rw (eq_true panel panel refl) (omega (arith, second))
 
 -- a panel has its own word of the tick of its latest turn of Link, or of the one before
@@ -187,8 +187,8 @@ own_heard panels panel (Turned other Link ∷ before) =
     elim (eqb_tells other panel) [
       | inl t ↦
           (let own = made_tick panel before in
-          let second = taken_keeps (is_up panel before) (carries panels (tick_of before) panel) (made_at panel before) (kept_at panels (above panels panel) panel before) in
-          let third = taken_keeps (is_up (below panels panel) before) (carries panels (tick_of before) panel) (taken_over (is_up panel before) (carries panels (tick_of before) panel) (made_at panel before) (kept_at panels (above panels panel) panel before)) (kept_at panels (below panels panel) panel before) in
+          let second = taken_keeps (is_up (below panels panel) before) (carries panels (tick_of before) panel) (made_at panel before) (kept_at panels (below panels panel) panel before) in
+          let third = taken_keeps (is_up panel before) (carries panels (tick_of before) panel) (taken_over (is_up (below panels panel) before) (carries panels (tick_of before) panel) (made_at panel before) (kept_at panels (below panels panel) panel before)) (kept_at panels (above panels panel) panel before) in
           rw (t.0, eq_true panel panel refl) (omega (arith, own, second, third)))
       | inr t ↦ rw t.0 (own_heard panels panel before)
     ]

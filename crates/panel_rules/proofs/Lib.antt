@@ -25,3 +25,16 @@ pub mod KeptWords
 pub mod Ways
 pub mod Heard
 pub mod Joined
+pub mod Counting
+pub mod Answering
+pub mod OpenRequests
+pub mod AnswerLaws
+pub mod AnswersStay
+pub mod SettingLaws
+pub mod FactsAgree
+pub mod FaultsTold
+pub mod Unasked
+pub mod DueBySignal
+pub mod RingWords
+pub mod DeskOutcomes
+pub mod StoredSettings

@@ -36,15 +36,15 @@ newer kept other = if nat_lt (tick_of kept) (tick_of other) then other else kept
 abbrev pub taken_over : Bool → Bool → List Moment → List Moment → List Moment
 taken_over up carried kept other = if up && carried then newer kept other else kept
 
--- the word of a panel that another one keeps; its own word is the latest that it made before its latest turn of Link
+-- the word of a panel that another one keeps; its own word is the latest that it made before its latest turn of Link. What the panel below has is taken first
 abbrev pub kept_at : ℕ → ℕ → ℕ → List Moment → List Moment
 kept_at panels panel source [] = []
 kept_at panels panel source (Began ∷ before) = kept_at panels panel source before
 kept_at panels panel source (Happened event ∷ before) = kept_at panels panel source before
 kept_at panels panel source (Turned other Link ∷ before) =
-    if other == panel then taken_over (is_up (below panels panel) before) (carries panels (tick_of before) source)
-    (taken_over (is_up panel before) (carries panels (tick_of before) source) (if panel == source then made_at panel before else kept_at panels panel source before) (kept_at panels (above panels panel) source before))
-    (kept_at panels (below panels panel) source before) else kept_at panels panel source before
+    if other == panel then taken_over (is_up panel before) (carries panels (tick_of before) source)
+    (taken_over (is_up (below panels panel) before) (carries panels (tick_of before) source) (if panel == source then made_at panel before else kept_at panels panel source before) (kept_at panels (below panels panel) source before))
+    (kept_at panels (above panels panel) source before) else kept_at panels panel source before
 kept_at panels panel source (Turned other task ∷ before) = kept_at panels panel source before
 kept_at panels panel source (Kept failed ∷ before) = kept_at panels panel source before
 

@@ -6,16 +6,27 @@
 //! of a panel's own zones, and [`own_zone_is_caused`], which says that no zone is shown without a cause.
 #![tactic(auto)]
 
+mod examples;
 mod lanes;
+mod operations;
+mod outputs;
 mod records;
 mod words;
 mod zones;
 
+pub use examples::{
+    alarms_of_small_cases, operations_of_small_cases, outputs_of_small_cases, words_of_small_rings,
+};
 pub use lanes::{lanes_hold_few, lanes_keep_their_tick, taken_by_the_next_tick};
+pub use operations::{
+    answered_by_the_next_tick, answered_once, answers_are_to_requests, answers_stay,
+    kept_is_in_force, settings_change_once,
+};
+pub use outputs::{due_needs_a_signal, due_output_needs_a_signal, faults_are_told, unasked_is_off};
 pub use records::{asked_once_in_a_round, records_are_runs};
 pub use words::{
-    due_hand_is_kept, due_release_is_kept, due_zone_is_kept, kept_hand_is_caused,
-    kept_release_is_caused, kept_zone_is_caused,
+    due_hand_is_kept, due_release_is_kept, due_zone_is_kept, kept_by_the_ring, kept_hand_is_caused,
+    kept_release_is_caused, kept_zone_is_caused, newest_over_chains,
 };
 pub use zones::{
     lone_signal_is_shown, own_hand_is_caused, own_release_is_caused, own_zone_is_by_hand,

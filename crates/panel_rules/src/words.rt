@@ -1,4 +1,5 @@
 ghost use Rattle.panel_rules.specs.Laws.{DueZoneIsKept, DueReleaseIsKept, DueHandIsKept, KeptZoneIsCaused, KeptReleaseIsCaused, KeptHandIsCaused};
+ghost use Rattle.panel_rules.specs.WordLaws.{KeptByTheRing, NewestOverChains};
 
 /// After a tick a zone that is due at a panel is in alarm in the word that the panel keeps of the zone's panel, whatever the
 /// orders of turns. It is due there once it was joined for long enough, so that each panel shows it within the network's ticks.
@@ -29,4 +30,14 @@ pub fn kept_release_is_caused()
 /// The same of a zone that is by hand in a word kept.
 pub fn kept_hand_is_caused()
     ensures { KeptHandIsCaused }
+{}
+
+/// What a panel keeps of another is what the ring keeps, turn by turn.
+pub fn kept_by_the_ring()
+    ensures { KeptByTheRing }
+{}
+
+/// It is the word of the greatest stamp that came over any chain of turns, along links that were up, in ticks that carried it.
+pub fn newest_over_chains()
+    ensures { NewestOverChains }
 {}
