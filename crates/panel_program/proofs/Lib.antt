@@ -1,0 +1,14 @@
+pub mod Changes
+pub mod Growths
+pub mod Numbers
+pub mod Progresses
+pub mod Pieces
+pub mod Stood
+pub mod Steps
+pub mod Closing
+pub mod Written
+pub mod Ends
+pub mod Readings
+pub mod Promises
+pub mod Outcomes
+pub mod Naming

@@ -1,0 +1,226 @@
+-- What a run stands for after each of its steps.
+use Rattle.std.proofs.Common.{◌≡◌, ◌∙◌, ◌+◌, ◌≤◌, ◌++◌, ℕ, Bool, true, false, List, [], ◌∷◌, length, Option, Some, None, refl, sym, subst, arith}
+use Rattle.std.proofs.lemmas.List.Sorted.{IsPermutation-refl}
+use Rattle.tick_units.specs.declared.seat.Seat.{Seat}
+use Rattle.tick_units.specs.declared.task.Task.{Task}
+use Rattle.tick_units.specs.declared.task.Task.TheVariants.{Keep}
+use Rattle.tick_units.specs.Orders.{IsOrder, canonical_seats}
+use Rattle.site_types.specs.declared.event.Event.{Event}
+use Rattle.site_types.specs.declared.retained.Retained.{Retained}
+use Rattle.site_types.specs.declared.site.Site.{Site}
+use Rattle.site_types.specs.Changes.{nothing_retained}
+use Rattle.panel_rules.specs.Moments.{Moment, Began, Happened, TickBlock, IsRun, moments, and_events, and_turns, turn_of, tick_of}
+use Rattle.panel_rules.specs.Records.{AreOrdered}
+use Rattle.panel_rules.proofs.RecordRuns.{records_are_runs}
+use Rattle.panel_core.specs.declared.system.System.{System}
+use Rattle.panel_core.specs.Stands.{StandsFor as SystemStands, MayTurnAll, HasPanel}
+use Rattle.panel_program.specs.declared.run.Run.{Run}
+use Rattle.panel_program.specs.declared.shown.Shown.{Shown}
+use Rattle.panel_program.specs.Records.{Block, Progress, ticked, closed_by, with_event, new_block, moments_by}
+use Rattle.panel_program.specs.Stands.{Stands, MayClose, ClosesBy, HasRun, after_close, order_by}
+use Rattle.panel_program.specs.Zones.{shown_after}
+
+-- ---- the tick of a record's moments
+
+turn_tick : (failed : Bool) (panel : ℕ) (task : Task) (before : List Moment) → tick_of (turn_of failed panel task ∷ before) ≡ tick_of before
+turn_tick failed panel Keep before = refl
+turn_tick failed panel task before = refl
+
+turns_tick : (failed : Bool) (seats : List Seat) (before : List Moment) → tick_of (and_turns failed seats before) ≡ tick_of before
+turns_tick failed [] before = refl
+turns_tick failed (seat ∷ seats) before = turns_tick failed seats (turn_of failed seat.panel seat.task ∷ before) ∙ turn_tick failed seat.panel seat.task before
+
+events_tick : (events : List Event) (before : List Moment) → tick_of (and_events events before) ≡ tick_of before
+events_tick [] before = refl
+events_tick (event ∷ events) before = events_tick events (Happened event ∷ before)
+
+-- it is how many ticks there are
+pub tick_moments : (ticks : List TickBlock) → tick_of (moments ticks) ≡ length ticks
+tick_moments [] = refl
+tick_moments (tick ∷ ticks) =
+    let before = Began ∷ moments ticks in
+    let e = tick_moments ticks in
+    let turned = turns_tick tick.failed tick.order (and_events tick.events before) in
+    let told = events_tick tick.events before in
+    omega (arith, e, turned, told)
+
+block_tick : (block : Block) (ticks : List TickBlock) → tick_of (and_events block.events (Began ∷ moments ticks)) ≡ length ticks + 1
+block_tick block ticks = let e = tick_moments ticks in let told = events_tick block.events (Began ∷ moments ticks) in omega (arith, e, told)
+
+events_more : (events : List Event) (event : Event) (before : List Moment) → and_events (events ++ event ∷ []) before ≡ Happened event ∷ and_events events before
+events_more [] event before = refl
+events_more (x ∷ events) event before = events_more events event (Happened x ∷ before)
+
+-- ---- steps
+
+-- a tick begins
+pub begun : (site : Site) (ticks : List TickBlock) (old : Run) (system : System) → Stands site (record { run = ticks; block = None }) old →
+    SystemStands site nothing_retained (Began ∷ moments ticks) system → length ticks + 1 ≤ 1000000000 →
+    Stands site (record { run = ticks; block = Some (new_block site) }) (record old { system = system; is_open = true; order = None })
+begun site ticks old system h stands few =
+    record {
+      valid = h.valid;
+      one = h.one;
+      system = stands;
+      open_is = refl;
+      canonical = h.canonical;
+      order_is = sym h.canonical;
+      ordered = (h.ordered, IsPermutation-refl (canonical_seats site.panels));
+      shown = h.shown;
+      count = h.count;
+      few = omega (arith, few);
+    }
+
+pub not_open : {X : Type 0} → true ≡ false → X
+not_open e = absurd (go e)
+  where
+    go : true ≡ false → ⊥
+    go e = cc
+
+told_by : (site : Site) (ticks : List TickBlock) (o : Option Block) (old : Run) (event : Event) (system : System) → Stands site (record { run = ticks; block = o }) old → old.is_open ≡ true →
+    SystemStands site nothing_retained (Happened event ∷ moments_by o ticks) system → Stands site (record { run = ticks; block = with_event event o }) (record old { system = system })
+told_by site ticks None old event system h open_is stands = not_open (sym open_is ∙ h.open_is)
+told_by site ticks (Some block) old event system h open_is stands =
+    record {
+      valid = h.valid;
+      one = h.one;
+      system = subst (λ ms. SystemStands site nothing_retained ms system) (sym (events_more block.events event (Began ∷ moments ticks))) stands;
+      open_is = h.open_is;
+      canonical = h.canonical;
+      order_is = h.order_is;
+      ordered = h.ordered;
+      shown = h.shown;
+      count = h.count;
+      few = h.few;
+    }
+
+-- an event comes in an open tick
+pub told : (site : Site) (p : Progress) (old : Run) (event : Event) (system : System) → Stands site p old → old.is_open ≡ true →
+    SystemStands site nothing_retained (Happened event ∷ moments_by p.block p.run) system → Stands site (record { run = p.run; block = with_event event p.block }) (record old { system = system })
+told site p old event system h open_is stands = told_by site p.run p.block old event system h open_is stands
+
+untold_by : (site : Site) (ticks : List TickBlock) (o : Option Block) (run : Run) (event : Event) → Stands site (record { run = ticks; block = o }) run → run.is_open ≡ false → Stands site (record { run = ticks; block = with_event event o }) run
+untold_by site ticks None run event h shut = h
+untold_by site ticks (Some block) run event h shut = not_open (sym h.open_is ∙ shut)
+
+-- where no tick has begun it changes nothing
+pub untold : (site : Site) (p : Progress) (run : Run) (event : Event) → Stands site p run → run.is_open ≡ false → Stands site (record { run = p.run; block = with_event event p.block }) run
+untold site p run event h shut = untold_by site p.run p.block run event h shut
+
+-- ---- the turns of a tick
+
+module _ (site : Site) (ticks : List TickBlock) (block : Block) (run : Run) (h : Stands site (record { run = ticks; block = Some block }) run) where
+  abbrev before : List Moment
+  before = and_events block.events (Began ∷ moments ticks)
+
+  order_run : IsRun site.panels (and_turns false (order_by run.order run.canonical) before)
+  order_run = subst (λ order. IsRun site.panels (and_turns false order before)) h.order_is (records_are_runs site.panels (ticked block ∷ ticks) h.ordered).0
+
+  pub may_turn_block : MayTurnAll (order_by run.order run.canonical) run.system
+  may_turn_block =
+      let tick = block_tick block ticks in
+      let few = h.few in
+      record {
+        site = site;
+        kept = nothing_retained;
+        before = before;
+        stands = h.system;
+        ordered = subst (IsOrder site.panels) h.order_is h.ordered.1;
+        run = order_run;
+        few = omega (arith, tick, few);
+      }
+
+  -- after its turns the system stands for one tick more
+  pub turned_block : (system : System) → ((kept : Retained) (before : List Moment) → SystemStands site kept before run.system → IsRun site.panels (and_turns false (order_by run.order run.canonical) before) → SystemStands site kept (and_turns false (order_by run.order run.canonical) before) system) →
+      SystemStands site nothing_retained (moments (ticked block ∷ ticks)) system
+  turned_block system turns = subst (λ order. SystemStands site nothing_retained (and_turns false order before) system) (sym h.order_is) (turns nothing_retained before h.system order_run)
+
+pub shows_one : (site : Site) (ticks : List TickBlock) (system : System) → site.panels ≡ 1 → SystemStands site nothing_retained (moments ticks) system → HasPanel 1 system
+shows_one site ticks system one stands = record { site = site; kept = nothing_retained; before = moments ticks; stands = stands; member = (omega arith, omega (arith, one)) }
+
+-- turns in this order lead a system from any history to the longer one
+abbrev pub Turning : Site → Run → System → Type 0
+Turning site run system =
+    (kept : Retained) (before : List Moment) → SystemStands site kept before run.system → IsRun site.panels (and_turns false (order_by run.order run.canonical) before) → SystemStands site kept (and_turns false (order_by run.order run.canonical) before) system
+
+may_turn_by : (site : Site) (ticks : List TickBlock) (o : Option Block) (run : Run) → Stands site (record { run = ticks; block = o }) run → run.is_open ≡ true → MayTurnAll (order_by run.order run.canonical) run.system
+may_turn_by site ticks None run h open_is = not_open (sym open_is ∙ h.open_is)
+may_turn_by site ticks (Some block) run h open_is = may_turn_block site ticks block run h
+
+-- an open tick may have its turns
+pub may_turn : (run : Run) (r : MayClose run) → MayTurnAll (order_by run.order run.canonical) run.system
+may_turn run r = may_turn_by r.site r.p.run r.p.block run r.stands r.open_is
+
+may_show_by : (site : Site) (ticks : List TickBlock) (o : Option Block) (run : Run) (system : System) → Stands site (record { run = ticks; block = o }) run → run.is_open ≡ true → Turning site run system → HasPanel 1 system
+may_show_by site ticks None run system h open_is turns = not_open (sym open_is ∙ h.open_is)
+may_show_by site ticks (Some block) run system h open_is turns = shows_one site (ticked block ∷ ticks) system h.one (turned_block site ticks block run h system turns)
+
+-- and then be asked what is shown
+pub may_show : (run : Run) (system : System) (r : MayClose run) → Turning r.site run system → HasPanel 1 system
+may_show run system r turns = may_show_by r.site r.p.run r.p.block run system r.stands r.open_is turns
+
+closes_by : (site : Site) (ticks : List TickBlock) (o : Option Block) (run : Run) (system : System) (shown : Shown) → Stands site (record { run = ticks; block = o }) run → Turning site run system →
+    ((before : List Moment) → SystemStands site nothing_retained before system → IsRun site.panels before → shown ≡ shown_after site before) →
+    ClosesBy site (record { run = ticks; block = o }) o (record run { system = system; is_open = false; ticks = run.ticks + 1; shown = shown })
+closes_by site ticks None run system shown h turns shows = tt
+closes_by site ticks (Some block) run system shown h turns shows =
+    let turned = turned_block site ticks block run h system turns in
+    let count = h.count in
+    record {
+      valid = h.valid;
+      one = h.one;
+      system = turned;
+      open_is = refl;
+      canonical = h.canonical;
+      order_is = tt;
+      ordered = h.ordered;
+      shown = shows (moments (ticked block ∷ ticks)) turned (records_are_runs site.panels (ticked block ∷ ticks) h.ordered).0;
+      count = omega (arith, count);
+      few = h.few;
+    }
+
+-- the turns were made
+pub closes : (site : Site) (p : Progress) (run : Run) (system : System) (shown : Shown) → Stands site p run → Turning site run system →
+    ((before : List Moment) → SystemStands site nothing_retained before system → IsRun site.panels before → shown ≡ shown_after site before) →
+    ClosesBy site p p.block (record run { system = system; is_open = false; ticks = run.ticks + 1; shown = shown })
+closes site p run system shown h turns shows = closes_by site p.run p.block run system shown h turns shows
+
+run_few : (o : Option Block) (ticks : List TickBlock) → length ticks ≤ length (closed_by o ticks)
+run_few None ticks = omega arith
+run_few (Some block) ticks = omega arith
+
+-- the count of ticks stays far below its type's end
+pub ticks_few : (run : Run) (r : MayClose run) → run.ticks ≤ 1000000000
+ticks_few run r = let few = r.stands.few in let count = r.stands.count in let le = run_few r.p.block r.p.run in omega (arith, few, count, le)
+
+-- the page doesn't matter
+pub stands_page : (site : Site) (p : Progress) (run : Run) (page : List ℕ) → Stands site p run → Stands site p (record run { page = page })
+stands_page site p run page h =
+    record {
+      valid = h.valid;
+      one = h.one;
+      system = h.system;
+      open_is = h.open_is;
+      canonical = h.canonical;
+      order_is = h.order_is;
+      ordered = h.ordered;
+      shown = h.shown;
+      count = h.count;
+      few = h.few;
+    }
+
+shut_by : (site : Site) (ticks : List TickBlock) (o : Option Block) (run : Run) → Stands site (record { run = ticks; block = o }) run → run.is_open ≡ false → (o ≡ None) × Stands site (record { run = closed_by o ticks; block = None }) run
+shut_by site ticks None run h shut = (refl, h)
+shut_by site ticks (Some block) run h shut = not_open (sym h.open_is ∙ shut)
+
+-- where no tick is open there is nothing to close
+pub shut : (site : Site) (p : Progress) (run : Run) → Stands site p run → run.is_open ≡ false → (p.block ≡ None) × Stands site (after_close p) run
+shut site p run h is = shut_by site p.run p.block run h is
+
+-- what has been run
+pub has_run : (site : Site) (ticks : List TickBlock) (o : Option Block) (run : Run) → Stands site (record { run = ticks; block = o }) run → HasRun site ticks run
+has_run site ticks o run h = record { count = h.count; ordered = ordered_by o h.ordered }
+  where
+    ordered_by : (o : Option Block) → AreOrdered site.panels (closed_by o ticks) → AreOrdered site.panels ticks
+    ordered_by None g = g
+    ordered_by (Some block) g = g.0

@@ -1,0 +1,86 @@
+-- How a run ends, its status and its last line.
+use Rattle.std.specs.Prelude.{◌+◌, ◌-◌, ◌^◌, ℕ, nat_lt, min, List, ◌++◌, length, take, Option, Some, None, codes, decimal, if◌then◌else◌}
+use Rattle.std.specs.List.{list_all}
+use Rattle.panel_edges.specs.Limits.{most_record_bytes}
+use Rattle.site_types.specs.declared.site.Site.{Site}
+use Rattle.record_lines.specs.declared.why.Why.{Why}
+use Rattle.record_lines.specs.declared.why.Why.TheVariants.{BadWord, BadNumber, NoSuch, BadTick, BadOrder, LineTooLong, NotAscii, BeforeFirstTick, Truncated, TickLimit}
+use Rattle.record_lines.specs.declared.over.Over.{Over}
+use Rattle.record_lines.specs.declared.over.Over.TheVariants.{Ended as OverEnded, Refused as OverRefused}
+use Rattle.record_lines.specs.declared.line.Line.{Line}
+use Rattle.record_lines.specs.Lines.{Reading, reading_of}
+use Rattle.panel_program.specs.declared.run_end.RunEnd.{RunEnd}
+use Rattle.panel_program.specs.declared.run_end.RunEnd.TheVariants.{Ended, Refused, NotBuilt, TooManyBytes, ReadFault}
+use Rattle.panel_program.specs.Records.{is_built, built_lines}
+
+-- ---- how the bytes of a record end a run
+
+-- the number of the line behind so many; it stays at the greatest of 64 bits
+abbrev pub number_behind : List Line → ℕ
+number_behind lines = min (length lines + 1) (2 ^ 64 - 1)
+
+-- where the bytes are over without the end: they are as many as a record may have, or too few
+abbrev pub end_without : ℕ → ℕ → RunEnd
+end_without count number = if nat_lt count most_record_bytes then Refused (record { line = number; why = Truncated }) else TooManyBytes
+
+abbrev pub end_by : ℕ → ℕ → Option Over → RunEnd
+end_by count number None = end_without count number
+end_by count number (Some OverEnded) = Ended
+end_by count number (Some (OverRefused refusal)) = Refused refusal
+
+abbrev pub end_in : ℕ → Reading → RunEnd
+end_in count reading =
+    if list_all is_built reading.lines then end_by count reading.number reading.ending else NotBuilt (number_behind (built_lines reading.lines))
+
+-- the bytes of a record that are read at most
+abbrev pub within_limit : List ℕ → List ℕ
+within_limit bytes = take most_record_bytes bytes
+
+-- the end of a run over these bytes, where no read fails: the first line that no part takes, the line `end`, the first refusal, or the end of the bytes
+abbrev pub end_of : Site → List ℕ → RunEnd
+end_of site bytes = end_in (length (within_limit bytes)) (reading_of site (within_limit bytes))
+
+-- ---- what is told of an end
+
+abbrev pub status_by : Why → ℕ
+status_by BadWord = 4
+status_by BadNumber = 4
+status_by NoSuch = 4
+status_by (BadTick expected found) = 4
+status_by (BadOrder place) = 4
+status_by LineTooLong = 4
+status_by NotAscii = 4
+status_by BeforeFirstTick = 4
+status_by Truncated = 4
+status_by TickLimit = 11
+
+abbrev pub status_of : RunEnd → ℕ
+status_of Ended = 0
+status_of (Refused refusal) = status_by refusal.why
+status_of (NotBuilt line) = 4
+status_of TooManyBytes = 11
+status_of ReadFault = 6
+
+-- a refused line: its number, that of the refusal and what is told besides
+abbrev pub refused_text : ℕ → List ℕ → List ℕ
+refused_text line detail = codes "refused line " ++ decimal line ++ detail ++ codes "\n"
+
+abbrev pub why_text : ℕ → Why → List ℕ
+why_text line BadWord = refused_text line (codes " 1")
+why_text line BadNumber = refused_text line (codes " 2")
+why_text line NoSuch = refused_text line (codes " 3")
+why_text line (BadTick expected found) = refused_text line (codes " 4 expected " ++ decimal expected ++ codes " found " ++ decimal found)
+why_text line (BadOrder place) = refused_text line (codes " 5 " ++ decimal place)
+why_text line LineTooLong = refused_text line (codes " 6")
+why_text line NotAscii = refused_text line (codes " 7")
+why_text line BeforeFirstTick = refused_text line (codes " 8")
+why_text line Truncated = refused_text line (codes " 9")
+why_text line TickLimit = codes "limit ticks\n"
+
+-- the last line of a run, after so many ticks
+abbrev pub last_line : ℕ → RunEnd → List ℕ
+last_line ticks Ended = codes "end " ++ decimal ticks ++ codes "\n"
+last_line ticks (Refused refusal) = why_text refusal.line refusal.why
+last_line ticks (NotBuilt line) = refused_text line (codes " 11")
+last_line ticks TooManyBytes = codes "limit bytes\n"
+last_line ticks ReadFault = codes "fault read\n"

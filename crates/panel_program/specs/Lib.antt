@@ -1,0 +1,12 @@
+pub mod Words
+pub mod Lines
+pub mod Zones
+pub mod Ticks
+pub mod Records
+pub mod Endings
+pub mod Writings
+pub mod Refusals
+pub mod Stands
+pub mod Runs
+pub mod Sites
+pub mod Commands

@@ -1,0 +1,53 @@
+-- Why a command stops before its site is at hand, and what is told then.
+use Rattle.std.specs.Prelude.{ℕ, List, [], ◌++◌, codes, decimal}
+use Rattle.std.specs.Fmt.{signed_decimal}
+use Rattle.site_document.specs.declared.refusal.SiteRefusal.{SiteRefusal}
+use Rattle.site_document.specs.declared.refusal.SiteRefusal.TheVariants as code
+use Rattle.panel_program.specs.declared.stop.Stop.{Stop}
+use Rattle.panel_program.specs.declared.stop.Stop.TheVariants.{Absent, Refused, NotBuilt, ReadFault, NoMemory}
+
+-- a refusal with a key or a name
+abbrev pub named_text : List ℕ → List ℕ → List ℕ → List ℕ
+named_text word name detail = word ++ name ++ detail
+
+-- the line of a refused site: the number of the refusal and what is told besides; nothing is said of want of memory
+abbrev pub refusal_text : SiteRefusal → List ℕ
+refusal_text code.NotToml = codes "refused site 1\n"
+refusal_text (code.Missing key) = named_text (codes "refused site 2 ") key (codes "\n")
+refusal_text (code.WrongKind key) = named_text (codes "refused site 3 ") key (codes "\n")
+refusal_text (code.Unknown key) = named_text (codes "refused site 4 ") key (codes "\n")
+refusal_text (code.OutOfRange key number) = named_text (codes "refused site 5 ") key (codes " " ++ signed_decimal number ++ codes "\n")
+refusal_text (code.Twice name) = named_text (codes "refused site 6 ") name (codes "\n")
+refusal_text (code.NoSuch name) = named_text (codes "refused site 7 ") name (codes "\n")
+refusal_text (code.SectionCrossesZones panel line place) = codes "refused site 8 " ++ decimal panel ++ codes " " ++ decimal line ++ codes " " ++ decimal place ++ codes "\n"
+refusal_text (code.PartnerNotMutual label) = named_text (codes "refused site 9 ") label.bytes (codes "\n")
+refusal_text code.TooLong = codes "refused site 10\n"
+refusal_text code.NoMemory = []
+
+abbrev pub refusal_status : SiteRefusal → ℕ
+refusal_status code.NotToml = 3
+refusal_status (code.Missing key) = 3
+refusal_status (code.WrongKind key) = 3
+refusal_status (code.Unknown key) = 3
+refusal_status (code.OutOfRange key number) = 3
+refusal_status (code.Twice name) = 3
+refusal_status (code.NoSuch name) = 3
+refusal_status (code.SectionCrossesZones panel line place) = 3
+refusal_status (code.PartnerNotMutual label) = 3
+refusal_status code.TooLong = 3
+refusal_status code.NoMemory = 9
+
+-- what is written of a stop, and its status
+abbrev pub stop_text : Stop → List ℕ
+stop_text Absent = codes "refused site 0\n"
+stop_text (Refused refusal) = refusal_text refusal
+stop_text NotBuilt = codes "refused site 12\n"
+stop_text ReadFault = codes "fault read\n"
+stop_text NoMemory = []
+
+abbrev pub stop_status : Stop → ℕ
+stop_status Absent = 3
+stop_status (Refused refusal) = refusal_status refusal
+stop_status NotBuilt = 3
+stop_status ReadFault = 6
+stop_status NoMemory = 9

@@ -1,0 +1,15 @@
+-- What a command has written.
+use Rattle.std.specs.Prelude.{◌≡◌, ◌⊎◌, ℕ, List, ◌++◌, Option}
+use Rattle.panel_edges.specs.Contents.{Grows, GrowsByFront}
+
+-- a command that is to end with a status and this text did so; or it ended with a write fault and wrote a front of it
+abbrev pub Says : ℕ → List ℕ → Option (List ℕ) → Option (List ℕ) → ℕ → Type 0
+Says status text old new ended = (ended ≡ status) × Grows old new text ⊎ (ended ≡ 7) × GrowsByFront old new text
+
+-- a text that was written grew to this one: what it has more was written
+abbrev pub Advances : Option (List ℕ) → Option (List ℕ) → List ℕ → List ℕ → Type 0
+Advances old new before after = (more : List ℕ) × (after ≡ before ++ more) × Grows old new more
+
+-- a write failed on the way: of what it has more a front was written
+abbrev pub Breaks : Option (List ℕ) → Option (List ℕ) → List ℕ → List ℕ → Type 0
+Breaks old new before after = (more : List ℕ) × (after ≡ before ++ more) × GrowsByFront old new more

@@ -1,0 +1,79 @@
+ghost use Rattle.std.specs.Prelude.{◌≡◌, ◌⊎◌, [], IfSome, map, string_bytes};
+ghost use Rattle.panel_edges.specs.Faults.{Rose};
+ghost use Rattle.panel_edges.specs.Shelves.{file_of};
+ghost use Rattle.panel_program.specs.Commands.{Answers, site_word};
+ghost use Rattle.panel_program.specs.Lines.{usage_line};
+ghost use Rattle.panel_program.specs.Words.{command_of as command_by};
+ghost use Rattle.panel_program.specs.declared.command.Command.TheVariants.{Check as CheckCommand, Run as RunCommand};
+
+use crate::command::{Command, command_of};
+use crate::lines::counts_line;
+use crate::loading::load;
+use crate::outcome::Outcome;
+use crate::reading::run_site;
+use crate::saying::say;
+use crate::site_lines::stop_with;
+use crate::usage::USAGE;
+use panel_edges::{Shelf, Sink, Source};
+use std::alloc::Global;
+
+/// Does what the words ask for. All that is said goes to `out`, refusals too.
+///
+/// The status of the outcome says how it ended: 2 where the words are no command's, 3 and 4 where site or record is refused, 11 where the
+/// record passes a limit; 6 and 7 where the outside failed, and 9, with nothing written, where memory ran out.
+pub fn panel<F: Shelf, S: Source, K: Sink>(
+    alloc: Global,
+    words: &[String],
+    shelf: &mut F,
+    input: &mut S,
+    out: &mut K,
+) -> Outcome
+    ensures answers { IfSome (F.files shelf.old) (λ held. IfSome (S.left input.old) (λ bytes. Answers (command_by (map string_bytes words.now)) (file_of (site_word (map string_bytes words.now)) held) bytes (K.written out.old) (K.written out.new) result)) }
+    ensures read { result.status ≡ 6 → Rose (F.faults shelf.old) (F.faults shelf.new) ⊎ Rose (S.read_faults input.old) (S.read_faults input.new) }
+    ensures write { result.status ≡ 7 → Rose (K.write_faults out.old) (K.write_faults out.new) }
+    ensures memory { result.status ≡ 9 → K.written out.new ≡ K.written out.old }
+    ensures store { result.store_failures ≡ 0 }
+{
+    match command_of(words) {
+        Command::Usage => say(USAGE, 2, 0, out),
+        Command::Check => check(alloc, words[1].as_str(), shelf, out),
+        Command::Run => run(alloc, words[1].as_str(), shelf, input, out),
+    }
+}
+
+// Tells the counts of a site.
+fn check<F: Shelf, K: Sink>(alloc: Global, name: &str, shelf: &mut F, out: &mut K) -> Outcome
+    ensures answers { IfSome (F.files shelf.old) (λ held. Answers CheckCommand (file_of name.now held) [] (K.written out.old) (K.written out.new) result) }
+    ensures read { result.status ≡ 6 → Rose (F.faults shelf.old) (F.faults shelf.new) }
+    ensures write { result.status ≡ 7 → Rose (K.write_faults out.old) (K.write_faults out.new) }
+    ensures memory { result.status ≡ 9 → K.written out.new ≡ K.written out.old }
+    ensures store { result.store_failures ≡ 0 }
+{
+    match load(alloc, Command::Check, name, shelf) {
+        Ok(site) => {
+            let line = counts_line(&site);
+            say(line.as_str().as_bytes(), 0, 0, out)
+        }
+        Err(stop) => stop_with(&stop, out),
+    }
+}
+
+// Runs a site over the record that is read.
+fn run<F: Shelf, S: Source, K: Sink>(
+    alloc: Global,
+    name: &str,
+    shelf: &mut F,
+    input: &mut S,
+    out: &mut K,
+) -> Outcome
+    ensures answers { IfSome (F.files shelf.old) (λ held. IfSome (S.left input.old) (λ bytes. Answers RunCommand (file_of name.now held) bytes (K.written out.old) (K.written out.new) result)) }
+    ensures read { result.status ≡ 6 → Rose (F.faults shelf.old) (F.faults shelf.new) ⊎ Rose (S.read_faults input.old) (S.read_faults input.new) }
+    ensures write { result.status ≡ 7 → Rose (K.write_faults out.old) (K.write_faults out.new) }
+    ensures memory { result.status ≡ 9 → K.written out.new ≡ K.written out.old }
+    ensures store { result.store_failures ≡ 0 }
+{
+    match load(alloc, Command::Run, name, shelf) {
+        Ok(site) => run_site(alloc, site, input, out),
+        Err(stop) => stop_with(&stop, out),
+    }
+}

@@ -1,0 +1,49 @@
+ghost use Rattle.std.specs.Prelude.{◌≡◌, ◌≢◌};
+ghost use Rattle.panel_program.specs.Endings.{status_by as status_told_by, status_of as status_told};
+
+use record_lines::{Refusal, Why};
+
+/// How the reading of a record came to its end.
+#[derive(Clone, Copy, Debug, PartialEq, Eq)]
+pub enum RunEnd {
+    /// At its line `end`.
+    Ended,
+    /// At a line that is refused, or where the input ended without the line `end`.
+    Refused(Refusal),
+    /// At an accepted line of a kind that no part takes yet.
+    NotBuilt { line: u64 },
+    /// When so many bytes had been read as a record may have.
+    TooManyBytes,
+    /// At a read that failed.
+    ReadFault,
+}
+
+/// The status of a run with this end.
+pub fn status_of(end: RunEnd) -> u8
+    ensures { result ≡ status_told end }
+{
+    match end {
+        RunEnd::Ended => 0,
+        RunEnd::Refused(refusal) => status_by(refusal.why),
+        RunEnd::NotBuilt { .. } => 4,
+        RunEnd::TooManyBytes => 11,
+        RunEnd::ReadFault => 6,
+    }
+}
+
+fn status_by(why: Why) -> u8
+    ensures { result ≡ status_told_by why }
+{
+    match why {
+        Why::TickLimit => 11,
+        Why::BadWord
+        | Why::BadNumber
+        | Why::NoSuch
+        | Why::BadTick { .. }
+        | Why::BadOrder { .. }
+        | Why::LineTooLong
+        | Why::NotAscii
+        | Why::BeforeFirstTick
+        | Why::Truncated => 4,
+    }
+}

@@ -1,0 +1,16 @@
+use site_config::SiteRefusal;
+
+/// Why a command ends before its site is at hand.
+#[derive(Drop)]
+pub enum Stop {
+    /// The site file is absent.
+    Absent,
+    /// The site file is refused, or memory ran out while it was read.
+    Refused(SiteRefusal),
+    /// The site has something for which no part is built yet.
+    NotBuilt,
+    /// The file could not be read.
+    ReadFault,
+    /// Memory ran out.
+    NoMemory,
+}
