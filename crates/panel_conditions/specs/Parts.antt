@@ -95,18 +95,22 @@ told_by finding = bit_or (bit_or (bit_or finding.counted finding.confirmed) find
 abbrev pub zone_taken_at : ℕ → Finding → ℕ → ZoneWatch → ZoneWatch
 zone_taken_at place finding other watch = if place == other then zone_taken finding watch else watch
 
+-- the later of two ticks
 abbrev pub later_tick : Tick → Tick → Tick
 later_tick a b = if nat_lt a.0 b.0 then b else a
 
+-- nothing is told of any zone
 abbrev pub no_signs : Signs
 no_signs = record { alarm = 0; manual = 0; released = 0; first = 0 }
 
+-- the mask of one sign
 abbrev pub sign_mask : Sign → Signs → ℕ
 sign_mask Alarm signs = signs.alarm
 sign_mask Manual signs = signs.manual
 sign_mask Released signs = signs.released
 sign_mask First signs = signs.first
 
+-- the mask of the zones that show a sign at a tick
 abbrev pub sign_at : Sign → ℕ → List ZoneWatch → ℕ
 sign_at sign tick watches = mask_of 32 (λ k. watch_shows sign tick (slice_get watches k))
 
@@ -138,11 +142,13 @@ item_set (Point point) on at points = record points { off = switch_points (put_a
 item_set (Zone zone) on at points = record points { zone_off = switch_points (put_all (slice_get points.of_zones.items zone) on) at points.zone_off }
 item_set (Output output) on at points = points
 
+-- an operation is done in a tick
 abbrev pub points_done : Operation → Tick → Points → Points
 points_done (Disable item) at points = item_set item true at points
 points_done (Enable item) at points = item_set item false at points
 points_done _ at points = points
 
+-- the point of a finding is missing or not
 abbrev pub points_taken : Finding → Points → Points
 points_taken finding points = record points { missing = put_at (address_in (slice_get points.addresses.items finding.point)) finding.missing points.missing }
 
@@ -152,6 +158,7 @@ points_shown tick points = set_without (set_without points.missing (points_at ti
 
 -- ---- points at the opening
 
+-- what is asked of a point is so
 abbrev pub is_so : Site → Retained → Asked → PointPlan → Bool
 is_so site kept Disabled p = kept_point kept (Some p)
 is_so site kept ZoneDisabled p = kept_zone kept (slice_get site.zones p.zone)

@@ -105,10 +105,11 @@ shown_then shown word faults muted =
 
 -- ---- what the parts stand for
 
--- which points are disabled at x, and of which the zone is
+-- the point at a place is disabled at x
 abbrev pub point_is_off : Site → Retained → List Done → ℕ → ℕ → Bool
 point_is_off site kept done x place = in_force site kept (PointOff place) x done
 
+-- its zone is
 abbrev pub zone_of_is_off : Site → Retained → List Done → ℕ → ℕ → Bool
 zone_of_is_off site kept done x place = zone_is_off site kept done (slice_get site.points place) x
 
@@ -151,6 +152,7 @@ pub record Settled (tick : ℕ) (zones : Zones) : Type 0 where
   pub moved : (k : ℕ) (watch : ZoneWatch) → slice_get zones.watches.items k ≡ Some watch → (watch.floor.tick.0 ≤ zones.moved.0) × (watch.cancelled.tick.0 ≤ zones.moved.0)
   pub held : (sign : Sign) (k x : ℕ) → k < 32 → tick ≤ x → has_bit zones.stirred k ≡ false → has_bit zones.signs.first k ≡ false → watch_shows sign x (slice_get zones.watches.items k) ≡ has_bit (sign_mask sign zones.signs) k
 
+-- a set, empty where there is none
 abbrev pub set_or_none : Option PointSet → PointSet
 set_or_none None = no_set
 set_or_none (Some points) = points
@@ -160,6 +162,7 @@ pub record AreZoneSets (site : Site) (kept : Retained) (panel n : ℕ) (sets : L
   pub count : length sets ≡ n
   pub each : (zone : ℕ) (points : PointSet) → slice_get sets zone ≡ Some points → points ≡ points_where site panel (λ place. is_asked site kept (OfZone zone) (slice_get site.points place))
 
+-- the points are kept by address, zone and state as the findings and operations tell
 pub record WatchesPoints (site : Site) (kept : Retained) (panel : ℕ) (done : List Done) (taken : List Finding) (points : Points) : Type 0 where
   pub own : HasOwnPlaces site
   pub addresses : points.addresses.items ≡ map (loop_address panel) site.points
