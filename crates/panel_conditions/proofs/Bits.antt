@@ -5,7 +5,7 @@ use Rattle.std.proofs.lemmas.Nat.{pow_pos}
 use Rattle.std.specs.Int.{Width, bit_not}
 use mir.Val.{bits}
 use Rattle.site_types.specs.Bits.{has_bit, mask_of}
-use Rattle.site_types.proofs.Masks.{mask_none, mask_more, mask_without, mask_same}
+use Rattle.site_types.proofs.Masks.{mask_none, mask_more, mask_without}
 use Rattle.panel_conditions.specs.Shown.{any_below, has_more}
 
 or_false : (a : Bool) {b : Bool} → b ≡ false → (a || b) ≡ a
@@ -40,7 +40,3 @@ pub more_is : (w : Width) (shown before : ℕ) → before < 2 ^ bits w → bit_a
     not (bit_and shown (bit_not w before) == 0) ≡ has_more (bits w) shown before
 more_is w shown before bound below =
     ap (λ m. not (m == 0)) (mask_without w shown before bound below) ∙ any_mask (bits w) (λ k. has_bit shown k && not (has_bit before k))
-
--- flags make the mask of what they flag
-pub flags_mask : (n m : ℕ) (p q : ℕ → Bool) → m ≡ n → ((k : ℕ) → k < n → p k ≡ q k) → mask_of m p ≡ mask_of n q
-flags_mask n m p q e same = ap (λ k. mask_of k p) e ∙ mask_same n p q same

@@ -1,5 +1,6 @@
 pub mod Each
 pub mod Bits
+pub mod NextBit
 pub mod Latest
 pub mod Told
 pub mod Firsts
@@ -8,6 +9,7 @@ pub mod Addressed
 pub mod Watched
 pub mod Masked
 pub mod Yet
+pub mod Drawn
 pub mod Turned
 pub mod Tells
 pub mod ByAnswers

@@ -14,7 +14,7 @@ use Rattle.panel_conditions.specs.declared.hold.Hold.{Hold}
 use Rattle.panel_conditions.specs.Turns.{HoldTurn, findings_taken, latest_tick}
 use Rattle.panel_conditions.specs.Words.{faults_after, word_after}
 use Rattle.panel_conditions.specs.Shown.{is_news, is_in_fire_alarm, last_news, sounds, entries_after}
-use Rattle.panel_conditions.specs.Stands.{HoldsFor, Shows, ShowsThen, MayTurn, MayApply, shown_at, shown_then, newly_then}
+use Rattle.panel_conditions.specs.Stands.{HoldsFor, Settled, Shows, ShowsThen, MayTurn, MayApply, shown_at, shown_then, newly_then}
 use Rattle.panel_conditions.proofs.Yet.{faults-yet, word-yet, news-yet, entries-yet, buzzer-yet}
 
 tick_if : (b : Bool) (s t : Tick) → (if b then s else t).0 ≡ (if b then s.0 else t.0)
@@ -63,13 +63,14 @@ shows_more site kept panel done turn before shown h few later fits = record {
 
 -- one more turn
 pub holds_turn : (site : Site) (kept : Retained) (panel : ℕ) (done : List Done) (turn : HoldTurn) (before : List HoldTurn) (was amid after : Hold) → turn.tick < 2 ^ 64 → HoldsFor site kept panel done before was →
-    MayTurn done before turn.tick → amid.shown ≡ was.shown → ShowsThen site kept panel done (findings_taken before ++ turn.found) turn.tick turn.outside amid after →
+    MayTurn done before turn.tick → amid.shown ≡ was.shown → Settled turn.tick after.zones → ShowsThen site kept panel done (findings_taken before ++ turn.found) turn.tick turn.outside amid after →
     HoldsFor site kept panel done (turn ∷ before) after
-holds_turn site kept panel done turn before was amid after fits h may same step = record {
+holds_turn site kept panel done turn before was amid after fits h may same settled step = record {
   watches = step.watches;
   shows =
       subst (Shows site kept panel done (turn ∷ before)) (sym (step.shown ∙ ap (shown_at site kept panel done (findings_taken (turn ∷ before)) turn.tick turn.outside) same))
       (shows_more site kept panel done turn before was.shown h.shows h.few may.later fits);
+  settled = settled;
   rising = (may.later, h.rising);
   few = entries_few _ (entries_after site kept panel done before) (latest_tick before) turn.tick h.few may.later;
 }

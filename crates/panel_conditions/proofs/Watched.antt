@@ -26,7 +26,7 @@ use Rattle.panel_conditions.specs.PointSets.{loop_address, address_in, put_at, p
 use Rattle.panel_conditions.specs.Parts.{zone_taken, zone_done, points_at, points_taken, points_done, points_shown, item_set, is_asked, raises, on_watched, last_if}
 use Rattle.panel_conditions.specs.Points.{points_where}
 use Rattle.panel_conditions.specs.Missing.{missing_found, zone_is_off, shows_missing}
-use Rattle.panel_conditions.specs.Stands.{WatchesZone, WatchesZones, WatchesPoints, TellsLast, set_or_none, point_is_off, zone_of_is_off}
+use Rattle.panel_conditions.specs.Stands.{AreNumbered, WatchesZone, WatchesZones, WatchesPoints, TellsLast, set_or_none, point_is_off, zone_of_is_off}
 use Rattle.panel_conditions.proofs.Latest.{stamp_more, last-push}
 use Rattle.panel_conditions.proofs.Told.{told_last, told_same, told_points}
 use Rattle.panel_conditions.proofs.Yet.{points_same}
@@ -40,6 +40,10 @@ get_map {X = X} f xs k y h = go (slice_get xs k) refl (sym (slice_get-map f xs k
     go : (o : Option X) → slice_get xs k ≡ o → option_map f o ≡ Some y → (x : X) × (slice_get xs k ≡ Some x) × (f x ≡ y)
     go None e g = cc
     go (Some x) e g = (x, e, cc)
+
+pub get_changed : {X : Type 0} (f : X → X) (o : Option X) (y : X) → option_map f o ≡ Some y → (x : X) × (o ≡ Some x) × (f x ≡ y)
+get_changed f None y h = cc
+get_changed f (Some x) y h = (x, refl, cc)
 
 -- ---- one more finding
 
@@ -59,12 +63,15 @@ zone_more site panel done taken f k watch h = record {
       (ap (λ b. has_bit f.counted b && not (has_bit f.manual b)) h.bit) h.told;
 }
 
-pub zones_more : (site : Site) (panel : ℕ) (done : List Done) (taken : List Finding) (f : Finding) (before after : List ZoneWatch) → after ≡ map (zone_taken f) before →
-    WatchesZones site panel done taken before → WatchesZones site panel done (taken ++ f ∷ []) after
-zones_more site panel done taken f before after e h = record {
-  count = ap length e ∙ length-map before (zone_taken f) ∙ h.count;
+pub are_numbered : (site : Site) (panel : ℕ) (done : List Done) (taken : List Finding) (watches : List ZoneWatch) → WatchesZones site panel done taken watches → AreNumbered watches
+are_numbered site panel done taken watches h k watch at = (h.each k watch at).bit
+
+pub zones_more : (site : Site) (panel : ℕ) (done : List Done) (taken : List Finding) (f : Finding) (before after : List ZoneWatch) → length after ≡ length before →
+    ((k : ℕ) → slice_get after k ≡ option_map (zone_taken f) (slice_get before k)) → WatchesZones site panel done taken before → WatchesZones site panel done (taken ++ f ∷ []) after
+zones_more site panel done taken f before after count same h = record {
+  count = count ∙ h.count;
   each = λ k watch at.
-      let w = get_map (zone_taken f) before k watch (subst (λ l. slice_get l k ≡ Some watch) e at) in
+      let w = get_changed (zone_taken f) (slice_get before k) watch (sym (same k) ∙ at) in
       subst (WatchesZone site panel done (taken ++ f ∷ []) k) w.2 (zone_more site panel done taken f k w.0 (h.each k w.0 w.1));
 }
 

@@ -1,5 +1,5 @@
 -- What the parts that hold make of a finding or an operation, and what they show at a tick.
-use Rattle.std.specs.Prelude.{ℕ, ◌-◌, Bool, true, false, not, Option, Some, None, slice_get, ◌==◌, ◌&&◌, nat_lt, nat_le, if◌then◌else◌}
+use Rattle.std.specs.Prelude.{ℕ, ◌-◌, Bool, true, false, not, List, Option, Some, None, slice_get, bit_or, ◌==◌, ◌&&◌, nat_lt, nat_le, if◌then◌else◌}
 use Rattle.std.specs.Option.{is_some}
 use Rattle.tick_units.specs.declared.tick.Tick.{Tick}
 use Rattle.site_types.specs.declared.site.Site.{Site}
@@ -10,12 +10,13 @@ use Rattle.site_types.specs.declared.item.Item.{Item}
 use Rattle.site_types.specs.declared.item.Item.TheVariants.{Point, Zone, Output}
 use Rattle.site_types.specs.declared.operation.Operation.{Operation}
 use Rattle.site_types.specs.declared.operation.Operation.TheVariants.{Reset, Disable, Enable, Test}
-use Rattle.site_types.specs.Bits.{has_bit}
+use Rattle.site_types.specs.Bits.{has_bit, mask_of}
 use Rattle.site_types.specs.Done.{is_cancel, kept_point, kept_zone}
 use Rattle.coincidence_rules.specs.declared.finding.Finding.{Finding}
 use Rattle.panel_conditions.specs.declared.last_tick.LastTick.{LastTick}
 use Rattle.panel_conditions.specs.declared.sign.Sign.{Sign}
 use Rattle.panel_conditions.specs.declared.sign.Sign.TheVariants.{Alarm, Manual, Released, First}
+use Rattle.panel_conditions.specs.declared.signs.Signs.{Signs}
 use Rattle.panel_conditions.specs.declared.zone_watch.ZoneWatch.{ZoneWatch}
 use Rattle.panel_conditions.specs.declared.asked.Asked.{Asked}
 use Rattle.panel_conditions.specs.declared.asked.Asked.TheVariants.{Disabled, ZoneDisabled, OfZone}
@@ -86,6 +87,37 @@ abbrev pub watch_shows : Sign → ℕ → Option ZoneWatch → Bool
 watch_shows sign tick None = false
 watch_shows sign tick (Some watch) = zone_shows sign tick watch
 
+-- the zones of which a finding tells
+abbrev pub told_by : Finding → ℕ
+told_by finding = bit_or (bit_or (bit_or finding.counted finding.confirmed) finding.manual) finding.released
+
+-- the zone at one place takes the finding, each other one stays
+abbrev pub zone_taken_at : ℕ → Finding → ℕ → ZoneWatch → ZoneWatch
+zone_taken_at place finding other watch = if place == other then zone_taken finding watch else watch
+
+-- the later of two ticks
+abbrev pub later_tick : Tick → Tick → Tick
+later_tick a b = if nat_lt a.0 b.0 then b else a
+
+-- nothing is told of any zone
+abbrev pub no_signs : Signs
+no_signs = record { alarm = 0; manual = 0; released = 0; first = 0 }
+
+-- the mask of one sign
+abbrev pub sign_mask : Sign → Signs → ℕ
+sign_mask Alarm signs = signs.alarm
+sign_mask Manual signs = signs.manual
+sign_mask Released signs = signs.released
+sign_mask First signs = signs.first
+
+-- the mask of the zones that show a sign at a tick
+abbrev pub sign_at : Sign → ℕ → List ZoneWatch → ℕ
+sign_at sign tick watches = mask_of 32 (λ k. watch_shows sign tick (slice_get watches k))
+
+-- what zones show at a tick
+abbrev pub signs_at : ℕ → List ZoneWatch → Signs
+signs_at tick watches = record { alarm = sign_at Alarm tick watches; manual = sign_at Manual tick watches; released = sign_at Released tick watches; first = sign_at First tick watches }
+
 -- ---- points
 
 -- these points from the opening on
@@ -110,11 +142,13 @@ item_set (Point point) on at points = record points { off = switch_points (put_a
 item_set (Zone zone) on at points = record points { zone_off = switch_points (put_all (slice_get points.of_zones.items zone) on) at points.zone_off }
 item_set (Output output) on at points = points
 
+-- an operation is done in a tick
 abbrev pub points_done : Operation → Tick → Points → Points
 points_done (Disable item) at points = item_set item true at points
 points_done (Enable item) at points = item_set item false at points
 points_done _ at points = points
 
+-- the point of a finding is missing or not
 abbrev pub points_taken : Finding → Points → Points
 points_taken finding points = record points { missing = put_at (address_in (slice_get points.addresses.items finding.point)) finding.missing points.missing }
 
@@ -124,6 +158,7 @@ points_shown tick points = set_without (set_without points.missing (points_at ti
 
 -- ---- points at the opening
 
+-- what is asked of a point is so
 abbrev pub is_so : Site → Retained → Asked → PointPlan → Bool
 is_so site kept Disabled p = kept_point kept (Some p)
 is_so site kept ZoneDisabled p = kept_zone kept (slice_get site.zones p.zone)

@@ -6,6 +6,7 @@ use Rattle.site_types.specs.declared.point_set.PointSet.{PointSet}
 use Rattle.site_types.specs.Bits.{with_point}
 use Rattle.panel_conditions.specs.declared.loop_address.LoopAddress.{LoopAddress}
 
+-- no point
 abbrev pub no_set : PointSet
 no_set = record { loops = replicate 4 (replicate 2 0) }
 
@@ -13,6 +14,7 @@ no_set = record { loops = replicate 4 (replicate 2 0) }
 abbrev pub loop_address : ℕ → Point → Option LoopAddress
 loop_address panel p = if p.panel == panel then Some (record { line = p.line; address = p.address }) else None
 
+-- the address, if the place has one
 abbrev pub address_in : Option (Option LoopAddress) → Option LoopAddress
 address_in None = None
 address_in (Some address) = address
@@ -26,12 +28,15 @@ abbrev pub put_at : Option LoopAddress → Bool → PointSet → PointSet
 put_at None on set = set
 put_at (Some at) on set = if is_place at then with_point set at.line at.address on else set
 
+-- the two numbers of a loop with the points of either
 abbrev pub either_line : List ℕ → List ℕ → List ℕ
 either_line a b = bit_or (slice_index a 0) (slice_index b 0) ∷ bit_or (slice_index a 1) (slice_index b 1) ∷ []
 
+-- those with the points of the first that aren't in the second
 abbrev pub line_without : List ℕ → List ℕ → List ℕ
 line_without a b = bit_and (slice_index a 0) (bit_not w128 (slice_index b 0)) ∷ bit_and (slice_index a 1) (bit_not w128 (slice_index b 1)) ∷ []
 
+-- the two numbers of a loop, counted from 0
 abbrev pub line_in : PointSet → ℕ → List ℕ
 line_in set line = slice_index_or set.loops line []
 

@@ -1,5 +1,5 @@
 -- The part that holds stands for the operations done and the turns made.
-use Rattle.std.specs.Prelude.{◌≡◌, ◌≢◌, ◌<◌, ◌≤◌, ◌+◌, ◌-◌, ◌^◌, min, max, ℕ, zero, suc, Bool, true, not, List, [], ◌∷◌, ◌++◌, Option, Some, None, length, map, slice_get, ◌&&◌, nat_lt, if◌then◌else◌}
+use Rattle.std.specs.Prelude.{◌≡◌, ◌≢◌, ◌<◌, ◌≤◌, ◌+◌, ◌-◌, ◌^◌, min, max, ℕ, zero, suc, Bool, true, false, not, List, [], ◌∷◌, ◌++◌, Option, Some, None, length, map, slice_get, ◌&&◌, nat_lt, if◌then◌else◌}
 use Rattle.tick_units.specs.declared.tick.Tick.{Tick}
 use Rattle.site_types.specs.declared.site.Site.{Site}
 use Rattle.site_types.specs.declared.point.Point.{Point as PointPlan}
@@ -19,6 +19,8 @@ use Rattle.coincidence_rules.specs.declared.finding.Finding.{Finding}
 use Rattle.coincidence_rules.specs.Places.{numbered}
 use Rattle.panel_conditions.specs.declared.last_tick.LastTick.{LastTick}
 use Rattle.panel_conditions.specs.declared.zone_watch.ZoneWatch.{ZoneWatch}
+use Rattle.panel_conditions.specs.declared.sign.Sign.{Sign}
+use Rattle.panel_conditions.specs.declared.zones.Zones.{Zones}
 use Rattle.panel_conditions.specs.declared.asked.Asked.TheVariants.{OfZone}
 use Rattle.panel_conditions.specs.declared.point_switch.PointSwitch.{PointSwitch}
 use Rattle.panel_conditions.specs.declared.points.Points.{Points}
@@ -26,7 +28,7 @@ use Rattle.panel_conditions.specs.declared.shown.Shown.{Shown}
 use Rattle.panel_conditions.specs.declared.hold.Hold.{Hold}
 use Rattle.panel_conditions.specs.declared.outside.Outside.{Outside}
 use Rattle.panel_conditions.specs.PointSets.{loop_address, no_set}
-use Rattle.panel_conditions.specs.Parts.{never_done, last_at, points_at, is_asked}
+use Rattle.panel_conditions.specs.Parts.{never_done, last_at, points_at, is_asked, watch_shows, sign_mask}
 use Rattle.panel_conditions.specs.Points.{points_where}
 use Rattle.panel_conditions.specs.Turns.{HoldTurn, findings_taken, latest_tick, AreRising}
 use Rattle.panel_conditions.specs.Missing.{missing_found, zone_is_off}
@@ -103,10 +105,11 @@ shown_then shown word faults muted =
 
 -- ---- what the parts stand for
 
--- which points are disabled at x, and of which the zone is
+-- the point at a place is disabled at x
 abbrev pub point_is_off : Site → Retained → List Done → ℕ → ℕ → Bool
 point_is_off site kept done x place = in_force site kept (PointOff place) x done
 
+-- its zone is
 abbrev pub zone_of_is_off : Site → Retained → List Done → ℕ → ℕ → Bool
 zone_of_is_off site kept done x place = zone_is_off site kept done (slice_get site.points place) x
 
@@ -140,6 +143,16 @@ pub record WatchesZones (site : Site) (panel : ℕ) (done : List Done) (taken : 
   pub count : length watches ≡ 32
   pub each : (k : ℕ) (watch : ZoneWatch) → slice_get watches k ≡ Some watch → WatchesZone site panel done taken k watch
 
+-- each zone has the bit of its number
+abbrev pub AreNumbered : List ZoneWatch → Type 0
+AreNumbered watches = (k : ℕ) (watch : ZoneWatch) → slice_get watches k ≡ Some watch → watch.bit ≡ k
+
+-- from a tick on, zones that aren't stirred nor in first state show what they showed when it was drawn last; no operation is later than the latest
+pub record Settled (tick : ℕ) (zones : Zones) : Type 0 where
+  pub moved : (k : ℕ) (watch : ZoneWatch) → slice_get zones.watches.items k ≡ Some watch → (watch.floor.tick.0 ≤ zones.moved.0) × (watch.cancelled.tick.0 ≤ zones.moved.0)
+  pub held : (sign : Sign) (k x : ℕ) → k < 32 → tick ≤ x → has_bit zones.stirred k ≡ false → has_bit zones.signs.first k ≡ false → watch_shows sign x (slice_get zones.watches.items k) ≡ has_bit (sign_mask sign zones.signs) k
+
+-- a set, empty where there is none
 abbrev pub set_or_none : Option PointSet → PointSet
 set_or_none None = no_set
 set_or_none (Some points) = points
@@ -149,6 +162,7 @@ pub record AreZoneSets (site : Site) (kept : Retained) (panel n : ℕ) (sets : L
   pub count : length sets ≡ n
   pub each : (zone : ℕ) (points : PointSet) → slice_get sets zone ≡ Some points → points ≡ points_where site panel (λ place. is_asked site kept (OfZone zone) (slice_get site.points place))
 
+-- the points are kept by address, zone and state as the findings and operations tell
 pub record WatchesPoints (site : Site) (kept : Retained) (panel : ℕ) (done : List Done) (taken : List Finding) (points : Points) : Type 0 where
   pub own : HasOwnPlaces site
   pub addresses : points.addresses.items ≡ map (loop_address panel) site.points
@@ -174,6 +188,7 @@ pub record Shows (site : Site) (kept : Retained) (panel : ℕ) (done : List Done
 pub record HoldsFor (site : Site) (kept : Retained) (panel : ℕ) (done : List Done) (turns : List HoldTurn) (hold : Hold) : Type 0 where
   pub watches : Watches site kept panel done (findings_taken turns) hold
   pub shows : Shows site kept panel done turns hold.shown
+  pub settled : Settled (latest_tick turns) hold.zones
   pub rising : AreRising turns
   pub few : entries_after site kept panel done turns ≤ latest_tick turns
 

@@ -11,7 +11,6 @@ use crate::last_tick::LastTick;
 use crate::outside::Outside;
 use crate::points::Points;
 use crate::shown::{Shown, has_fault};
-use crate::sign::Sign;
 use crate::zones::Zones;
 use arrayvec::ArrayVec;
 use coincidence_rules::Finding;
@@ -31,7 +30,8 @@ pub struct Hold {
 impl Hold {
     ghost use Rattle.panel_conditions.specs.Words.{faults_after, faults_at, word_after, word_at};
     ghost use Rattle.panel_conditions.specs.Shown.{buzzer_after, entries_after};
-    ghost use Rattle.panel_conditions.specs.Stands.{HoldsFor, MayApply, MayTurn, Watches, shown_then};
+    ghost use Rattle.panel_conditions.specs.Stands.{HoldsFor, MayApply, MayTurn, Settled, Watches, shown_then};
+    ghost use Rattle.panel_conditions.specs.Parts.{signs_at};
 
     /// Nothing found or shown, with what is retained in force.
     pub fn new(alloc: Global, site: &Site, panel: u8, kept: &Retained) -> Result<Hold, NoMemory>
@@ -107,6 +107,7 @@ impl Hold {
     // Takes findings, one after the other.
     fn take_all(&mut self, findings: &[Finding])
         ensures watches { (site : SitePlan) (kept : Kept) (panel : ℕ) (done : List Done) (taken : List Found) → Watches site kept panel done taken self.old → Watches site kept panel done (taken ++ findings.now) self.new }
+        ensures settled { (site : SitePlan) (kept : Kept) (panel : ℕ) (done : List Done) (taken : List Found) (tick : ℕ) → Watches site kept panel done taken self.old → Settled tick self.old.zones → Settled tick self.new.zones }
         ensures shown { self.new.shown ≡ self.old.shown }
     {
         for finding in findings {
@@ -116,17 +117,20 @@ impl Hold {
 
     fn take(&mut self, finding: &Finding)
         ensures watches { (site : SitePlan) (kept : Kept) (panel : ℕ) (done : List Done) (taken : List Found) → Watches site kept panel done taken self.old → Watches site kept panel done (taken ++ finding.now ∷ []) self.new }
+        ensures settled { (site : SitePlan) (kept : Kept) (panel : ℕ) (done : List Done) (taken : List Found) (tick : ℕ) → Watches site kept panel done taken self.old → Settled tick self.old.zones → Settled tick self.new.zones }
         ensures shown { self.new.shown ≡ self.old.shown }
     {
         self.zones.take(finding);
         self.points.take(finding);
     }
 
-    // Shows what follows at a tick.
+    // Shows what follows at a tick, which isn't before that of the latest turn.
     fn show(&mut self, now: Tick, outside: &Outside)
         ensures fits { now.0 < 2 ^ 64 }
-        ensures shows { (site : SitePlan) (kept : Kept) (panel : ℕ) (done : List Done) (taken : List Found) → Watches site kept panel done taken self.old → AreBy now.0 done → ShowsThen site kept panel done taken now.0 outside.now self.old self.new }
+        ensures shows { (site : SitePlan) (kept : Kept) (panel : ℕ) (done : List Done) (taken : List Found) (tick : ℕ) → Watches site kept panel done taken self.old → Settled tick self.old.zones → tick ≤ now.0 → AreBy now.0 done → ShowsThen site kept panel done taken now.0 outside.now self.old self.new }
+        ensures settled { (tick : ℕ) → Settled tick self.old.zones → tick ≤ now.0 → Settled now.0 self.new.zones }
     {
+        self.zones.draw(now);
         let faults = self.faults_at(now, outside);
         let word = self.word_at(now, has_fault(&faults));
         let muted = self.muted.before(now);
@@ -147,15 +151,17 @@ impl Hold {
         }
     }
 
+    // The word of zones that were drawn at a tick.
     fn word_at(&self, now: Tick, fault: bool) -> Word
-        ensures { (site : SitePlan) (kept : Kept) (panel : ℕ) (done : List Done) (taken : List Found) → Watches site kept panel done taken self.now → AreBy now.0 done → result ≡ word_at site panel done taken now.0 fault }
+        ensures { (site : SitePlan) (kept : Kept) (panel : ℕ) (done : List Done) (taken : List Found) → Watches site kept panel done taken self.now → self.now.zones.signs ≡ signs_at now.0 self.now.zones.watches.items → AreBy now.0 done → result ≡ word_at site panel done taken now.0 fault }
     {
+        let signs = self.zones.signs();
         Word {
             stamp: now,
-            alarm: self.zones.showing(Sign::Alarm, now),
-            manual: self.zones.showing(Sign::Manual, now),
-            released: self.zones.showing(Sign::Released, now),
-            first: self.zones.showing(Sign::First, now),
+            alarm: signs.alarm,
+            manual: signs.manual,
+            released: signs.released,
+            first: signs.first,
             fault,
         }
     }

@@ -10,8 +10,9 @@
 //! answers by definitions over these lists. The files of specs/ say, in the order of a turn: what a turn is (`Turns`), what findings tell
 //! of a zone (`Zones`) and of a point (`Missing`), the faults and the word (`Words`), what is new, the buzzer and the entries (`Shown`).
 //!
-//! [`Hold::new`] alone takes memory: a few dozen bytes for each point of the site, and 768 places for the addresses of the panel's loops. A
-//! turn goes over 32 numbers of zones for each finding and over the 768 addresses once.
+//! [`Hold::new`] alone takes memory: a few bytes for each point of the site, and a set of points for each zone. What a turn costs doesn't grow
+//! with the site: it is some work for each finding, a few operations on masks, and a look at the zones of which a finding or an operation told
+//! or that are in first state. An operation costs a look at the 32 numbers of zones.
 #![tactic(auto)]
 
 mod asked;
@@ -19,12 +20,14 @@ mod hold;
 mod last_tick;
 mod laws;
 mod loop_address;
+mod next_bit;
 mod outside;
 mod point_sets;
 mod point_switch;
 mod points;
 mod shown;
 mod sign;
+mod signs;
 #[cfg(test)]
 mod tests;
 mod zone_watch;

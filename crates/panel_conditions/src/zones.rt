@@ -1,65 +1,135 @@
-ghost use Rattle.std.specs.Prelude.{◌≡◌, ◌+◌, ◌<◌, ◌≤◌, ℕ, map, length, slice_get, slice_index_or, false, IfOk, None, Some, option_copied};
-ghost use Rattle.site_types.specs.Bits.{mask_of};
+ghost use Rattle.std.specs.Prelude.{◌≡◌, ◌+◌, ◌-◌, ◌^◌, ◌<◌, ◌≤◌, ℕ, map, length, slice_get, bit_or, nat_lt, if◌then◌else◌, IfOk, None, Some, option_copied, option_map};
+ghost use Rattle.site_types.specs.Bits.{has_bit, mask_of};
 ghost use Rattle.site_types.specs.declared.zone.Zone.{Zone as ZonePlan};
 ghost use Rattle.coincidence_rules.specs.Places.{numbered};
 
+use crate::next_bit::next_bit;
 use crate::sign::Sign;
+use crate::signs::Signs;
 use crate::zone_watch::ZoneWatch;
 use coincidence_rules::Finding;
-use site_types::{Operation, Rule, Site, Zone, mask_from_32};
+use site_types::{Operation, Rule, Site, Zone, with_bit_32};
 use std::alloc::Global;
 use tick_units::{NoMemory, Tick};
 
 /// The zones of a panel by number: the first has number 1. A panel has 32 numbers.
+///
+/// What they show is drawn once in a turn: only a zone of which a finding or an operation told, or that is in first state, may show anything new.
 #[derive(Drop)]
 pub struct Zones {
     watches: Vec<ZoneWatch>,
+    /// What they showed when it was drawn last.
+    signs: Signs,
+    /// The zones that may show anything new.
+    stirred: u32,
+    /// The tick of the latest operation.
+    moved: Tick,
 }
 
 impl Zones {
-    ghost use Rattle.panel_conditions.specs.Parts.{watch_shows, zone_done, zone_taken};
-    ghost use Rattle.panel_conditions.specs.Stands.{first_watch, are_first_watches};
+    ghost use Rattle.panel_conditions.specs.Parts.{later_tick, no_signs, signs_at, told_by, watch_shows, zone_done, zone_taken, zone_taken_at};
+    ghost use Rattle.panel_conditions.specs.Stands.{AreNumbered, Settled, first_watch, are_first_watches};
 
     /// The zones of a panel, of which nothing was told.
     pub fn new(alloc: Global, site: &Site, panel: u8) -> Result<Zones, NoMemory>
-        ensures { IfOk result (λ zones. zones.watches.items ≡ are_first_watches site.now panel 32) }
+        ensures { IfOk result (λ zones. (zones.watches.items ≡ are_first_watches site.now panel 32) × (zones.stirred ≡ 2 ^ 32 - 1)) }
     {
         let mut watches = Vec::with_capacity(alloc, 32)?;
         for bit in 0..32u8 {
             watches.push(watch_of(site, panel, bit))?;
         }
-        Ok(Zones { watches })
+        Ok(Zones {
+            watches,
+            signs: Signs::none(),
+            stirred: u32::MAX,
+            moved: Tick(0),
+        })
     }
 
     /// Takes note of a finding.
     pub fn take(&mut self, finding: &Finding)
-        ensures { self.new.watches.items ≡ map (zone_taken finding.now) self.old.watches.items }
+        ensures watches { AreNumbered self.old.watches.items → (k : ℕ) → slice_get self.new.watches.items k ≡ option_map (zone_taken finding.now) (slice_get self.old.watches.items k) }
+        ensures count { length self.new.watches.items ≡ length self.old.watches.items }
+        ensures stirred { self.new.stirred ≡ bit_or self.old.stirred (told_by finding.now) }
+        ensures signs { self.new.signs ≡ self.old.signs }
+        ensures moved { self.new.moved ≡ self.old.moved }
     {
-        for k in 0..self.watches.len() {
-            let watch = &mut self.watches[k];
+        let told = told(finding);
+        let mut k = next_bit(told, 0);
+        while k < 32 {
+            self.take_at(k, finding);
+            k = next_bit(told, k + 1);
+        }
+        self.stirred |= told;
+    }
+
+    // Takes note of a finding that tells of the zone at a place.
+    fn take_at(&mut self, k: u8, finding: &Finding)
+        ensures watches { (j : ℕ) → slice_get self.new.watches.items j ≡ option_map (zone_taken_at k finding.now j) (slice_get self.old.watches.items j) }
+        ensures count { length self.new.watches.items ≡ length self.old.watches.items }
+        ensures rest { (self.new.stirred ≡ self.old.stirred) × (self.new.signs ≡ self.old.signs) × (self.new.moved ≡ self.old.moved) }
+    {
+        let place = k as usize;
+        if place < self.watches.len() {
+            let watch = &mut self.watches[place];
             watch.take(finding);
         }
     }
 
     /// Takes note of an operation that was done in a tick.
     pub fn apply(&mut self, operation: &Operation, at: Tick)
-        ensures { self.new.watches.items ≡ map (zone_done operation.now at) self.old.watches.items }
+        ensures watches { self.new.watches.items ≡ map (zone_done operation.now at) self.old.watches.items }
+        ensures stirred { self.new.stirred ≡ 2 ^ 32 - 1 }
+        ensures moved { self.new.moved ≡ later_tick self.old.moved at }
     {
         for k in 0..self.watches.len() {
             let watch = &mut self.watches[k];
             watch.apply(operation, at);
         }
+        self.stirred = u32::MAX;
+        if self.moved.0 < at.0 {
+            self.moved = at;
+        }
     }
 
-    /// The zones that show a sign at a tick, bit `number - 1`.
-    pub fn showing(&self, sign: Sign, now: Tick) -> u32
-        ensures { result ≡ mask_of 32 (λ k. watch_shows sign now.0 (slice_get self.now.watches.items k)) }
+    /// Draws what the zones show at a tick.
+    pub fn draw(&mut self, now: Tick)
+        ensures watches { self.new.watches.items ≡ self.old.watches.items }
+        ensures signs { (tick : ℕ) → Settled tick self.old → tick ≤ now.0 → self.new.signs ≡ signs_at now.0 self.old.watches.items }
+        ensures settled { (tick : ℕ) → Settled tick self.old → tick ≤ now.0 → Settled now.0 self.new }
     {
-        let mut flags = no_flags();
-        for k in 0..32 {
-            flags[k] = self.shows(k, sign, now);
+        let look = self.stirred | self.signs.first;
+        let alarm = self.drawn(Sign::Alarm, self.signs.alarm, look, now);
+        let manual = self.drawn(Sign::Manual, self.signs.manual, look, now);
+        let released = self.drawn(Sign::Released, self.signs.released, look, now);
+        let first = self.drawn(Sign::First, self.signs.first, look, now);
+        self.signs = Signs {
+            alarm,
+            manual,
+            released,
+            first,
+        };
+        self.stirred = stirred_after(self.moved, now);
+    }
+
+    /// What the zones showed when it was drawn last.
+    pub fn signs(&self) -> Signs
+        ensures { result ≡ self.now.signs }
+    {
+        self.signs
+    }
+
+    // The mask of a sign: drawn anew for the zones to look at, as it was for all others.
+    fn drawn(&self, sign: Sign, before: u32, look: u32, now: Tick) -> u32
+        ensures { result ≡ mask_of 32 (λ k. if has_bit look k then watch_shows sign now.0 (slice_get self.now.watches.items k) else has_bit before k) }
+    {
+        let mut mask = before;
+        let mut k = next_bit(look, 0);
+        while k < 32 {
+            mask = with_bit_32(mask, k, self.shows(k as usize, sign, now));
+            k = next_bit(look, k + 1);
         }
-        mask_from_32(&flags)
+        mask
     }
 
     // Whether the zone at a place shows a sign.
@@ -73,12 +143,21 @@ impl Zones {
     }
 }
 
+ghost use Rattle.panel_conditions.specs.Parts.{told_by};
 ghost use Rattle.panel_conditions.specs.Stands.{first_watch, within_of, within_rule};
 
-fn no_flags() -> [bool; 32]
-    ensures { length result ≡ 32 }
+// The zones of which a finding tells.
+fn told(finding: &Finding) -> u32
+    ensures { result ≡ told_by finding.now }
 {
-    [false; 32]
+    finding.counted | finding.confirmed | finding.manual | finding.released
+}
+
+// The zones to look at after they were drawn at a tick: all, if an operation of that tick or a later one is yet to come in force.
+fn stirred_after(moved: Tick, now: Tick) -> u32
+    ensures { result ≡ (if nat_lt moved.0 now.0 then 0 else 2 ^ 32 - 1) }
+{
+    if moved.0 < now.0 { 0 } else { u32::MAX }
 }
 
 // The zone of a panel whose number is one more than a bit, as it is at first.

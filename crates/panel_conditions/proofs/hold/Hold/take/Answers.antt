@@ -1,13 +1,21 @@
 use Rattle.std.proofs.Common.{◌++◌, ◌∷◌, [], sym, subst}
 use Rattle.panel_conditions.specs.Stands.{WatchesPoints}
-use Rattle.panel_conditions.proofs.Watched.{zones_more, points_more}
+use Rattle.panel_conditions.proofs.Watched.{are_numbered, zones_more, points_more}
+use Rattle.panel_conditions.proofs.Drawn.{settled_more}
 use Rattle.panel_conditions.proofs.hold.Hold.take.Goals as goal
 
 pub returns-clause-watches : goal.returns-clause-watches
 returns-clause-watches c site kept panel done taken h = record {
-  zones = zones_more site panel done taken c.args.finding.now c.args.self.now.zones.watches.items c.take.new.self.watches.items c.take.ensures h.zones;
+  zones =
+      zones_more site panel done taken c.args.finding.now c.args.self.now.zones.watches.items c.take.new.self.watches.items c.take.ensures.count
+      (c.take.ensures.watches (are_numbered site panel done taken c.args.self.now.zones.watches.items h.zones)) h.zones;
   points =
       subst (WatchesPoints site kept panel done (taken ++ c.args.finding.now ∷ [])) (sym c.take-2.ensures)
       (points_more site kept panel done taken c.args.finding.now c.args.self.now.points h.points);
   muted = h.muted;
 }
+
+pub returns-clause-settled : goal.returns-clause-settled
+returns-clause-settled c site kept panel done taken tick h settled =
+    let numbered = are_numbered site panel done taken c.args.self.now.zones.watches.items h.zones in
+    settled_more tick c.args.finding.now c.args.self.now.zones c.take.new.self numbered (c.take.ensures.watches numbered) c.take.ensures.stirred c.take.ensures.signs c.take.ensures.moved settled

@@ -10,6 +10,9 @@ loop-finding-preserved c = record {
       let i = c.loop-finding.finding-index in
       batch_more (λ l. Watches site kept panel done l c.take.new.self) taken c.args.findings.now i _ c.loop-finding-test.true
       (c.take.ensures.watches site kept panel done (taken ++ take i c.args.findings.now) (c.loop-finding.invariant.watches site kept panel done taken h));
+  settled = λ site kept panel done taken tick h settled.
+      c.take.ensures.settled site kept panel done (taken ++ take c.loop-finding.finding-index c.args.findings.now) tick (c.loop-finding.invariant.watches site kept panel done taken h)
+      (c.loop-finding.invariant.settled site kept panel done taken tick h settled);
   shown = c.take.ensures.shown ∙ c.loop-finding.invariant.shown;
 }
 

@@ -1,0 +1,50 @@
+-- The first bit that is set from a bit on.
+use Rattle.std.proofs.Common.{◌≡◌, ◌⊎◌, inl, inr, ℕ, ◌+◌, ◌-◌, ◌/◌, ◌%◌, ◌<◌, ◌≤◌, ◌^◌, true, false, ◌==◌, nat_lt, sym, ◌∙◌, ap, subst, arith}
+use Rattle.std.specs.Int.{w32, bit_at, trailing_zeros}
+use Rattle.std.proofs.lemmas.Nat.{shr-shr, shr_below, shr_le}
+use Rattle.std.proofs.lemmas.Nat.Bits.{bit_at-trailing_zeros, bit_at_above}
+use Rattle.site_types.specs.Bits.{has_bit}
+use Rattle.site_types.proofs.Masks.{has_bit-zero}
+use Rattle.site_types.proofs.Done.{lt_tells}
+
+shifted : (mask from i : ℕ) → has_bit (mask / 2 ^ from) i ≡ has_bit mask (from + i)
+shifted mask from i = ap (λ n. n % 2 == 1) (shr-shr mask from i)
+
+seen : (mask from k : ℕ) → from ≤ k → has_bit mask k ≡ has_bit (mask / 2 ^ from) (k - from)
+seen mask from k le = let e : from + (k - from) ≡ k = omega (arith, le) in sym (shifted mask from (k - from) ∙ ap (has_bit mask) e)
+
+-- nothing is left
+pub none_from : (mask from : ℕ) → mask / 2 ^ from ≡ 0 → (k : ℕ) → from ≤ k → has_bit mask k ≡ false
+none_from mask from e k le = seen mask from k le ∙ ap (λ m. has_bit m (k - from)) e ∙ has_bit-zero (k - from)
+
+-- the lowest bit of what is left
+pub record IsNext (mask from next : ℕ) : Type 0 where
+  pub small : next < 32
+  pub set : has_bit mask next ≡ true
+  pub none : (k : ℕ) → from ≤ k → k < next → has_bit mask k ≡ false
+
+pub next_from : (mask from zeros : ℕ) → mask < 2 ^ 32 → from < 32 → 0 < mask / 2 ^ from → zeros ≡ trailing_zeros w32 (mask / 2 ^ from) → IsNext mask from (from + zeros)
+next_from mask from zeros below small some e = record {
+  small = within (lt_tells zeros (32 - from));
+  set = sym (shifted mask from zeros) ∙ ap (λ n. n == 1) one;
+  none = λ k le less. seen mask from k le ∙ ap (λ n. n == 1) (lowest.2 (k - from) (subst (λ n. k - from < n) e (let l : k - from < zeros = omega (arith, le, less) in l)));
+}
+  where
+    rest : ℕ
+    rest = mask / 2 ^ from
+
+    fits : rest < 2 ^ (32 - from)
+    fits = shr_below mask (32 - from) from (let same : 32 - from + from ≡ 32 = omega (arith, small) in subst (λ n. mask < 2 ^ n) (sym same) below)
+
+    fits_32 : rest < 2 ^ 32
+    fits_32 = omega (arith, below, shr_le mask from)
+
+    lowest : (trailing_zeros w32 rest < 32) × (bit_at rest (trailing_zeros w32 rest) ≡ 1) × ((i : ℕ) → i < trailing_zeros w32 rest → bit_at rest i ≡ 0)
+    lowest = bit_at-trailing_zeros w32 rest some fits_32
+
+    one : bit_at rest zeros ≡ 1
+    one = ap (bit_at rest) e ∙ lowest.1
+
+    within : ((nat_lt zeros (32 - from) ≡ true) × (zeros < 32 - from)) ⊎ ((nat_lt zeros (32 - from) ≡ false) × (32 - from ≤ zeros)) → from + zeros < 32
+    within (inl less) = let l = less.1 in omega (arith, l, small)
+    within (inr other) = let none : bit_at rest zeros ≡ 0 = bit_at_above rest (32 - from) zeros fits other.1 in let no_way = sym none ∙ one in cc

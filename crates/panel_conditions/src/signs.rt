@@ -1,0 +1,24 @@
+ghost use Rattle.std.specs.Prelude.{◌≡◌};
+ghost use Rattle.panel_conditions.specs.Parts.{no_signs};
+
+/// What is told of the zones of a panel, bit `number - 1`.
+#[derive(Clone, Copy)]
+pub struct Signs {
+    pub alarm: u32,
+    pub manual: u32,
+    pub released: u32,
+    pub first: u32,
+}
+
+impl Signs {
+    pub fn none() -> Signs
+        ensures { result ≡ no_signs }
+    {
+        Signs {
+            alarm: 0,
+            manual: 0,
+            released: 0,
+            first: 0,
+        }
+    }
+}
