@@ -23,7 +23,7 @@ use Rattle.panel_rules.proofs.InAlarm.{signal_holds, hand_holds, out_holds}
 use Rattle.panel_rules.proofs.Causes.{alarm_caused, hand_caused, released_caused}
 
 -- a turn of Link and its tick
-link_tick : (panel : ℕ) (before : List Moment) → latest_turn panel Link (Turned panel Link ∷ before) ≡ tick_of before
+pub link_tick : (panel : ℕ) (before : List Moment) → latest_turn panel Link (Turned panel Link ∷ before) ≡ tick_of before
 link_tick panel before = rw (eq_true panel panel refl) refl
 
 module _ (panels : ℕ) (moments past : List Moment) (run : IsRun panels moments) (is_past : IsPast past moments) (few : panels ≤ 8) (from to : ℕ) (f : IsPanel panels from) (t : IsPanel panels to) where

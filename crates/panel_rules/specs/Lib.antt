@@ -30,3 +30,4 @@ pub mod Timeline
 pub mod DueOutputs
 pub mod CausedOutputs
 pub mod OutputLaws
+pub mod OutputDeadlines
