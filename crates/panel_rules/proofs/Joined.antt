@@ -81,7 +81,7 @@ due_heard site kept done moments zone panel settled after p (by_way first last f
     late false e = cc
 
 -- the word that is kept is none, or was made in a turn of Hold, whose tick is its stamp
-was_made : (source : ℕ) (word : List Moment) → IsMade source word → latest_turn source Hold word ≡ tick_of word
+pub was_made : (source : ℕ) (word : List Moment) → IsMade source word → latest_turn source Hold word ≡ tick_of word
 was_made source word (nothing e) = ap (λ w. latest_turn source Hold w) e ∙ sym (ap (λ w. tick_of w) e)
 was_made source word (in_turn before e) =
     let here : latest_turn source Hold (Turned source Hold ∷ before) ≡ tick_of before = rw (eq_true source source refl) refl in

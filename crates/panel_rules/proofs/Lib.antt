@@ -43,3 +43,4 @@ pub mod EffectWords
 pub mod DriveTurns
 pub mod DueOn
 pub mod OutputsOn
+pub mod FacesShow

@@ -31,3 +31,4 @@ pub mod DueOutputs
 pub mod CausedOutputs
 pub mod OutputLaws
 pub mod OutputDeadlines
+pub mod FaceLaws

@@ -6,12 +6,13 @@
 //! a face shows, and what is due and caused. Where an auditor or a node has another source for operations, words or links, it hands in
 //! its own.
 //!
-//! Each function here is a law over them: its contract says it, and its body does nothing. Begin with [`own_zone_is_shown`] and
-//! [`due_output_is_on`], the deadlines of zones and outputs, [`own_zone_is_caused`] and [`on_output_is_caused`], which say that nothing
-//! is shown or on without a cause, and [`answered_by_the_next_tick`], the one answer of each operation.
+//! Each function here is a law over them: its contract says it, and its body does nothing. Begin with [`due_zone_is_shown`] and
+//! [`due_output_is_shown`], the deadlines of zones and outputs, [`shown_zone_is_caused`] and [`shown_output_is_caused`], which say that
+//! nothing is shown or on without a cause, and [`answered_by_the_next_tick`], the one answer of each operation.
 #![tactic(auto)]
 
 mod examples;
+mod faces;
 mod lanes;
 mod operations;
 mod outputs;
@@ -21,6 +22,9 @@ mod zones;
 
 pub use examples::{
     alarms_of_small_cases, operations_of_small_cases, outputs_of_small_cases, words_of_small_rings,
+};
+pub use faces::{
+    due_output_is_shown, due_zone_is_shown, shown_output_is_caused, shown_zone_is_caused,
 };
 pub use lanes::{lanes_hold_few, lanes_keep_their_tick, taken_by_the_next_tick};
 pub use operations::{
