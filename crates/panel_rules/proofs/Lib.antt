@@ -44,3 +44,4 @@ pub mod DriveTurns
 pub mod DueOn
 pub mod OutputsOn
 pub mod FacesShow
+pub mod RunRows

@@ -32,3 +32,4 @@ pub mod CausedOutputs
 pub mod OutputLaws
 pub mod OutputDeadlines
 pub mod FaceLaws
+pub mod RunExamples

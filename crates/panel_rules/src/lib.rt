@@ -21,7 +21,8 @@ mod words;
 mod zones;
 
 pub use examples::{
-    alarms_of_small_cases, operations_of_small_cases, outputs_of_small_cases, words_of_small_rings,
+    alarms_of_small_cases, one_run_in_both_orders, operations_of_small_cases,
+    outputs_of_small_cases, words_of_a_long_ring, words_of_small_rings,
 };
 pub use faces::{
     due_output_is_shown, due_zone_is_shown, shown_output_is_caused, shown_zone_is_caused,
