@@ -80,7 +80,7 @@ due_needs site kept done moments zone panel some h = signalled site kept done mo
 -- ---- no marker is true over nothing
 
 -- some fact is true
-data SomeFact (facts : Facts) : Type 0 where
+pub data SomeFact (facts : Facts) : Type 0 where
   a_zone : (zone : ℕ) → facts.released zone ≡ true → SomeFact facts
   a_hand : (zone : ℕ) → facts.by_hand zone ≡ true → SomeFact facts
   a_fault : (panel : ℕ) → facts.faulty panel ≡ true → SomeFact facts
@@ -134,7 +134,7 @@ some_fact site valid facts (suc depth) marker h = go (slice_get site.markers mar
     go None is deep h = absurd cc
     go (Some plan) is deep h = by_marker facts (solved site facts depth) plan (marker_at site valid marker plan is) deep h
 
-fact_of_output : (site : Site) → IsValid site → (facts : Facts) (output : ℕ) → is_true_over site output facts ≡ true → SomeFact facts
+pub fact_of_output : (site : Site) → IsValid site → (facts : Facts) (output : ℕ) → is_true_over site output facts ≡ true → SomeFact facts
 fact_of_output site valid facts output h = go (slice_get site.outputs output) h
   where
     go : (o : Option Output) → on_output (λ x. solved site facts (length site.markers) x.marker) o ≡ true → SomeFact facts

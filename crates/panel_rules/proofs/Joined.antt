@@ -23,7 +23,7 @@ use Rattle.panel_rules.proofs.InAlarm.{signal_holds, hand_holds, out_holds}
 use Rattle.panel_rules.proofs.Causes.{alarm_caused, hand_caused, released_caused}
 
 -- a turn of Link and its tick
-link_tick : (panel : ℕ) (before : List Moment) → latest_turn panel Link (Turned panel Link ∷ before) ≡ tick_of before
+pub link_tick : (panel : ℕ) (before : List Moment) → latest_turn panel Link (Turned panel Link ∷ before) ≡ tick_of before
 link_tick panel before = rw (eq_true panel panel refl) refl
 
 module _ (panels : ℕ) (moments past : List Moment) (run : IsRun panels moments) (is_past : IsPast past moments) (few : panels ≤ 8) (from to : ℕ) (f : IsPanel panels from) (t : IsPanel panels to) where
@@ -81,7 +81,7 @@ due_heard site kept done moments zone panel settled after p (by_way first last f
     late false e = cc
 
 -- the word that is kept is none, or was made in a turn of Hold, whose tick is its stamp
-was_made : (source : ℕ) (word : List Moment) → IsMade source word → latest_turn source Hold word ≡ tick_of word
+pub was_made : (source : ℕ) (word : List Moment) → IsMade source word → latest_turn source Hold word ≡ tick_of word
 was_made source word (nothing e) = ap (λ w. latest_turn source Hold w) e ∙ sym (ap (λ w. tick_of w) e)
 was_made source word (in_turn before e) =
     let here : latest_turn source Hold (Turned source Hold ∷ before) ≡ tick_of before = rw (eq_true source source refl) refl in

@@ -27,7 +27,7 @@ first_by test (y ∷ xs) i x h t = go (test y) refl i h (λ j g. first_by test x
     go false e (suc i) h ih = omega (arith, ih i h)
 
 -- a search ends at the one that passes
-position_unique : {X : Type 0} (test : X → Bool) (xs : List X) (i : ℕ) (x : X) → slice_get xs i ≡ Some x → test x ≡ true → ((j : ℕ) (y : X) → slice_get xs j ≡ Some y → test y ≡ true → j ≡ i) → position test xs ≡ Some i
+pub position_unique : {X : Type 0} (test : X → Bool) (xs : List X) (i : ℕ) (x : X) → slice_get xs i ≡ Some x → test x ≡ true → ((j : ℕ) (y : X) → slice_get xs j ≡ Some y → test y ≡ true → j ≡ i) → position test xs ≡ Some i
 position_unique test xs i x h t one =
     let n = position_or_len test xs in
     let found : position test xs ≡ Some n = ap (λ b. cond b (Some n) None) (lt_to n (length xs) (omega (arith, first_by test xs i x h t, slice_get_within xs i x h))) in

@@ -38,3 +38,10 @@ pub mod DueBySignal
 pub mod RingWords
 pub mod DeskOutcomes
 pub mod StoredSettings
+pub mod Monotony
+pub mod EffectWords
+pub mod DriveTurns
+pub mod DueOn
+pub mod OutputsOn
+pub mod FacesShow
+pub mod RunRows

@@ -1,5 +1,5 @@
 -- Small cases of zones in alarm and of the ring, with what the definitions have to give for them.
-use Rattle.std.specs.Prelude.{◌≡◌, ℕ, zero, suc, Bool, true, false, List, [], ◌∷◌, map, Option, Some, None}
+use Rattle.std.specs.Prelude.{◌≡◌, ℕ, zero, suc, Bool, true, false, List, [], ◌∷◌, map, reverse, Option, Some, None}
 use Rattle.tick_units.specs.Orders.{canonical_seats}
 use Rattle.site_types.specs.declared.answer.Answer.{Answer}
 use Rattle.site_types.specs.declared.event.Event.TheVariants.{Link}
@@ -145,3 +145,20 @@ GoesInGroups =
     × (heard_by 5 (ring_ticks 5 1) 1 (1 ∷ 5 ∷ []) ≡ 1 ∷ 0 ∷ [])
     × (heard_by 5 (ring_ticks 5 2) 2 (1 ∷ 2 ∷ []) ≡ 1 ∷ 2 ∷ [])
     × (heard_by 5 (ring_ticks 5 2) 1 (1 ∷ 5 ∷ []) ≡ 2 ∷ 1 ∷ [])
+
+-- so many ticks of a site of eight panels, in reversed order, with link 8 down from tick 1 on
+abbrev pub long_ring : ℕ → List TickBlock
+long_ring zero = []
+long_ring (suc n) = record { events = Link 8 false ∷ []; order = reverse (canonical_seats 8); failed = false } ∷ long_ring n
+
+-- what a panel has heard of panel 1 after so many ticks
+abbrev pub heard_of_one : ℕ → ℕ → ℕ
+heard_of_one panel n = heard 8 panel 1 (moments (long_ring n))
+
+-- in reversed order, along links that carry a word in every other tick, what panel 1 tells in tick 3 has come to panel n after tick 2 n + 1, and not before
+abbrev pub GoesSlowly : Type 0
+GoesSlowly =
+    (heard_of_one 2 4 ∷ heard_of_one 2 5 ∷ [] ≡ 1 ∷ 3 ∷ [])
+    × (heard_of_one 3 6 ∷ heard_of_one 3 7 ∷ [] ≡ 1 ∷ 3 ∷ [])
+    × (heard_of_one 4 8 ∷ heard_of_one 4 9 ∷ [] ≡ 1 ∷ 3 ∷ [])
+    × (heard_of_one 8 17 ≡ 3)

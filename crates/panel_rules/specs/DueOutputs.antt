@@ -28,7 +28,7 @@ module _ (site : Site) (kept : Retained) (done : List Done) where
     pub due : AreDue moments (panel_of_output site output) facts
     pub asks : is_true_over site output facts ≡ true
 
-  -- to be asked by hand
+  -- an output is due to be asked by hand
   pub record IsDueAskedByHand (moments : List Moment) (output : ℕ) : Type 0 where
     pub facts : Facts
     pub due : AreDueByHand moments (panel_of_output site output) facts

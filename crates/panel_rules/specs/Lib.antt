@@ -30,3 +30,6 @@ pub mod Timeline
 pub mod DueOutputs
 pub mod CausedOutputs
 pub mod OutputLaws
+pub mod OutputDeadlines
+pub mod FaceLaws
+pub mod RunExamples

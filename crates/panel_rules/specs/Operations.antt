@@ -25,7 +25,7 @@ pub record Request : Type 0 where
 abbrev pub setting_asked : Request → Option Setting
 setting_asked request = operation_setting request.panel request.operation
 
--- those of a panel in a tick
+-- of some operations those of a panel in a tick
 abbrev pub requests_in : ℕ → ℕ → List Request → List Request
 requests_in panel tick requests = filter (λ (r : Request). (r.panel == panel) && (r.tick == tick)) requests
 
@@ -71,7 +71,7 @@ pub record Operations : Type 0 where
 abbrev pub no_operations : Operations
 no_operations = record { waiting = []; answers = []; done = [] }
 
--- an earlier operation on the setting was accepted, was not answered that it could not be stored, and is not yet in force: it waits for Keep, or was done in this very tick
+-- an earlier operation on the setting was accepted, did not fail to be stored, and is not yet in force: it waits for Keep, or was done in this very tick
 abbrev pub is_unsettled : Setting → ℕ → Operations → Bool
 is_unsettled setting tick so_far = list_any (λ (r : Request). is_setting setting (setting_asked r)) so_far.waiting || list_any (λ (d : Done). is_on setting d && nat_le tick d.tick) so_far.done
 
@@ -98,7 +98,7 @@ desk_reply site kept request so_far =
     else (if nat_lt request.level (needed_by request.operation) then Some (Denied (needed_by request.operation) request.level)
     else setting_reply site kept request so_far (setting_asked request))
 
--- an operation that was done in a tick, before the others that were done
+-- an operation as it is done in a tick
 abbrev pub done_in : ℕ → Request → Done
 done_in tick request = record { tick = tick; panel = request.panel; operation = request.operation }
 
@@ -150,7 +150,3 @@ operations site kept (Happened event ∷ before) = operations site kept before
 operations site kept (Turned panel Desk ∷ before) = after_desk site kept (requests_in panel (tick_of before) (requests site before)) (operations site kept before)
 operations site kept (Turned panel task ∷ before) = operations site kept before
 operations site kept (Kept failed ∷ before) = after_keep (tick_of before) failed (operations site kept before)
-
--- the answers that are given in a tick
-abbrev pub answers_in : ℕ → List Answered → List Answered
-answers_in tick answers = filter (λ (a : Answered). a.tick == tick) answers

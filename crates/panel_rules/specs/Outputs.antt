@@ -32,7 +32,7 @@ abbrev pub delay_of_plan : Option Output → ℕ
 delay_of_plan None = 0
 delay_of_plan (Some output) = output.delay
 
--- its delay
+-- the delay of an output
 abbrev pub delay_of : Site → ℕ → ℕ
 delay_of site output = delay_of_plan (slice_get site.outputs output)
 
@@ -43,7 +43,7 @@ is_sounder_kind _ = false
 abbrev pub is_sounder : Site → ℕ → Bool
 is_sounder site output = on_output (λ o. is_sounder_kind o.kind) (slice_get site.outputs output)
 
--- the mask of the outputs of a panel that pass a test: bit `number - 1` is the output with this number
+-- the place of the output of a panel that has this number
 abbrev pub output_numbered : Site → ℕ → ℕ → Option ℕ
 output_numbered site panel number = position (λ (o : Output). (o.panel == panel) && (o.number == number)) site.outputs
 
@@ -51,6 +51,7 @@ abbrev pub on_place : (ℕ → Bool) → Option ℕ → Bool
 on_place test None = false
 on_place test (Some output) = test output
 
+-- the mask of the outputs of a panel that pass a test: bit `number - 1` is the output with this number
 unfoldable pub outputs_where : Site → ℕ → (ℕ → Bool) → ℕ
 outputs_where site panel test = mask_of 32 (λ k. on_place test (output_numbered site panel (k + 1)))
 
@@ -74,7 +75,7 @@ module _ (site : Site) (facts : ℕ → List Moment → Facts) where
   abbrev pub is_requested_by_hand : ℕ → List Moment → Bool
   is_requested_by_hand output moments = made_latest false (panel_of_output site output) Effect (λ before. is_true_over site output (hand_facts (facts (panel_of_output site output) before))) moments
 
-  -- it is asked, and asked by hand, at the latest turn of Drive
+  -- an output is asked, and asked by hand, at the latest turn of Drive
   abbrev pub is_asked : ℕ → List Moment → Bool
   is_asked output moments = made_latest false (panel_of_output site output) Drive (is_requested output) moments
 

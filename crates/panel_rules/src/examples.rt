@@ -1,5 +1,6 @@
 ghost use Rattle.panel_rules.specs.Examples.{FiveInATick, DeniedWithoutACode, TwiceTheSame, NotStored, ClearedTwice};
-ghost use Rattle.panel_rules.specs.AlarmExamples.{OneConfirms, OneAgainOrTwo, TwoConfirm, TwoRelease, Goes, GoesInGroups};
+ghost use Rattle.panel_rules.specs.AlarmExamples.{OneConfirms, OneAgainOrTwo, TwoConfirm, TwoRelease, Goes, GoesInGroups, GoesSlowly};
+ghost use Rattle.panel_rules.specs.RunExamples.{ZoneInBothOrders, CountInBothOrders, OutputInBothOrders, BuzzerInBothOrders, ResetInBothOrders};
 ghost use Rattle.panel_rules.specs.OutputExamples.{Silenced, NotSilenced, Delayed, Overridden, AtOnce, Disabled, ConfirmedWhileOn, LastsFrom};
 
 /// What the definition of operations gives for small cases: five in a tick, one without a code, the same twice, one that could
@@ -37,4 +38,19 @@ pub fn alarms_of_small_cases()
 pub fn words_of_small_rings()
     ensures three { Goes }
     ensures five { GoesInGroups }
+{}
+
+/// What goes round a long ring in reversed order, link by link in every other tick.
+pub fn words_of_a_long_ring()
+    ensures { GoesSlowly }
+{}
+
+/// What the definitions of the whole give for one detector in alarm, in canonical and in reversed order: when its zone is in alarm,
+/// when that is counted, when its output is on, what the buzzer sounds, and when the zone is shown again after a reset.
+pub fn one_run_in_both_orders()
+    ensures zone { ZoneInBothOrders }
+    ensures counted { CountInBothOrders }
+    ensures output { OutputInBothOrders }
+    ensures buzzer { BuzzerInBothOrders }
+    ensures reset { ResetInBothOrders }
 {}

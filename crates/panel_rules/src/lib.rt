@@ -1,12 +1,18 @@
 //! The rules of the whole: what befalls a site tick by tick, what each panel has taken of it, and what follows from that.
 //!
 //! A history is a list of moments, the newest first: a tick begins, its events happen, and each seat has its turn, in any order. The
-//! definitions in specs/ are functions of such a list, of the site, of what was retained at opening and of the operations done. Each
-//! function here is a law over them: its contract says it, and its body does nothing. Begin with [`own_zone_is_shown`], the deadline
-//! of a panel's own zones, and [`own_zone_is_caused`], which says that no zone is shown without a cause.
+//! definitions in specs/ are functions of such a list, of the site, of what was retained at opening and of the operations done: what
+//! became of each operation, what Keep commits, which words panels keep of one another, which outputs are on, which faults stand, what
+//! a face shows, and what is due and caused. Where an auditor or a node has another source for operations, words or links, it hands in
+//! its own.
+//!
+//! Each function here is a law over them: its contract says it, and its body does nothing. Begin with [`due_zone_is_shown`] and
+//! [`due_output_is_shown`], the deadlines of zones and outputs, [`shown_zone_is_caused`] and [`shown_output_is_caused`], which say that
+//! nothing is shown or on without a cause, and [`answered_by_the_next_tick`], the one answer of each operation.
 #![tactic(auto)]
 
 mod examples;
+mod faces;
 mod lanes;
 mod operations;
 mod outputs;
@@ -15,14 +21,21 @@ mod words;
 mod zones;
 
 pub use examples::{
-    alarms_of_small_cases, operations_of_small_cases, outputs_of_small_cases, words_of_small_rings,
+    alarms_of_small_cases, one_run_in_both_orders, operations_of_small_cases,
+    outputs_of_small_cases, words_of_a_long_ring, words_of_small_rings,
+};
+pub use faces::{
+    due_output_is_shown, due_zone_is_shown, shown_output_is_caused, shown_zone_is_caused,
 };
 pub use lanes::{lanes_hold_few, lanes_keep_their_tick, taken_by_the_next_tick};
 pub use operations::{
     answered_by_the_next_tick, answered_once, answers_are_to_requests, answers_stay,
     kept_is_in_force, settings_change_once,
 };
-pub use outputs::{due_needs_a_signal, due_output_needs_a_signal, faults_are_told, unasked_is_off};
+pub use outputs::{
+    due_needs_a_signal, due_output_is_on, due_output_needs_a_signal, faults_are_told,
+    indicated_output_is_on, on_output_is_caused, unasked_is_off,
+};
 pub use records::{asked_once_in_a_round, records_are_runs};
 pub use words::{
     due_hand_is_kept, due_release_is_kept, due_zone_is_kept, kept_by_the_ring, kept_hand_is_caused,

@@ -1,0 +1,23 @@
+ghost use Rattle.panel_rules.specs.FaceLaws.{DueZoneIsShown, ShownZoneIsCaused, DueOutputIsShown, ShownOutputIsCaused};
+
+/// **A zone that is due at a panel is shown in its face after the tick**, whatever the orders of turns: at the zone's own panel after
+/// the profile's ticks of a signal, and at each panel that was joined with it within the network's.
+pub fn due_zone_is_shown()
+    ensures { DueZoneIsShown }
+{}
+
+/// No zone is shown in the face of a panel without a cause: an answer confirmed it, and no floor undid it by the tick in which its own
+/// panel shows it, or by the stamp that another panel has heard.
+pub fn shown_zone_is_caused()
+    ensures { ShownZoneIsCaused }
+{}
+
+/// **An output that is due to be on is shown in the face of its panel.**
+pub fn due_output_is_shown()
+    ensures { DueOutputIsShown }
+{}
+
+/// No output is shown without a cause.
+pub fn shown_output_is_caused()
+    ensures { ShownOutputIsCaused }
+{}
