@@ -1,0 +1,5 @@
+pub mod Bits
+pub mod Confirming
+pub mod Listed
+pub mod Runs
+pub mod Steps

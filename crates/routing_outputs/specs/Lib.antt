@@ -1,0 +1,3 @@
+pub mod Confirmations
+pub mod Lines
+pub mod Stands
