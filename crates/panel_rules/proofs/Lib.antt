@@ -18,7 +18,7 @@ pub mod Order
 pub mod Grows
 pub mod Causes
 pub mod Laid
-pub mod Deadlines
+pub mod OwnDeadlines
 pub mod Orders
 pub mod RecordRuns
 pub mod KeptWords
@@ -45,3 +45,7 @@ pub mod DueOn
 pub mod OutputsOn
 pub mod FacesShow
 pub mod RunRows
+pub mod OwnTick
+pub mod LastAnswers
+pub mod Away
+pub mod Accepted

@@ -11,6 +11,7 @@
 //! nothing is shown or on without a cause, and [`answered_by_the_next_tick`], the one answer of each operation.
 #![tactic(auto)]
 
+mod deadlines;
 mod examples;
 mod faces;
 mod lanes;
@@ -20,6 +21,9 @@ mod records;
 mod words;
 mod zones;
 
+pub use deadlines::{
+    accepted_is_in_force, away_is_missing, link_is_shown, piece_is_shown, stands_again,
+};
 pub use examples::{
     alarms_of_small_cases, one_run_in_both_orders, operations_of_small_cases,
     outputs_of_small_cases, words_of_a_long_ring, words_of_small_rings,
