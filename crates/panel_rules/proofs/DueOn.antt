@@ -24,7 +24,7 @@ use Rattle.panel_rules.proofs.Bools.{parts, either_left, either_right}
 use Rattle.panel_rules.proofs.Floors.{lt_from}
 use Rattle.panel_rules.proofs.Stays.{up_to_here}
 use Rattle.panel_rules.proofs.Turns.{run_tail, before_tick, before_past}
-use Rattle.panel_rules.proofs.OwnDeadlines.{settled_by}
+use Rattle.panel_rules.proofs.Deadlines.{settled_by}
 use Rattle.panel_rules.proofs.Monotony.{Grow, output_grows}
 use Rattle.panel_rules.proofs.EffectWords.{drive_tick, effect_late, out_in_facts, hand_in_facts}
 use Rattle.panel_rules.proofs.DriveTurns.{made_before, owed_before, up_to_past, ended_at, run_now, run_latest}

@@ -34,7 +34,7 @@ use Rattle.panel_rules.proofs.Laid.{laid_out, position_unique}
 use Rattle.panel_rules.proofs.InAlarm.{signal_holds}
 use Rattle.panel_rules.proofs.Causes.{alarm_caused}
 use Rattle.panel_rules.proofs.Joined.{due_kept, was_made}
-use Rattle.panel_rules.proofs.OwnDeadlines.{settled_by}
+use Rattle.panel_rules.proofs.Deadlines.{settled_by}
 use Rattle.panel_rules.proofs.OpenRequests.{eq_swap}
 use Rattle.panel_rules.proofs.OutputsOn.{due_output_on, on_output_caused}
 

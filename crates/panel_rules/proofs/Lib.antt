@@ -18,7 +18,7 @@ pub mod Order
 pub mod Grows
 pub mod Causes
 pub mod Laid
-pub mod OwnDeadlines
+pub mod Deadlines
 pub mod Orders
 pub mod RecordRuns
 pub mod KeptWords

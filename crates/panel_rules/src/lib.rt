@@ -11,19 +11,16 @@
 //! nothing is shown or on without a cause, and [`answered_by_the_next_tick`], the one answer of each operation.
 #![tactic(auto)]
 
-mod deadlines;
 mod examples;
 mod faces;
 mod lanes;
 mod operations;
+mod other_deadlines;
 mod outputs;
 mod records;
 mod words;
 mod zones;
 
-pub use deadlines::{
-    accepted_is_in_force, away_is_missing, link_is_shown, piece_is_shown, stands_again,
-};
 pub use examples::{
     alarms_of_small_cases, one_run_in_both_orders, operations_of_small_cases,
     outputs_of_small_cases, words_of_a_long_ring, words_of_small_rings,
@@ -35,6 +32,9 @@ pub use lanes::{lanes_hold_few, lanes_keep_their_tick, taken_by_the_next_tick};
 pub use operations::{
     answered_by_the_next_tick, answered_once, answers_are_to_requests, answers_stay,
     kept_is_in_force, settings_change_once,
+};
+pub use other_deadlines::{
+    accepted_is_in_force, away_is_missing, link_is_shown, piece_is_shown, stands_again,
 };
 pub use outputs::{
     due_needs_a_signal, due_output_is_on, due_output_needs_a_signal, faults_are_told,

@@ -1,4 +1,4 @@
-use Rattle.panel_rules.proofs.OwnDeadlines.{own_released}
+use Rattle.panel_rules.proofs.Deadlines.{own_released}
 use Rattle.panel_rules.proofs.zones.own_zone_is_released.Goals as goal
 
 pub returns : goal.returns

@@ -1,4 +1,4 @@
-use Rattle.panel_rules.proofs.OwnDeadlines.{own_shown}
+use Rattle.panel_rules.proofs.Deadlines.{own_shown}
 use Rattle.panel_rules.proofs.zones.own_zone_is_shown.Goals as goal
 
 pub returns : goal.returns
