@@ -49,3 +49,5 @@ pub mod OwnTick
 pub mod LastAnswers
 pub mod Away
 pub mod Accepted
+pub mod FirstsShow
+pub mod Supplies

@@ -7,15 +7,17 @@ use Rattle.site_types.specs.declared.point.Point.{Point}
 use Rattle.site_types.specs.declared.point_state.PointState.TheVariants.{Gone}
 use Rattle.site_types.specs.declared.retained.Retained.{Retained}
 use Rattle.site_types.specs.declared.site.Site.{Site}
+use Rattle.site_types.specs.declared.supply_kind.SupplyKind.{SupplyKind}
 use Rattle.site_types.specs.declared.zone.Zone.{Zone}
 use Rattle.site_types.specs.Bits.{has_bit, has_point}
 use Rattle.site_types.specs.Done.{Done, Setting, in_force, is_on, value_set}
 use Rattle.site_types.specs.Profile.{fault_of, reset_of}
 use Rattle.loop_poller.specs.Asked.{loop_at}
+use Rattle.supply_monitor.specs.Supply.{wait_of}
 use Rattle.panel_conditions.specs.Missing.{is_off}
 use Rattle.panel_links.specs.Stands.{is_link_of}
 use Rattle.panel_rules.specs.Moments.{Moment, tick_of, up_to, IsPanel, IsRun}
-use Rattle.panel_rules.specs.States.{state_of, piece_of, is_up}
+use Rattle.panel_rules.specs.States.{state_of, piece_of, is_up, is_bad, supply_number}
 use Rattle.panel_rules.specs.Due.{reached_at, Signals}
 use Rattle.panel_rules.specs.Operations.{Reply, Store, WasDone, Answered, setting_asked, operations}
 use Rattle.panel_rules.specs.Timeline.{failed_ticks}
@@ -53,6 +55,18 @@ abbrev pub AwayIsMissing : Type 0
 AwayIsMissing =
     (site : Site) (kept : Retained) (done : List Done) (stored : Retained) (moments : List Moment) (point first : ℕ) (plan : Point) → HasEnded site moments → slice_get site.points point ≡ Some plan
     → IsAway site moments point first → is_off site kept done point (tick_of moments) ≡ false → has_point (face_with site kept done stored plan.panel moments).faults.missing plan.line plan.address ≡ true
+
+-- a supply was bad at each tick of a span that ends now and is as long as its wait and the profile's ticks of a fault; the span begins at tick 1 or later
+pub record IsBadThrough (site : Site) (moments : List Moment) (panel : ℕ) (kind : SupplyKind) (first : ℕ) : Type 0 where
+  pub begins : 1 ≤ first
+  pub long : first + wait_of kind site.waits + fault_of site.format ≤ tick_of moments + 1
+  pub bad : (tick : ℕ) → first ≤ tick → tick ≤ tick_of moments → is_bad panel kind (up_to tick moments) ≡ true
+
+-- its fault is shown
+abbrev pub BadSupplyIsShown : Type 0
+BadSupplyIsShown =
+    (site : Site) (kept : Retained) (done : List Done) (stored : Retained) (moments : List Moment) (panel : ℕ) (kind : SupplyKind) (first : ℕ) → HasEnded site moments → IsPanel site.panels panel
+    → IsBadThrough site moments panel kind first → has_bit (face_with site kept done stored panel moments).faults.supply (supply_number kind) ≡ true
 
 -- no other operation on a setting was done after a tick and before another one
 abbrev pub NoneBetween : Setting → ℕ → ℕ → List Done → Type 0

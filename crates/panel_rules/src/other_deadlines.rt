@@ -1,4 +1,4 @@
-ghost use Rattle.panel_rules.specs.OtherDeadlines.{StandsAgain, PieceIsShown, LinkIsShown, AwayIsMissing, AcceptedIsInForce};
+ghost use Rattle.panel_rules.specs.OtherDeadlines.{StandsAgain, PieceIsShown, LinkIsShown, AwayIsMissing, BadSupplyIsShown, AcceptedIsInForce};
 
 /// What still signals after a reset is shown again on the zone's own panel within the profile's ticks of a reset; the time that a
 /// single detector of type A needs comes on top.
@@ -20,6 +20,11 @@ pub fn link_is_shown()
 /// disabled.
 pub fn away_is_missing()
     ensures { AwayIsMissing }
+{}
+
+/// A supply that was bad for its wait and the profile's ticks of a fault is shown.
+pub fn bad_supply_is_shown()
+    ensures { BadSupplyIsShown }
 {}
 
 /// An operation on a setting that Desk accepted is done by the tick after its own, where no turn of Keep failed in the two, and holds
