@@ -75,12 +75,12 @@ silence_lt panel x (d ∷ done) k e = go ((d.panel == panel) && nat_lt d.tick x)
     go true t ih e = by d.operation (lt_from d.tick x (parts (d.panel == panel) (nat_lt d.tick x) t).1) ih e
     go false t ih e = ih e
 
-one_before : (t : ℕ) → 1 ≤ t → (u : ℕ) × (t ≡ u + 1)
+pub one_before : (t : ℕ) → 1 ≤ t → (u : ℕ) × (t ≡ u + 1)
 one_before zero l = absurd (omega (arith, l))
 one_before (suc u) l = (u, omega arith)
 
 -- a history up to an earlier tick
-same_past : (m : List Moment) (u t : ℕ) → t ≤ u → tick_of (up_to u m) ≡ u → up_to t m ≡ up_to t (up_to u m)
+pub same_past : (m : List Moment) (u t : ℕ) → t ≤ u → tick_of (up_to u m) ≡ u → up_to t m ≡ up_to t (up_to u m)
 same_past m u t b k =
     elim (eqb_tells t u) [
       | inl h ↦ (let s = h.1 in ap (λ x. up_to x m) s ∙ sym (ap (λ x. up_to x (up_to u m)) (s ∙ sym k) ∙ up_to_here (up_to u m)))

@@ -39,7 +39,7 @@ use Rattle.panel_rules.proofs.OpenRequests.{eq_swap}
 use Rattle.panel_rules.proofs.OutputsOn.{due_output_on, on_output_caused}
 
 -- the entry of a panel in a list by panel
-entry : (f : ℕ → ℕ) (k : ℕ) → k < 8 → slice_index (map f (range_with_len 1 8)) k ≡ f (k + 1)
+pub entry : (f : ℕ → ℕ) (k : ℕ) → k < 8 → slice_index (map f (range_with_len 1 8)) k ≡ f (k + 1)
 entry f zero l = refl
 entry f (suc zero) l = refl
 entry f (suc (suc zero)) l = refl
@@ -55,7 +55,7 @@ no_mask : (n : ℕ) → mask_of n (λ k. false) ≡ 0
 no_mask zero = mask_none (λ k. false)
 no_mask (suc n) = let ih = no_mask n in let m = mask_more n (λ k. false) in omega (arith, ih, m)
 
-no_bit : (k : ℕ) → k < 32 → has_bit 0 k ≡ false
+pub no_bit : (k : ℕ) → k < 32 → has_bit 0 k ≡ false
 no_bit k l = ap (λ mask. has_bit mask k) (sym (no_mask 32)) ∙ has_bit-mask 32 (λ j. false) k l
 
 module _ (site : Site) (kept : Retained) (done : List Done) (valid : IsValid site) (zone : ℕ) (plan : Zone) (is : slice_get site.zones zone ≡ Some plan) where
@@ -66,13 +66,13 @@ module _ (site : Site) (kept : Retained) (done : List Done) (valid : IsValid sit
       has_bit-zone site (λ z. is_in_alarm site kept done (held_answers site plan.panel (moment ∷ before)) z (tick_of (moment ∷ before))) zone plan (wired_of site valid) is
       ∙ ap (λ t. is_in_alarm site kept done (held_answers site plan.panel (moment ∷ before)) zone t) (sym e)
 
-  of_plan : panel_of_zone site zone ≡ plan.panel
+  pub of_plan : panel_of_zone site zone ≡ plan.panel
   of_plan = ap panel_of is
 
-  plan_panel : IsPanel site.panels plan.panel
+  pub plan_panel : IsPanel site.panels plan.panel
   plan_panel = (zone_at site valid zone plan is).panel
 
-  own_stamp : (m : List Moment) → latest_turn plan.panel Hold (made_at plan.panel m) ≡ tick_of (made_at plan.panel m)
+  pub own_stamp : (m : List Moment) → latest_turn plan.panel Hold (made_at plan.panel m) ≡ tick_of (made_at plan.panel m)
   own_stamp m = was_made plan.panel (made_at plan.panel m) (made_is plan.panel m).made
 
   kept_stamp_is : (panel : ℕ) (m : List Moment) → latest_turn plan.panel Hold (kept_at site.panels panel plan.panel m) ≡ tick_of (kept_at site.panels panel plan.panel m)
@@ -83,7 +83,7 @@ module _ (site : Site) (kept : Retained) (done : List Done) (valid : IsValid sit
   shown panel m = if plan.panel == panel then made_at panel m else kept_at site.panels panel plan.panel m
 
   -- the bit of the zone in a face
-  in_face : (panel : ℕ) (m : List Moment)
+  pub in_face : (panel : ℕ) (m : List Moment)
       → has_bit (slice_index (map (λ source. (if source == panel then word_made site kept done (tells_fault site kept done) panel (made_at panel m) else word_made site kept done (tells_fault site kept done) source (kept_at site.panels panel source m)).alarm) (range_with_len 1 8)) (plan.panel - 1)) (plan.number - 1)
       ≡ holds_alarm site kept done plan.panel (shown panel m) zone
   in_face panel m =

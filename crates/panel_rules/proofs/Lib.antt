@@ -45,3 +45,9 @@ pub mod DueOn
 pub mod OutputsOn
 pub mod FacesShow
 pub mod RunRows
+pub mod OwnTick
+pub mod LastAnswers
+pub mod Away
+pub mod Accepted
+pub mod FirstsShow
+pub mod Supplies

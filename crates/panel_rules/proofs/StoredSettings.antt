@@ -114,7 +114,7 @@ record IsNow (site : Site) (tick : ℕ) (r : Request) : Type 0 where
 
 module _ (site : Site) (kept : Retained) (own : HasOwnPlaces site) where
   fits_reply : (tick : ℕ) (stored : Retained) (r : Request) (so_far : Operations) (reply : Option Reply) → IsNow site tick r → Outcome r reply → Fits site kept tick so_far stored → Fits site kept tick (after_reply r so_far reply) stored
-  fits_reply tick stored r so_far reply here (told answer same) h = record {
+  fits_reply tick stored r so_far reply here (told answer by same) h = record {
     keeps = subst (λ done. KeepsInForce site kept done (tick + 1) stored) (sym (same so_far.done)) h.keeps;
     sized = h.sized;
     by = subst (λ done. AreBy tick done) (sym (same so_far.done)) h.by;

@@ -1,5 +1,5 @@
 -- What faces show in each run of a valid site, whatever the order of turns.
-use Rattle.std.specs.Prelude.{◌≡◌, ℕ, ◌-◌, Bool, true, List, Some, slice_get, slice_index}
+use Rattle.std.specs.Prelude.{◌≡◌, ◌⊎◌, ℕ, ◌-◌, Bool, true, List, Some, slice_get, slice_index}
 use Rattle.site_types.specs.declared.output.Output.{Output}
 use Rattle.site_types.specs.declared.retained.Retained.{Retained}
 use Rattle.site_types.specs.declared.site.Site.{Site}
@@ -7,15 +7,18 @@ use Rattle.site_types.specs.declared.zone.Zone.{Zone}
 use Rattle.site_types.specs.Bits.{has_bit}
 use Rattle.site_types.specs.Done.{Done}
 use Rattle.site_types.specs.Valid.{IsValid}
-use Rattle.panel_rules.specs.Moments.{Moment, IsRun, IsPanel, HaveAllTurned}
-use Rattle.panel_rules.specs.Due.{IsDue}
+use Rattle.panel_rules.specs.Moments.{Moment, tick_of, IsRun, IsPanel, HaveAllTurned}
+use Rattle.panel_rules.specs.Due.{IsDue, LoneSignals}
 use Rattle.panel_rules.specs.DueOutputs.{IsDueOn}
 use Rattle.panel_rules.specs.CausedOutputs.{IsCausedAtPanel, IsCausedOutput}
 use Rattle.panel_rules.specs.Faces.{Face, face_with}
 
--- a face shows a zone in alarm, or an output of its panel on
+-- a face shows a zone in alarm, a zone in first state, or an output of its panel on
 abbrev pub shows_zone : Face → Zone → Bool
 shows_zone face zone = has_bit (slice_index face.zones (zone.panel - 1)) (zone.number - 1)
+
+abbrev pub shows_first : Face → Zone → Bool
+shows_first face zone = has_bit (slice_index face.firsts (zone.panel - 1)) (zone.number - 1)
 
 abbrev pub shows_output : Face → Output → Bool
 shows_output face output = has_bit face.outputs (output.number - 1)
@@ -49,3 +52,10 @@ abbrev pub ShownOutputIsCaused : Type 0
 ShownOutputIsCaused =
     (site : Site) (kept : Retained) (done : List Done) (stored : Retained) (moments : List Moment) (output : ℕ) (plan : Output) → HasEnded site moments → slice_get site.outputs output ≡ Some plan
     → shows_output (face_with site kept done stored plan.panel moments) plan ≡ true → IsCausedOutput site kept done moments output
+
+-- a zone of type B with one lasting signal is shown in alarm or in first state by its own panel, until its time ends
+abbrev pub LoneZoneIsShown : Type 0
+LoneZoneIsShown =
+    (site : Site) (kept : Retained) (done : List Done) (stored : Retained) (moments : List Moment) (zone : ℕ) (plan : Zone) → HasEnded site moments → slice_get site.zones zone ≡ Some plan
+    → LoneSignals site kept done moments zone (tick_of moments)
+    → (shows_zone (face_with site kept done stored plan.panel moments) plan ≡ true) ⊎ (shows_first (face_with site kept done stored plan.panel moments) plan ≡ true)

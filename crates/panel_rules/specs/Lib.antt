@@ -33,3 +33,4 @@ pub mod OutputLaws
 pub mod OutputDeadlines
 pub mod FaceLaws
 pub mod RunExamples
+pub mod OtherDeadlines

@@ -1,4 +1,4 @@
-ghost use Rattle.panel_rules.specs.FaceLaws.{DueZoneIsShown, ShownZoneIsCaused, DueOutputIsShown, ShownOutputIsCaused};
+ghost use Rattle.panel_rules.specs.FaceLaws.{DueZoneIsShown, ShownZoneIsCaused, DueOutputIsShown, ShownOutputIsCaused, LoneZoneIsShown};
 
 /// **A zone that is due at a panel is shown in its face after the tick**, whatever the orders of turns: at the zone's own panel after
 /// the profile's ticks of a signal, and at each panel that was joined with it within the network's.
@@ -20,4 +20,9 @@ pub fn due_output_is_shown()
 /// No output is shown without a cause.
 pub fn shown_output_is_caused()
     ensures { ShownOutputIsCaused }
+{}
+
+/// A zone of type B with one lasting signal is shown in alarm or in first state by its own panel, until its time ends.
+pub fn lone_zone_is_shown()
+    ensures { LoneZoneIsShown }
 {}

@@ -15,6 +15,7 @@ mod examples;
 mod faces;
 mod lanes;
 mod operations;
+mod other_deadlines;
 mod outputs;
 mod records;
 mod words;
@@ -25,12 +26,17 @@ pub use examples::{
     outputs_of_small_cases, words_of_a_long_ring, words_of_small_rings,
 };
 pub use faces::{
-    due_output_is_shown, due_zone_is_shown, shown_output_is_caused, shown_zone_is_caused,
+    due_output_is_shown, due_zone_is_shown, lone_zone_is_shown, shown_output_is_caused,
+    shown_zone_is_caused,
 };
 pub use lanes::{lanes_hold_few, lanes_keep_their_tick, taken_by_the_next_tick};
 pub use operations::{
     answered_by_the_next_tick, answered_once, answers_are_to_requests, answers_stay,
     kept_is_in_force, settings_change_once,
+};
+pub use other_deadlines::{
+    accepted_is_in_force, away_is_missing, bad_supply_is_shown, link_is_shown, piece_is_shown,
+    stands_again,
 };
 pub use outputs::{
     due_needs_a_signal, due_output_is_on, due_output_needs_a_signal, faults_are_told,
