@@ -6,9 +6,13 @@
 #![tactic(auto)]
 
 #[cfg(test)]
+mod drawn_outputs;
+#[cfg(test)]
 mod key_tests;
 #[cfg(test)]
 mod level_tests;
+#[cfg(test)]
+mod output_tests;
 #[cfg(test)]
 mod reading_tests;
 #[cfg(test)]
