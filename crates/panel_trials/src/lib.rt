@@ -7,10 +7,13 @@
 
 #[cfg(test)]
 mod hold_tests;
+mod drawn_outputs;
 #[cfg(test)]
 mod key_tests;
 #[cfg(test)]
 mod level_tests;
+#[cfg(test)]
+mod output_tests;
 #[cfg(test)]
 mod reading_tests;
 #[cfg(test)]

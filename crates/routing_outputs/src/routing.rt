@@ -22,13 +22,13 @@ pub struct Routing {
     /// In ticks.
     limit: u64,
     lines: ArrayVec<Line, 32>,
-    /// The outputs of these lines.
+    /// The outputs of these lines, bit `number - 1` each.
     watched: u32,
-    /// Of these, those that were on at the latest turn,
+    /// Of these, those that were on after the latest turn.
     on: u32,
-    /// those that were confirmed since they went on,
+    /// Of these, those that were confirmed since they went on.
     confirmed: u32,
-    /// and those that had been on for the limit.
+    /// Of these, those that had been on for the limit at the latest turn.
     late: u32,
     ghost placed: { AllByRecursion (λ line. line.place < 32) lines.items } by { Prim.hlevel props },
 }

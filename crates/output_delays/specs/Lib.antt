@@ -1,0 +1,5 @@
+pub mod Kept
+pub mod Overrides
+pub mod Runs
+pub mod Stands
+pub mod Timers
