@@ -25,7 +25,7 @@ pub record Within (bytes consumed : List ℕ) : Type 0 where
   pub more : List ℕ
   pub is : within_limit bytes ≡ consumed ++ more
 
-within_rest : (bytes consumed rest : List ℕ) → bytes ≡ consumed ++ rest → length consumed ≤ most_record_bytes → Within bytes consumed
+pub within_rest : (bytes consumed rest : List ℕ) → bytes ≡ consumed ++ rest → length consumed ≤ most_record_bytes → Within bytes consumed
 within_rest bytes consumed rest whole le =
     let more = most_record_bytes - length consumed in
     record {

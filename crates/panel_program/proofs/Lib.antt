@@ -8,6 +8,7 @@ pub mod Steps
 pub mod Closing
 pub mod Written
 pub mod Ends
+pub mod Texts
 pub mod Readings
 pub mod Promises
 pub mod Outcomes

@@ -1,19 +1,34 @@
 -- What a run came to.
-use Rattle.std.proofs.Common.{◌≡◌, ◌∙◌, ◌++◌, ℕ, List, [], Option, refl, sym, subst, inl, inr}
+use Rattle.std.proofs.Common.{◌≡◌, ◌∙◌, ◌≤◌, ◌++◌, ℕ, List, [], length, Option, refl, sym, ap, subst, arith, append_assoc, inl, inr}
 use Rattle.panel_edges.specs.Contents.{Grows, GrowsByFront}
+use Rattle.panel_edges.specs.Limits.{most_record_bytes}
+use Rattle.panel_edges.proofs.Growing.{front_longer}
 use Rattle.site_types.specs.declared.site.Site.{Site}
 use Rattle.site_types.specs.Valid.{IsValid}
 use Rattle.panel_program.specs.declared.outcome.Outcome.{Outcome}
 use Rattle.panel_program.specs.declared.run.Run.{Run}
 use Rattle.panel_program.specs.declared.run_end.RunEnd.{RunEnd}
-use Rattle.panel_program.specs.Endings.{status_of, last_line}
+use Rattle.panel_program.specs.Endings.{end_of, within_limit, status_of, last_line}
 use Rattle.panel_program.specs.Records.{ticks_run}
-use Rattle.panel_program.specs.Runs.{Ran, ReadsTo, ReadsUntil}
+use Rattle.panel_program.specs.Runs.{Ran, ReadsTo, ReadsUntil, run_text}
 use Rattle.panel_program.specs.Stands.{text_at}
 use Rattle.panel_program.specs.Ticks.{text_of}
 use Rattle.panel_program.specs.Writings.{Says}
+use Rattle.panel_program.proofs.Ends.{within_rest}
 use Rattle.panel_program.proofs.Promises.{keeps}
+use Rattle.panel_program.proofs.Texts.{text_behind}
 use Rattle.panel_program.proofs.Written.{grows_then, front_then, says_then}
+
+-- a front of the text of what was read is a front of the whole text
+front_whole : (site : Site) (bytes consumed rest : List ℕ) (old new : Option (List ℕ)) → bytes ≡ consumed ++ rest → length consumed ≤ most_record_bytes → GrowsByFront old new (text_at site consumed) → GrowsByFront old new (run_text site bytes)
+front_whole site bytes consumed rest old new whole few g =
+    let last = last_line (length (ticks_run site (within_limit bytes))) (end_of site bytes) in
+    let within = within_rest bytes consumed rest whole few in
+    let behind = text_behind site consumed within.more in
+    let text : run_text site bytes ≡ text_at site consumed ++ (behind.rest ++ last) =
+    ap (λ xs. text_at site xs ++ last) within.is ∙ ap (λ xs. xs ++ last) behind.is ∙ append_assoc (text_at site consumed) behind.rest last
+    in
+    subst (GrowsByFront old new) (sym text) (front_longer old new (text_at site consumed) (behind.rest ++ last) g)
 
 -- memory ran out
 pub ran_nothing : (site : Site) (bytes : List ℕ) (old : Option (List ℕ)) (outcome : Outcome) → outcome.status ≡ 9 → outcome.ticks ≡ 0 → Ran site bytes old old outcome
@@ -22,7 +37,7 @@ ran_nothing site bytes old outcome status ticks = inl (record { status = status;
 -- the first write failed
 pub ran_opening : (site : Site) (bytes : List ℕ) (old new : Option (List ℕ)) (outcome : Outcome) → IsValid site → outcome.status ≡ 7 → outcome.ticks ≡ 0 → GrowsByFront old new (text_of site []) → Ran site bytes old new outcome
 ran_opening site bytes old new outcome valid status ticks broke =
-    inr (inr (record { consumed = []; rest = bytes; whole = refl; ticks = ticks; promises = keeps site [] valid tt; status = status; broke = broke }))
+    inr (inr (record { consumed = []; rest = bytes; whole = refl; ticks = ticks; promises = keeps site [] valid tt; status = status; broke = front_whole site bytes [] bytes old new refl (omega arith) broke }))
 
 -- a later write failed
 pub ran_until : (site : Site) (bytes : List ℕ) (old mid new : Option (List ℕ)) (run : Run) (outcome : Outcome) → IsValid site → outcome.status ≡ 7 → outcome.ticks ≡ run.ticks → Grows old mid (text_of site []) → ReadsUntil site bytes mid new run → Ran site bytes old new outcome
@@ -36,7 +51,7 @@ ran_until site bytes old mid new run outcome valid status ticks opened r =
       ticks = ticks ∙ r.ran.count;
       promises = keeps site (ticks_run site r.consumed) valid r.ran.ordered;
       status = status;
-      broke = front_then old mid new (text_at site []) (text_at site r.consumed) opened r.broke;
+      broke = front_whole site bytes r.consumed r.rest old new r.whole r.few (front_then old mid new (text_at site []) (text_at site r.consumed) opened r.broke);
     }))
 
 -- the run ended

@@ -97,14 +97,19 @@ module _ (site : Site) (bytes : List ℕ) (left old mid : Option (List ℕ)) (re
       }
 
   -- a write failed in a piece
-  pub piece_breaks : (piece : List ℕ) (left' new : Option (List ℕ)) (new_run : Run) → Consumes left left' piece → BreaksOff site s.consumed piece mid new new_run → ReadsUntil site bytes old new new_run
-  piece_breaks piece left' new new_run consumes b =
+  pub piece_breaks : (piece : List ℕ) (left' new : Option (List ℕ)) (new_run : Run) → Consumes left left' piece → read + length piece ≤ most_record_bytes → BreaksOff site s.consumed piece mid new new_run → ReadsUntil site bytes old new new_run
+  piece_breaks piece left' new new_run consumes few b =
       let more = told s.rest piece left left' s.left_is consumes in
+      let count = s.count in
+      let front_length = length-append b.front b.rest in
+      let piece_length = ap (λ (xs : List ℕ). length xs) b.is in
+      let all_length = length-append s.consumed b.front in
       record {
         consumed = s.consumed ++ b.front;
         rest = b.rest ++ more.0;
         whole =
             s.whole ∙ ap (λ xs. s.consumed ++ xs) (more.2 ∙ ap (λ xs. xs ++ more.0) b.is ∙ append_assoc b.front b.rest more.0) ∙ sym (append_assoc s.consumed b.front (b.rest ++ more.0));
+        few = omega (arith, few, count, front_length, piece_length, all_length);
         ran = b.ran;
         broke = breaks_more old mid new (text_at site []) (text_at site s.consumed) (text_at site (s.consumed ++ b.front)) s.wrote b.broke;
       }

@@ -1,6 +1,7 @@
 -- What a run over the bytes of a record comes to.
-use Rattle.std.specs.Prelude.{◌≡◌, ◌⊎◌, ◌-◌, ℕ, true, List, [], ◌++◌, length, Option, Some, Result, Ok, Err, slice_get}
+use Rattle.std.specs.Prelude.{◌≡◌, ◌⊎◌, ◌-◌, ◌≤◌, ℕ, true, List, [], ◌++◌, length, Option, Some, Result, Ok, Err, slice_get}
 use Rattle.panel_edges.specs.Contents.{GrowsByFront}
+use Rattle.panel_edges.specs.Limits.{most_record_bytes}
 use Rattle.panel_edges.specs.declared.failed.Failed.{Failed}
 use Rattle.site_types.specs.declared.site.Site.{Site}
 use Rattle.site_types.specs.declared.zone.Zone.{Zone}
@@ -24,6 +25,10 @@ abbrev pub EndsRun : Site → List ℕ → List ℕ → RunEnd → Type 0
 EndsRun site bytes consumed ReadFault = IsGoing site consumed
 EndsRun site bytes consumed end = (end ≡ end_of site bytes) × (ticks_run site consumed ≡ ticks_run site (within_limit bytes))
 
+-- what a run over these bytes writes where no read and no write fails
+abbrev pub run_text : Site → List ℕ → List ℕ
+run_text site bytes = text_at site (within_limit bytes) ++ last_line (length (ticks_run site (within_limit bytes))) (end_of site bytes)
+
 -- these bytes were read, and ended so
 pub record ReadsTo (site : Site) (bytes : List ℕ) (old new : Option (List ℕ)) (run : Run) (end : RunEnd) : Type 0 where
   pub consumed : List ℕ
@@ -38,6 +43,7 @@ pub record ReadsUntil (site : Site) (bytes : List ℕ) (old new : Option (List �
   pub consumed : List ℕ
   pub rest : List ℕ
   pub whole : bytes ≡ consumed ++ rest
+  pub few : length consumed ≤ most_record_bytes
   pub ran : HasRun site (ticks_run site consumed) run
   pub broke : Breaks old new (text_at site []) (text_at site consumed)
 
@@ -62,7 +68,7 @@ pub record RanTo (site : Site) (bytes : List ℕ) (old new : Option (List ℕ)) 
   pub promises : KeepsPromises site (ticks_run site consumed)
   pub says : Says (status_of end) (text_at site consumed ++ last_line outcome.ticks end) old new outcome.status
 
--- the run had read these bytes when a write failed: it wrote a front of the text of their ticks
+-- the run had read these bytes when a write failed: it wrote a front of what it writes where nothing fails
 pub record RanUntil (site : Site) (bytes : List ℕ) (old new : Option (List ℕ)) (outcome : Outcome) : Type 0 where
   pub consumed : List ℕ
   pub rest : List ℕ
@@ -70,7 +76,7 @@ pub record RanUntil (site : Site) (bytes : List ℕ) (old new : Option (List ℕ
   pub ticks : outcome.ticks ≡ length (ticks_run site consumed)
   pub promises : KeepsPromises site (ticks_run site consumed)
   pub status : outcome.status ≡ 7
-  pub broke : GrowsByFront old new (text_at site consumed)
+  pub broke : GrowsByFront old new (run_text site bytes)
 
 -- memory ran out before anything was written
 pub record RanNothing (old new : Option (List ℕ)) (outcome : Outcome) : Type 0 where

@@ -45,11 +45,15 @@ returns-in_err-end-clause-reads g c site h =
     let mid = g.K.Stream.written c.loop-read.out in
     let new = g.K.Stream.written c.take_piece.new.out in
     let piece = take c.in-Ok.count c.read_piece.new.buffer in
+    let lt = c.loop-read-test.true in
+    let most = c.min-most.ensures in
+    let bound = c.in-Ok.ensures.bound in
+    let count = c.in-Ok.ensures.count in
     let q = err_from_is_err_and c.from_residual.result c.from_residual.ensures.1 in
     some_weaker (g.S.Stream.left c.args.input.now)
     (λ bytes (s : SoFar site bytes left old mid c.loop-read.reader c.loop-read.run c.loop-read.read).
     subst (ReadsRecord site bytes old new c.take_piece.new.run) (sym q.1)
-    (piece_breaks site bytes left old mid c.loop-read.reader c.loop-read.run c.loop-read.read s piece (g.S.Stream.left c.read_piece.new.input) new c.take_piece.new.run c.in-Ok.ensures.bytes (c.in_err-end.ensures.takes site s.consumed s.is_at)))
+    (piece_breaks site bytes left old mid c.loop-read.reader c.loop-read.run c.loop-read.read s piece (g.S.Stream.left c.read_piece.new.input) new c.take_piece.new.run c.in-Ok.ensures.bytes (omega (arith, lt, most, bound, count)) (c.in_err-end.ensures.takes site s.consumed s.is_at)))
     (c.loop-read.invariant.so_far site h)
 
 pub returns-in-Some-clause-reads : goal.returns-in-Some-clause-reads
