@@ -6,8 +6,9 @@
 #![tactic(auto)]
 
 #[cfg(test)]
-mod hold_tests;
 mod drawn_outputs;
+#[cfg(test)]
+mod hold_tests;
 #[cfg(test)]
 mod key_tests;
 #[cfg(test)]
