@@ -52,7 +52,7 @@ step_takes panels source from to link before (downward a l) up carried =
 step_takes panels source from to link before (upward b l) up carried =
     subst (λ p. heard panels p source before ≤ heard panels to source (Turned to Link ∷ before)) b (takes_below panels to source before (subst (λ k. is_up k before ≡ true) (l ∙ sym b) up) carried)
 
-link_by_events : (link : ℕ) → ByEvents (λ before. is_up link before)
+pub link_by_events : (link : ℕ) → ByEvents (λ before. is_up link before)
 link_by_events link = record { began = λ before. refl; turned = λ panel task before. refl; kept = λ failed before. refl }
 
 module _ (panels source : ℕ) (whole : List Moment) (run : IsRun panels whole) (way link : ℕ → ℕ) (last : ℕ) (begins : way 0 ≡ source) (steps : (j : ℕ) → j < last → IsStep panels (way j) (way (suc j)) (link j)) (members : (j : ℕ) → j ≤ last → IsPanel panels (way j)) where

@@ -51,3 +51,4 @@ pub mod Away
 pub mod Accepted
 pub mod FirstsShow
 pub mod Supplies
+pub mod CutOff

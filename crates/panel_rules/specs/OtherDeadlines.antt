@@ -18,6 +18,7 @@ use Rattle.panel_conditions.specs.Missing.{is_off}
 use Rattle.panel_links.specs.Stands.{is_link_of}
 use Rattle.panel_rules.specs.Moments.{Moment, tick_of, up_to, IsPanel, IsRun}
 use Rattle.panel_rules.specs.States.{state_of, piece_of, is_up, is_bad, supply_number}
+use Rattle.panel_rules.specs.Ring.{links_between, link_on}
 use Rattle.panel_rules.specs.Due.{reached_at, Signals}
 use Rattle.panel_rules.specs.Operations.{Reply, Store, WasDone, Answered, setting_asked, operations}
 use Rattle.panel_rules.specs.Timeline.{failed_ticks}
@@ -67,6 +68,23 @@ abbrev pub BadSupplyIsShown : Type 0
 BadSupplyIsShown =
     (site : Site) (kept : Retained) (done : List Done) (stored : Retained) (moments : List Moment) (panel : ℕ) (kind : SupplyKind) (first : ℕ) → HasEnded site moments → IsPanel site.panels panel
     → IsBadThrough site moments panel kind first → has_bit (face_with site kept done stored panel moments).faults.supply (supply_number kind) ≡ true
+
+-- one link of each of the two ways round the ring between two panels was down at each tick of a span that ends now and is as long as the profile's ticks of a fault; the span begins at tick 1 or later
+pub record IsCutOff (site : Site) (moments : List Moment) (panel other first : ℕ) : Type 0 where
+  pub begins : 1 ≤ first
+  pub long : first + fault_of site.format ≤ tick_of moments
+  pub one : ℕ
+  pub one_on : one < links_between site.panels other panel
+  pub one_down : (tick : ℕ) → first ≤ tick → tick ≤ tick_of moments → is_up (link_on site.panels other one) (up_to tick moments) ≡ false
+  pub two : ℕ
+  pub two_on : two < links_between site.panels panel other
+  pub two_down : (tick : ℕ) → first ≤ tick → tick ≤ tick_of moments → is_up (link_on site.panels panel two) (up_to tick moments) ≡ false
+
+-- the one shows the other as silent
+abbrev pub CutOffIsSilent : Type 0
+CutOffIsSilent =
+    (site : Site) (kept : Retained) (done : List Done) (stored : Retained) (moments : List Moment) (panel other first : ℕ) → HasEnded site moments → IsPanel site.panels panel → IsPanel site.panels other
+    → IsCutOff site moments panel other first → has_bit (face_with site kept done stored panel moments).faults.silent (other - 1) ≡ true
 
 -- no other operation on a setting was done after a tick and before another one
 abbrev pub NoneBetween : Setting → ℕ → ℕ → List Done → Type 0

@@ -35,8 +35,8 @@ pub use operations::{
     kept_is_in_force, settings_change_once,
 };
 pub use other_deadlines::{
-    accepted_is_in_force, away_is_missing, bad_supply_is_shown, link_is_shown, piece_is_shown,
-    stands_again,
+    accepted_is_in_force, away_is_missing, bad_supply_is_shown, cut_off_is_silent, link_is_shown,
+    piece_is_shown, stands_again,
 };
 pub use outputs::{
     due_needs_a_signal, due_output_is_on, due_output_needs_a_signal, faults_are_told,

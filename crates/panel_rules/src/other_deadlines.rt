@@ -1,4 +1,4 @@
-ghost use Rattle.panel_rules.specs.OtherDeadlines.{StandsAgain, PieceIsShown, LinkIsShown, AwayIsMissing, BadSupplyIsShown, AcceptedIsInForce};
+ghost use Rattle.panel_rules.specs.OtherDeadlines.{StandsAgain, PieceIsShown, LinkIsShown, AwayIsMissing, BadSupplyIsShown, CutOffIsSilent, AcceptedIsInForce};
 
 /// What still signals after a reset is shown again on the zone's own panel within the profile's ticks of a reset; the time that a
 /// single detector of type A needs comes on top.
@@ -25,6 +25,11 @@ pub fn away_is_missing()
 /// A supply that was bad for its wait and the profile's ticks of a fault is shown.
 pub fn bad_supply_is_shown()
     ensures { BadSupplyIsShown }
+{}
+
+/// A panel to which one link on each of the two ways round was down for the profile's ticks of a fault is shown as silent.
+pub fn cut_off_is_silent()
+    ensures { CutOffIsSilent }
 {}
 
 /// An operation on a setting that Desk accepted is done by the tick after its own, where no turn of Keep failed in the two, and holds
