@@ -7,7 +7,7 @@ use Rattle.record_lines.specs.Lines.{reading_of}
 use Rattle.record_lines.specs.declared.line.Line.{Line}
 use Rattle.record_lines.specs.declared.line.Line.TheVariants.{Tick, Event as EventLine, Order, End}
 use Rattle.panel_rules.specs.Moments.{TickBlock, moments}
-use Rattle.panel_program.specs.Records.{Block, Progress, at_beginning, ticked, closed, closed_by, after_line, progress_of, is_built, built_lines}
+use Rattle.panel_program.specs.Records.{Block, Progress, at_beginning, ticked, closed_by, after_line, progress_of, is_built, built_lines}
 use Rattle.panel_program.specs.Stands.{text_at}
 use Rattle.panel_program.specs.Ticks.{text_of, tick_text}
 use Rattle.panel_program.specs.Zones.{shown_after}

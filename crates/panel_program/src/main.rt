@@ -29,6 +29,8 @@ mod shown;
 mod site_lines;
 mod stop;
 mod taken;
+#[cfg(test)]
+mod tests;
 mod usage;
 mod writing;
 mod zone_lines;
