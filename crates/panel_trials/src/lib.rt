@@ -12,6 +12,8 @@ mod key_tests;
 #[cfg(test)]
 mod level_tests;
 #[cfg(test)]
+mod range_tests;
+#[cfg(test)]
 mod reading_tests;
 #[cfg(test)]
 mod refusals;
