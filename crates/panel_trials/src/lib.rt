@@ -8,6 +8,8 @@
 #[cfg(test)]
 mod carry_tests;
 #[cfg(test)]
+mod hostile_tests;
+#[cfg(test)]
 mod key_tests;
 #[cfg(test)]
 mod level_tests;
@@ -15,6 +17,10 @@ mod level_tests;
 mod range_tests;
 #[cfg(test)]
 mod reading_tests;
+#[cfg(test)]
+mod record_tests;
+#[cfg(test)]
+mod records;
 #[cfg(test)]
 mod refusals;
 #[cfg(test)]
