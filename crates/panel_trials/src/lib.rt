@@ -14,6 +14,8 @@ mod key_tests;
 #[cfg(test)]
 mod level_tests;
 #[cfg(test)]
+mod polling_tests;
+#[cfg(test)]
 mod range_tests;
 #[cfg(test)]
 mod reading_tests;
