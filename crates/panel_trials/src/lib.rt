@@ -9,14 +9,24 @@
 mod drawn_outputs;
 #[cfg(test)]
 mod hold_tests;
+mod carry_tests;
+#[cfg(test)]
+mod hostile_tests;
 #[cfg(test)]
 mod key_tests;
 #[cfg(test)]
 mod level_tests;
 #[cfg(test)]
 mod output_tests;
+mod polling_tests;
+#[cfg(test)]
+mod range_tests;
 #[cfg(test)]
 mod reading_tests;
+#[cfg(test)]
+mod record_tests;
+#[cfg(test)]
+mod records;
 #[cfg(test)]
 mod refusals;
 #[cfg(test)]

@@ -2,7 +2,7 @@
 
 use crate::sites::{ONE, SCHOOL, site_of, with_text};
 use site_config::{SiteRefusal, read_site};
-use site_types::{LoopPlan, Marker, Output, Point, Site, Zone};
+use site_types::{LoopPlan, Marker, Named, Output, Point, Site, Zone};
 use std::alloc::{AllocError, Global};
 use std::test::Fail;
 
@@ -58,6 +58,23 @@ fn answers_the_lesser_of_two_faults(rt: HostRuntime) -> Result<(), Fail> {
             }
         }
     }
+    Ok(())
+}
+
+// Beside each fault: what is no document is answered before it, and a file that is too long before all else.
+#[test]
+fn answers_the_whole_file_before_its_parts(rt: HostRuntime) -> Result<(), Fail> {
+    let alloc = rt.alloc();
+    let filling = "#".repeat(alloc, 1_048_577)?;
+    for (number, from, to) in FAULTS {
+        let text = with_text(alloc, ONE, from, to)?;
+        let no_document = format!(in alloc; "{text}\nformat =\n")?;
+        assert_eq!(rt; refusal_of(alloc, no_document.as_str()), 1, "with {number}");
+        let long = format!(in alloc; "{text}\n{filling}")?;
+        assert_eq!(rt; refusal_of(alloc, long.as_str()), 10, "with {number}");
+    }
+    let neither = format!(in alloc; "format =\n{filling}")?;
+    assert_eq!(rt; refusal_of(alloc, neither.as_str()), 10);
     Ok(())
 }
 
@@ -206,26 +223,79 @@ fn reads_the_loops_and_markers_of_a_school(rt: HostRuntime) -> Result<(), Fail> 
     Ok(())
 }
 
-#[test]
-fn reads_the_top_of_a_school(rt: HostRuntime) -> Result<(), Fail> {
-    let site = site_of(rt.alloc(), SCHOOL)?;
+fn tell_top(alloc: Global, site: &Site) -> Result<String, AllocError> {
     let Site {
         format,
         name,
         panels,
         waits,
         ..
-    } = &site;
-    let told = format!(in rt.alloc(); "{format} {name} {panels} {waits:?}")?;
+    } = site;
+    format!(in alloc; "{format} {name} {panels} {waits:?}")
+}
+
+// The digests of a level in hexadecimal digits, one behind the other.
+fn tell_codes(alloc: Global, codes: &[[u8; 32]]) -> Result<String, AllocError> {
+    let mut told = String::new(alloc);
+    for digest in codes {
+        for byte in digest {
+            let digits = format!(in alloc; "{byte:02x}")?;
+            told.push_str(&digits)?;
+        }
+        told.push_str(" ")?;
+    }
+    Ok(told)
+}
+
+// The SHA-256 of `1234`, `abc` and `hello`.
+const CODES: [&str; 3] = [
+    "03ac674216f3e15c761ee1a5e255f067953623c8b388b4459e13f978d7c846f4 ",
+    "ba7816bf8f01cfea414140de5dae2223b00361a396177a9cb410ff61f20015ad ",
+    "2cf24dba5fb0a30e26e83b2ac5b9e29e1b161e5c1fa7425e73043362938b9824 ",
+];
+
+#[test]
+fn reads_the_top_of_a_school(rt: HostRuntime) -> Result<(), Fail> {
+    let site = site_of(rt.alloc(), SCHOOL)?;
+    let told = tell_top(rt.alloc(), &site)?;
     let want = "1 school 2 Waits { mains: 120, standby: 0, voltage: 0, charger: 0 }";
     assert_eq!(rt; told.as_str(), want);
+    for (codes, want) in site.codes.iter().zip(CODES) {
+        let told = tell_codes(rt.alloc(), codes.as_slice())?;
+        assert_eq!(rt; told.as_str(), want);
+    }
     Ok(())
 }
 
-// What the reader's own test doesn't look at of the first site: its loop, its points and its names.
 #[test]
-fn reads_the_first_site_whole(rt: HostRuntime) -> Result<(), Fail> {
-    let site = site_of(rt.alloc(), ONE)?;
+fn reads_the_first_site_s_top_loop_and_zones(rt: HostRuntime) -> Result<(), Fail> {
+    let alloc = rt.alloc();
+    let site = site_of(alloc, ONE)?;
+    let told = tell_top(alloc, &site)?;
+    let want = "1 one 1 Waits { mains: 0, standby: 0, voltage: 0, charger: 0 }";
+    assert_eq!(rt; told.as_str(), want);
+    for (codes, want) in site.codes.iter().zip(CODES) {
+        let told = tell_codes(alloc, codes.as_slice())?;
+        assert_eq!(rt; told.as_str(), want);
+    }
+    assert_eq!(rt; site.loops.len(), 1);
+    for plan in site.loops.as_slice() {
+        let told = tell_loop(alloc, plan)?;
+        assert_eq!(rt; told.as_str(), "1 1 96 [16]");
+    }
+    let want = ["hall 1 1 Plain None", "lab 1 2 Plain None"];
+    assert_eq!(rt; site.zones.len(), want.len());
+    for (zone, want) in site.zones.as_slice().iter().zip(want) {
+        let told = tell_zone(alloc, zone)?;
+        assert_eq!(rt; told.as_str(), want);
+    }
+    Ok(())
+}
+
+#[test]
+fn reads_the_first_site_s_points_outputs_and_markers(rt: HostRuntime) -> Result<(), Fail> {
+    let alloc = rt.alloc();
+    let site = site_of(alloc, ONE)?;
     let want = [
         "m1 1 1 1 0 true",
         "d2 1 1 2 0 false",
@@ -234,15 +304,46 @@ fn reads_the_first_site_whole(rt: HostRuntime) -> Result<(), Fail> {
     ];
     assert_eq!(rt; site.points.len(), want.len());
     for (point, want) in site.points.as_slice().iter().zip(want) {
-        let told = tell_point(rt.alloc(), point)?;
+        let told = tell_point(alloc, point)?;
         assert_eq!(rt; told.as_str(), want);
     }
-    let names = [
-        "bells", "both", "d17", "d2", "d9", "east", "fans", "hall", "lab", "m1",
+    let want = ["bells 1 1 Sounder 0 0", "fans 1 2 Relay 1 1200"];
+    assert_eq!(rt; site.outputs.len(), want.len());
+    for (output, want) in site.outputs.as_slice().iter().zip(want) {
+        let told = tell_output(alloc, output)?;
+        assert_eq!(rt; told.as_str(), want);
+    }
+    let want = ["both Any [Zone(0), Zone(1)]", "east Any [Zone(0)]"];
+    assert_eq!(rt; site.markers.len(), want.len());
+    for (marker, want) in site.markers.as_slice().iter().zip(want) {
+        let told = tell_marker(alloc, marker)?;
+        assert_eq!(rt; told.as_str(), want);
+    }
+    Ok(())
+}
+
+// In the order of their bytes, so `d17` stands before `d2`.
+#[test]
+fn reads_the_first_site_s_names(rt: HostRuntime) -> Result<(), Fail> {
+    let alloc = rt.alloc();
+    let site = site_of(alloc, ONE)?;
+    let want = [
+        "bells Output(0)",
+        "both Marker(0)",
+        "d17 Point(3)",
+        "d2 Point(1)",
+        "d9 Point(2)",
+        "east Marker(1)",
+        "fans Output(1)",
+        "hall Zone(0)",
+        "lab Zone(1)",
+        "m1 Point(0)",
     ];
-    assert_eq!(rt; site.names.len(), names.len());
-    for (named, want) in site.names.as_slice().iter().zip(names) {
-        assert_eq!(rt; named.name.as_str(), want);
+    assert_eq!(rt; site.names.len(), want.len());
+    for (named, want) in site.names.as_slice().iter().zip(want) {
+        let Named { name, thing } = named;
+        let told = format!(in alloc; "{name} {thing:?}")?;
+        assert_eq!(rt; told.as_str(), want);
     }
     Ok(())
 }
