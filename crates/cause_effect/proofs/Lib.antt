@@ -1,0 +1,9 @@
+pub mod Asking
+pub mod Depths
+pub mod Equations
+pub mod Left
+pub mod Orders
+pub mod Placing
+pub mod Solving
+pub mod Truths
+pub mod Walking

@@ -1,0 +1,12 @@
+-- What a plan keeps of a site.
+use Rattle.std.specs.Prelude.{◌≡◌}
+use Rattle.site_types.specs.declared.site.Site.{Site}
+use Rattle.marker_table.specs.Table.{IsTableOf}
+use Rattle.cause_effect.specs.Orders.{IsOrder}
+use Rattle.cause_effect.specs.declared.plan.Plan.{Plan}
+
+-- a plan has the table of the site's markers, an order of them and the site's outputs
+pub record IsPlanOf (site : Site) (plan : Plan) : Type 0 where
+  pub table : IsTableOf site plan.table
+  pub order : IsOrder site plan.order
+  pub outputs : plan.outputs ≡ site.outputs

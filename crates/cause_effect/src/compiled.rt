@@ -1,0 +1,47 @@
+ghost use Rattle.std.specs.Prelude.{◌≡◌, IfErr, IfOk};
+ghost use Rattle.site_types.specs.Valid.{IsValid};
+ghost use Rattle.cause_effect.specs.Cycles.{HasNoCycle};
+ghost use Rattle.cause_effect.specs.Refused.{IsRefusal};
+ghost use Rattle.cause_effect.specs.Stands.{IsPlanOf};
+
+use crate::arranged::Arranged;
+use crate::plan::Plan;
+use crate::refusal::PlanRefusal;
+use crate::walk::cycle_from;
+use marker_table::MarkerTable;
+use site_types::{Output, Site};
+use std::alloc::Global;
+use tick_units::{Items, NoMemory};
+
+/// The plan of a site's markers. Where a marker depends on itself there is none: then the answer is the cycle that a walk finds which begins
+/// at the least marker from which a cycle is met, and goes from each marker to the least of its terms from which one is. The cycle is listed
+/// from its least member onwards.
+pub fn compile(alloc: Global, site: &Site) -> Result<Plan, PlanRefusal>
+    requires { IsValid site.now }
+    ensures plan { IfOk result (λ plan. IsPlanOf site.now plan) }
+    ensures free { IfOk result (λ plan. HasNoCycle site.now) }
+    ensures cycle { IfErr result (λ refusal. IsRefusal site.now refusal) }
+{
+    let arranged = Arranged::of(alloc, site)?;
+    match arranged.first_left(site) {
+        Some(first) => {
+            let markers = cycle_from(alloc, site, &arranged.placed, first)?;
+            Err(PlanRefusal::Cycle { markers })
+        }
+        None => Ok(Plan {
+            table: MarkerTable::new(alloc, site)?,
+            order: arranged.order,
+            outputs: copy_of(alloc, site.outputs.as_slice())?,
+        }),
+    }
+}
+
+fn copy_of(alloc: Global, outputs: &[Output]) -> Result<Items<Output>, NoMemory>
+    ensures { IfOk result (λ copy. copy ≡ outputs.now) }
+{
+    let mut copy = Vec::with_capacity(alloc, outputs.len())?;
+    for output in outputs {
+        copy.push(*output)?;
+    }
+    Ok(Items::from_vec(copy))
+}

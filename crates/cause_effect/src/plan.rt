@@ -1,0 +1,59 @@
+ghost use Rattle.std.specs.Prelude.{◌≡◌, ◌<◌, replicate, false};
+ghost use Rattle.site_types.specs.declared.site.Site.{Site as SiteOf};
+ghost use Rattle.marker_table.specs.Equations.{values_of};
+ghost use Rattle.cause_effect.specs.Requests.{requests_of};
+ghost use Rattle.cause_effect.specs.Solutions.{IsSolution};
+ghost use Rattle.cause_effect.specs.Stands.{IsPlanOf};
+
+use crate::asked::asked;
+use marker_table::{Facts, MarkerTable, Steps, Values};
+use site_types::{Output, Requests};
+use std::marker::Brand;
+use std::sync::ledger::{Blank, Ledger};
+use tick_units::Items;
+
+/// The markers of a site in an order in which each comes after its terms, and the outputs that they ask for.
+#[derive(Drop)]
+pub struct Plan {
+    pub(crate) table: MarkerTable,
+    pub(crate) order: Items<u8>,
+    pub(crate) outputs: Items<Output>,
+}
+
+impl Plan {
+    /// The one solution over facts, from scratch: every marker is evaluated once.
+    pub fn solve(&self, facts: &Facts, values: &mut Values)
+        ensures { (site : SiteOf) → IsPlanOf site self.now → IsSolution site facts.now (values_of values.new) }
+    {
+        *values = Values::none();
+        self.solve_in_order::<Brand>(facts, values, Blank::new(1))
+    }
+
+    // Evaluates the markers in their order, with a counter that is let go.
+    fn solve_in_order<L: Ledger>(&self, facts: &Facts, values: &mut Values, blank: Blank)
+        requires name { blank.name ≡ L.name }
+        requires parts { blank.parts ≡ L.parts }
+        requires some { 0 < blank.parts }
+        requires none { values.old.marker ≡ replicate 256 false }
+        ensures { (site : SiteOf) → IsPlanOf site self.now → IsSolution site facts.now (values_of values.new) }
+    {
+        let mut steps: Steps<L> = Steps::new(blank);
+        for marker in self.order.as_slice() {
+            let value = self
+                .table
+                .evaluate(*marker as u16, facts, values, &mut steps);
+            values.marker[*marker as usize] = value;
+        }
+    }
+
+    /// What a panel's outputs are asked for: by the solution over the facts, and by hand, by the solution over call points alone.
+    pub fn requests(&self, panel: u8, normal: &Values, manual: &Values) -> Requests
+        ensures { (site : SiteOf) → IsPlanOf site self.now → result ≡ requests_of site panel (values_of normal.now) (values_of manual.now) }
+    {
+        let outputs = self.outputs.as_slice();
+        Requests {
+            asked: asked(outputs, panel, normal),
+            manual: asked(outputs, panel, manual),
+        }
+    }
+}
