@@ -6,10 +6,11 @@
 #![tactic(auto)]
 
 #[cfg(test)]
+mod carry_tests;
+#[cfg(test)]
 mod drawn_outputs;
 #[cfg(test)]
 mod hold_tests;
-mod carry_tests;
 #[cfg(test)]
 mod hostile_tests;
 #[cfg(test)]
@@ -18,6 +19,7 @@ mod key_tests;
 mod level_tests;
 #[cfg(test)]
 mod output_tests;
+#[cfg(test)]
 mod polling_tests;
 #[cfg(test)]
 mod range_tests;
