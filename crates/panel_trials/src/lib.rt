@@ -6,6 +6,8 @@
 #![tactic(auto)]
 
 #[cfg(test)]
+mod cause_tests;
+#[cfg(test)]
 mod key_tests;
 #[cfg(test)]
 mod level_tests;
