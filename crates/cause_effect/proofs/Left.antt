@@ -9,7 +9,7 @@ use Rattle.site_types.specs.declared.term.Term.TheVariants.{Zone as ZoneTerm, Ma
 use Rattle.site_types.proofs.ValidSites.{term_of_marker}
 use Rattle.marker_table.proofs.Rows.{item_at}
 use Rattle.cause_effect.specs.declared.arranged.Arranged.{Arranged}
-use Rattle.cause_effect.specs.Cycles.{is_among, is_marker, terms_of, has_term, Depends, directly, through, MeetsCycle}
+use Rattle.cause_effect.specs.Cycles.{is_among, is_marker, terms_of, has_term, Depends, directly, MeetsCycle}
 use Rattle.cause_effect.specs.Placed.{Arranges, IsLeft, IsStuck, LeavesCycles, is_placed, is_term_placed}
 use Rattle.cause_effect.proofs.Depths.{Chain, chain_fits, chain_on, no_chain, and_on}
 use Rattle.cause_effect.proofs.Orders.{closed_among, depends_within, free_among}

@@ -1,13 +1,12 @@
 -- Where there is an order, no marker of it depends on itself.
-use Rattle.std.proofs.Common.{◌≡◌, ◌≤◌, ◌<◌, ◌==◌, ◌||◌, ◌⊎◌, inl, inr, ℕ, zero, suc, Bool, true, false, List, [], ◌∷◌, Some, length, take, refl, sym, ap, subst, ◌∙◌, arith}
+use Rattle.std.proofs.Common.{◌≡◌, ◌≤◌, ◌<◌, ◌==◌, ◌||◌, inl, inr, ℕ, zero, suc, true, List, [], ◌∷◌, Some, length, take, refl, sym, ap, ◌∙◌, arith}
 use Rattle.std.specs.Prelude.{slice_get}
-use Rattle.std.specs.List.{list_any}
 use Rattle.std.proofs.lemmas.Bool.Decides.{eqb_tells}
 use Rattle.site_types.specs.declared.site.Site.{Site}
 use Rattle.cause_effect.specs.Cycles.{has_term, is_among, Depends, directly, through, HasNoCycle}
 use Rattle.cause_effect.specs.Orders.{IsRising, IsOrder}
 use Rattle.cause_effect.proofs.Equations.{has_within}
-use Rattle.cause_effect.proofs.Truths.{one_passes, number_is, any_at, equal_number}
+use Rattle.cause_effect.proofs.Truths.{any_at, equal_number}
 
 -- ---- fronts of a list
 

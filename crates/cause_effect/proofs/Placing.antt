@@ -1,6 +1,6 @@
 -- One marker more is placed.
-use Rattle.std.proofs.Common.{◌≡◌, ◌≢◌, ◌≤◌, ◌<◌, ◌==◌, ◌+◌, ◌&&◌, ◌||◌, ◌⊎◌, inl, inr, ℕ, zero, suc, Bool, true, false, List, [], ◌∷◌, ◌++◌, Some, None, length, take, refl, sym, ap, ◌∙◌, arith}
-use Rattle.std.specs.Prelude.{slice_get, slice_index_or, slice_set}
+use Rattle.std.proofs.Common.{◌≡◌, ◌≤◌, ◌<◌, ◌==◌, ◌||◌, ◌⊎◌, inl, inr, ℕ, zero, suc, Bool, true, false, List, [], ◌∷◌, ◌++◌, Some, length, take, refl, sym, ap, ◌∙◌, arith}
+use Rattle.std.specs.Prelude.{slice_get, slice_set}
 use Rattle.std.specs.List.{list_all, list_any}
 use Rattle.std.proofs.lemmas.Bool.Decides.{eqb_tells}
 use Rattle.std.proofs.lemmas.List.{get_or-set_same, get_or-set_other, take-append-le, take_all}
@@ -11,7 +11,7 @@ use Rattle.site_types.specs.declared.term.Term.{Term}
 use Rattle.site_types.specs.declared.term.Term.TheVariants.{Zone as ZoneTerm, Manual as ManualTerm, Fault as FaultTerm, Marker as MarkerTerm}
 use Rattle.cause_effect.specs.Cycles.{is_among, is_marker, terms_of, has_term}
 use Rattle.cause_effect.specs.Orders.{IsRising}
-use Rattle.cause_effect.specs.Placed.{is_placed, is_term_placed, is_ready, IsNext}
+use Rattle.cause_effect.specs.Placed.{is_placed, is_term_placed, is_ready}
 use Rattle.cause_effect.proofs.Truths.{and_first, and_second}
 
 pub few_of : (site : Site) → IsValid site → length site.markers ≤ 256

@@ -1,7 +1,6 @@
 -- One marker more is solved.
-use Rattle.std.proofs.Common.{◌≡◌, ◌≢◌, ◌≤◌, ◌<◌, ◌==◌, ◌+◌, ◌&&◌, ◌||◌, ◌⊎◌, inl, inr, ℕ, zero, suc, Bool, true, false, List, [], ◌∷◌, ◌++◌, Some, None, length, take, get_or, replicate, refl, sym, ap, subst, ◌∙◌, arith}
-use Rattle.std.specs.Prelude.{slice_get, slice_index_or, slice_set}
-use Rattle.std.specs.List.{list_any}
+use Rattle.std.proofs.Common.{◌≡◌, ◌≢◌, ◌≤◌, ◌<◌, ◌==◌, ◌+◌, ◌&&◌, ◌||◌, inl, inr, ℕ, zero, suc, Bool, true, false, List, [], ◌∷◌, length, take, get_or, replicate, refl, sym, ap, subst, ◌∙◌, arith}
+use Rattle.std.specs.Prelude.{slice_index_or, slice_set}
 use Rattle.std.proofs.lemmas.Bool.Decides.{eqb_tells}
 use Rattle.std.proofs.lemmas.List.{get_or-set_same, get_or-set_other, take_all, take_more}
 use Rattle.std.proofs.lemmas.List.Folds.{list_any-append}
@@ -10,7 +9,7 @@ use Rattle.std.proofs.lemmas.Option.{slice_get-get_or, slice_get_past}
 use Rattle.site_types.specs.declared.site.Site.{Site}
 use Rattle.marker_table.specs.declared.facts.Facts.{Facts}
 use Rattle.marker_table.specs.Equations.{makes_true, equation}
-use Rattle.cause_effect.specs.Cycles.{has_term, is_among, HasNoCycle}
+use Rattle.cause_effect.specs.Cycles.{is_among, HasNoCycle}
 use Rattle.cause_effect.specs.Orders.{IsOrder}
 use Rattle.cause_effect.specs.Solutions.{IsSolution}
 use Rattle.cause_effect.proofs.Depths.{the_values, the_values_solve}

@@ -1,10 +1,9 @@
 -- The values of markers that satisfy every equation.
-use Rattle.std.specs.Prelude.{◌≡◌, ℕ, zero, suc, ◌≤◌, Bool, true, false, length, slice_index_or}
+use Rattle.std.specs.Prelude.{◌≡◌, ℕ, Bool, true, slice_index_or}
 use Rattle.site_types.specs.Bits.{has_bit}
 use Rattle.site_types.specs.declared.site.Site.{Site}
 use Rattle.marker_table.specs.declared.facts.Facts.{Facts}
 use Rattle.marker_table.specs.Equations.{equation}
-use Rattle.cause_effect.specs.Cycles.{HasNoCycle}
 
 -- every marker has the value that its terms make of it; a place without a marker is false
 abbrev pub IsSolution : Site → Facts → (ℕ → Bool) → Type 0

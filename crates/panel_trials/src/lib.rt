@@ -13,6 +13,7 @@ mod drawn_outputs;
 mod hold_tests;
 #[cfg(test)]
 mod hostile_tests;
+mod cause_tests;
 #[cfg(test)]
 mod key_tests;
 #[cfg(test)]

@@ -1,5 +1,4 @@
-use Rattle.std.proofs.Common.{◌≡◌, ◌≤◌, ◌<◌, ◌-◌, length, sym, ap, subst, ◌∙◌, arith, drop}
-use Rattle.std.specs.Prelude.{IfOk}
+use Rattle.std.proofs.Common.{length, ap, subst, ◌∙◌, arith, drop}
 use Rattle.cause_effect.specs.Cycles.{IsCycle, IsFromLeast}
 use Rattle.cause_effect.specs.Placed.{PlaceIs}
 use Rattle.cause_effect.proofs.Placing.{few_of}

@@ -1,4 +1,4 @@
-use Rattle.std.proofs.Common.{◌≡◌, ◌<◌, ◌≤◌, sym, ap, ◌∙◌, arith, length, false, subst}
+use Rattle.std.proofs.Common.{◌≤◌, ap, ◌∙◌, arith, length, false, subst}
 use Rattle.std.proofs.lemmas.Grind.{common_steps}
 use Rattle.std.specs.Prelude.{slice_index_or}
 use Rattle.cause_effect.proofs.Solving.{none_true, solved_on, all_solved}
