@@ -8,12 +8,13 @@
 #[cfg(test)]
 mod carry_tests;
 #[cfg(test)]
+mod cause_tests;
+#[cfg(test)]
 mod drawn_outputs;
 #[cfg(test)]
 mod hold_tests;
 #[cfg(test)]
 mod hostile_tests;
-mod cause_tests;
 #[cfg(test)]
 mod key_tests;
 #[cfg(test)]
