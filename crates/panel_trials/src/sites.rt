@@ -1,5 +1,8 @@
 //! Sites as texts.
 
+ghost use Rattle.std.specs.Prelude.{IfOk};
+ghost use Rattle.site_types.specs.Valid.{IsValid};
+
 use site_config::read_site;
 use site_types::Site;
 use std::alloc::Global;
@@ -85,7 +88,9 @@ marker = [
 "#;
 
 /// The site that a text spells.
-pub(crate) fn site_of(alloc: Global, text: &str) -> Result<Site, Fail> {
+pub(crate) fn site_of(alloc: Global, text: &str) -> Result<Site, Fail>
+    ensures { IfOk result IsValid }
+{
     match read_site(alloc, text.as_bytes()) {
         Ok(site) => Ok(site),
         Err(_) => Err(Fail::from("a refused site")),
