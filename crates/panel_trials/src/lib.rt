@@ -5,7 +5,7 @@
 //! another crate says for all inputs isn't tried again here, but for the examples that show that the clause says what was meant.
 //!
 //! A part whose calls have conditions is driven by a bench: it tests what a call asks for and refuses what may not come next, so that the tests
-//! need no proof of their own. [`decide_bench`] drives a Decide.
+//! need no proof of their own. [`decide_bench`] drives a Decide, [`system_ticks`] a whole system.
 #![tactic(auto)]
 
 #[cfg(test)]
@@ -19,7 +19,11 @@ mod drawn_histories;
 #[cfg(test)]
 mod draws;
 #[cfg(test)]
+mod due_zones;
+#[cfg(test)]
 mod key_tests;
+#[cfg(test)]
+mod lane_counts;
 #[cfg(test)]
 mod level_tests;
 #[cfg(test)]
@@ -32,3 +36,7 @@ mod refusals;
 mod site_tests;
 #[cfg(test)]
 mod sites;
+#[cfg(test)]
+mod system_rows;
+#[cfg(test)]
+mod system_ticks;
