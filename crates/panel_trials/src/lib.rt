@@ -33,6 +33,8 @@ mod reading_tests;
 #[cfg(test)]
 mod refusals;
 #[cfg(test)]
+mod ring_chains;
+#[cfg(test)]
 mod site_tests;
 #[cfg(test)]
 mod sites;
