@@ -89,7 +89,7 @@ marker = [
 
 /// The site that a text spells.
 pub(crate) fn site_of(alloc: Global, text: &str) -> Result<Site, Fail>
-    ensures valid { IfOk result IsValid }
+    ensures { IfOk result IsValid }
 {
     match read_site(alloc, text.as_bytes()) {
         Ok(site) => Ok(site),

@@ -1,0 +1,2 @@
+mod Benches
+mod Systems

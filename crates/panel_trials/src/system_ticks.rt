@@ -1,0 +1,114 @@
+//! A whole system, driven tick by tick.
+
+ghost use Rattle.std.specs.Prelude.{IfOk};
+ghost use Rattle.tick_units.specs.Orders.{IsOrder, IsPanelCount};
+ghost use Rattle.site_types.specs.Valid.{IsValid};
+ghost use Rattle.panel_trials.specs.SystemTicks.{IsBetween, HasBegun};
+
+use panel_core::System;
+use site_types::{Event, PointState, Retained, Site};
+use std::alloc::Global;
+use std::test::Fail;
+use tick_units::{Order, Seat, Task, Tick};
+
+/// In a tick a point, by its place, comes into a state.
+pub(crate) type Report = (u64, u16, PointState);
+
+/// A system before its first tick, with nothing retained.
+pub(crate) fn opened(alloc: Global, site: Site) -> Result<System, Fail>
+    requires { IsValid site }
+    ensures { IfOk result (IsBetween site.panels) }
+{
+    let system = System::open(alloc, site, &Retained::empty())?;
+    Ok(system)
+}
+
+/// The next tick: those of the reports that come in it, and its turns in an order.
+pub(crate) fn run_tick(
+    system: &mut System,
+    panels: u8,
+    reports: &[Report],
+    order: &Order,
+) -> Result<(), Fail>
+    requires between { IsBetween panels system.old }
+    requires ordered { IsOrder panels order.now }
+    ensures { IfOk result (λ _. IsBetween panels system.new) }
+{
+    let tick = begin(system, panels)?;
+    for report in reports {
+        take_report(system, panels, tick, report)?;
+    }
+    system.turns(order);
+    Ok(())
+}
+
+// The next tick begins.
+fn begin(system: &mut System, panels: u8) -> Result<u64, Fail>
+    requires { IsBetween panels system.old }
+    ensures { IfOk result (λ _. HasBegun panels system.new) }
+{
+    let now = system.now();
+    if now.0 >= 1_000_000 {
+        return Err(Fail::from("too many ticks"));
+    }
+    system.begin(Tick(now.0 + 1));
+    Ok(now.0 + 1)
+}
+
+// A report comes, if it is one of this tick.
+fn take_report(system: &mut System, panels: u8, tick: u64, report: &Report) -> Result<(), Fail>
+    requires { HasBegun panels system.old }
+    ensures { IfOk result (λ _. HasBegun panels system.new) }
+{
+    let (at, point, state) = *report;
+    if at != tick {
+        return Ok(());
+    }
+    let event = Event::Point { point, state };
+    if !system.site().has_event(&event) {
+        return Err(Fail::from("no such point"));
+    }
+    system.event(&event);
+    Ok(())
+}
+
+/// The zones that panel 1 shows in alarm, and those that it shows in first state.
+pub(crate) fn shown(system: &System, panels: u8) -> (u32, u32)
+    requires { IsBetween panels system.now }
+{
+    (system.zones(1), system.first(1))
+}
+
+/// How much the Decide and the Hold of panel 1 have taken.
+pub(crate) fn taken(system: &System, panels: u8) -> (u64, u64)
+    requires { IsBetween panels system.now }
+{
+    (system.taken(1, Task::Decide), system.taken(1, Task::Hold))
+}
+
+/// The canonical order, or the reversed one.
+pub(crate) fn order_of(alloc: Global, panels: u8, reversed: bool) -> Result<Order, Fail>
+    requires { IsPanelCount panels }
+    ensures { IfOk result (IsOrder panels) }
+{
+    if reversed {
+        return reversed_order(alloc, panels);
+    }
+    Ok(Order::canonical(panels))
+}
+
+/// The canonical order backwards.
+pub(crate) fn reversed_order(alloc: Global, panels: u8) -> Result<Order, Fail>
+    requires { IsPanelCount panels }
+    ensures { IfOk result (IsOrder panels) }
+{
+    let canonical = Order::canonical(panels);
+    let mut seats: Vec<Seat> = Vec::new(alloc);
+    for place in 0..canonical.len() {
+        seats.push(canonical.seat(canonical.len() - 1 - place))?;
+    }
+    match Order::new(&seats, panels) {
+        Ok(order) => Ok(order),
+        Err(_) => Err(Fail::from("no order")),
+    }
+}
