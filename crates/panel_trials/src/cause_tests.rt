@@ -117,7 +117,8 @@ fn asks_for_outputs(rt: HostRuntime) -> Result<(), Fail> {
 #[test]
 fn combines_terms_of_each_kind(rt: HostRuntime) -> Result<(), Fail> {
     let both = r#"  { name = "both", kind = "any", terms = ["zone:hall", "zone:lab"] },"#;
-    let other = r#"  { name = "two", kind = "atleast", count = 2, terms = ["zone:hall", "manual:lab", "fault:1", "marker:all"] },
+    let other =
+        r#"  { name = "two", kind = "atleast", count = 2, terms = ["zone:hall", "manual:lab", "fault:1", "marker:all"] },
   { name = "all", kind = "all", terms = ["zone:lab", "manual:lab"] },
   { name = "both", kind = "any", terms = ["marker:two"] },"#;
     let text = with_text(rt.alloc(), ONE, both, other)?;
@@ -147,8 +148,12 @@ fn combines_terms_of_each_kind(rt: HostRuntime) -> Result<(), Fail> {
 #[test]
 fn asks_for_outputs_of_two_panels(rt: HostRuntime) -> Result<(), Fail> {
     let plan = plan_of(rt.alloc(), SCHOOL)?;
-    for (first, second, want_first, want_second) in [(0, 0, 0, 0), (8, 0, 3, 1), (0, 8, 3, 3), (16, 0, 0, 0)]
-    {
+    for (first, second, want_first, want_second) in [
+        (0, 0, 0, 0),
+        (8, 0, 3, 1),
+        (0, 8, 3, 3),
+        (16, 0, 0, 0),
+    ] {
         let mut facts = Facts::default();
         facts.zones[0] = first;
         facts.zones[1] = second;
