@@ -19,7 +19,11 @@ mod last_lines;
 mod lines;
 mod loading;
 mod outcome;
+#[cfg(test)]
+mod outside_tests;
 mod page;
+#[cfg(test)]
+mod played;
 mod program;
 mod reading;
 mod run;

@@ -144,21 +144,21 @@ const QUIET: Heard = Heard::Quiet;
 // Points of the site with a zone of no type, and of the one with a zone of type A.
 const M1: u16 = 0;
 
-const D2: u16 = 1;
+const SECOND: u16 = 1;
 
-const D9: u16 = 2;
+const NINTH: u16 = 2;
 
 #[test]
 fn a_zone_of_no_type_is_confirmed_when_its_detector_is_asked(rt: HostRuntime) -> Result<(), Fail> {
     let alloc = rt.alloc();
-    let once = [(12, D2, 1, 1, 0, 1)];
-    drive(&rt, alloc, ONE, 12, &[(1, D2, ALARM)], &[], &once)?;
+    let once = [(12, SECOND, 1, 1, 0, 1)];
+    drive(&rt, alloc, ONE, 12, &[(1, SECOND, ALARM)], &[], &once)?;
     drive(
         &rt,
         alloc,
         ONE,
         24,
-        &[(1, D2, ALARM), (12, D2, QUIET)],
+        &[(1, SECOND, ALARM), (12, SECOND, QUIET)],
         &[],
         &[],
     )?;
@@ -167,7 +167,7 @@ fn a_zone_of_no_type_is_confirmed_when_its_detector_is_asked(rt: HostRuntime) ->
         alloc,
         ONE,
         24,
-        &[(1, D2, ALARM), (13, D2, QUIET)],
+        &[(1, SECOND, ALARM), (13, SECOND, QUIET)],
         &[],
         &once,
     )
@@ -180,12 +180,12 @@ fn a_reset_leaves_the_answer_of_its_own_tick(rt: HostRuntime) -> Result<(), Fail
         rt.alloc(),
         ONE,
         25,
-        &[(1, D9, ALARM)],
+        &[(1, NINTH, ALARM)],
         &[done_at(13, Operation::Reset)],
         &[
-            (1, D9, 1, 1, 0, 1),
-            (13, D9, 1, 1, 0, 1),
-            (25, D9, 1, 1, 0, 1),
+            (1, NINTH, 1, 1, 0, 1),
+            (13, NINTH, 1, 1, 0, 1),
+            (25, NINTH, 1, 1, 0, 1),
         ],
     )
 }
@@ -197,12 +197,12 @@ fn a_disabled_point_counts_again_once_it_is_enabled(rt: HostRuntime) -> Result<(
         rt.alloc(),
         ONE,
         37,
-        &[(5, D9, ALARM)],
+        &[(5, NINTH, ALARM)],
         &[
-            done_at(2, Operation::Disable(Item::Point(D9))),
-            done_at(30, Operation::Enable(Item::Point(D9))),
+            done_at(2, Operation::Disable(Item::Point(NINTH))),
+            done_at(30, Operation::Enable(Item::Point(NINTH))),
         ],
-        &[(37, D9, 1, 1, 0, 1)],
+        &[(37, NINTH, 1, 1, 0, 1)],
     )
 }
 
@@ -224,15 +224,15 @@ fn one_detector_of_type_a_confirms_after_its_time_of_verifying(
     rt: HostRuntime,
 ) -> Result<(), Fail> {
     let alloc = rt.alloc();
-    let first = (1, D9, 1, 0, 0, 0);
-    let second = (13, D9, 1, 0, 0, 0);
-    let third = (25, D9, 1, 1, 0, 1);
+    let first = (1, NINTH, 1, 0, 0, 0);
+    let second = (13, NINTH, 1, 0, 0, 0);
+    let third = (25, NINTH, 1, 1, 0, 1);
     drive(
         &rt,
         alloc,
         TYPE_A,
         25,
-        &[(1, D9, ALARM)],
+        &[(1, NINTH, ALARM)],
         &[],
         &[first, second, third],
     )?;
@@ -241,13 +241,13 @@ fn one_detector_of_type_a_confirms_after_its_time_of_verifying(
         alloc,
         TYPE_A,
         49,
-        &[(1, D9, ALARM), (2, D9, QUIET), (14, D9, ALARM)],
+        &[(1, NINTH, ALARM), (2, NINTH, QUIET), (14, NINTH, ALARM)],
         &[],
         &[
             first,
-            (25, D9, 1, 0, 0, 0),
-            (37, D9, 1, 0, 0, 0),
-            (49, D9, 1, 1, 0, 1),
+            (25, NINTH, 1, 0, 0, 0),
+            (37, NINTH, 1, 0, 0, 0),
+            (49, NINTH, 1, 1, 0, 1),
         ],
     )?;
     drive(
@@ -255,7 +255,7 @@ fn one_detector_of_type_a_confirms_after_its_time_of_verifying(
         alloc,
         TYPE_A,
         60,
-        &[(1, D9, ALARM), (26, D9, QUIET)],
+        &[(1, NINTH, ALARM), (26, NINTH, QUIET)],
         &[],
         &[first, second, third],
     )
