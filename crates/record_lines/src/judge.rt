@@ -64,7 +64,8 @@ fn content(site: &Site, standing: &Standing, form: Form, text: &[u8]) -> Result<
     }
 }
 
-fn tick(standing: &Standing, text: &[u8]) -> Result<Line, Why>
+/// A line `tick N` where a record stands so.
+pub fn tick(standing: &Standing, text: &[u8]) -> Result<Line, Why>
     ensures answer { result ≡ tick_line standing.now text.now }
     ensures may_come { (site : SiteOf) → IfOk result (λ line. MayCome site standing.now line) }
 {

@@ -1,5 +1,7 @@
 use crate::form_words::form;
+use crate::judge::tick;
 use crate::order_lines::read_order;
+use crate::standing::Standing;
 use crate::{LineReader, Refusal, Why};
 
 #[test]
@@ -59,6 +61,35 @@ fn tells_the_place_of_a_bad_seat(rt: HostRuntime) {
             None => None,
         };
         assert_eq!(rt; found, expected, "at {text:?}");
+    }
+}
+
+#[test]
+fn there_is_no_tick_behind_the_last(rt: HostRuntime) {
+    let table = [
+        (0u64, b"tick 1".as_slice(), None),
+        (999_999_999, b"tick 1000000000", None),
+        (1_000_000_000, b"tick 1000000001", Some(Why::TickLimit)),
+        (1_000_000_000, b"tick 7", Some(Why::TickLimit)),
+        (
+            999_999_999,
+            b"tick 1000000001",
+            Some(Why::BadTick {
+                expected: 1_000_000_000,
+                found: 1_000_000_001,
+            }),
+        ),
+    ];
+    for (ticks, text, refusal) in table {
+        let standing = Standing {
+            ticks,
+            has_order: false,
+        };
+        let found = match tick(&standing, text) {
+            Ok(_) => None,
+            Err(why) => Some(why),
+        };
+        assert_eq!(rt; found, refusal, "at {text:?} after {ticks}");
     }
 }
 
