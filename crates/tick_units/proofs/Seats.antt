@@ -30,7 +30,7 @@ tag_of-task Keep = refl
 same_task : (a b : Task) → (task_number a == task_number b) ≡ true → a ≡ b
 same_task a b e = same_true the_type tt a b (rw (tag_of-task a, tag_of-task b) e)
 
-same_seat : (a b : Seat) → a.task ≡ b.task → a.panel ≡ b.panel → a ≡ b
+pub same_seat : (a b : Seat) → a.task ≡ b.task → a.panel ≡ b.panel → a ≡ b
 same_seat a b t p = ap (λ n. seat_of n a.task) p ∙ ap (seat_of b.panel) t
 
 found_same : (a b : Seat) → is_same_seat a b ≡ true → a ≡ b

@@ -12,8 +12,8 @@
 //! and the value after. [`Items`] is a list in plain data.
 //!
 //! [`Lane::new`] alone takes memory, and answers [`NoMemory`] where it is refused. All other calls take a time
-//! that doesn't depend on a site, but for [`Order::new`], which compares each seat with those before it: some
-//! eight thousand comparisons at most, since a list is refused at its first bad seat.
+//! that doesn't depend on a site, but for [`Order::new`], which looks at each seat once; of a list that is
+//! refused since a seat is missing, it compares each seat of the site with the list.
 #![tactic(auto)]
 
 mod items;
@@ -22,6 +22,7 @@ mod memory;
 mod order;
 mod order_fault;
 mod seat;
+mod seat_set;
 mod switch;
 mod task;
 #[cfg(test)]

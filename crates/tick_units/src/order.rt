@@ -4,6 +4,7 @@ ghost use Rattle.tick_units.specs.declared.seat.Seat.{Seat as SeatOf};
 
 use crate::order_fault::BadOrder;
 use crate::seat::Seat;
+use crate::seat_set::SeatSet;
 use crate::task::Task;
 use arrayvec::ArrayVec;
 use std::marker::Model;
@@ -40,6 +41,10 @@ impl Order {
         ensures answer { MatchResult result (λ _. order_fault panels seats.now ≡ None) (λ fault. order_fault panels seats.now ≡ Some fault) }
     {
         let order = sound_seats(seats, panels)?;
+        // As many sound seats as the site has are all of them.
+        if order.len() == 8 * panels as usize + 1 {
+            return Ok(Order { seats: order });
+        }
         match Order::canonical(panels).first_missing(&order) {
             Some(seat) => Err(BadOrder::Missing { seat }),
             None => Ok(Order { seats: order }),
@@ -99,19 +104,29 @@ fn sound_seats(seats: &[Seat], panels: u8) -> Result<ArrayVec<Seat, 65>, BadOrde
     ensures ok { IfOk result (λ order. (order.items ≡ seats.now) × IsSound panels seats.now) }
     ensures bad { IfErr result (λ fault. order_fault panels seats.now ≡ Some fault) }
 {
-    let canonical = Order::canonical(panels);
+    let mut seen = SeatSet::new();
     let mut order = ArrayVec::new();
     for seat in seats {
         let place = order.len() + 1;
-        if !is_among(seat, &canonical.seats) {
+        if !is_of_site(seat, panels) {
             return Err(BadOrder::Strange { place });
         }
-        if is_among(seat, &order) {
+        if !seen.insert(seat) {
             return Err(BadOrder::Repeated { place });
         }
         order.push(*seat);
     }
     Ok(order)
+}
+
+// Whether a seat is one of a site of so many panels.
+fn is_of_site(seat: &Seat, panels: u8) -> bool
+    ensures { result ≡ among seat.now (canonical_seats panels) }
+{
+    match seat.task {
+        Task::Keep => seat.panel == 0,
+        _ => 1 <= seat.panel && seat.panel <= panels,
+    }
 }
 
 // Whether a seat is one of some seats.
