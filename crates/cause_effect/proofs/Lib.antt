@@ -1,9 +1,14 @@
 pub mod Asking
+pub mod Changing
 pub mod Depths
 pub mod Equations
+pub mod Kept
 pub mod Left
+pub mod Marking
 pub mod Orders
 pub mod Placing
 pub mod Solving
 pub mod Truths
+pub mod Using
 pub mod Walking
+pub mod Counted

@@ -1,7 +1,7 @@
 -- One marker more is placed.
-use Rattle.std.proofs.Common.{◌≡◌, ◌≤◌, ◌<◌, ◌==◌, ◌||◌, ◌⊎◌, inl, inr, ℕ, zero, suc, Bool, true, false, List, [], ◌∷◌, ◌++◌, Some, length, take, refl, sym, ap, ◌∙◌, arith}
+use Rattle.std.proofs.Common.{◌≡◌, ◌≤◌, ◌<◌, ◌==◌, ◌||◌, ◌⊎◌, inl, inr, ℕ, zero, suc, Bool, true, false, List, [], ◌∷◌, ◌++◌, Some, length, take, refl, sym, ap, subst, ◌∙◌, arith}
 use Rattle.std.specs.Prelude.{slice_get, slice_set}
-use Rattle.std.specs.List.{list_all, list_any}
+use Rattle.std.specs.List.{list_all, list_any, IsDistinct}
 use Rattle.std.proofs.lemmas.Bool.Decides.{eqb_tells}
 use Rattle.std.proofs.lemmas.List.{get_or-set_same, get_or-set_other, take-append-le, take_all}
 use Rattle.std.proofs.lemmas.List.Folds.{list_any-append}
@@ -13,6 +13,7 @@ use Rattle.cause_effect.specs.Cycles.{is_among, is_marker, terms_of, has_term}
 use Rattle.cause_effect.specs.Orders.{IsRising}
 use Rattle.cause_effect.specs.Placed.{is_placed, is_term_placed, is_ready}
 use Rattle.cause_effect.proofs.Truths.{and_first, and_second}
+use Rattle.cause_effect.proofs.Walking.{distinct_push}
 
 pub few_of : (site : Site) → IsValid site → length site.markers ≤ 256
 few_of site valid = valid.forms.few_markers
@@ -77,3 +78,12 @@ still_rising site placed order x same rising ready k m other at term = elim (pus
 
 pub none_rising : (site : Site) (order : List ℕ) → order ≡ [] → IsRising site order
 none_rising site order e k m other at term = let h : slice_get {X = ℕ} [] k ≡ Some m = sym (ap (λ xs. slice_get xs k) e) ∙ at in cc h
+
+pub none_once : (order : List ℕ) → order ≡ [] → IsDistinct (λ a b. a == b) order
+unfolding IsDistinct
+none_once order e = subst (IsDistinct (λ a b. a == b)) (sym e) tt
+
+-- a marker that wasn't placed is placed once
+pub still_once : (placed : List Bool) (order : List ℕ) (x : ℕ) → ((m : ℕ) → is_placed placed m ≡ is_among m order) → IsDistinct (λ a b. a == b) order → is_placed placed x ≡ false →
+    IsDistinct (λ a b. a == b) (order ++ x ∷ [])
+still_once placed order x same once fresh = distinct_push order x once (sym (same x) ∙ fresh)

@@ -82,7 +82,7 @@ or_second : (a b : Bool) → (a || b) ≡ false → b ≡ false
 or_second true b h = cc
 or_second false b h = h
 
-distinct_push : (xs : List ℕ) (x : ℕ) → IsDistinct (λ a b. a == b) xs → list_any (λ y. x == y) xs ≡ false → IsDistinct (λ a b. a == b) (xs ++ x ∷ [])
+pub distinct_push : (xs : List ℕ) (x : ℕ) → IsDistinct (λ a b. a == b) xs → list_any (λ y. x == y) xs ≡ false → IsDistinct (λ a b. a == b) (xs ++ x ∷ [])
 unfolding IsDistinct
 distinct_push [] x d fresh = (tt, tt)
 distinct_push (y ∷ ys) x d fresh =

@@ -1,3 +1,4 @@
+pub mod Changes
 pub mod Cycles
 pub mod Orders
 pub mod Placed
@@ -5,3 +6,5 @@ pub mod Refused
 pub mod Requests
 pub mod Solutions
 pub mod Stands
+pub mod Users
+pub mod Written

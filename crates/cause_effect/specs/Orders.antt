@@ -1,5 +1,6 @@
 -- Orders in which every marker comes after its terms.
-use Rattle.std.specs.Prelude.{◌≡◌, ◌<◌, ℕ, true, List, Some, length, slice_get, take}
+use Rattle.std.specs.Prelude.{◌≡◌, ◌<◌, ◌==◌, ℕ, true, List, Some, length, slice_get, take}
+use Rattle.std.specs.List.{IsDistinct}
 use Rattle.site_types.specs.declared.site.Site.{Site}
 use Rattle.cause_effect.specs.Cycles.{has_term, is_among}
 
@@ -7,7 +8,8 @@ use Rattle.cause_effect.specs.Cycles.{has_term, is_among}
 abbrev pub IsRising : Site → List ℕ → Type 0
 IsRising site order = (k m other : ℕ) → slice_get order k ≡ Some m → has_term site m other ≡ true → is_among other (take k order) ≡ true
 
--- an order of all markers of the site, each after its terms
+-- an order of all markers of the site, each once and after its terms
 pub record IsOrder (site : Site) (order : List ℕ) : Type 0 where
   pub whole : (m : ℕ) → m < length site.markers → is_among m order ≡ true
+  pub once : IsDistinct (λ x y. x == y) order
   pub rising : IsRising site order

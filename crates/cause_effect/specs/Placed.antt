@@ -1,6 +1,6 @@
 -- Which markers have been placed in the order so far.
-use Rattle.std.specs.Prelude.{◌≡◌, ◌<◌, ℕ, Bool, true, false, List, Option, Some, None, length, slice_get, slice_index_or}
-use Rattle.std.specs.List.{list_all, list_any}
+use Rattle.std.specs.Prelude.{◌≡◌, ◌<◌, ◌==◌, ℕ, Bool, true, false, List, Option, Some, None, length, slice_get, slice_index_or}
+use Rattle.std.specs.List.{list_all, list_any, IsDistinct}
 use Rattle.site_types.specs.declared.site.Site.{Site}
 use Rattle.site_types.specs.declared.term.Term.{Term}
 use Rattle.site_types.specs.declared.term.Term.TheVariants.{Zone as ZoneTerm, Manual as ManualTerm, Fault as FaultTerm, Marker as MarkerTerm}
@@ -36,9 +36,10 @@ abbrev pub NextIs : Site → List Bool → Option ℕ → Type 0
 NextIs site placed (Some m) = IsNext site placed m
 NextIs site placed None = IsStuck site placed
 
--- an order of the markers that were placed, each after its terms; of the others none can be placed
+-- an order of the markers that were placed, each once and after its terms; of the others none can be placed
 pub record Arranges (site : Site) (arranged : Arranged) : Type 0 where
   pub same : (m : ℕ) → is_placed arranged.placed m ≡ is_among m arranged.order
+  pub once : IsDistinct (λ x y. x == y) arranged.order
   pub rising : IsRising site arranged.order
   pub stuck : IsStuck site arranged.placed
 

@@ -7,6 +7,7 @@ ghost use Rattle.cause_effect.specs.Stands.{IsPlanOf};
 use crate::arranged::Arranged;
 use crate::plan::Plan;
 use crate::refusal::PlanRefusal;
+use crate::users::Users;
 use crate::walk::cycle_from;
 use marker_table::MarkerTable;
 use site_types::{Output, Site};
@@ -31,6 +32,7 @@ pub fn compile(alloc: Global, site: &Site) -> Result<Plan, PlanRefusal>
         None => Ok(Plan {
             table: MarkerTable::new(alloc, site)?,
             order: arranged.order,
+            users: Users::of(alloc, site)?,
             outputs: copy_of(alloc, site.outputs.as_slice())?,
         }),
     }

@@ -6,21 +6,31 @@
 //! (`specs/Solutions`). The laws that there is exactly one, and that more facts make no marker false, stand at [`one_solution`] and
 //! [`more_facts_keep_markers`].
 //!
+//! Where facts change, [`Plan::solve_changed`] goes on from the solution that is at hand: it evaluates the markers that depend on a fact that
+//! changed, directly or through markers, and no other. How many it evaluated the counter says, exactly (`specs/Changes`); that there is one such
+//! number stands at [`one_number_of_changes`], and what it is in small cases at [`changes_of_written_cases`].
+//!
 //! [`compile`] alone takes memory. It looks at each term at most once for each marker of the site. [`Plan::solve`] looks at each term once,
-//! [`Plan::requests`] at each output twice.
+//! [`Plan::requests`] at each output twice. [`Plan::solve_changed`] compares the facts, and where they differ looks at a mark for each marker,
+//! at the terms of the markers that it evaluates, and at most once more at each of these terms to set the marks.
 #![tactic(auto)]
 
 mod arranged;
 mod asked;
 mod compiled;
 mod laws;
+mod members;
 mod plan;
 mod refusal;
 mod terms;
+mod users;
+mod users_found;
 mod walk;
 
 pub use compiled::compile;
-pub use laws::{more_facts_keep_markers, one_solution};
+pub use laws::{
+    changes_of_written_cases, more_facts_keep_markers, one_number_of_changes, one_solution,
+};
 pub use marker_table::{Facts, Steps, Values};
 pub use plan::Plan;
 pub use refusal::PlanRefusal;

@@ -1,11 +1,13 @@
 ghost use Rattle.std.specs.Prelude.{◌≡◌, ◌<◌, replicate, false};
 ghost use Rattle.site_types.specs.declared.site.Site.{Site as SiteOf};
 ghost use Rattle.marker_table.specs.Equations.{values_of};
+ghost use Rattle.cause_effect.specs.Changes.{DependsOnChanged, RoseByNumberOf};
 ghost use Rattle.cause_effect.specs.Requests.{requests_of};
 ghost use Rattle.cause_effect.specs.Solutions.{IsSolution};
 ghost use Rattle.cause_effect.specs.Stands.{IsPlanOf};
 
 use crate::asked::asked;
+use crate::users::Users;
 use marker_table::{Facts, MarkerTable, Steps, Values};
 use site_types::{Output, Requests};
 use std::marker::Brand;
@@ -17,6 +19,7 @@ use tick_units::Items;
 pub struct Plan {
     pub(crate) table: MarkerTable,
     pub(crate) order: Items<u8>,
+    pub(crate) users: Users,
     pub(crate) outputs: Items<Output>,
 }
 
@@ -43,6 +46,31 @@ impl Plan {
                 .table
                 .evaluate(*marker as u16, facts, values, &mut steps);
             values.marker[*marker as usize] = value;
+        }
+    }
+
+    /// The one solution over the facts after a change, where the values are the solution over those before it. It evaluates the markers that
+    /// depend on a fact that changed, directly or through markers, and no other.
+    pub fn solve_changed<L: Ledger>(
+        &self,
+        before: &Facts,
+        after: &Facts,
+        values: &mut Values,
+        steps: &mut Steps<L>,
+    )
+        ensures solution { (site : SiteOf) → IsPlanOf site self.now → IsSolution site before.now (values_of values.old) → IsSolution site after.now (values_of values.new) }
+        ensures steps { (site : SiteOf) → IsPlanOf site self.now → RoseByNumberOf (DependsOnChanged site before.now after.now) steps.old steps.new }
+    {
+        if before == after {
+            return;
+        }
+        let mut marks = self.users.marks_of(before, after);
+        for marker in self.order.as_slice() {
+            if marks[*marker as usize] {
+                let value = self.table.evaluate(*marker as u16, after, values, steps);
+                values.marker[*marker as usize] = value;
+                self.users.mark_users(*marker, &mut marks);
+            }
         }
     }
 

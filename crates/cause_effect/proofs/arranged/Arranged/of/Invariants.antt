@@ -1,4 +1,5 @@
-use Rattle.std.proofs.Common.{◌≡◌, ℕ, length}
+use Rattle.std.proofs.Common.{◌≡◌, ◌==◌, ℕ, length}
+use Rattle.std.specs.List.{IsDistinct}
 use Rattle.std.specs.Prelude.{count_by, not}
 use Rattle.cause_effect.specs.Orders.{IsRising}
 use Rattle.cause_effect.specs.Cycles.{is_among}
@@ -9,6 +10,7 @@ abbrev pub invariant-loop-place : goal.invariant-loop-place
 invariant-loop-place l = record {
   size : length l.placed ≡ 256;
   same : (m : ℕ) → is_placed l.placed m ≡ is_among m l.order.items;
+  once : IsDistinct (λ x y. x == y) l.order.items;
   rising : IsRising l.site l.order.items;
 }
 

@@ -1,0 +1,6 @@
+use Rattle.std.proofs.Common.{◌≡◌, ◌<◌, ℕ}
+use Rattle.cause_effect.specs.Users.{any_below, is_marked, uses_panel}
+use Rattle.cause_effect.proofs.users.Users.marks_of.Given as goal
+
+abbrev pub invariant-loop-panel : goal.invariant-loop-panel
+invariant-loop-panel l = (m : ℕ) → m < 256 → is_marked l.marks m ≡ any_below l.panel (uses_panel l.self.lists l.before l.after m)

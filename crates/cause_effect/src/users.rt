@@ -1,0 +1,82 @@
+//! Which markers have a fact, or a marker, as a term.
+
+ghost use Rattle.std.specs.Prelude.{◌≡◌, ◌≤◌, ◌<◌, ◌+◌, ◌||◌, ℕ, IfOk, length, replicate, slice_index_or, false, []};
+ghost use Rattle.site_types.specs.Valid.{IsValid};
+ghost use Rattle.site_types.specs.declared.site.Site.{Site as SiteOf};
+ghost use Rattle.cause_effect.specs.Changes.{has_changed};
+ghost use Rattle.cause_effect.specs.Cycles.{has_term, is_among};
+ghost use Rattle.cause_effect.specs.Users.{AreUsersOf, is_marked, users_at, uses_word};
+
+use crate::members::Members;
+use marker_table::Facts;
+use site_types::has_bit_32;
+use tick_units::Items;
+
+/// For each fact and each marker, the markers that have it as a term: those of the 256 zones, of their call points, of the 256 markers and of
+/// the faults of 8 panels.
+#[derive(Drop)]
+pub(crate) struct Users {
+    pub(crate) lists: Items<Members>,
+}
+
+impl Users {
+    // Marks the markers that have a fact as a term that changed.
+    pub(crate) fn marks_of(&self, before: &Facts, after: &Facts) -> [bool; 256]
+        ensures size { length result ≡ 256 }
+        ensures marks { (site : SiteOf) → IsValid site → AreUsersOf site self.now.lists → (m : ℕ) → m < 256 → is_marked result m ≡ has_changed site before.now after.now m }
+    {
+        let mut marks = [false; 256];
+        for panel in 0..8 {
+            self.mark_word(
+                32 * panel,
+                before.zones[panel],
+                after.zones[panel],
+                &mut marks,
+            );
+            self.mark_word(
+                256 + 32 * panel,
+                before.manual[panel],
+                after.manual[panel],
+                &mut marks,
+            );
+        }
+        self.mark_word(768, before.faults as u32, after.faults as u32, &mut marks);
+        marks
+    }
+
+    // Marks the markers that have a marker as a term.
+    pub(crate) fn mark_users(&self, marker: u8, marks: &mut [bool; 256])
+        ensures { (m : ℕ) → m < 256 → is_marked marks.new m ≡ (is_marked marks.old m || is_among m (users_at self.now.lists (512 + marker))) }
+    {
+        self.mark(512 + marker as usize, marks);
+    }
+
+    // Marks the users of the bits that differ in two masks, the first bit's being at a place.
+    fn mark_word(&self, first: usize, before: u32, after: u32, marks: &mut [bool; 256])
+        requires { first ≤ 768 }
+        ensures { (m : ℕ) → m < 256 → is_marked marks.new m ≡ (is_marked marks.old m || uses_word self.now.lists first before after m) }
+    {
+        for bit in 0..32 {
+            if has_bit_32(before, bit) != has_bit_32(after, bit) {
+                self.mark(first + bit as usize, marks);
+            }
+        }
+    }
+
+    // Marks the users of what is at a place.
+    fn mark(&self, place: usize, marks: &mut [bool; 256])
+        ensures { (m : ℕ) → m < 256 → is_marked marks.new m ≡ (is_marked marks.old m || is_among m (users_at self.now.lists place)) }
+    {
+        if let Some(users) = self.lists.get(place) {
+            mark_each(users.as_slice(), marks);
+        }
+    }
+}
+
+fn mark_each(markers: &[u8], marks: &mut [bool; 256])
+    ensures { (m : ℕ) → m < 256 → is_marked marks.new m ≡ (is_marked marks.old m || is_among m markers.now) }
+{
+    for marker in markers {
+        marks[*marker as usize] = true;
+    }
+}
