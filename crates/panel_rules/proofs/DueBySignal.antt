@@ -1,5 +1,5 @@
 -- Nothing is due without a signal.
-use Rattle.std.proofs.Common.{◌≡◌, ℕ, zero, suc, ◌≤◌, ◌&&◌, ◌||◌, List, [], ◌∷◌, map, length, Option, Some, None, slice_get, inl, inr, Bool, true, false, refl, sym, ◌∙◌, subst, arith}
+use Rattle.std.proofs.Common.{◌≡◌, ℕ, zero, suc, ◌≤◌, ◌&&◌, ◌||◌, List, length, Option, Some, None, slice_get, inl, inr, Bool, true, refl, sym, ◌∙◌, subst, arith}
 use Rattle.site_types.specs.declared.marker.Marker.{Marker as MarkerPlan}
 use Rattle.site_types.specs.declared.output.Output.{Output}
 use Rattle.site_types.specs.declared.retained.Retained.{Retained}

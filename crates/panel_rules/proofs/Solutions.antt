@@ -1,6 +1,6 @@
 -- The solution of the markers: found to a depth that no chain of terms passes, and the only one.
 use Rattle.std.proofs.Common.{◌≡◌, ◌≤◌, ◌<◌, ◌+◌, ◌==◌, ◌||◌, inl, inr, ℕ, zero, suc, Bool, true, false, List, [], ◌∷◌, length, Option, Some, None, refl, sym, ◌∙◌, ap, subst, arith, if◌then◌else◌}
-use Rattle.std.specs.Prelude.{slice_get, nat_le, count_by}
+use Rattle.std.specs.Prelude.{slice_get, count_by}
 use Rattle.std.specs.List.{list_any, list_all, IsDistinct}
 use Rattle.std.proofs.lemmas.Bool.Decides.{eqb_tells}
 use Rattle.std.proofs.lemmas.List.Sums.{sum_by-cons}
@@ -13,7 +13,7 @@ use Rattle.site_types.specs.declared.term.Term.{Term}
 use Rattle.site_types.specs.declared.term.Term.TheVariants.{Zone, Manual, Fault, Marker}
 use Rattle.site_types.specs.Valid.{IsCombine}
 use Rattle.marker_table.specs.Equations.{is_met}
-use Rattle.cause_effect.specs.Cycles.{HasNoCycle, has_term, is_marker, terms_of}
+use Rattle.cause_effect.specs.Cycles.{HasNoCycle, is_marker, terms_of}
 use Rattle.cause_effect.proofs.Depths.{Chain, chain_fits, chain_on, no_chain, none_equal}
 use Rattle.cause_effect.proofs.Truths.{Passes, any_at, equal_number, met_same, one_passes}
 use Rattle.panel_rules.specs.MarkerLaws.{OneSolution, SolutionSolves}
@@ -28,14 +28,14 @@ later p x xs w = record { place = suc w.place; item = w.item; at = w.at; passes 
 
 counted_passes : {X : Type 0} (p : X → Bool) (xs : List X) → 1 ≤ count_by p xs → Passes p xs
 counted_passes p [] l = absurd (omega (arith, l))
-counted_passes p (x ∷ xs) l = go (p x) refl
+counted_passes p (x ∷ xs) l = go (p x) refl (counted_passes p xs)
   where
-    go : (b : Bool) → p x ≡ b → Passes p (x ∷ xs)
-    go true e = record { place = 0; item = x; at = refl; passes = e }
-    go false e =
+    go : (b : Bool) → p x ≡ b → (1 ≤ count_by p xs → Passes p xs) → Passes p (x ∷ xs)
+    go true e more = record { place = 0; item = x; at = refl; passes = e }
+    go false e more =
         let s = sum_by-cons (λ y. if p y then 1 else 0) x xs in
-        let z = ap (λ b. if b then 1 else 0) e in
-        later p x xs (counted_passes p xs (omega (arith, l, s, z)))
+        let z = ap {B = ℕ} (λ b. if b then 1 else 0) e in
+        later p x xs (more (omega (arith, l, s, z)))
 
 all_passes : {X : Type 0} (p : X → Bool) (xs : List X) → 1 ≤ length xs → list_all p xs ≡ true → Passes p xs
 all_passes p [] l h = absurd (omega (arith, l))
