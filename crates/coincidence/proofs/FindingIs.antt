@@ -1,16 +1,21 @@
 -- The masks that are made of what is seen of an answer are its finding.
-use Rattle.std.proofs.Common.{◌≡◌, ℕ, ◌+◌, ◌<◌, ◌^◌, Bool, false, List, Option, Some, None, get_or, ◌==◌, ◌&&◌, nat_le, if◌then◌else◌, refl, sym, ◌∙◌, ap, subst, arith}
+use Rattle.std.proofs.Common.{◌≡◌, ℕ, ◌+◌, ◌<◌, ◌^◌, Bool, false, List, Option, Some, None, get_or, not, slice_get, ◌==◌, ◌&&◌, ◌||◌, nat_le, if◌then◌else◌, refl, sym, ◌∙◌, ap, subst, arith}
 use Rattle.tick_units.specs.declared.tick.Tick.{Tick}
 use Rattle.site_types.specs.declared.site.Site.{Site}
 use Rattle.site_types.specs.declared.answer.Answer.{Answer}
 use Rattle.site_types.specs.declared.retained.Retained.{Retained}
 use Rattle.site_types.specs.Bits.{has_bit}
-use Rattle.site_types.specs.Done.{Done}
+use Rattle.site_types.specs.Done.{Done, is_blocked}
+use Rattle.site_types.specs.declared.rule.Rule.{Rule}
+use Rattle.site_types.specs.declared.rule.Rule.TheVariants.{Plain, A, B, C}
+use Rattle.site_types.proofs.Masks.{has_bit-zero}
+use Rattle.std.specs.List.{list_any}
+use Rattle.coincidence_rules.proofs.ZoneMasks.{zones_from_bits}
 use Rattle.coincidence_rules.specs.declared.finding.Finding.{Finding}
-use Rattle.coincidence_rules.specs.Places.{is_of}
-use Rattle.coincidence_rules.specs.Counted.{is_counted}
-use Rattle.coincidence_rules.specs.Confirmed.{confirms}
-use Rattle.coincidence_rules.specs.Alarm.{calls, releases}
+use Rattle.coincidence_rules.specs.Places.{is_detector, is_of, numbered, on_zone, pairs_up, rule_of, zones_where}
+use Rattle.coincidence_rules.specs.Counted.{is_alarm, is_counted}
+use Rattle.coincidence_rules.specs.Confirmed.{coincides, confirms, is_by_call_point, is_second}
+use Rattle.coincidence_rules.specs.Alarm.{calls, releases, releases_by}
 use Rattle.coincidence_rules.specs.Findings.{finding_among}
 use Rattle.coincidence.specs.declared.point_watch.PointWatch.{PointWatch}
 use Rattle.coincidence.specs.declared.zone_watch.ZoneWatch.{ZoneWatch}
@@ -93,3 +98,37 @@ module _ {site : Site} {kept : Retained} {panel : ℕ} {done : List Done} {all :
       beside.number beside.released w.zone.partner released l (second_released sees w.zone.partner refl partner)
       (λ q apart x. none_released site kept done all answer w.point w.zone sight stands.wired w.is_point w.is_zone stands.order fits.late sees q apart x) (own_bits released (own_released z.rule sight) beside.number beside.released ls))
       (miss ∙ ap (λ (o : PointWatch). nat_le 3 o.silent) (read_is decide.points.items answer.point r w.watch e w.is_watch) ∙ sym (w.watches.silent 3 (omega arith)))
+
+-- ---- an answer that doesn't count tells of no zone
+
+nothing_on : (test : ℕ → Bool) (o : Option ℕ) → ((q : ℕ) → test q ≡ false) → false ≡ on_zone test o
+nothing_on test None fails = refl
+nothing_on test (Some q) fails = sym (fails q)
+
+no_mask : (site : Site) (panel : ℕ) (test : ℕ → Bool) → ((q : ℕ) → test q ≡ false) → 0 ≡ zones_where site panel test
+no_mask site panel test fails = zones_from_bits site panel test 0 (omega arith) (λ k small. has_bit-zero k ∙ nothing_on test (numbered site panel (k + 1)) fails)
+
+no_confirm : (site : Site) (kept : Retained) (done : List Done) (all : List Answer) (q : ℕ) (answer : Answer) → is_counted site kept done answer ≡ false → confirms site kept done all q answer ≡ false
+no_confirm site kept done all q answer uncounted =
+    ap (λ b. b && (is_by_call_point site q answer.point || (is_detector site answer.point && coincides site kept done all q (rule_of (slice_get site.zones q)) answer))) uncounted
+
+no_release : (site : Site) (kept : Retained) (done : List Done) (all : List Answer) (q : ℕ) (answer : Answer) (o : Option Rule) → is_counted site kept done answer ≡ false → releases_by site kept done all q o answer ≡ false
+no_release site kept done all q answer None uncounted = no_confirm site kept done all q answer uncounted
+no_release site kept done all q answer (Some Plain) uncounted = no_confirm site kept done all q answer uncounted
+no_release site kept done all q answer (Some (A verify within)) uncounted = no_confirm site kept done all q answer uncounted
+no_release site kept done all q answer (Some (B within)) uncounted = no_confirm site kept done all q answer uncounted
+no_release site kept done all q answer (Some C) uncounted =
+    ap (λ b. (b && is_by_call_point site q answer.point) || (b && pairs_up site q answer.point (λ other. list_any (is_second site kept done other answer) all))) uncounted
+
+pub quiet_is : {site : Site} {kept : Retained} {panel : ℕ} {done : List Done} {all : List Answer} {decide : Decide} → DecidesFor site kept panel done all decide → (answer : Answer) → Fits site panel done all answer → is_alarm answer.heard ≡ false →
+    (r : PointWatch) → r ≡ get_or decide.points.items answer.point r → (missing : Bool) → missing ≡ nat_le 3 r.silent →
+    ◌≡◌ {A = Finding} (record { stamp = answer.stamp; point = answer.point; counted = 0; confirmed = 0; manual = 0; released = 0; missing = missing }) (finding_among site kept panel done all answer)
+quiet_is {site} {kept} {panel} {done} {all} {decide} stands answer fits quiet r e missing miss =
+    let w = watched stands answer.point fits.own in
+    let uncounted : is_counted site kept done answer ≡ false = ap (λ b. b && not (is_blocked site kept done answer.point answer.stamp.0)) quiet in
+    same_finding answer.stamp answer.point 0 _ 0 _ 0 _ 0 _ missing _
+    (no_mask site panel (λ q. is_counted site kept done answer && is_of site q answer.point) (λ q. ap (λ b. b && is_of site q answer.point) uncounted))
+    (no_mask site panel (λ q. confirms site kept done all q answer) (λ q. no_confirm site kept done all q answer uncounted))
+    (no_mask site panel (λ q. calls site kept done q answer) (λ q. ap (λ b. b && is_by_call_point site q answer.point) uncounted))
+    (no_mask site panel (λ q. releases site kept done all q answer) (λ q. no_release site kept done all q answer (rule_of (slice_get site.zones q)) uncounted))
+    (miss ∙ ap (λ (o : PointWatch). nat_le 3 o.silent) (read_is decide.points.items answer.point r w.watch e w.is_watch) ∙ sym (w.watches.silent 3 (omega arith)))

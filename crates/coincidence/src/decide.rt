@@ -1,4 +1,4 @@
-ghost use Rattle.std.specs.Prelude.{◌≡◌, ◌≢◌, ◌<◌, ◌≤◌, ◌+◌, ◌++◌, [], ◌∷◌, ℕ, List, Some, None, length, slice_get, take, IfOk};
+ghost use Rattle.std.specs.Prelude.{◌≡◌, ◌≢◌, ◌<◌, ◌≤◌, ◌+◌, ◌++◌, [], ◌∷◌, ℕ, List, Some, None, false, length, slice_get, take, IfOk};
 ghost use Rattle.site_types.specs.declared.site.Site.{Site as SitePlan};
 ghost use Rattle.site_types.specs.declared.point.Point.{Point as PointPlan};
 ghost use Rattle.site_types.specs.declared.zone.Zone.{Zone as ZonePlan};
@@ -18,7 +18,7 @@ use crate::watches::{watch_points, watch_zones};
 use crate::zone_watch::ZoneWatch;
 use arrayvec::ArrayVec;
 use coincidence_rules::Finding;
-use site_types::{Answer, Item, Operation, Retained, Site};
+use site_types::{Answer, Heard, Item, Operation, Retained, Site};
 use std::alloc::Global;
 use tick_units::{Lane, NoMemory, Tick};
 
@@ -38,7 +38,7 @@ pub struct Decide {
 }
 
 impl Decide {
-    ghost use Rattle.coincidence_rules.specs.Counted.{is_counted};
+    ghost use Rattle.coincidence_rules.specs.Counted.{is_alarm, is_counted};
     ghost use Rattle.coincidence_rules.specs.Findings.{finding_among, finding_of, findings_after};
     ghost use Rattle.coincidence_rules.specs.Kept.{second_of};
     ghost use Rattle.coincidence.specs.Sights.{Sees, SeesBeside, far_of};
@@ -69,6 +69,9 @@ impl Decide {
         ensures taken { (site : SitePlan) (kept : Kept) (panel : ℕ) (done : List Done) (taken : List Taken) → DecidesFor site kept panel done taken self.old → MayTake site panel done taken (taken_by answers.old) → DecidesFor site kept panel done (taken ++ taken_by answers.old) self.new }
         ensures findings { (site : SitePlan) (kept : Kept) (panel : ℕ) (done : List Done) (taken : List Taken) → DecidesFor site kept panel done taken self.old → MayTake site panel done taken (taken_by answers.old) → findings.new ≡ with_put findings.old (findings_after site kept panel done taken (taken_by answers.old)) }
     {
+        if answers.len() == 0 {
+            return;
+        }
         let mut batch: ArrayVec<Answer, 32> = ArrayVec::new();
         answers.take_turn(&mut batch);
         for answer in batch.as_slice() {
@@ -144,6 +147,34 @@ impl Decide {
         requires { CanSee self.now answer.now }
         ensures { (site : SitePlan) (kept : Kept) (panel : ℕ) (done : List Done) (taken : List Taken) → DecidesFor site kept panel done (taken ++ answer.now ∷ []) self.now → Fits site panel done (taken ++ answer.now ∷ []) answer.now → result ≡ finding_of site kept panel done taken answer.now }
     {
+        match answer.heard {
+            Heard::Alarm => self.alarm_finding(answer),
+            Heard::Quiet | Heard::Silent => self.quiet_finding(answer),
+        }
+    }
+
+    // The same of an answer that is no alarm: it tells of no zone.
+    fn quiet_finding(&self, answer: &Answer) -> Finding
+        requires { CanSee self.now answer.now }
+        ensures { (site : SitePlan) (kept : Kept) (panel : ℕ) (done : List Done) (taken : List Taken) → DecidesFor site kept panel done (taken ++ answer.now ∷ []) self.now → Fits site panel done (taken ++ answer.now ∷ []) answer.now → is_alarm answer.now.heard ≡ false → result ≡ finding_of site kept panel done taken answer.now }
+    {
+        let point = &self.points[answer.point as usize];
+        Finding {
+            stamp: answer.stamp,
+            point: answer.point,
+            counted: 0,
+            confirmed: 0,
+            manual: 0,
+            released: 0,
+            missing: point.is_missing(),
+        }
+    }
+
+    // The same of an alarm.
+    fn alarm_finding(&self, answer: &Answer) -> Finding
+        requires { CanSee self.now answer.now }
+        ensures { (site : SitePlan) (kept : Kept) (panel : ℕ) (done : List Done) (taken : List Taken) → DecidesFor site kept panel done (taken ++ answer.now ∷ []) self.now → Fits site panel done (taken ++ answer.now ∷ []) answer.now → result ≡ finding_of site kept panel done taken answer.now }
+    {
         let sight = self.sight(answer);
         let point = &self.points[answer.point as usize];
         let zone = &self.zones[point.zone as usize];
@@ -198,6 +229,9 @@ impl Decide {
         requires { CanSee self.now answer.now }
         ensures { (site : SitePlan) (kept : Kept) (panel : ℕ) (done : List Done) (taken : List Taken) → DecidesFor site kept panel done taken self.now → Fits site panel done taken answer.now → result ≡ is_counted site kept done answer.now }
     {
+        if !matches!(answer.heard, Heard::Alarm) {
+            return false;
+        }
         let point = &self.points[answer.point as usize];
         let zone = &self.zones[point.zone as usize];
         let off = is_on(&point.off, answer.stamp);

@@ -1,7 +1,7 @@
 -- What a line of a valid site has.
 use Rattle.std.proofs.Common.{◌≡◌, ℕ, zero, suc, subst, ◌+◌, ◌-◌, ◌<◌, ◌≤◌, ◌==◌, ◌&&◌, List, [], ◌∷◌, length, get_or, Option, Some, None, Bool, true, false, slice_get, slice_index_or, slice_set, refl, sym, ◌∙◌, ap, arith, inl, inr}
 use Rattle.std.specs.List.{position}
-use Rattle.std.proofs.lemmas.Bool.{and_parts, cases_eq, cases_lt, eq-eqb, eqb-true, ne_eqb}
+use Rattle.std.proofs.lemmas.Bool.{and_from, and_parts, cases_eq, cases_lt, eq-eqb, eqb-true, ne_eqb}
 use Rattle.std.proofs.lemmas.Grind.{common_steps, get_or-set_at}
 use Rattle.std.proofs.lemmas.List.{get_or-set_other, length-set}
 use Rattle.std.proofs.lemmas.List.Quantifiers.{position-Some}
@@ -11,14 +11,20 @@ use Rattle.site_types.specs.declared.point.Point.{Point}
 use Rattle.site_types.specs.declared.site.Site.{Site}
 use Rattle.site_types.specs.Valid.{HasAddress, IsValid, loop_key}
 use Rattle.site_types.proofs.ValidSites.{loop_of_point}
-use Rattle.loop_poller.specs.Asked.{loop_at, point_at}
+use Rattle.loop_poller.specs.Asked.{answer_from, answer_of, asked_on, is_asked, loop_at, point_at}
+use Rattle.loop_poller.specs.Cables.{CableStands}
 use Rattle.site_types.specs.declared.piece_state.PieceState.{PieceState}
-use Rattle.isolators.specs.Reach.{sound_cable, with_piece}
+use Rattle.isolators.specs.Reach.{Cable, sound_cable, with_piece}
+use Rattle.isolators.specs.declared.loop_line.LoopLine.{LoopLine}
+use Rattle.site_types.specs.declared.point_state.PointState.{PointState}
+use Rattle.site_types.specs.Profile.{last_address_of}
+use Rattle.std.specs.Prelude.{if◌then◌else◌, is_some, option_map}
+use Rattle.loop_poller.proofs.Windows.{none_found}
 use Rattle.loop_poller.specs.declared.polled_line.PolledLine.{PolledLine}
 use Rattle.loop_poller.specs.Calls.{Call, Cabled, told_cable}
 use Rattle.loop_poller.specs.Points.{ArePoints, KnowsPoints}
 use Rattle.loop_poller.specs.Stands.{IsOnLoop, LineStands}
-use Rattle.loop_poller.proofs.Positions.{found_at}
+use Rattle.loop_poller.proofs.Positions.{found_at, none_passes}
 
 -- the test of point_at
 abbrev pub is_at : ℕ → ℕ → ℕ → Point → Bool
@@ -138,3 +144,35 @@ four_lines site panel a b c d p q r s (suc zero) l h = let e : b ≡ l = cc in s
 four_lines site panel a b c d p q r s (suc (suc zero)) l h = let e : c ≡ l = cc in subst (λ (x : PolledLine). LineStands site panel 3 sound_cable x) e r
 four_lines site panel a b c d p q r s (suc (suc (suc zero))) l h = let e : d ≡ l = cc in subst (λ (x : PolledLine). LineStands site panel 4 sound_cable x) e s
 four_lines site panel a b c d p q r s (suc (suc (suc (suc place)))) l h = absurd cc
+
+no_plan : (site : Site) (panel line address : ℕ) → loop_at site panel line ≡ None → HasAddress site panel line address → ⊥
+no_plan site panel line address none has =
+    let fails = none_passes (λ (l : LoopPlan). (l.panel == panel) && (l.line == line)) site.loops has.place has.plan none has.is in
+    let passes = and_from (has.plan.panel == panel) (has.plan.line == line) (eq-eqb has.plan.panel panel has.at_panel) (eq-eqb has.plan.line line has.at_line) in
+    let no : true ≡ false = sym passes ∙ fails in
+    cc
+
+-- a loop that isn't there has no points
+pub no_points : (site : Site) (panel line address : ℕ) → IsValid site → loop_at site panel line ≡ None → (o : Option ℕ) → point_at site panel line address ≡ o → o ≡ None
+no_points site panel line address valid none None h = refl
+no_points site panel line address valid none (Some place) h =
+    let there = point_there site panel line address place h in
+    let has : HasAddress site panel line address = rw (there.at.panel_is, there.at.line_is, there.at.address_is) at (loop_of_point site valid place there.point there.is) in
+    absurd (no_plan site panel line address none has)
+
+no_loop : (o : Option LoopPlan) (cable : Cable) (kept : Option LoopLine) → CableStands o cable kept → is_some kept ≡ false → o ≡ None
+no_loop None cable kept stands none = refl
+no_loop (Some plan) cable None stands none = absurd stands
+no_loop (Some plan) cable (Some line) stands none = cc
+
+no_answer : {X : Type 0} (asked : Bool) (answer : ℕ → X) (o : Option ℕ) → o ≡ None → (if asked then option_map answer o else None) ≡ None
+no_answer true answer o none = ap (option_map answer) none
+no_answer false answer o none = refl
+
+-- nor is anything asked on it
+pub nothing_asked : (site : Site) (panel line : ℕ) (points : ℕ → PointState) (cables : ℕ → Cable) (tick : ℕ) (polled : PolledLine) → IsValid site → LineStands site panel line (cables line) polled → is_some polled.cable ≡ false →
+    asked_on site panel points cables tick line ≡ []
+nothing_asked site panel line points cables tick polled valid stands none =
+    let absent = no_loop (loop_at site panel line) (cables line) polled.cable stands.cable_stands none in
+    none_found (answer_from site panel points cables tick line) 1 (last_address_of site.format) (λ address low high.
+    no_answer (is_asked site.format address tick) (answer_of site panel points cables tick line address) (point_at site panel line address) (no_points site panel line address valid absent (point_at site panel line address) refl))

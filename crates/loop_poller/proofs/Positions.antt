@@ -48,3 +48,13 @@ found_case p y ys x false fails h later = found_later p ys x y (later h)
 pub found_at : {X : Type 0} (p : X → Bool) (xs : List X) (x : X) → find p xs ≡ Some x → IsFound p xs x
 found_at p [] x h = absurd cc
 found_at p (y ∷ ys) x h = found_case p y ys x (p y) refl h (found_at p ys x)
+
+none_case : {X : Type 0} (b : Bool) (y : X) (rest : Option X) → cond b (Some y) rest ≡ None → (b ≡ false) × (rest ≡ None)
+none_case true y rest none = cc
+none_case false y rest none = (refl, none)
+
+-- where nothing is found, nothing passes
+pub none_passes : {X : Type 0} (p : X → Bool) (xs : List X) (k : ℕ) (x : X) → find p xs ≡ None → slice_get xs k ≡ Some x → p x ≡ false
+none_passes p [] k x none is = cc
+none_passes p (y ∷ ys) zero x none is = let same : y ≡ x = cc in ap p (sym same) ∙ (none_case (p y) y (find p ys) none).0
+none_passes p (y ∷ ys) (suc k) x none is = none_passes p ys k x (none_case (p y) y (find p ys) none).1 is

@@ -84,6 +84,9 @@ impl PolledLine {
         ensures room { (n : ℕ) → HasRoom answers.old (n + 8) → HasRoom answers.new n }
         ensures put { (site : SiteOf) (panel line : ℕ) (points : ℕ → State) (cables : ℕ → Cable) → IsValid site → LineStands site panel line (cables line) self.now → AreStates site points states.now → first ≡ 8 * (now.0 % round_of site.format) + 1 → answers.new ≡ with_put answers.old (asked_on site panel points cables now.0 line) }
     {
+        if self.cable.is_none() {
+            return;
+        }
         for address in first..first + 8 {
             if let Some(point) = self.points[address as usize - 1] {
                 let heard = self.heard(address, states[point as usize]);

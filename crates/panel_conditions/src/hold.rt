@@ -54,9 +54,7 @@ impl Hold {
         ensures stands { (site : SitePlan) (kept : Kept) (panel : ℕ) (done : List Done) (turns : List HoldTurn) → HoldsFor site kept panel done turns self.old → MayTurn done turns now.0 → HoldsFor site kept panel done (record { tick = now.0; found = take (turn_count findings.old) findings.old.items; outside = outside.now } ∷ turns) self.new }
         ensures lane { findings.new ≡ after_turn findings.old }
     {
-        let mut batch: ArrayVec<Finding, 32> = ArrayVec::new();
-        findings.take_turn(&mut batch);
-        self.take_all(batch.as_slice());
+        self.take_turn(findings);
         self.show(now, outside);
     }
 
@@ -102,6 +100,22 @@ impl Hold {
         ensures { (site : SitePlan) (kept : Kept) (panel : ℕ) (done : List Done) (turns : List HoldTurn) → HoldsFor site kept panel done turns self.now → result ≡ entries_after site kept panel done turns }
     {
         self.shown.entries
+    }
+
+    // Takes the findings that a turn moves.
+    fn take_turn(&mut self, findings: &mut Lane<Finding>)
+        requires { findings.old.quota ≤ 32 }
+        ensures watches { (site : SitePlan) (kept : Kept) (panel : ℕ) (done : List Done) (taken : List Found) → Watches site kept panel done taken self.old → Watches site kept panel done (taken ++ take (turn_count findings.old) findings.old.items) self.new }
+        ensures settled { (site : SitePlan) (kept : Kept) (panel : ℕ) (done : List Done) (taken : List Found) (tick : ℕ) → Watches site kept panel done taken self.old → Settled tick self.old.zones → Settled tick self.new.zones }
+        ensures shown { self.new.shown ≡ self.old.shown }
+        ensures lane { findings.new ≡ after_turn findings.old }
+    {
+        if findings.len() == 0 {
+            return;
+        }
+        let mut batch: ArrayVec<Finding, 32> = ArrayVec::new();
+        findings.take_turn(&mut batch);
+        self.take_all(batch.as_slice());
     }
 
     // Takes findings, one after the other.

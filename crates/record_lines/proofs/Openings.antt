@@ -1,11 +1,12 @@
 -- A reader that waits, and what a byte more makes of it.
-use Rattle.std.proofs.Common.{◌≡◌, ◌∙◌, ◌<◌, ◌≤◌, ◌++◌, ℕ, true, false, List, [], ◌∷◌, Option, Some, None, Ok, Err, length, refl, sym, ap, subst, arith}
-use Rattle.std.specs.Prelude.{◌==◌}
+use Rattle.std.proofs.Common.{◌≡◌, ◌∙◌, ◌<◌, ◌≤◌, ◌++◌, ℕ, true, false, List, [], ◌∷◌, Option, Some, None, Ok, Err, inl, inr, length, refl, sym, ap, subst, arith}
+use Rattle.std.specs.Prelude.{◌==◌, ◌⊎◌}
+use Rattle.std.proofs.lemmas.Bool.{cases_lt, eq-eqb}
 use Rattle.std.proofs.lemmas.List.Sums.{fold_push}
 use Rattle.site_types.specs.declared.site.Site.{Site}
 use Rattle.record_lines.specs.Judged.{judged, line_view}
 use Rattle.record_lines.specs.Lines.{Reading, at_start, accepted, by_bytes, by_ending, byte_refusal, cut, ends_with, is_printable, lines_read, next_line, next_number, reading_of, refused, refused_rest, rest_by_ending, stands_behind, verdict, with_rest}
-use Rattle.record_lines.specs.Stands.{Accepts, IsOpen, Refuses, StandsBy, TakesByte, TakesLine, Tells}
+use Rattle.record_lines.specs.Stands.{Accepts, EndsLine, IsOpen, Refuses, StandsBy, Stops, TakesByte, TakesLine, Tells}
 use Rattle.record_lines.specs.declared.line.Line.{Line}
 use Rattle.record_lines.specs.declared.line.Line.TheVariants.{Tick, Event, Order, End}
 use Rattle.record_lines.specs.declared.step.Step.{Step}
@@ -164,3 +165,21 @@ line_taken site bytes byte old reader Need is waits takes waiting = absurd takes
 line_taken site bytes byte old reader (LineStep line) is waits takes waiting = line_told site bytes byte old reader line is waits takes.0 takes.1 waiting
 line_taken site bytes byte old reader (RefusedStep refusal) is waits takes waiting =
     line_refused site bytes byte takes.0 old reader (RefusedStep refusal) is takes.1 takes.2 waiting
+
+-- a line that was judged ends it
+pub line_ends : (site : Site) (old reader : LineReader) (step : Step) → TakesLine site old reader step → EndsLine step
+line_ends site old reader Need takes = takes
+line_ends site old reader (LineStep line) takes = tt
+line_ends site old reader (RefusedStep refusal) takes = tt
+
+-- a byte that a line has room for stops it since it isn't printable
+pub bad_byte : (old : LineReader) (byte : ℕ) → Stops old byte → length old.text.items < 512 → is_printable byte ≡ false
+bad_byte old byte (inl many) few = absurd (omega (arith, many, few))
+bad_byte old byte (inr bad) few = bad
+
+pub few_from : (n : ℕ) → (n == 512) ≡ false → n ≤ 512 → n < 512
+few_from n other most = below (cases_lt n 512)
+  where
+    below : (n < 512) ⊎ (512 ≤ n) → n < 512
+    below (inl few) = few
+    below (inr many) = let full : (n == 512) ≡ true = eq-eqb n 512 (omega (arith, many, most)) in let no : false ≡ true = sym other ∙ full in cc

@@ -1,8 +1,9 @@
 -- What a reader stands for, and what it answers to a piece.
-use Rattle.std.specs.Prelude.{◌≡◌, ◌+◌, ◌<◌, ◌++◌, ℕ, List, [], ◌∷◌, take, length, Option, Some, None, Ok, Err}
+use Rattle.std.specs.Prelude.{◌≡◌, ◌⊎◌, ◌+◌, ◌<◌, ◌≤◌, ◌++◌, ℕ, List, [], ◌∷◌, true, false, take, length, Option, Some, None, Ok, Err}
+use Rattle.std.specs.List.{list_all}
 use Rattle.site_types.specs.declared.site.Site.{Site}
 use Rattle.record_lines.specs.Judged.{judged, line_view}
-use Rattle.record_lines.specs.Lines.{Reading, byte_refusal, cut, ends_with, lines_read, next_number, reading_of, stands_behind}
+use Rattle.record_lines.specs.Lines.{Reading, byte_refusal, cut, ends_with, is_printable, lines_read, next_number, reading_of, stands_behind}
 use Rattle.record_lines.specs.declared.line.Line.{Line}
 use Rattle.record_lines.specs.declared.line.Line.TheVariants.{End}
 use Rattle.record_lines.specs.declared.fed.Fed.{Fed}
@@ -63,10 +64,25 @@ pub record Feeds (site : Site) (before piece : List ℕ) (fed : Fed) (reader : L
 
 -- ---- steps of the reader
 
-abbrev pub OnNeed : Step → Type 0 → Type 0
-OnNeed Need P = P
-OnNeed (LineStep line) P = Unit {0}
-OnNeed (RefusedStep refusal) P = Unit {0}
+-- the reader keeps so many bytes of a piece behind what has come of its line: each is printable, and a line has room for them
+pub record Keeps (old : LineReader) (piece : List ℕ) (count : ℕ) (reader : LineReader) : Type 0 where
+  pub within : count ≤ length piece
+  pub text : reader.text.items ≡ old.text.items ++ take count piece
+  pub printable : list_all is_printable (take count piece) ≡ true
+  pub room : length reader.text.items ≤ 512
+  pub stands : reader.standing ≡ old.standing
+  pub counts : reader.number ≡ old.number
+  pub over : reader.over ≡ old.over
+
+-- the byte can't be kept: the line has no room for it, or it isn't printable
+abbrev pub Stops : LineReader → ℕ → Type 0
+Stops reader byte = (512 ≤ length reader.text.items) ⊎ (is_printable byte ≡ false)
+
+-- the answer is a line or a refusal
+abbrev pub EndsLine : Step → Type 0
+EndsLine Need = ⊥
+EndsLine (LineStep line) = Unit {0}
+EndsLine (RefusedStep refusal) = Unit {0}
 
 -- the reader goes on behind a line
 pub record Accepts (old : LineReader) (line : Line) (reader : LineReader) : Type 0 where

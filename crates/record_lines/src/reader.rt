@@ -1,11 +1,12 @@
 //! Reading a record that comes in pieces.
 
-ghost use Rattle.std.specs.Prelude.{◌≡◌, [], ℕ, List, None, length, nat_le};
+ghost use Rattle.std.specs.Prelude.{◌≡◌, ◌≤◌, [], ℕ, List, None, Some, true, false, length, slice_get, take};
+ghost use Rattle.std.specs.List.{list_all};
 ghost use Rattle.record_lines.specs.Belongs.{StepBelongs};
 ghost use Rattle.record_lines.specs.Lines.{is_printable as is_printable_byte, reading_of};
 ghost use Rattle.record_lines.specs.ReadBack.{StepMayCome};
 ghost use Rattle.record_lines.specs.declared.standing.Standing.{Standing as StandingOf};
-ghost use Rattle.record_lines.specs.Stands.{Accepts, Feeds, IsOpen, OnNeed, Refuses, StandsFor, TakesByte, TakesLine, over_step};
+ghost use Rattle.record_lines.specs.Stands.{Accepts, EndsLine, Feeds, IsOpen, Keeps, Refuses, StandsFor, Stops, TakesByte, TakesLine, over_step};
 ghost use Rattle.site_types.specs.Valid.{IsValid};
 ghost use Rattle.site_types.specs.declared.site.Site.{Site as SiteOf};
 
@@ -63,26 +64,16 @@ impl LineReader {
                 step: again(over),
             };
         }
-        for (place, byte) in piece.iter().enumerate() {
-            match self.take_byte(site, *byte) {
-                Step::Need => {}
-                Step::Line(line) => {
-                    return Fed {
-                        used: place + 1,
-                        step: Step::Line(line),
-                    };
-                }
-                Step::Refused(refusal) => {
-                    return Fed {
-                        used: place + 1,
-                        step: Step::Refused(refusal),
-                    };
-                }
-            }
-        }
-        Fed {
-            used: piece.len(),
-            step: Step::Need,
+        let kept = self.keep(piece);
+        match piece.get(kept) {
+            None => Fed {
+                used: kept,
+                step: Step::Need,
+            },
+            Some(byte) => Fed {
+                used: kept + 1,
+                step: self.take_last(site, *byte),
+            },
         }
     }
 
@@ -96,32 +87,36 @@ impl LineReader {
         }
     }
 
-    fn take_byte(&mut self, site: &Site, byte: u8) -> Step
+    // Puts the front of a piece behind what has come of the line: its printable bytes, as far as there is room. Answers how many these are.
+    fn keep(&mut self, piece: &[u8]) -> usize
+        ensures keeps { Keeps self.old piece.now result self.new }
+        ensures stops { (byte : ℕ) → slice_get piece.now result ≡ Some byte → Stops self.new byte }
+    {
+        let room = self.text.remaining_capacity().min(piece.len());
+        let count = printable_count(piece.split_at(room).0);
+        match self.text.try_extend_from_slice(piece.split_at(count).0) {
+            Ok(()) => count,
+            Err(_) => unreachable!(),
+        }
+    }
+
+    // Takes the byte that ends the line, or that is refused.
+    fn take_last(&mut self, site: &Site, byte: u8) -> Step
         requires valid { IsValid site.now }
         requires open { self.old.over ≡ None }
-        ensures need { OnNeed result (self.new.over ≡ None) }
-        ensures stays { OnNeed result (self.new.standing ≡ self.old.standing) }
+        requires stops { Stops self.old byte }
+        ensures ends { EndsLine result }
         ensures belongs { StepBelongs site.now result }
         ensures may_come { StepMayCome site.now self.old.standing result }
         ensures takes { (before : List ℕ) → IsOpen site.now before self.old → TakesByte site.now before byte self.new result }
     {
         if byte == b'\n' {
             self.take_line(site)
-        } else if self.is_full() {
+        } else if self.text.is_full() {
             self.refuse(Why::LineTooLong)
-        } else if !is_printable(byte) {
-            self.refuse(Why::NotAscii)
         } else {
-            self.text.push(byte);
-            Step::Need
+            self.refuse(Why::NotAscii)
         }
-    }
-
-    // Whether the line has as many bytes as one may have.
-    fn is_full(&self) -> bool
-        ensures { result ≡ nat_le 512 (length self.now.text.items) }
-    {
-        self.text.is_full()
     }
 
     fn take_line(&mut self, site: &Site) -> Step
@@ -182,6 +177,20 @@ fn again(over: Over) -> Step
         Over::Ended => Step::Line(Line::End),
         Over::Refused(refusal) => Step::Refused(refusal),
     }
+}
+
+// How many bytes at the front of a text are printable.
+fn printable_count(text: &[u8]) -> usize
+    ensures within { result ≤ length text.now }
+    ensures front { list_all is_printable_byte (take result text.now) ≡ true }
+    ensures stops { (byte : ℕ) → slice_get text.now result ≡ Some byte → is_printable_byte byte ≡ false }
+{
+    for (place, byte) in text.iter().enumerate() {
+        if !is_printable(*byte) {
+            return place;
+        }
+    }
+    text.len()
 }
 
 fn is_printable(byte: u8) -> bool

@@ -4,8 +4,8 @@ use Rattle.tick_units.specs.Lane.{with_put}
 use Rattle.site_types.specs.Profile.{round_of}
 use Rattle.loop_poller.specs.Asked.{answer_from, answer_of, heard_of, is_reached_on, loop_at, point_at}
 use Rattle.loop_poller.proofs.Filling.{read_at}
-use Rattle.loop_poller.proofs.Lanes.{got_more, got_same, put_some, put_none}
-use Rattle.loop_poller.proofs.Lines.{on_loop, point_there}
+use Rattle.loop_poller.proofs.Lanes.{got_more, got_same, put-nil, put_some, put_none}
+use Rattle.loop_poller.proofs.Lines.{nothing_asked, on_loop, point_there}
 use Rattle.loop_poller.proofs.Windows.{asked_window, group_of, is_asked_here, range-more}
 use Rattle.loop_poller.proofs.polled_line.PolledLine.ask.Goals as goal
 use Rattle.loop_poller.proofs.polled_line.PolledLine.ask.Goals.{in-Some, in_default}
@@ -14,6 +14,10 @@ pub bounds-states-point : goal.bounds-states-point
 bounds-states-point c =
     let within : c.loop-address.address - 1 < length c.args.self.now.points.items = omega arith in
     c.requires.known (c.loop-address.address - 1) c.in-Some.point (read_at c.args.self.now.points.items (c.loop-address.address - 1) c.index.result.now None within c.index.ensures ∙ c.in-Some.is)
+
+pub returns-then-is_none-clause-put : goal.returns-then-is_none-clause-put
+returns-then-is_none-clause-put c site panel line points cables valid stands states from =
+    sym (ap (with_put c.args.answers.now) (nothing_asked site panel line points cables c.args.now.0 c.args.self.now valid stands c.if-is_none.ensures) ∙ put-nil c.args.answers.now)
 
 pub loop-address-preserved : goal.loop-address-preserved
 loop-address-preserved c =

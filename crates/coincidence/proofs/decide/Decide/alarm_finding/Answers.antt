@@ -1,7 +1,7 @@
 use Rattle.std.proofs.Common.{◌<◌, ◌+◌, ◌==◌, ◌&&◌, false, if◌then◌else◌, ◌++◌, ◌∷◌, [], ◌∙◌, ap, sym, subst}
 use Rattle.coincidence.proofs.Watched.{watched, zone_watched, zone_small, partner_small, number_fits, beside_fits}
 use Rattle.coincidence.proofs.FindingIs.{finding_is}
-use Rattle.coincidence.proofs.decide.Decide.find.Goals as goal
+use Rattle.coincidence.proofs.decide.Decide.alarm_finding.Goals as goal
 
 pub index-zone-requires : goal.index-zone-requires
 index-zone-requires c = subst (λ n. c.index-point.result.now.zone < n) (sym c.args.self.now.zones.ok.0) (zone_small c.requires.stands c.args.answer.now.point c.requires.fits.own c.index-point.result.now c.index-point.ensures)
