@@ -1,0 +1,6 @@
+pub mod Busy
+pub mod Holding
+pub mod Listing
+pub mod Pages
+pub mod Rest
+pub mod SameFaces

@@ -1,0 +1,6 @@
+pub mod Answers
+pub mod Changes
+pub mod Faces
+pub mod Holding
+pub mod Slots
+pub mod Timelines

@@ -1,0 +1,42 @@
+//! What a panel shows, and the text that tells how it changed.
+//!
+//! Begin with [`Face`]: all that a panel shows. [`write_changes`] writes the lines by which one face of a panel differs from another, and
+//! [`write_answers`] those of a tick's [`Answers`]; [`Face::conditions`] tells the conditions that a panel is in.
+//!
+//! The page of a panel is a table of slots (`specs/Slots`): each slot has a value in every face, and a line that tells it. The text of a change
+//! is the lines of the slots whose values differ, in the order of the page. The text of a whole run is a function of its timeline
+//! (`specs/Timelines`), as is which timelines a run can have.
+//!
+//! No call takes memory. Where two faces are equal, writing their changes compares a fixed number of machine words and looks at nothing of the
+//! site. Else a group of lines is looked at only where its mask differs, and what is told is named by a walk over the site's list of such
+//! things. Lines are held back in a room of 1,024 bytes, so that a text goes out in as few writes as that room allows.
+#![tactic(auto)]
+
+mod answer_lines;
+mod answers;
+mod change_lines;
+mod conditions;
+mod face;
+mod group;
+mod held;
+mod masks;
+mod naming;
+mod op_answer;
+mod op_answers;
+mod page;
+mod reply;
+mod step;
+mod timeline;
+mod words;
+
+pub use answer_lines::write_answers;
+pub use answers::Answers;
+pub use change_lines::write_changes;
+pub use conditions::Conditions;
+pub use face::Face;
+pub use group::Group;
+pub use op_answer::OpAnswer;
+pub use op_answers::{MOST_ANSWERS, OpAnswers};
+pub use reply::Reply;
+pub use step::Step;
+pub use timeline::Timeline;

@@ -1,0 +1,80 @@
+//! What a face shows of a group, and whether two faces show the same.
+
+ghost use Rattle.std.specs.Prelude.{◌≡◌, ◌≤◌, ◌-◌, ℕ, [], true, slice_index_or};
+ghost use Rattle.face_text.specs.Slots.{HasPlace, last_of, shows as is_shown};
+
+use crate::face::Face;
+use crate::group::Group;
+use site_types::{PointSet, has_bit_8, has_bit_32};
+
+/// Whether a face shows the thing of a group with a number.
+pub fn shows(face: &Face, group: Group, number: u8) -> bool
+    requires group { HasPlace group }
+    requires number { (1 ≤ number) × (number ≤ last_of group) }
+    ensures { result ≡ is_shown face.now group number }
+{
+    let bit = number - 1;
+    match group {
+        Group::Zones(panel) => has_bit_32(face.zones[panel as usize - 1], bit),
+        Group::Firsts(panel) => has_bit_32(face.firsts[panel as usize - 1], bit),
+        Group::Missing(line) => face.faults.missing.contains(line, number),
+        Group::Broken => has_bit_8(face.faults.broken, bit),
+        Group::Shorted => has_bit_8(face.faults.shorted, bit),
+        Group::Supplies => has_bit_8(face.faults.supply, bit),
+        Group::Silent => has_bit_8(face.faults.silent, bit),
+        Group::Links => has_bit_8(face.faults.links, bit),
+        Group::Unconfirmed => has_bit_32(face.faults.unconfirmed, bit),
+        Group::Outputs => has_bit_32(face.outputs, bit),
+        Group::Confirmed => has_bit_32(face.confirmed, bit),
+        Group::PointsOff(line) => face.points_off.contains(line, number),
+        Group::ZonesOff => has_bit_32(face.zones_off, bit),
+        Group::OutputsOff => has_bit_32(face.outputs_off, bit),
+        Group::Tests => has_bit_32(face.test, bit),
+    }
+}
+
+/// Whether two faces have the same mask of a group.
+pub fn is_same(before: &Face, after: &Face, group: Group) -> bool
+    requires { HasPlace group }
+    ensures { result ≡ true → (number : ℕ) → is_shown before.now group number ≡ is_shown after.now group number }
+{
+    match group {
+        Group::Zones(panel) => before.zones[panel as usize - 1] == after.zones[panel as usize - 1],
+        Group::Firsts(panel) => {
+            before.firsts[panel as usize - 1] == after.firsts[panel as usize - 1]
+        }
+        Group::Missing(line) => is_same_loop(&before.faults.missing, &after.faults.missing, line),
+        Group::Broken => before.faults.broken == after.faults.broken,
+        Group::Shorted => before.faults.shorted == after.faults.shorted,
+        Group::Supplies => before.faults.supply == after.faults.supply,
+        Group::Silent => before.faults.silent == after.faults.silent,
+        Group::Links => before.faults.links == after.faults.links,
+        Group::Unconfirmed => before.faults.unconfirmed == after.faults.unconfirmed,
+        Group::Outputs => before.outputs == after.outputs,
+        Group::Confirmed => before.confirmed == after.confirmed,
+        Group::PointsOff(line) => is_same_loop(&before.points_off, &after.points_off, line),
+        Group::ZonesOff => before.zones_off == after.zones_off,
+        Group::OutputsOff => before.outputs_off == after.outputs_off,
+        Group::Tests => before.test == after.test,
+    }
+}
+
+// Whether two sets have the same points of a loop.
+fn is_same_loop(before: &PointSet, after: &PointSet, line: u8) -> bool
+    requires { (1 ≤ line) × (line ≤ 4) }
+    ensures { result ≡ true → slice_index_or before.now.loops (line - 1) [] ≡ slice_index_or after.now.loops (line - 1) [] }
+{
+    before.loops[line as usize - 1] == after.loops[line as usize - 1]
+}
+
+/// The greatest number of a group.
+pub fn last_number(group: Group) -> u8
+    ensures { result ≡ last_of group }
+{
+    match group {
+        Group::Missing(_) | Group::PointsOff(_) => 192,
+        Group::Broken | Group::Shorted | Group::Supplies => 4,
+        Group::Silent | Group::Links => 8,
+        _ => 32,
+    }
+}

@@ -1,0 +1,8 @@
+use crate::reply::Reply;
+
+/// The answer to the operation with a number.
+#[derive(Clone, Copy, Debug, Default, PartialEq, Eq)]
+pub struct OpAnswer {
+    pub number: u64,
+    pub reply: Reply,
+}
