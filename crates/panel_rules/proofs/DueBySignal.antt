@@ -1,8 +1,5 @@
 -- Nothing is due without a signal.
-use Rattle.std.proofs.Common.{◌≡◌, ℕ, zero, suc, ◌≤◌, ◌&&◌, ◌||◌, List, [], ◌∷◌, map, length, Option, Some, None, slice_get, inl, inr, Bool, true, false, refl, sym, ◌∙◌, subst, arith}
-use Rattle.std.specs.List.{list_any, list_all}
-use Rattle.site_types.specs.declared.combine.Combine.{Combine}
-use Rattle.site_types.specs.declared.combine.Combine.TheVariants.{All, Any, AtLeast}
+use Rattle.std.proofs.Common.{◌≡◌, ℕ, zero, suc, ◌≤◌, ◌&&◌, ◌||◌, List, length, Option, Some, None, slice_get, inl, inr, Bool, true, refl, sym, ◌∙◌, subst, arith}
 use Rattle.site_types.specs.declared.marker.Marker.{Marker as MarkerPlan}
 use Rattle.site_types.specs.declared.output.Output.{Output}
 use Rattle.site_types.specs.declared.retained.Retained.{Retained}
@@ -10,17 +7,17 @@ use Rattle.site_types.specs.declared.site.Site.{Site}
 use Rattle.site_types.specs.declared.term.Term.{Term}
 use Rattle.site_types.specs.declared.term.Term.TheVariants.{Zone, Manual, Fault, Marker}
 use Rattle.site_types.specs.Done.{Done}
-use Rattle.site_types.specs.Valid.{IsValid, IsMarker, IsCombine}
+use Rattle.site_types.specs.Valid.{IsValid, IsMarker}
 use Rattle.site_types.proofs.ValidSites.{marker_at}
 use Rattle.coincidence_rules.specs.Places.{is_of, is_manual, on_partner, pairs_up}
 use Rattle.panel_rules.specs.Moments.{Moment, tick_of}
-use Rattle.panel_rules.specs.Markers.{Facts, holds, how_many, combined, equation, solved}
+use Rattle.panel_rules.specs.Markers.{Facts, holds, equation, solved}
+use Rattle.panel_rules.proofs.Solutions.{one_holds}
 use Rattle.panel_rules.specs.Outputs.{on_output, is_true_over, panel_of_output}
 use Rattle.panel_rules.specs.Due.{CallPointSignals, Signals, by_call_point, by_one, by_itself, by_two, by_pair, SignalsOut, by_signal, by_hand, by_second, IsDueAfter, own, by_way, IsDueOut, IsDueByHand}
 use Rattle.panel_rules.specs.DueOutputs.{IsDueAsked, IsDueAskedByHand}
 use Rattle.panel_rules.specs.OutputLaws.{HasSignalled, DueNeedsASignal, DueOutputNeedsASignal}
 use Rattle.panel_rules.proofs.Bools.{either, either_left, either_right, parts}
-use Rattle.panel_rules.proofs.Floors.{le_from}
 use Rattle.panel_rules.proofs.Stays.{up_to_here}
 
 pairs_of : (site : Site) (zone point : ℕ) (second : ℕ → Bool) → pairs_up site zone point second ≡ true → (is_of site zone point || on_partner site zone (λ other. is_of site other point)) ≡ true
@@ -85,46 +82,16 @@ pub data SomeFact (facts : Facts) : Type 0 where
   a_hand : (zone : ℕ) → facts.by_hand zone ≡ true → SomeFact facts
   a_fault : (panel : ℕ) → facts.faulty panel ≡ true → SomeFact facts
 
--- some value is true
-data SomeTrue : List Bool → Type 0 where
-  here : (value : Bool) (values : List Bool) → value ≡ true → SomeTrue (value ∷ values)
-  further : (value : Bool) (values : List Bool) → SomeTrue values → SomeTrue (value ∷ values)
-
-any_true : (values : List Bool) → list_any (λ value. value) values ≡ true → SomeTrue values
-any_true [] h = absurd cc
-any_true (value ∷ values) h = elim (either value (list_any (λ value. value) values) h) [ inl t ↦ here value values t | inr t ↦ further value values (any_true values t) ]
-
-many_true : (values : List Bool) → 1 ≤ how_many values → SomeTrue values
-many_true [] l = absurd (omega (arith, l))
-many_true (true ∷ values) l = here true values refl
-many_true (false ∷ values) l = further false values (many_true values (omega (arith, l)))
-
-all_true : (values : List Bool) → 1 ≤ length values → list_all (λ value. value) values ≡ true → SomeTrue values
-all_true [] l h = absurd (omega (arith, l))
-all_true (value ∷ values) l h = here value values (parts value (list_all (λ value. value) values) h).0
-
-some_true : (combine : Combine) (values : List Bool) → 1 ≤ length values → IsCombine (length values) combine → combined combine values ≡ true → SomeTrue values
-some_true All values l c h = all_true values l h
-some_true Any values l c h = any_true values h
-some_true (AtLeast count) values l c h = many_true values (let k = le_from count (how_many values) h in let one = c.0 in omega (arith, k, one))
-
-some_term : (facts : Facts) (values : ℕ → Bool) (terms : List Term) → ((marker : ℕ) → values marker ≡ true → SomeFact facts) → SomeTrue (map (holds facts values) terms) → SomeFact facts
-some_term facts values [] deep h = elim h [ ]
-some_term facts values (Zone zone ∷ terms) deep (here value rest t) = a_zone zone t
-some_term facts values (Manual zone ∷ terms) deep (here value rest t) = a_hand zone t
-some_term facts values (Fault panel ∷ terms) deep (here value rest t) = a_fault panel t
-some_term facts values (Marker marker ∷ terms) deep (here value rest t) = deep marker t
-some_term facts values (term ∷ terms) deep (further value rest h) = some_term facts values terms deep h
-
-same_length : {X Y : Type 0} (f : X → Y) (xs : List X) → length (map f xs) ≡ length xs
-same_length f [] = refl
-same_length f (x ∷ xs) = let ih = same_length f xs in omega (arith, ih)
+-- a term that holds is such a fact, or a marker that is true
+term_fact : (facts : Facts) (values : ℕ → Bool) (term : Term) → ((marker : ℕ) → values marker ≡ true → SomeFact facts) → holds facts values term ≡ true → SomeFact facts
+term_fact facts values (Zone zone) deep h = a_zone zone h
+term_fact facts values (Manual zone) deep h = a_hand zone h
+term_fact facts values (Fault panel) deep h = a_fault panel h
+term_fact facts values (Marker marker) deep h = deep marker h
 
 by_marker : (facts : Facts) (values : ℕ → Bool) (marker : MarkerPlan) → IsMarker marker → ((m : ℕ) → values m ≡ true → SomeFact facts) → equation facts values (Some marker) ≡ true → SomeFact facts
 by_marker facts values marker valid deep h =
-    let size = same_length (holds facts values) marker.terms in
-    some_term facts values marker.terms deep
-    (some_true marker.combine (map (holds facts values) marker.terms) (let l = valid.terms.0 in omega (arith, l, size)) (subst (λ n. IsCombine n marker.combine) (sym size) valid.combine) h)
+    let w = one_holds marker.combine (holds facts values) marker.terms valid.terms.0 valid.combine h in term_fact facts values w.item deep w.passes
 
 some_fact : (site : Site) → IsValid site → (facts : Facts) (depth marker : ℕ) → solved site facts depth marker ≡ true → SomeFact facts
 some_fact site valid facts zero marker h = absurd cc

@@ -34,6 +34,7 @@ pub mod SettingLaws
 pub mod FactsAgree
 pub mod FaultsTold
 pub mod Unasked
+pub mod Solutions
 pub mod DueBySignal
 pub mod RingWords
 pub mod DeskOutcomes

@@ -13,6 +13,7 @@ pub mod Batches
 pub mod Ring
 pub mod Kept
 pub mod Words
+pub mod MarkerLaws
 pub mod Markers
 pub mod Outputs
 pub mod Faults

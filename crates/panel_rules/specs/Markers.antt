@@ -1,12 +1,10 @@
 -- Cause and effect: which markers are true over facts.
-use Rattle.std.specs.Prelude.{◌≡◌, ◌<◌, ℕ, zero, suc, ◌+◌, Bool, false, List, [], ◌∷◌, map, length, nat_le, Option, Some, None, slice_get, if◌then◌else◌}
-use Rattle.std.specs.List.{list_any, list_all}
-use Rattle.site_types.specs.declared.combine.Combine.{Combine}
-use Rattle.site_types.specs.declared.combine.Combine.TheVariants.{All, Any, AtLeast}
+use Rattle.std.specs.Prelude.{◌≡◌, ℕ, zero, suc, Bool, false, length, Option, Some, None, slice_get}
 use Rattle.site_types.specs.declared.marker.Marker.{Marker as MarkerPlan}
 use Rattle.site_types.specs.declared.site.Site.{Site}
 use Rattle.site_types.specs.declared.term.Term.{Term}
 use Rattle.site_types.specs.declared.term.Term.TheVariants.{Zone, Manual, Fault, Marker}
+use Rattle.marker_table.specs.Equations.{is_met}
 
 -- what markers are solved over: which zones are released, which are in alarm by hand, which panels tell a fault
 pub record Facts : Type 0 where
@@ -24,25 +22,14 @@ holds facts values (Manual zone) = facts.by_hand zone
 holds facts values (Fault panel) = facts.faulty panel
 holds facts values (Marker marker) = values marker
 
--- how many are true
-abbrev pub how_many : List Bool → ℕ
-how_many [] = 0
-how_many (value ∷ values) = (if value then 1 else 0) + how_many values
-
--- all of them, any of them, or at least so many
-abbrev pub combined : Combine → List Bool → Bool
-combined All values = list_all (λ value. value) values
-combined Any values = list_any (λ value. value) values
-combined (AtLeast count) values = nat_le count (how_many values)
-
--- the equation of a marker: its terms, combined
+-- the equation of a marker: enough of its terms hold
 abbrev pub equation : Facts → (ℕ → Bool) → Option MarkerPlan → Bool
 equation facts values None = false
-equation facts values (Some marker) = combined marker.combine (map (holds facts values) marker.terms)
+equation facts values (Some marker) = is_met marker.combine (holds facts values) marker.terms
 
--- values of markers that satisfy the equation of each
+-- values of markers that satisfy the equation of each; a place without a marker is false
 abbrev pub IsSolution : Site → Facts → (ℕ → Bool) → Type 0
-IsSolution site facts values = (marker : ℕ) → marker < length site.markers → values marker ≡ equation facts values (slice_get site.markers marker)
+IsSolution site facts values = (marker : ℕ) → values marker ≡ equation facts values (slice_get site.markers marker)
 
 -- the value of a marker with markers below it to a depth
 abbrev pub solved : Site → Facts → ℕ → ℕ → Bool

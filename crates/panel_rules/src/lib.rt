@@ -14,6 +14,7 @@
 mod examples;
 mod faces;
 mod lanes;
+mod markers;
 mod operations;
 mod other_deadlines;
 mod outputs;
@@ -30,6 +31,7 @@ pub use faces::{
     shown_zone_is_caused,
 };
 pub use lanes::{lanes_hold_few, lanes_keep_their_tick, taken_by_the_next_tick};
+pub use markers::{one_solution, solution_solves};
 pub use operations::{
     answered_by_the_next_tick, answered_once, answers_are_to_requests, answers_stay,
     kept_is_in_force, settings_change_once,
