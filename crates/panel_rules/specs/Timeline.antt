@@ -1,29 +1,51 @@
 -- The timeline of a run: the faces at opening, and a step for each tick in which a face changes or an answer is given.
-use Rattle.std.specs.Prelude.{ℕ, ◌-◌, ◌==◌, ◌&&◌, ◌||◌, not, Bool, true, false, List, [], ◌∷◌, length, map, filter, Option, if◌then◌else◌}
+use Rattle.std.specs.Prelude.{ℕ, ◌-◌, ◌==◌, ◌&&◌, ◌||◌, not, Bool, true, false, List, [], ◌∷◌, length, map, filter, count_by, Option, Some, None, option_map, if◌then◌else◌}
 use Rattle.std.specs.List.{filter_map, find, list_any, range_with_len}
 use Rattle.std.specs.Str.{bytes_eq}
-use Rattle.site_types.specs.declared.buzzer.Buzzer.{Buzzer}
-use Rattle.site_types.specs.declared.buzzer.Buzzer.TheVariants.{Off, Fault, Fire}
 use Rattle.site_types.specs.declared.fault_set.FaultSet.{FaultSet}
 use Rattle.site_types.specs.declared.point_set.PointSet.{PointSet}
 use Rattle.site_types.specs.declared.retained.Retained.{Retained}
 use Rattle.site_types.specs.declared.site.Site.{Site}
+use Rattle.site_types.specs.Limits.{most_panels}
+use Rattle.face_text.specs.declared.answers.Answers.{Answers}
+use Rattle.face_text.specs.declared.conditions.Conditions.{Conditions}
+use Rattle.face_text.specs.declared.face.Face.{Face}
+use Rattle.face_text.specs.declared.op_answer.OpAnswer.{OpAnswer}
+use Rattle.face_text.specs.declared.reply.Reply.{Reply as ToldReply}
+use Rattle.face_text.specs.declared.reply.Reply.TheVariants.{Done as ToldDone, Denied as ToldDenied, Waiting as ToldWaiting, Already as ToldAlready, Store as ToldStore}
+use Rattle.face_text.specs.declared.step.Step.{Step}
+use Rattle.face_text.specs.declared.timeline.Timeline.{Timeline}
+use Rattle.face_text.specs.Faces.{conditions_of, has_some}
+use Rattle.face_text.specs.Slots.{number_of_buzzer}
+use Rattle.face_text.specs.Timelines.{text_of}
 use Rattle.panel_rules.specs.Moments.{Moment, Began, Happened, Turned, Kept, tick_of, up_to}
-use Rattle.panel_rules.specs.Operations.{Request, Answered, requests, operations, same_truth}
+use Rattle.panel_rules.specs.Operations.{Request, Answered, Reply, Busy, Denied, Waiting, Already, Store, WasDone, requests, operations, same_truth}
 use Rattle.panel_rules.specs.Batches.{kept_after}
-use Rattle.panel_rules.specs.Faces.{Face, face_with}
+use Rattle.panel_rules.specs.Faces.{face_with}
 
--- a tick in which something changed or was answered: the faces after it, the answers by number, and whether Keep's turn failed
-pub record Step : Type 0 where
-  pub tick : ℕ
-  pub faces : List Face
-  pub answers : List Answered
-  pub failed : Bool
+-- what is told of an answer; that a panel was busy is counted instead
+abbrev pub told_reply : Reply → Option ToldReply
+told_reply Busy = None
+told_reply (Denied needs has) = Some (ToldDenied needs has)
+told_reply Waiting = Some ToldWaiting
+told_reply Already = Some ToldAlready
+told_reply Store = Some ToldStore
+told_reply WasDone = Some ToldDone
 
-pub record Timeline : Type 0 where
-  pub opened : List Face
-  pub steps : List Step
-  pub last : ℕ
+abbrev pub told_answer : Answered → Option OpAnswer
+told_answer answer = option_map (λ reply. record { number = answer.request.number; reply = reply }) (told_reply answer.reply)
+
+abbrev pub is_busy : Reply → Bool
+is_busy Busy = true
+is_busy _ = false
+
+-- how many operations found a panel busy
+abbrev pub busy_count : List Answered → ℕ → ℕ
+busy_count answers panel = count_by (λ (answer : Answered). is_busy answer.reply && (answer.request.panel == panel)) answers
+
+-- what is told of a tick's answers: those by number, how many found each panel busy, and whether Keep's turn failed
+abbrev pub told_answers : List Answered → Bool → Answers
+told_answers answers failed = record { ops = filter_map told_answer answers; busy = map (busy_count answers) (range_with_len 1 most_panels); failed = failed }
 
 -- the ticks in which Keep's turn failed, the latest first
 abbrev pub failed_ticks : List Moment → List ℕ
@@ -42,11 +64,6 @@ same_lines _ _ = false
 abbrev pub same_points : PointSet → PointSet → Bool
 same_points one other = same_lines one.loops other.loops
 
-abbrev pub buzzer_number : Buzzer → ℕ
-buzzer_number Off = 0
-buzzer_number Fault = 1
-buzzer_number Fire = 2
-
 abbrev pub fault_numbers : FaultSet → List ℕ
 fault_numbers f = f.broken ∷ f.shorted ∷ f.supply ∷ f.silent ∷ f.links ∷ f.unconfirmed ∷ []
 
@@ -54,7 +71,7 @@ abbrev pub same_faults : FaultSet → FaultSet → Bool
 same_faults one other = same_points one.missing other.missing && bytes_eq (fault_numbers one) (fault_numbers other)
 
 abbrev pub face_numbers : Face → List ℕ
-face_numbers f = f.panel ∷ f.outputs ∷ f.confirmed ∷ f.zones_off ∷ f.outputs_off ∷ f.test ∷ buzzer_number f.buzzer ∷ f.counter ∷ []
+face_numbers f = f.panel ∷ f.outputs ∷ f.confirmed ∷ f.zones_off ∷ f.outputs_off ∷ f.test ∷ number_of_buzzer f.buzzer ∷ f.counter ∷ []
 
 abbrev pub same_face : Face → Face → Bool
 same_face one other =
@@ -87,19 +104,18 @@ module _ (site : Site) (kept : Retained) where
   abbrev pub step_of : List Moment → Step
   step_of moments =
       record {
-        tick = tick_of moments;
+        tick = record { 0 = tick_of moments };
         faces = faces_of moments;
-        answers = answers_now moments;
-        failed = list_any (λ tick. tick == tick_of moments) (failed_ticks moments);
+        answers = told_answers (answers_now moments) (list_any (λ tick. tick == tick_of moments) (failed_ticks moments));
       }
 
-  -- in the tick an answer was given, or Keep's turn failed
-  abbrev pub has_answer : Step → Bool
-  has_answer step = not (length step.answers == 0) || step.failed
+  -- in the tick an answer was given, a panel was busy, or Keep's turn failed
+  abbrev pub has_answer : Answers → Bool
+  has_answer answers = not (length answers.ops == 0) || (list_any has_some answers.busy || answers.failed)
 
   -- it is told: a face is not as it was after the tick before, or there is an answer
   abbrev pub is_told : List Moment → ℕ → Bool
-  is_told moments tick = not (same_faces (faces_of (up_to tick moments)) (faces_of (up_to (tick - 1) moments))) || has_answer (step_of (up_to tick moments))
+  is_told moments tick = not (same_faces (faces_of (up_to tick moments)) (faces_of (up_to (tick - 1) moments))) || has_answer (step_of (up_to tick moments)).answers
 
   -- the timeline of a run whose last tick has ended
   abbrev pub timeline_of : List Moment → Timeline
@@ -107,5 +123,13 @@ module _ (site : Site) (kept : Retained) where
       record {
         opened = faces_of [];
         steps = map (λ tick. step_of (up_to tick moments)) (filter (is_told moments) (range_with_len 1 (tick_of moments)));
-        last = tick_of moments;
+        last = record { 0 = tick_of moments };
       }
+
+  -- the text of the run
+  abbrev pub text_of_run : List Moment → List ℕ
+  text_of_run moments = text_of site (timeline_of moments)
+
+  -- the conditions that a panel is in, any of which stand together: fire alarm, fault warning, disabled, test
+  abbrev pub conditions_at : ℕ → List Moment → Conditions
+  conditions_at panel moments = conditions_of (face_of panel moments)
