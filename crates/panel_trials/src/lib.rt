@@ -23,6 +23,8 @@ mod drawn_histories;
 #[cfg(test)]
 mod drawn_outputs;
 #[cfg(test)]
+mod drawn_tables;
+#[cfg(test)]
 mod draws;
 #[cfg(test)]
 mod due_zones;
