@@ -1,6 +1,9 @@
 use crate::form_words::form;
-use crate::order_lines::read_order;
+use crate::judge::tick;
+use crate::order_lines::{make_order, read_seats};
+use crate::standing::Standing;
 use crate::{LineReader, Refusal, Why};
+use tick_units::LAST_TICK;
 
 #[test]
 fn knows_the_rows_by_their_words(rt: HostRuntime) {
@@ -47,7 +50,7 @@ fn tells_the_place_of_a_bad_seat(rt: HostRuntime) {
     ];
     for (text, place) in table {
         let found = if text.len() <= 512 {
-            match read_order(1, text) {
+            match make_order(1, &read_seats(text)) {
                 Ok(_) => None,
                 Err(why) => Some(why),
             }
@@ -59,6 +62,27 @@ fn tells_the_place_of_a_bad_seat(rt: HostRuntime) {
             None => None,
         };
         assert_eq!(rt; found, expected, "at {text:?}");
+    }
+}
+
+#[test]
+fn refuses_every_tick_behind_the_last(rt: HostRuntime) {
+    let table = [
+        (LAST_TICK - 1, LAST_TICK, None),
+        (LAST_TICK, LAST_TICK, Some(Why::TickLimit)),
+        (LAST_TICK, LAST_TICK + 1, Some(Why::TickLimit)),
+        (LAST_TICK, 1, Some(Why::TickLimit)),
+    ];
+    for (ticks, number, refusal) in table {
+        let standing = Standing {
+            ticks,
+            has_order: false,
+        };
+        let found = match tick(&standing, number) {
+            Ok(_) => None,
+            Err(why) => Some(why),
+        };
+        assert_eq!(rt; found, refusal, "tick {number} behind {ticks}");
     }
 }
 
