@@ -18,3 +18,4 @@ pub mod Spaces
 pub mod SupplyLines
 pub mod TickLines
 pub mod Verdicts
+pub mod Spelled

@@ -1,6 +1,7 @@
 -- Where the spaces of a line lie, and walks over its fields.
-use Rattle.std.proofs.Common.{◌≡◌, ◌<◌, ◌≤◌, ◌+◌, ◌-◌, ◌++◌, ◌&&◌, ◌∙◌, ℕ, zero, suc, Bool, true, false, List, [], ◌∷◌, refl, sym, ap, length, get_or, take, drop, append_assoc, arith}
-use Rattle.std.specs.Prelude.{◌==◌, if◌then◌else◌}
+use Rattle.std.proofs.Common.{◌≡◌, ◌<◌, ◌≤◌, ◌+◌, ◌-◌, ◌++◌, ◌&&◌, ◌∙◌, ℕ, zero, suc, Bool, true, false, List, [], ◌∷◌, refl, sym, ap, length, get_or, take, drop, take-append-drop, append_assoc, arith}
+use Rattle.std.specs.Prelude.{◌==◌, bytes_eq, if◌then◌else◌}
+use Rattle.std.proofs.lemmas.Slice.Eq.{bytes_eq-Decides}
 use Rattle.std.proofs.lemmas.List.{append-nil}
 use Rattle.std.proofs.lemmas.Bool.{eq-eqb, ne_eqb}
 use Rattle.tick_units.specs.declared.seat.Seat.{Seat}
@@ -126,3 +127,8 @@ pub seats_on : (count passed : ℕ) (rest front next : List ℕ) (seat : Seat) (
 seats_on count passed rest front next seat before after whole below is_next is_front is_seat is_after is =
     ap (λ a. a ++ seats_of (count - (passed + 1)) next) is_after ∙ ap (λ r. (before ++ seat ∷ []) ++ seats_of (count - (passed + 1)) r) is_next
     ∙ ap (λ s. (before ++ s ∷ []) ++ seats_of (count - (passed + 1)) (after_space rest)) (is_seat ∙ ap seat_of is_front) ∙ seats_step count passed rest before whole below is
+
+-- what is left of a text that begins with a word
+pub word_front : (text word rest : List ℕ) → bytes_eq (take (length word) text) word ≡ true → rest ≡ drop (length word) text → text ≡ word ++ rest
+word_front text word rest begins is =
+    sym (take-append-drop (length word) text) ∙ ap (λ t. t ++ drop (length word) text) ((bytes_eq-Decides (take (length word) text) word).0 begins) ∙ ap (λ t. word ++ t) (sym is)

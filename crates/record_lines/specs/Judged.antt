@@ -1,13 +1,13 @@
 -- What a line says where a record stands so, or the first of the refusals that applies to it.
-use Rattle.std.specs.Prelude.{◌==◌, ◌+◌, ℕ, Bool, true, nat_le, nat_lt, List, Option, Some, None, Result, Ok, Err, if◌then◌else◌}
+use Rattle.std.specs.Prelude.{◌≡◌, ◌==◌, ◌+◌, ℕ, Bool, true, nat_le, nat_lt, List, Option, Some, None, Result, Ok, Err, if◌then◌else◌}
 use Rattle.site_types.specs.Events.{has_event}
 use Rattle.site_types.specs.Numbers.{number_of}
 use Rattle.site_types.specs.declared.site.Site.{Site}
 use Rattle.site_types.specs.declared.event.Event.{Event}
 use Rattle.tick_units.specs.declared.seat.Seat.{Seat}
 use Rattle.record_lines.specs.Fields.{field, space_count, after_space}
-use Rattle.record_lines.specs.Forms.{form_of}
-use Rattle.record_lines.specs.Seats.{order_of, seats_of}
+use Rattle.record_lines.specs.Forms.{form_of, is_seat}
+use Rattle.record_lines.specs.Seats.{is_numbered, order_of, seat_of, seats_of}
 use Rattle.record_lines.specs.Events.{event_of, event_view, has_numbers}
 use Rattle.record_lines.specs.declared.form.Form.{Form}
 use Rattle.record_lines.specs.declared.form.Form.TheVariants.{Tick as TickForm, Point as PointForm, Cable as CableForm, Supply as SupplyForm, Link as LinkForm, Routing as RoutingForm, Op as OpForm, Order as OrderForm, End as EndForm}
@@ -53,8 +53,11 @@ ordered (Ok seats) = Ok (Order seats)
 ordered (Err why) = Err why
 
 -- a tick has at most one order; place 0 tells a second one
+abbrev pub order_with : Site → Standing → List Seat → Result Line Why
+order_with site standing seats = if standing.has_order then Err (BadOrder 0) else ordered (order_of site.panels seats)
+
 abbrev pub order_line : Site → Standing → List ℕ → Result Line Why
-order_line site standing text = if standing.has_order then Err (BadOrder 0) else ordered (order_of site.panels (seats_of (space_count text) (after_space text)))
+order_line site standing text = order_with site standing (seats_of (space_count text) (after_space text))
 
 -- the site has all that the event names
 abbrev pub event_in : Site → Option Event → Result Line Why
@@ -85,3 +88,26 @@ judged_as site standing text (Some form) =
 -- a line of at most 512 printable bytes
 abbrev pub judged : Site → Standing → List ℕ → Result Line Why
 judged site standing text = judged_as site standing text (form_of text)
+
+-- ---- lines whose words and numbers are of their forms
+
+-- a text spells the tick of this number
+pub record SpellsTick (text : List ℕ) (number : ℕ) : Type 0 where
+  pub row : form_of text ≡ Some TickForm
+  pub numbered : number_of (field 1 text) ≡ Some number
+
+-- a field spells a seat
+pub record SpellsSeat (text : List ℕ) (seat : Seat) : Type 0 where
+  pub is : is_seat text ≡ true
+  pub numbered : is_numbered text ≡ true
+  pub back : seat_of text ≡ seat
+
+-- a text spells the order of these seats
+pub record SpellsOrder (text : List ℕ) (seats : List Seat) : Type 0 where
+  pub row : form_of text ≡ Some OrderForm
+  pub numbered : has_numbers OrderForm text ≡ true
+  pub back : seats_of (space_count text) (after_space text) ≡ seats
+
+-- an order that may not come before the first tick
+abbrev pub order_after : Site → Standing → List Seat → Result Line Why
+order_after site standing seats = if nat_lt 0 standing.ticks then order_with site standing seats else Err BeforeFirstTick

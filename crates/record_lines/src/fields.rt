@@ -1,6 +1,6 @@
 //! The fields of a line, which single spaces part.
 
-ghost use Rattle.std.specs.Prelude.{◌≡◌, ◌+◌, ◌<◌, ◌≤◌, length};
+ghost use Rattle.std.specs.Prelude.{◌≡◌, ◌+◌, ◌<◌, ◌≤◌, ◌++◌, IfSome, length};
 ghost use Rattle.record_lines.specs.Fields.{after_space as behind_space, before_space as front, field as field_at, field_count as fields_in, space_count as spaces_in};
 
 /// The field at a place, counted from 0; empty where there is none.
@@ -41,11 +41,38 @@ pub fn before_space(text: &[u8]) -> &[u8]
 pub fn after_space(text: &[u8]) -> &[u8]
     ensures { result.now ≡ behind_space text.now }
 {
+    behind(text, place_of_space(text))
+}
+
+/// The first field, and what follows the first space.
+pub fn split_field(text: &[u8]) -> (&[u8], &[u8])
+    ensures first { result.0.now ≡ front text.now }
+    ensures rest { result.1.now ≡ behind_space text.now }
+{
     let place = place_of_space(text);
+    (&text[..place], behind(text, place))
+}
+
+// What follows the place of the first space.
+fn behind(text: &[u8], place: usize) -> &[u8]
+    requires place { place ≡ length (front text.now) }
+    requires within { place ≤ length text.now }
+    ensures { result.now ≡ behind_space text.now }
+{
     if place < text.len() {
         &text[place + 1..]
     } else {
         &text[place..]
+    }
+}
+
+/// What stands behind a word, where a text begins with it.
+pub fn behind_word<'a>(text: &'a [u8], word: &[u8]) -> Option<&'a [u8]>
+    ensures { IfSome result (λ rest. text.now ≡ word.now ++ rest.now) }
+{
+    match text.strip_prefix(word) {
+        Some(rest) => Some(rest),
+        None => None,
     }
 }
 

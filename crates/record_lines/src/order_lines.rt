@@ -1,13 +1,14 @@
 //! The line that gives a tick its order.
 
-ghost use Rattle.std.specs.Prelude.{◌≡◌, ◌≤◌, IfOk, length};
+ghost use Rattle.std.specs.Prelude.{◌≡◌, ◌≤◌, IfOk, IfSome, length, true};
 ghost use Rattle.record_lines.specs.Fields.{after_space as behind_space, each_field, space_count as spaces_in};
 ghost use Rattle.record_lines.specs.Forms.{is_seat as is_seat_field};
+ghost use Rattle.record_lines.specs.Judged.{SpellsOrder, SpellsSeat};
 ghost use Rattle.site_types.specs.Numbers.{number_of};
 ghost use Rattle.record_lines.specs.Seats.{is_numbered as is_numbered_seat, order_of, panel_of as panel_number, place_of, seat_of as seat_in, seats_of};
 ghost use Rattle.tick_units.specs.Orders.{IsOrder, IsPanelCount};
 
-use crate::fields::{after_space, before_space, space_count};
+use crate::fields::{after_space, before_space, behind_word, space_count, split_field};
 use crate::why::Why;
 use crate::words::{is_word, task};
 use arrayvec::ArrayVec;
@@ -44,15 +45,14 @@ pub fn are_numbered(text: &[u8]) -> bool
     true
 }
 
-/// The order that the fields behind the first give.
-pub fn read_order(panels: u8, text: &[u8]) -> Result<Order, Why>
+/// The order of these seats.
+pub fn make_order(panels: u8, seats: &[Seat]) -> Result<Order, Why>
     requires panels { IsPanelCount panels }
-    requires short { length text.now ≤ 512 }
-    ensures answer { result ≡ order_of panels (seats_of (spaces_in text.now) (behind_space text.now)) }
+    requires short { length seats.now ≤ 512 }
+    ensures answer { result ≡ order_of panels seats.now }
     ensures order { IfOk result (λ order. IsOrder panels order) }
 {
-    let seats = read_seats(text);
-    match Order::new(&seats, panels) {
+    match Order::new(seats, panels) {
         Ok(order) => Ok(order),
         Err(fault) => Err(Why::BadOrder {
             place: place(seats.len(), fault),
@@ -60,7 +60,8 @@ pub fn read_order(panels: u8, text: &[u8]) -> Result<Order, Why>
     }
 }
 
-fn read_seats(text: &[u8]) -> ArrayVec<Seat, 512>
+/// The seats that the fields behind the first give.
+pub fn read_seats(text: &[u8]) -> ArrayVec<Seat, 512>
     requires { length text.now ≤ 512 }
     ensures { result.items ≡ seats_of (spaces_in text.now) (behind_space text.now) }
 {
@@ -72,6 +73,59 @@ fn read_seats(text: &[u8]) -> ArrayVec<Seat, 512>
         rest = after_space(rest);
     }
     seats
+}
+
+/// The seats of a line `order` whose words and numbers are of their forms, if they are no more than a site may have.
+pub fn order_seats(text: &[u8]) -> Option<ArrayVec<Seat, 65>>
+    ensures { IfSome result (λ seats. SpellsOrder text.now seats.items) }
+{
+    match behind_word(text, b"order ") {
+        Some(fields) => whole_seats(fields, space_count(text)),
+        None => None,
+    }
+}
+
+// The seats of so many fields, if each is a seat of the right form.
+fn whole_seats(fields: &[u8], count: usize) -> Option<ArrayVec<Seat, 65>>
+    ensures some { IfSome result (λ seats. 1 ≤ count) }
+    ensures seated { IfSome result (λ seats. each_field is_seat_field count fields.now ≡ true) }
+    ensures numbered { IfSome result (λ seats. each_field is_numbered_seat count fields.now ≡ true) }
+    ensures back { IfSome result (λ seats. seats_of count fields.now ≡ seats.items) }
+{
+    if count == 0 || count > 65 {
+        return None;
+    }
+    let mut seats = ArrayVec::new();
+    let mut rest = fields;
+    for _seat in 0..count {
+        let (field, behind) = split_field(rest);
+        match whole_seat(field) {
+            Some(seat) => seats.push(seat),
+            None => return None,
+        }
+        rest = behind;
+    }
+    Some(seats)
+}
+
+// The seat of a field, if it is of the right form with its number.
+fn whole_seat(text: &[u8]) -> Option<Seat>
+    ensures { IfSome result (SpellsSeat text.now) }
+{
+    match text {
+        [] => None,
+        [b'k'] => Some(Seat {
+            panel: 0,
+            task: Task::Keep,
+        }),
+        [letter, number @ ..] => match (task(*letter), read_number(number)) {
+            (Some(task), Some(number)) => Some(Seat {
+                panel: number.min(255) as u8,
+                task,
+            }),
+            _ => None,
+        },
+    }
 }
 
 // The place that a refusal tells.

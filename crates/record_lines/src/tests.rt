@@ -1,8 +1,9 @@
 use crate::form_words::form;
 use crate::judge::tick;
-use crate::order_lines::read_order;
+use crate::order_lines::{make_order, read_seats};
 use crate::standing::Standing;
 use crate::{LineReader, Refusal, Why};
+use tick_units::LAST_TICK;
 
 #[test]
 fn knows_the_rows_by_their_words(rt: HostRuntime) {
@@ -49,7 +50,7 @@ fn tells_the_place_of_a_bad_seat(rt: HostRuntime) {
     ];
     for (text, place) in table {
         let found = if text.len() <= 512 {
-            match read_order(1, text) {
+            match make_order(1, &read_seats(text)) {
                 Ok(_) => None,
                 Err(why) => Some(why),
             }
@@ -65,31 +66,23 @@ fn tells_the_place_of_a_bad_seat(rt: HostRuntime) {
 }
 
 #[test]
-fn there_is_no_tick_behind_the_last(rt: HostRuntime) {
+fn refuses_every_tick_behind_the_last(rt: HostRuntime) {
     let table = [
-        (0u64, b"tick 1".as_slice(), None),
-        (999_999_999, b"tick 1000000000", None),
-        (1_000_000_000, b"tick 1000000001", Some(Why::TickLimit)),
-        (1_000_000_000, b"tick 7", Some(Why::TickLimit)),
-        (
-            999_999_999,
-            b"tick 1000000001",
-            Some(Why::BadTick {
-                expected: 1_000_000_000,
-                found: 1_000_000_001,
-            }),
-        ),
+        (LAST_TICK - 1, LAST_TICK, None),
+        (LAST_TICK, LAST_TICK, Some(Why::TickLimit)),
+        (LAST_TICK, LAST_TICK + 1, Some(Why::TickLimit)),
+        (LAST_TICK, 1, Some(Why::TickLimit)),
     ];
-    for (ticks, text, refusal) in table {
+    for (ticks, number, refusal) in table {
         let standing = Standing {
             ticks,
             has_order: false,
         };
-        let found = match tick(&standing, text) {
+        let found = match tick(&standing, number) {
             Ok(_) => None,
             Err(why) => Some(why),
         };
-        assert_eq!(rt; found, refusal, "at {text:?} after {ticks}");
+        assert_eq!(rt; found, refusal, "tick {number} behind {ticks}");
     }
 }
 
