@@ -45,7 +45,7 @@ taken_made site panel (Turned other Hold ∷ before) =
 taken_made site panel (Turned other task ∷ before) = taken_made site panel before
 taken_made site panel (Kept failed ∷ before) = taken_made site panel before
 
-held_made : (site : Site) (panel : ℕ) (m : List Moment) → held_answers site panel (made_at panel m) ≡ held_answers site panel m
+pub held_made : (site : Site) (panel : ℕ) (m : List Moment) → held_answers site panel (made_at panel m) ≡ held_answers site panel m
 held_made site panel m = held_front site panel (made_at panel m) m (made_is panel m).past ∙ ap (λ n. take n (answers site panel m)) (taken_made site panel m)
 
 -- without answers no zone is in first state

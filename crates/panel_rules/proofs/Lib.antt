@@ -51,5 +51,6 @@ pub mod LastAnswers
 pub mod Away
 pub mod Accepted
 pub mod FirstsShow
+pub mod FireTold
 pub mod Supplies
 pub mod CutOff

@@ -8,11 +8,13 @@ use Rattle.site_types.specs.Bits.{has_bit}
 use Rattle.site_types.specs.Done.{Done}
 use Rattle.site_types.specs.Valid.{IsValid}
 use Rattle.face_text.specs.declared.face.Face.{Face}
+use Rattle.face_text.specs.Faces.{is_in_fire}
 use Rattle.panel_rules.specs.Moments.{Moment, tick_of, IsRun, IsPanel, HaveAllTurned}
 use Rattle.panel_rules.specs.Due.{IsDue, LoneSignals}
 use Rattle.panel_rules.specs.DueOutputs.{IsDueOn}
 use Rattle.panel_rules.specs.CausedOutputs.{IsCausedAtPanel, IsCausedOutput}
 use Rattle.panel_rules.specs.Faces.{face_with}
+use Rattle.panel_rules.specs.Batches.{is_in_fire_alarm}
 
 -- a face shows a zone in alarm, a zone in first state, or an output of its panel on
 abbrev pub shows_zone : Face → Zone → Bool
@@ -60,3 +62,9 @@ LoneZoneIsShown =
     (site : Site) (kept : Retained) (done : List Done) (stored : Retained) (moments : List Moment) (zone : ℕ) (plan : Zone) → HasEnded site moments → slice_get site.zones zone ≡ Some plan
     → LoneSignals site kept done moments zone (tick_of moments)
     → (shows_zone (face_with site kept done stored plan.panel moments) plan ≡ true) ⊎ (shows_first (face_with site kept done stored plan.panel moments) plan ≡ true)
+
+-- the fire alarm condition that a face tells is the one whose entries Keep counts
+abbrev pub FireIsCounted : Type 0
+FireIsCounted =
+    (site : Site) (kept : Retained) (done : List Done) (stored : Retained) (moments : List Moment) (panel : ℕ) → IsPanel 8 panel
+    → is_in_fire (face_with site kept done stored panel moments) ≡ is_in_fire_alarm site kept done panel moments

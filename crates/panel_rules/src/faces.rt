@@ -1,4 +1,4 @@
-ghost use Rattle.panel_rules.specs.FaceLaws.{DueZoneIsShown, ShownZoneIsCaused, DueOutputIsShown, ShownOutputIsCaused, LoneZoneIsShown};
+ghost use Rattle.panel_rules.specs.FaceLaws.{DueZoneIsShown, ShownZoneIsCaused, DueOutputIsShown, ShownOutputIsCaused, LoneZoneIsShown, FireIsCounted};
 
 /// **A zone that is due at a panel is shown in its face after the tick**, whatever the orders of turns: at the zone's own panel after
 /// the profile's ticks of a signal, and at each panel that was joined with it within the network's.
@@ -25,4 +25,9 @@ pub fn shown_output_is_caused()
 /// A zone of type B with one lasting signal is shown in alarm or in first state by its own panel, until its time ends.
 pub fn lone_zone_is_shown()
     ensures { LoneZoneIsShown }
+{}
+
+/// The fire alarm condition of a panel is told by its face exactly where it stands, and it is the one whose entries are counted.
+pub fn fire_is_counted()
+    ensures { FireIsCounted }
 {}

@@ -27,8 +27,8 @@ pub use examples::{
     outputs_of_small_cases, words_of_a_long_ring, words_of_small_rings,
 };
 pub use faces::{
-    due_output_is_shown, due_zone_is_shown, lone_zone_is_shown, shown_output_is_caused,
-    shown_zone_is_caused,
+    due_output_is_shown, due_zone_is_shown, fire_is_counted, lone_zone_is_shown,
+    shown_output_is_caused, shown_zone_is_caused,
 };
 pub use lanes::{lanes_hold_few, lanes_keep_their_tick, taken_by_the_next_tick};
 pub use markers::{one_solution, solution_solves};
