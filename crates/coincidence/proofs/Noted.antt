@@ -1,7 +1,8 @@
 -- What is kept after one more answer stands for one more answer.
 use Rattle.std.proofs.Common.{◌≡◌, ◌≢◌, ◌⊎◌, inl, inr, ⊎_elim, ℕ, zero, suc, ◌+◌, ◌≤◌, Bool, true, false, not, List, [], ◌∷◌, ◌++◌, set, length-set, reverse, filter, Option, Some, None, slice_get, get_or, ◌==◌, ◌&&◌, ◌||◌, nat_lt, nat_le, if◌then◌else◌, refl, sym, ◌∙◌, ap, subst, arith}
 use Rattle.std.proofs.lemmas.Bool.Decides.{nat_tests, eqb_tells}
-use Rattle.std.proofs.lemmas.List.{reverse-append}
+use Rattle.std.proofs.lemmas.List.{reverse-append, set-get_or}
+use Rattle.std.proofs.lemmas.Option.{get_or_from_slice_get}
 use Rattle.std.proofs.lemmas.List.Elements.{filter-append}
 use Rattle.std.specs.Vec.{with_item}
 use Rattle.tick_units.specs.declared.tick.Tick.{Tick}
@@ -12,9 +13,9 @@ use Rattle.site_types.specs.declared.heard.Heard.{Heard}
 use Rattle.site_types.specs.declared.heard.Heard.TheVariants.{Quiet, Alarm, Silent}
 use Rattle.site_types.specs.declared.answer.Answer.{Answer}
 use Rattle.site_types.specs.declared.retained.Retained.{Retained}
-use Rattle.site_types.specs.Done.{Done, floor_before}
+use Rattle.site_types.specs.Done.{Done, floor_before, is_blocked}
 use Rattle.coincidence_rules.specs.Places.{lies_in, is_of, detects, is_detector}
-use Rattle.coincidence_rules.specs.Counted.{is_silent, is_counted}
+use Rattle.coincidence_rules.specs.Counted.{is_alarm, is_silent, is_counted}
 use Rattle.coincidence_rules.specs.Missing.{latest_of, begins_silent}
 use Rattle.coincidence_rules.specs.Kept.{run_then, run_of, latest_besides, is_type_C, may_pair}
 use Rattle.coincidence_rules.proofs.Lists.{get_either}
@@ -280,3 +281,39 @@ module _ {site : Site} {kept : Retained} {panel : ℕ} {done : List Done} {taken
       let zone : zone_noted pairs answer.point answer.stamp z ≡ y = sym (ey ∙ ap (λ t. zone_noted t answer.point answer.stamp z) (eb ∙ ap (λ m. counted && (is_type_C z.rule || not m)) manual)) in
       subst (λ (o : ZoneWatch). DecidesFor site kept panel done (taken ++ answer ∷ []) (record { panel = decide.panel; points = with_item decide.points answer.point s; zones = with_item decide.zones r.zone o; reset = decide.reset })) zone
       (subst (λ (o : PointWatch). DecidesFor site kept panel done (taken ++ answer ∷ []) (record { panel = decide.panel; points = with_item decide.points answer.point o; zones = with_item decide.zones r.zone (zone_noted pairs answer.point answer.stamp z); reset = decide.reset })) point (stands_more c f))
+
+-- an answer that is no alarm
+pub quiet_noted : {site : Site} {kept : Retained} {panel : ℕ} {done : List Done} {taken : List Answer} {decide : Decide} (stands : DecidesFor site kept panel done taken decide) (answer : Answer) → MayTake site panel done taken (answer ∷ []) →
+    is_alarm answer.heard ≡ false → (q s : PointWatch) → q ≡ get_or decide.points.items answer.point q → s ≡ point_noted answer.heard false (record { 0 = 0 }) answer.stamp q →
+    DecidesFor site kept panel done (taken ++ answer ∷ []) (record { panel = decide.panel; points = with_item decide.points answer.point s; zones = decide.zones; reset = decide.reset })
+quiet_noted {site} {kept} {panel} {done} {taken} {decide} stands answer may quiet q s eq es =
+    let own = may.own 0 answer refl in
+    let w = watched stands answer.point own in
+    let counted = is_counted site kept done answer in
+    let uncounted : counted ≡ false = ap (λ b. b && not (is_blocked site kept done answer.point answer.stamp.0)) quiet in
+    let floor : Tick = record { 0 = floor_before site q.zone answer.stamp.0 done } in
+    let there : get_or decide.zones.items q.zone w.over ≡ w.over =
+    ap (λ k. get_or decide.zones.items k w.over) (zone_read stands answer.point own q eq) ∙ get_or_from_slice_get decide.zones.items w.point.zone w.over w.over w.is_over
+    in
+    let noted =
+    stands_noted stands answer may q w.over eq (sym there) counted floor q s w.over false eq (es ∙ sym (ap (λ b. point_noted answer.heard b floor answer.stamp q) uncounted))
+    (sym (ap (λ b. b && (is_type_C w.over.rule || not s.manual)) uncounted)) refl refl refl
+    in
+    let items : set decide.zones.items q.zone w.over ≡ decide.zones.items =
+    ap (set decide.zones.items q.zone) (sym there) ∙ set-get_or decide.zones.items q.zone w.over
+    in
+    record {
+      wired = noted.wired;
+      at = noted.at;
+      point_count = noted.point_count;
+      zone_count = stands.zone_count;
+      points = noted.points;
+      zones = λ place watch zone is. noted.zones place watch zone (ap (λ xs. slice_get xs place) items ∙ is);
+      reset = noted.reset;
+      order = noted.order;
+      own = noted.own;
+    }
+
+pub no_alarm : (heard : Heard) → (heard ≡ Quiet) ⊎ (heard ≡ Silent) → is_alarm heard ≡ false
+no_alarm heard (inl quiet) = ap is_alarm quiet
+no_alarm heard (inr silent) = ap is_alarm silent

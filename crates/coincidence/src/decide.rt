@@ -127,6 +127,26 @@ impl Decide {
         requires { CanTake self.old (answer.now ∷ []) }
         ensures { (site : SitePlan) (kept : Kept) (panel : ℕ) (done : List Done) (taken : List Taken) → DecidesFor site kept panel done taken self.old → MayTake site panel done taken (answer.now ∷ []) → DecidesFor site kept panel done (taken ++ answer.now ∷ []) self.new }
     {
+        match answer.heard {
+            Heard::Alarm => self.note_alarm(answer),
+            Heard::Quiet | Heard::Silent => self.note_quiet(answer),
+        }
+    }
+
+    // The same of an answer that is no alarm: it ends the run of its point, and makes no pair.
+    fn note_quiet(&mut self, answer: &Answer)
+        requires { CanTake self.old (answer.now ∷ []) }
+        ensures { (site : SitePlan) (kept : Kept) (panel : ℕ) (done : List Done) (taken : List Taken) → DecidesFor site kept panel done taken self.old → MayTake site panel done taken (answer.now ∷ []) → is_alarm answer.now.heard ≡ false → DecidesFor site kept panel done (taken ++ answer.now ∷ []) self.new }
+    {
+        let watch = &mut self.points[answer.point as usize];
+        watch.note(answer.heard, false, Tick(0), answer.stamp);
+    }
+
+    // The same of an alarm.
+    fn note_alarm(&mut self, answer: &Answer)
+        requires { CanTake self.old (answer.now ∷ []) }
+        ensures { (site : SitePlan) (kept : Kept) (panel : ℕ) (done : List Done) (taken : List Taken) → DecidesFor site kept panel done taken self.old → MayTake site panel done taken (answer.now ∷ []) → DecidesFor site kept panel done (taken ++ answer.now ∷ []) self.new }
+    {
         let counted = self.counts(answer);
         let place = answer.point as usize;
         let zone = self.points[place].zone as usize;
