@@ -43,6 +43,13 @@ pub enum Change {
     },
 }
 
+// What fills the unused places of an `ArrayVec` of changes.
+impl Default for Change {
+    fn default() -> Change {
+        Change::Clear { panel: 1 }
+    }
+}
+
 impl Site {
     /// The change that an operation at a panel makes: none where it is not kept, or names what the site has not.
     pub fn change_of(&self, panel: u8, operation: &Operation) -> Option<Change>
