@@ -1,0 +1,13 @@
+pub mod Agreement
+pub mod CellAgreement
+pub mod Finding
+pub mod Forms
+pub mod FrontAgreement
+pub mod NewFiles
+pub mod Openings
+pub mod Reading
+pub mod Refused
+pub mod Replaying
+pub mod Told
+pub mod Writing
+pub mod WrittenSlots

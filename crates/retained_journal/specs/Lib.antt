@@ -1,0 +1,9 @@
+pub mod Cells
+pub mod Creating
+pub mod Fields
+pub mod Journals
+pub mod NewFiles
+pub mod Opening
+pub mod Places
+pub mod Replays
+pub mod Slots

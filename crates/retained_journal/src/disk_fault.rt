@@ -1,0 +1,13 @@
+use panel_edges::Failed;
+use thiserror::Error;
+
+/// A call of the disk failed.
+#[derive(Clone, Copy, Debug, PartialEq, Eq, Error)]
+#[error("the disk failed")]
+pub struct DiskFault;
+
+impl From<Failed> for DiskFault {
+    fn from(_failed: Failed) -> DiskFault {
+        DiskFault
+    }
+}
