@@ -229,10 +229,10 @@ settled_more tick f before after numbered taken stirred signs moved h = record {
         subst (λ (v : ZoneWatch). (v.floor.tick.0 ≤ after.moved.0) × (v.cancelled.tick.0 ≤ after.moved.0)) (same_Some (zone_taken f w) watch is)
         (subst (λ (m : Tick). (w.floor.tick.0 ≤ m.0) × (w.cancelled.tick.0 ≤ m.0)) (sym moved) (h.moved k w e))
 
-later_left : (a b : Tick) → a.0 ≤ (later_tick a b).0
+pub later_left : (a b : Tick) → a.0 ≤ (later_tick a b).0
 later_left a b = elim (lt_tells a.0 b.0) [ inl less ↦ (let l = less.1 in rw less.0 (omega (arith, l))) | inr other ↦ rw other.0 (omega arith) ]
 
-later_right : (a b : Tick) → b.0 ≤ (later_tick a b).0
+pub later_right : (a b : Tick) → b.0 ≤ (later_tick a b).0
 later_right a b = elim (lt_tells a.0 b.0) [ inl less ↦ rw less.0 (omega arith) | inr other ↦ rw other.0 other.1 ]
 
 last_within : (on : Bool) (at : Tick) (last : LastTick) (bound : ℕ) → last.tick.0 ≤ bound → at.0 ≤ bound → (last_if on at last).tick.0 ≤ bound

@@ -13,3 +13,4 @@ pub mod Drawn
 pub mod Turned
 pub mod Tells
 pub mod ByAnswers
+pub mod Again

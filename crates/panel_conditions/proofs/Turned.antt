@@ -71,6 +71,7 @@ holds_turn site kept panel done turn before was amid after fits h may same settl
       subst (Shows site kept panel done (turn ∷ before)) (sym (step.shown ∙ ap (shown_at site kept panel done (findings_taken (turn ∷ before)) turn.tick turn.outside) same))
       (shows_more site kept panel done turn before was.shown h.shows h.few may.later fits);
   settled = settled;
+  stays = step.stays;
   rising = (may.later, h.rising);
   few = entries_few _ (entries_after site kept panel done before) (latest_tick before) turn.tick h.few may.later;
 }

@@ -27,8 +27,9 @@ use Rattle.panel_conditions.specs.declared.points.Points.{Points}
 use Rattle.panel_conditions.specs.declared.shown.Shown.{Shown}
 use Rattle.panel_conditions.specs.declared.hold.Hold.{Hold}
 use Rattle.panel_conditions.specs.declared.outside.Outside.{Outside}
-use Rattle.panel_conditions.specs.PointSets.{loop_address, no_set}
-use Rattle.panel_conditions.specs.Parts.{never_done, last_at, points_at, is_asked, watch_shows, sign_mask}
+use Rattle.panel_conditions.specs.PointSets.{loop_address, no_set, set_without}
+use Rattle.panel_conditions.specs.declared.signs.Signs.{Signs}
+use Rattle.panel_conditions.specs.Parts.{never_done, last_at, points_at, points_shown, is_asked, watch_shows, sign_mask}
 use Rattle.panel_conditions.specs.Points.{points_where}
 use Rattle.panel_conditions.specs.Turns.{HoldTurn, findings_taken, latest_tick, AreRising}
 use Rattle.panel_conditions.specs.Missing.{missing_found, zone_is_off}
@@ -185,10 +186,59 @@ pub record Shows (site : Site) (kept : Retained) (panel : ℕ) (done : List Done
   pub entries : shown.entries ≡ entries_after site kept panel done turns
   pub buzzer : shown.buzzer ≡ buzzer_after site kept panel done turns
 
+-- what follows at a tick from what is kept, with what the other parts tell
+abbrev pub faults_now : ℕ → Outside → Hold → FaultSet
+faults_now tick outside hold =
+    record {
+      missing = points_shown tick hold.points;
+      broken = outside.broken;
+      shorted = outside.shorted;
+      supply = outside.supply;
+      silent = outside.silent;
+      links = outside.links;
+      unconfirmed = outside.unconfirmed;
+    }
+
+abbrev pub word_with : ℕ → Bool → Signs → Word
+word_with tick fault signs = record { stamp = record { 0 = tick }; alarm = signs.alarm; manual = signs.manual; released = signs.released; first = signs.first; fault = fault }
+
+abbrev pub shown_now : ℕ → Outside → Hold → Shown
+shown_now tick outside hold =
+    shown_then hold.shown (word_with tick (has_fault (faults_now tick outside hold)) hold.zones.signs) (faults_now tick outside hold) (record { 0 = last_at tick hold.muted })
+
+-- what the other parts told of these faults
+abbrev pub outside_of : FaultSet → Outside
+outside_of faults =
+    record { supply = faults.supply; broken = faults.broken; shorted = faults.shorted; silent = faults.silent; links = faults.links; unconfirmed = faults.unconfirmed }
+
+-- nothing was told since it was shown, and each operation was in force then
+pub record IsUnchanged (outside : Outside) (hold : Hold) : Type 0 where
+  pub moved : hold.zones.moved.0 < hold.shown.word.stamp.0
+  pub signs : hold.shown.word ≡ word_with hold.shown.word.stamp.0 hold.shown.word.fault hold.zones.signs
+  pub outside_is : outside ≡ outside_of hold.shown.faults
+  pub missing : hold.points.missing ≡ hold.missing
+
+-- no operation is later than the latest; and where each was in force when it was shown, the same follows again from the points that were missing
+pub record ShownStays (done : List Done) (hold : Hold) : Type 0 where
+  pub by : AreBy hold.zones.moved.0 done
+  pub fault : hold.shown.word.fault ≡ has_fault hold.shown.faults
+  pub missing : hold.zones.moved.0 < hold.shown.word.stamp.0 → set_without (set_without hold.missing hold.points.off.after) hold.points.zone_off.after ≡ hold.shown.faults.missing
+  pub buzzer : hold.zones.moved.0 < hold.shown.word.stamp.0 → hold.shown.buzzer ≡ sounds hold.shown.word (nat_lt hold.muted.tick.0 hold.shown.newly.0)
+
+-- findings change nothing of what is shown, nor of operations
+pub record TakesFindings (before after : Hold) : Type 0 where
+  pub shown : after.shown ≡ before.shown
+  pub missing : after.missing ≡ before.missing
+  pub moved : after.zones.moved ≡ before.zones.moved
+  pub off : after.points.off ≡ before.points.off
+  pub zone_off : after.points.zone_off ≡ before.points.zone_off
+  pub muted : after.muted ≡ before.muted
+
 pub record HoldsFor (site : Site) (kept : Retained) (panel : ℕ) (done : List Done) (turns : List HoldTurn) (hold : Hold) : Type 0 where
   pub watches : Watches site kept panel done (findings_taken turns) hold
   pub shows : Shows site kept panel done turns hold.shown
   pub settled : Settled (latest_tick turns) hold.zones
+  pub stays : ShownStays done hold
   pub rising : AreRising turns
   pub few : entries_after site kept panel done turns ≤ latest_tick turns
 
@@ -219,3 +269,4 @@ shown_at site kept panel done taken tick outside before =
 pub record ShowsThen (site : Site) (kept : Retained) (panel : ℕ) (done : List Done) (taken : List Finding) (tick : ℕ) (outside : Outside) (before after : Hold) : Type 0 where
   pub watches : Watches site kept panel done taken after
   pub shown : after.shown ≡ shown_at site kept panel done taken tick outside before.shown
+  pub stays : ShownStays done after

@@ -11,10 +11,11 @@ use crate::last_tick::LastTick;
 use crate::outside::Outside;
 use crate::points::Points;
 use crate::shown::{Shown, has_fault};
+use crate::signs::Signs;
 use crate::zones::Zones;
 use arrayvec::ArrayVec;
 use coincidence_rules::Finding;
-use site_types::{Buzzer, FaultSet, Operation, Retained, Site, Word};
+use site_types::{Buzzer, FaultSet, Operation, PointSet, Retained, Site, Word};
 use std::alloc::Global;
 use tick_units::{Lane, NoMemory, Tick};
 
@@ -25,13 +26,14 @@ pub struct Hold {
     points: Points,
     muted: LastTick,
     shown: Shown,
+    /// The points that were missing when it was shown.
+    missing: PointSet,
 }
 
 impl Hold {
-    ghost use Rattle.panel_conditions.specs.Words.{faults_after, faults_at, word_after, word_at};
+    ghost use Rattle.panel_conditions.specs.Words.{faults_after, word_after};
     ghost use Rattle.panel_conditions.specs.Shown.{buzzer_after, entries_after};
-    ghost use Rattle.panel_conditions.specs.Stands.{HoldsFor, MayApply, MayTurn, Settled, Watches, shown_then};
-    ghost use Rattle.panel_conditions.specs.Parts.{signs_at};
+    ghost use Rattle.panel_conditions.specs.Stands.{HoldsFor, IsUnchanged, MayApply, MayTurn, Settled, ShownStays, TakesFindings, Watches, faults_now, shown_now};
 
     /// Nothing found or shown, with what is retained in force.
     pub fn new(alloc: Global, site: &Site, panel: u8, kept: &Retained) -> Result<Hold, NoMemory>
@@ -44,6 +46,7 @@ impl Hold {
             points,
             muted: LastTick::never(),
             shown: Shown::nothing(),
+            missing: PointSet::default(),
         })
     }
 
@@ -107,7 +110,7 @@ impl Hold {
         requires { findings.old.quota ≤ 32 }
         ensures watches { (site : SitePlan) (kept : Kept) (panel : ℕ) (done : List Done) (taken : List Found) → Watches site kept panel done taken self.old → Watches site kept panel done (taken ++ take (turn_count findings.old) findings.old.items) self.new }
         ensures settled { (site : SitePlan) (kept : Kept) (panel : ℕ) (done : List Done) (taken : List Found) (tick : ℕ) → Watches site kept panel done taken self.old → Settled tick self.old.zones → Settled tick self.new.zones }
-        ensures shown { self.new.shown ≡ self.old.shown }
+        ensures kept { TakesFindings self.old self.new }
         ensures lane { findings.new ≡ after_turn findings.old }
     {
         if findings.len() == 0 {
@@ -122,7 +125,7 @@ impl Hold {
     fn take_all(&mut self, findings: &[Finding])
         ensures watches { (site : SitePlan) (kept : Kept) (panel : ℕ) (done : List Done) (taken : List Found) → Watches site kept panel done taken self.old → Watches site kept panel done (taken ++ findings.now) self.new }
         ensures settled { (site : SitePlan) (kept : Kept) (panel : ℕ) (done : List Done) (taken : List Found) (tick : ℕ) → Watches site kept panel done taken self.old → Settled tick self.old.zones → Settled tick self.new.zones }
-        ensures shown { self.new.shown ≡ self.old.shown }
+        ensures kept { TakesFindings self.old self.new }
     {
         for finding in findings {
             self.take(finding);
@@ -132,7 +135,7 @@ impl Hold {
     fn take(&mut self, finding: &Finding)
         ensures watches { (site : SitePlan) (kept : Kept) (panel : ℕ) (done : List Done) (taken : List Found) → Watches site kept panel done taken self.old → Watches site kept panel done (taken ++ finding.now ∷ []) self.new }
         ensures settled { (site : SitePlan) (kept : Kept) (panel : ℕ) (done : List Done) (taken : List Found) (tick : ℕ) → Watches site kept panel done taken self.old → Settled tick self.old.zones → Settled tick self.new.zones }
-        ensures shown { self.new.shown ≡ self.old.shown }
+        ensures kept { TakesFindings self.old self.new }
     {
         self.zones.take(finding);
         self.points.take(finding);
@@ -141,18 +144,42 @@ impl Hold {
     // Shows what follows at a tick, which isn't before that of the latest turn.
     fn show(&mut self, now: Tick, outside: &Outside)
         ensures fits { now.0 < 2 ^ 64 }
-        ensures shows { (site : SitePlan) (kept : Kept) (panel : ℕ) (done : List Done) (taken : List Found) (tick : ℕ) → Watches site kept panel done taken self.old → Settled tick self.old.zones → tick ≤ now.0 → AreBy now.0 done → ShowsThen site kept panel done taken now.0 outside.now self.old self.new }
+        ensures shows { (site : SitePlan) (kept : Kept) (panel : ℕ) (done : List Done) (taken : List Found) (tick : ℕ) → Watches site kept panel done taken self.old → Settled tick self.old.zones → tick ≤ now.0 → AreBy now.0 done → ShownStays done self.old → self.old.shown.word.stamp.0 ≤ now.0 → ShowsThen site kept panel done taken now.0 outside.now self.old self.new }
         ensures settled { (tick : ℕ) → Settled tick self.old.zones → tick ≤ now.0 → Settled now.0 self.new.zones }
     {
         self.zones.draw(now);
+        if self.is_unchanged(outside) {
+            self.shown.word.stamp = now;
+        } else {
+            self.show_anew(now, outside);
+        }
+    }
+
+    // Whether nothing was told since it was shown, nor an operation done, so that the same is shown again.
+    fn is_unchanged(&self, outside: &Outside) -> bool
+        ensures { result ≡ true → IsUnchanged outside.now self.now }
+    {
+        self.zones.moved().0 < self.shown.word.stamp.0
+            && has_signs(&self.shown.word, &self.zones.signs())
+            && has_told(&self.shown.faults, outside)
+            && is_same_set(self.points.missing(), &self.missing)
+    }
+
+    // Shows what follows from zones that were drawn at a tick.
+    fn show_anew(&mut self, now: Tick, outside: &Outside)
+        ensures shown { self.new.shown ≡ shown_now now.0 outside.now self.old }
+        ensures missing { self.new.missing ≡ self.old.points.missing }
+        ensures rest { (self.new.zones ≡ self.old.zones) × (self.new.points ≡ self.old.points) × (self.new.muted ≡ self.old.muted) }
+    {
         let faults = self.faults_at(now, outside);
         let word = self.word_at(now, has_fault(&faults));
         let muted = self.muted.before(now);
         self.shown = self.shown.after(word, faults, muted);
+        self.missing = *self.points.missing();
     }
 
     fn faults_at(&self, now: Tick, outside: &Outside) -> FaultSet
-        ensures { (site : SitePlan) (kept : Kept) (panel : ℕ) (done : List Done) (taken : List Found) → Watches site kept panel done taken self.now → AreBy now.0 done → result ≡ faults_at site kept panel done taken now.0 outside.now }
+        ensures { result ≡ faults_now now.0 outside.now self.now }
     {
         FaultSet {
             missing: self.points.showing(now),
@@ -167,7 +194,7 @@ impl Hold {
 
     // The word of zones that were drawn at a tick.
     fn word_at(&self, now: Tick, fault: bool) -> Word
-        ensures { (site : SitePlan) (kept : Kept) (panel : ℕ) (done : List Done) (taken : List Found) → Watches site kept panel done taken self.now → self.now.zones.signs ≡ signs_at now.0 self.now.zones.watches.items → AreBy now.0 done → result ≡ word_at site panel done taken now.0 fault }
+        ensures { result ≡ word_with now.0 fault self.now.zones.signs }
     {
         let signs = self.zones.signs();
         Word {
@@ -179,6 +206,37 @@ impl Hold {
             fault,
         }
     }
+}
+
+ghost use Rattle.std.specs.Prelude.{true};
+ghost use Rattle.panel_conditions.specs.Stands.{outside_of, word_with};
+
+// Whether a word tells the signs of the zones.
+fn has_signs(word: &Word, signs: &Signs) -> bool
+    ensures { result ≡ true → word.now ≡ word_with word.now.stamp.0 word.now.fault signs.now }
+{
+    word.alarm == signs.alarm
+        && word.manual == signs.manual
+        && word.released == signs.released
+        && word.first == signs.first
+}
+
+// Whether faults are those that the other parts tell.
+fn has_told(faults: &FaultSet, outside: &Outside) -> bool
+    ensures { result ≡ true → outside.now ≡ outside_of faults.now }
+{
+    faults.broken == outside.broken
+        && faults.shorted == outside.shorted
+        && faults.supply == outside.supply
+        && faults.silent == outside.silent
+        && faults.links == outside.links
+        && faults.unconfirmed == outside.unconfirmed
+}
+
+fn is_same_set(a: &PointSet, b: &PointSet) -> bool
+    ensures { result ≡ true → a.now ≡ b.now }
+{
+    a == b
 }
 
 ghost use Rattle.site_types.specs.Done.{is_mute as mutes_all};

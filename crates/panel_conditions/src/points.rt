@@ -65,6 +65,13 @@ impl Points {
         }
     }
 
+    /// The points whose last three answers were silent.
+    pub fn missing(&self) -> &PointSet
+        ensures { result.now ≡ self.now.missing }
+    {
+        &self.missing
+    }
+
     /// The points that are shown as missing at a tick.
     pub fn showing(&self, now: Tick) -> PointSet
         ensures { result ≡ points_shown now.0 self.now }

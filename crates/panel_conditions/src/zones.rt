@@ -95,6 +95,7 @@ impl Zones {
     /// Draws what the zones show at a tick.
     pub fn draw(&mut self, now: Tick)
         ensures watches { self.new.watches.items ≡ self.old.watches.items }
+        ensures moved { self.new.moved ≡ self.old.moved }
         ensures signs { (tick : ℕ) → Settled tick self.old → tick ≤ now.0 → self.new.signs ≡ signs_at now.0 self.old.watches.items }
         ensures settled { (tick : ℕ) → Settled tick self.old → tick ≤ now.0 → Settled now.0 self.new }
     {
@@ -110,6 +111,13 @@ impl Zones {
             first,
         };
         self.stirred = stirred_after(self.moved, now);
+    }
+
+    /// The tick of the latest operation.
+    pub fn moved(&self) -> Tick
+        ensures { result ≡ self.now.moved }
+    {
+        self.moved
     }
 
     /// What the zones showed when it was drawn last.

@@ -1,5 +1,5 @@
 -- What befalls one panel, and what it is to the others.
-use Rattle.std.proofs.Common.{◌≡◌, ℕ, ◌+◌, ◌≤◌, ◌==◌, List, [], ◌∷◌, ◌++◌, length, length-append, Some, slice_get, ◌⊎◌, inl, inr, zero, suc, ◌-◌, ◌≢◌, Contains, Bool, false, refl, sym, ◌∙◌, ap, subst, arith}
+use Rattle.std.proofs.Common.{◌≡◌, ℕ, ◌+◌, ◌≤◌, ◌==◌, List, [], ◌∷◌, ◌++◌, length, length-append, Some, slice_get, ◌⊎◌, inl, inr, zero, suc, ◌-◌, ◌≢◌, Contains, Bool, true, false, refl, sym, ◌∙◌, ap, subst, arith}
 use Rattle.tick_units.specs.Lane.{LaneState, with_put}
 use Rattle.tick_units.specs.declared.task.Task.{Task}
 use Rattle.tick_units.specs.declared.task.Task.TheVariants.{Poll, Decide, Hold}
@@ -19,7 +19,7 @@ use Rattle.panel_core.specs.Lanes.{answer_lane, finding_lane, decided}
 use Rattle.std.proofs.lemmas.Bool.Decides.{eqb_tells}
 use Rattle.std.proofs.Math.ListN.{set, length-set}
 use Rattle.std.specs.Vec.{with_item}
-use Rattle.tick_units.specs.declared.task.Task.TheVariants.{Keep}
+use Rattle.tick_units.specs.declared.task.Task.TheVariants.{Supply, Desk, Link, Effect, Drive, Keep}
 use Rattle.tick_units.specs.declared.seat.Seat.{Seat}
 use Rattle.tick_units.specs.Orders.{canonical_seats, keep_seat}
 use Rattle.tick_units.proofs.Canonical.{IsPanelSeat, Contains-canonical_seats-cases}
@@ -155,3 +155,36 @@ panel_added site kept xs ys x n e l each new place parts is =
         let at : n + 1 ≡ place + 1 = omega (arith, far, l) in
         subst (λ m. PanelStands site kept m [] parts) at (subst (PanelStands site kept (n + 1) []) same new)
     last (suc k) far h = cc
+
+-- a task that has no part here yet
+abbrev is_idle : Task → Bool
+is_idle Poll = false
+is_idle Decide = false
+is_idle Hold = false
+is_idle _ = true
+
+abbrev IsIdle : Task → Type 0
+IsIdle task = (task ≡ Supply) ⊎ ((task ≡ Desk) ⊎ ((task ≡ Link) ⊎ ((task ≡ Effect) ⊎ ((task ≡ Drive) ⊎ (task ≡ Keep)))))
+
+idle_from : (task : Task) → IsIdle task → is_idle task ≡ true
+idle_from task (inl e) = ap is_idle e
+idle_from task (inr (inl e)) = ap is_idle e
+idle_from task (inr (inr (inl e))) = ap is_idle e
+idle_from task (inr (inr (inr (inl e)))) = ap is_idle e
+idle_from task (inr (inr (inr (inr (inl e))))) = ap is_idle e
+idle_from task (inr (inr (inr (inr (inr e))))) = ap is_idle e
+
+idle_stays : (site : Site) (kept : Retained) (panel : ℕ) (before : List Moment) (parts : Parts) (task : Task) → is_idle task ≡ true → PanelStands site kept panel before parts → PanelStands site kept panel (Turned panel task ∷ before) parts
+idle_stays site kept panel before parts Poll idle h = cc
+idle_stays site kept panel before parts Decide idle h = cc
+idle_stays site kept panel before parts Hold idle h = cc
+idle_stays site kept panel before parts Supply idle h = record { member = h.member; polls = h.polls; answers = h.answers; decides = h.decides; findings = h.findings; holds = h.holds }
+idle_stays site kept panel before parts Desk idle h = record { member = h.member; polls = h.polls; answers = h.answers; decides = h.decides; findings = h.findings; holds = h.holds }
+idle_stays site kept panel before parts Link idle h = record { member = h.member; polls = h.polls; answers = h.answers; decides = h.decides; findings = h.findings; holds = h.holds }
+idle_stays site kept panel before parts Effect idle h = record { member = h.member; polls = h.polls; answers = h.answers; decides = h.decides; findings = h.findings; holds = h.holds }
+idle_stays site kept panel before parts Drive idle h = record { member = h.member; polls = h.polls; answers = h.answers; decides = h.decides; findings = h.findings; holds = h.holds }
+idle_stays site kept panel before parts Keep idle h = record { member = h.member; polls = h.polls; answers = h.answers; decides = h.decides; findings = h.findings; holds = h.holds }
+
+-- its turn changes nothing
+pub after_idle : (site : Site) (kept : Retained) (panel : ℕ) (before : List Moment) (parts : Parts) (task : Task) → IsIdle task → PanelStands site kept panel before parts → PanelStands site kept panel (Turned panel task ∷ before) parts
+after_idle site kept panel before parts task idle h = idle_stays site kept panel before parts task (idle_from task idle) h

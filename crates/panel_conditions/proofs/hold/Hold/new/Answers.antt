@@ -1,6 +1,7 @@
 use Rattle.std.proofs.Common.{[], sym, subst, arith}
 use Rattle.site_types.specs.Done.{mutes}
 use Rattle.panel_conditions.specs.Stands.{Shows, TellsLast}
+use Rattle.panel_conditions.proofs.Again.{stays_first}
 use Rattle.panel_conditions.proofs.Told.{told_never}
 use Rattle.panel_conditions.proofs.Drawn.{settled_first}
 use Rattle.panel_conditions.proofs.Firsts.{zones_first, shows_nothing}
@@ -15,6 +16,7 @@ returns c valid = record {
   };
   shows = subst (Shows c.args.site.now c.args.kept.now c.args.panel [] []) (sym c.nothing.ensures) (shows_nothing c.args.site.now c.args.kept.now c.args.panel);
   settled = settled_first c.args.site.now c.args.panel c.in_ok-zones.zones c.in_ok-zones.ensures.0 c.in_ok-zones.ensures.1;
+  stays = stays_first _ c.nothing.ensures;
   rising = tt;
   few = omega arith;
 }

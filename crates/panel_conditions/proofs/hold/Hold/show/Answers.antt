@@ -1,23 +1,42 @@
-use Rattle.std.proofs.Common.{◌∙◌, ap, sym, subst}
-use Rattle.panel_conditions.specs.Words.{has_fault, word_at}
+use Rattle.std.proofs.Common.{◌∙◌, refl, ap, sym, subst}
+use Rattle.site_types.specs.Done.{mutes}
 use Rattle.panel_conditions.specs.Parts.{signs_at}
-use Rattle.panel_conditions.specs.Stands.{WatchesZones}
-use Rattle.panel_conditions.proofs.Turned.{shown_same}
+use Rattle.panel_conditions.specs.Stands.{Settled, ShownStays, TellsLast, Watches, WatchesPoints, WatchesZones}
+use Rattle.panel_conditions.proofs.Again.{shown_is, stays_now, stays_taken, unchanged_is}
 use Rattle.panel_conditions.proofs.hold.Hold.show.Goals as goal
 
-pub returns-clause-shows : goal.returns-clause-shows
-returns-clause-shows c site kept panel done taken tick h settled le since =
-    let zones = subst (WatchesZones site panel done taken) (sym c.draw.ensures.watches) h.zones in
+pub returns-then-is_unchanged-clause-shows : goal.returns-then-is_unchanged-clause-shows
+returns-then-is_unchanged-clause-shows c site kept panel done taken tick h settled le since stays turned =
+    let was = c.args.self.now in
+    let drawn = record was { zones = c.draw.new.self } in
+    let watches : Watches site kept panel done taken drawn = record { zones = subst (WatchesZones site panel done taken) (sym c.draw.ensures.watches) h.zones; points = h.points; muted = h.muted } in
+    let still : ShownStays done drawn = stays_taken done was drawn (record { shown = refl; missing = refl; moved = c.draw.ensures.moved; off = refl; zone_off = refl; muted = refl }) stays in
     let signs = c.draw.ensures.signs tick settled le ∙ ap (signs_at c.args.now.0) (sym c.draw.ensures.watches) in
+    let same = c.is_unchanged.ensures c.if-is_unchanged.true in
+    let again = unchanged_is watches c.args.now.0 c.args.outside.now same still turned in
     record {
-      watches = record { zones = zones; points = h.points; muted = h.muted };
-      shown =
-          let faults = c.faults_at-faults.ensures site kept panel done taken (record { zones = zones; points = h.points; muted = h.muted }) since in
-          c.after-self.ensures
-          ∙ shown_same c.args.self.now.shown c.word_at-word.result _ c.faults_at-faults.result _ c.before-muted.result _
-          (c.word_at-word.ensures site kept panel done taken (record { zones = zones; points = h.points; muted = h.muted }) signs since ∙ ap (word_at site panel done taken c.args.now.0) (c.has_fault.ensures ∙ ap has_fault faults)) faults
-          (c.before-muted.ensures ∙ sym (h.muted.at c.args.now.0 (h.muted.by c.args.now.0 since)));
+      watches = record { zones = watches.zones; points = h.points; muted = h.muted };
+      shown = again ∙ shown_is watches c.args.now.0 c.args.outside.now signs since;
+      stays = stays_now watches c.args.now.0 c.args.outside.now _ still.by again (sym same.missing) refl refl refl;
     }
 
-pub returns-clause-settled : goal.returns-clause-settled
-returns-clause-settled c tick settled le = c.draw.ensures.settled tick settled le
+pub returns-else-is_unchanged-clause-shows : goal.returns-else-is_unchanged-clause-shows
+returns-else-is_unchanged-clause-shows c site kept panel done taken tick h settled le since stays turned =
+    let was = c.args.self.now in
+    let drawn = record was { zones = c.draw.new.self } in
+    let watches : Watches site kept panel done taken drawn = record { zones = subst (WatchesZones site panel done taken) (sym c.draw.ensures.watches) h.zones; points = h.points; muted = h.muted } in
+    let still : ShownStays done drawn = stays_taken done was drawn (record { shown = refl; missing = refl; moved = c.draw.ensures.moved; off = refl; zone_off = refl; muted = refl }) stays in
+    let signs = c.draw.ensures.signs tick settled le ∙ ap (signs_at c.args.now.0) (sym c.draw.ensures.watches) in
+    let rest = c.show_anew.ensures.rest in
+    record {
+      watches = record {
+        zones = subst (λ z. WatchesZones site panel done taken z.watches.items) (sym rest.0) watches.zones;
+        points = subst (WatchesPoints site kept panel done taken) (sym rest.1) h.points;
+        muted = subst (TellsLast (mutes panel) done) (sym rest.2) h.muted;
+      };
+      shown = c.show_anew.ensures.shown ∙ shown_is watches c.args.now.0 c.args.outside.now signs since;
+      stays = stays_now watches c.args.now.0 c.args.outside.now c.show_anew.new.self still.by c.show_anew.ensures.shown c.show_anew.ensures.missing rest.0 rest.1 rest.2;
+    }
+
+pub returns-else-is_unchanged-clause-settled : goal.returns-else-is_unchanged-clause-settled
+returns-else-is_unchanged-clause-settled c tick settled le = subst (Settled c.args.now.0) (sym c.show_anew.ensures.rest.0) (c.draw.ensures.settled tick settled le)

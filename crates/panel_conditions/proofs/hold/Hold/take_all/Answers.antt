@@ -1,6 +1,7 @@
-use Rattle.std.proofs.Common.{◌∙◌, ◌++◌, take, subst}
+use Rattle.std.proofs.Common.{◌++◌, take, subst}
 use Rattle.std.proofs.lemmas.List.{take_all}
 use Rattle.panel_conditions.specs.Stands.{Watches}
+use Rattle.panel_conditions.proofs.Again.{takes_more}
 use Rattle.panel_conditions.proofs.Turned.{batch_more}
 use Rattle.panel_conditions.proofs.hold.Hold.take_all.Goals as goal
 
@@ -13,7 +14,7 @@ loop-finding-preserved c = record {
   settled = λ site kept panel done taken tick h settled.
       c.take.ensures.settled site kept panel done (taken ++ take c.loop-finding.finding-index c.args.findings.now) tick (c.loop-finding.invariant.watches site kept panel done taken h)
       (c.loop-finding.invariant.settled site kept panel done taken tick h settled);
-  shown = c.take.ensures.shown ∙ c.loop-finding.invariant.shown;
+  kept = takes_more _ _ _ c.loop-finding.invariant.kept c.take.ensures.kept;
 }
 
 pub returns-clause-watches : goal.returns-clause-watches

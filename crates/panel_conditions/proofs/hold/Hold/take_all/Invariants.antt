@@ -1,9 +1,9 @@
-use Rattle.std.proofs.Common.{◌≡◌, ℕ, List, ◌++◌, take}
+use Rattle.std.proofs.Common.{ℕ, List, ◌++◌, take}
 use Rattle.site_types.specs.declared.site.Site.{Site}
 use Rattle.site_types.specs.declared.retained.Retained.{Retained}
 use Rattle.site_types.specs.Done.{Done}
 use Rattle.coincidence_rules.specs.declared.finding.Finding.{Finding}
-use Rattle.panel_conditions.specs.Stands.{Settled, Watches}
+use Rattle.panel_conditions.specs.Stands.{Settled, TakesFindings, Watches}
 use Rattle.panel_conditions.proofs.hold.Hold.take_all.Given as goal
 
 abbrev pub invariant-loop-finding : goal.invariant-loop-finding
@@ -11,5 +11,5 @@ invariant-loop-finding l = record {
   watches : (site : Site) (kept : Retained) (panel : ℕ) (done : List Done) (taken : List Finding) → Watches site kept panel done taken l.initial.self →
       Watches site kept panel done (taken ++ take l.finding-index l.findings) l.self;
   settled : (site : Site) (kept : Retained) (panel : ℕ) (done : List Done) (taken : List Finding) (tick : ℕ) → Watches site kept panel done taken l.initial.self → Settled tick l.initial.self.zones → Settled tick l.self.zones;
-  shown : l.self.shown ≡ l.initial.self.shown;
+  kept : TakesFindings l.initial.self l.self;
 }

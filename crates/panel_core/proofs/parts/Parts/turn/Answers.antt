@@ -2,7 +2,7 @@ use Rattle.std.proofs.Common.{◌∷◌, [], subst, sym}
 use Rattle.tick_units.specs.Lane.{HasRoom}
 use Rattle.panel_rules.specs.Moments.{IsRun, Turned}
 use Rattle.panel_core.specs.Lanes.{decided}
-use Rattle.panel_core.proofs.Panels.{after_poll}
+use Rattle.panel_core.proofs.Panels.{after_idle, after_poll}
 use Rattle.panel_core.proofs.Rooms.{room_for_poll, room_for_decide}
 use Rattle.panel_core.proofs.Takes.{can_take, after_decide}
 use Rattle.panel_core.proofs.Holds.{after_hold}
@@ -39,3 +39,6 @@ returns-in-Hold c site kept panel before h now run =
     let e = c.turn-in-Hold.ensures in
     rw c.in-Hold.is
     (after_hold site kept panel before c.args.self.now c.turn-in-Hold.new.self c.turn-in-Hold.new.findings c.outside-outside.result c.args.now.0 h now (subst (λ task. IsRun site.panels (Turned panel task ∷ before)) c.in-Hold.is run) (c.outside-outside.ensures site panel (reports site panel before) h.polls) e.lane (e.stands site kept panel [] (hold_turns site kept [] panel before)))
+
+pub returns-in-Supply : goal.returns-in-Supply
+returns-in-Supply c site kept panel before h now run = after_idle site kept panel before c.args.self.now c.args.task c.in-Supply.is h
