@@ -1,7 +1,10 @@
 -- The face of a panel that shows nothing, and the conditions that a face tells.
-use Rattle.std.specs.Prelude.{◌-◌, ◌==◌, ◌||◌, ℕ, Bool, false, not, List, replicate, slice_index}
+use Rattle.std.specs.Prelude.{◌-◌, ◌==◌, ◌&&◌, ◌||◌, ℕ, Bool, true, false, not, List, replicate, slice_index}
 use Rattle.std.specs.List.{list_any}
-use Rattle.site_types.specs.declared.buzzer.Buzzer.TheVariants.{Off}
+use Rattle.std.specs.Cmp.Lexicographic.{pointwise}
+use Rattle.std.specs.Str.{bytes_eq}
+use Rattle.site_types.specs.declared.buzzer.Buzzer.{Buzzer}
+use Rattle.site_types.specs.declared.buzzer.Buzzer.TheVariants.{Off, Fault, Fire}
 use Rattle.site_types.specs.declared.fault_set.FaultSet.{FaultSet}
 use Rattle.site_types.specs.declared.point_set.PointSet.{PointSet}
 use Rattle.face_text.specs.declared.conditions.Conditions.{Conditions}
@@ -61,3 +64,36 @@ is_in_test face = has_some face.test
 -- the conditions of a panel, which stand together
 abbrev pub conditions_of : Face → Conditions
 conditions_of face = record { fire = is_in_fire face; fault = is_in_fault face.faults; disabled = is_in_disablement face; test = is_in_test face }
+
+-- ---- two faces are the same
+
+abbrev pub same_points : PointSet → PointSet → Bool
+same_points one other = pointwise bytes_eq one.loops other.loops
+
+abbrev pub same_faults : FaultSet → FaultSet → Bool
+same_faults one other =
+    same_points one.missing other.missing
+    && ((one.broken == other.broken) && ((one.shorted == other.shorted) && ((one.supply == other.supply) && ((one.silent == other.silent) && ((one.links == other.links) && (one.unconfirmed == other.unconfirmed))))))
+
+abbrev pub same_truth : Bool → Bool → Bool
+same_truth true other = other
+same_truth false other = not other
+
+abbrev pub same_buzzer : Buzzer → Buzzer → Bool
+same_buzzer Off Off = true
+same_buzzer Fault Fault = true
+same_buzzer Fire Fire = true
+same_buzzer _ _ = false
+
+-- two faces show the same
+abbrev pub same_face : Face → Face → Bool
+same_face one other =
+    (one.panel == other.panel)
+    && (bytes_eq one.zones other.zones && (bytes_eq one.firsts other.firsts && (same_faults one.faults other.faults
+    && ((one.outputs == other.outputs) && ((one.confirmed == other.confirmed) && (same_points one.points_off other.points_off
+    && ((one.zones_off == other.zones_off) && ((one.outputs_off == other.outputs_off) && ((one.test == other.test)
+    && (same_truth one.delays_off other.delays_off && (same_buzzer one.buzzer other.buzzer && (one.counter == other.counter))))))))))))
+
+-- the faces of all panels show the same
+abbrev pub same_faces : List Face → List Face → Bool
+same_faces one other = pointwise same_face one other

@@ -29,10 +29,24 @@ pub fn write_answers<K: Sink>(answers: &Answers, out: &mut K) -> Result<(), Fail
     ensures reads { K.read_faults out.new ≡ K.read_faults out.old }
 {
     let mut held = Held::new();
-    push_ops(&answers.ops, &mut held, out)?;
-    push_busy(&answers.busy, &mut held, out)?;
-    push_failed(answers.failed, &mut held, out)?;
+    push_answers(answers, &mut held, out)?;
     held.flush(out)
+}
+
+/// Puts the lines of what is answered in a tick behind what is held.
+///
+/// # Errors
+///
+/// At the first write that fails. Some front of what was held and of the text is written then.
+pub fn push_answers<K: Sink>(answers: &Answers, held: &mut Held, out: &mut K) -> Result<(), Failed>
+    ensures text { Puts held.old held.new (K.written out.old) (K.written out.new) (answers_text answers.now) result }
+    ensures cause { HasCause (K.write_faults out.old) (K.write_faults out.new) result }
+    ensures left { K.left out.new ≡ K.left out.old }
+    ensures reads { K.read_faults out.new ≡ K.read_faults out.old }
+{
+    push_ops(&answers.ops, held, out)?;
+    push_busy(&answers.busy, held, out)?;
+    push_failed(answers.failed, held, out)
 }
 
 fn push_ops<K: Sink>(ops: &OpAnswers, held: &mut Held, out: &mut K) -> Result<(), Failed>

@@ -38,13 +38,33 @@ pub fn write_changes<K: Sink>(
     ensures left { K.left out.new ≡ K.left out.old }
     ensures reads { K.read_faults out.new ≡ K.read_faults out.old }
 {
+    let mut held = Held::new();
+    push_changes(site, before, after, &mut held, out)?;
+    held.flush(out)
+}
+
+/// Puts the lines of all that a panel shows otherwise than before behind what is held.
+///
+/// # Errors
+///
+/// At the first write that fails. Some front of what was held and of the text is written then.
+pub fn push_changes<K: Sink>(
+    site: &Site,
+    before: &Face,
+    after: &Face,
+    held: &mut Held,
+    out: &mut K,
+) -> Result<(), Failed>
+    ensures text { Puts held.old held.new (K.written out.old) (K.written out.new) (changes_text site.now before.now after.now) result }
+    ensures cause { HasCause (K.write_faults out.old) (K.write_faults out.new) result }
+    ensures left { K.left out.new ≡ K.left out.old }
+    ensures reads { K.read_faults out.new ≡ K.read_faults out.old }
+{
     if is_same_face(before, after) {
         return Ok(());
     }
-    let mut held = Held::new();
-    push_groups(site, before, after, &mut held, out)?;
-    push_rest(before, after, &mut held, out)?;
-    held.flush(out)
+    push_groups(site, before, after, held, out)?;
+    push_rest(before, after, held, out)
 }
 
 fn is_same_face(before: &Face, after: &Face) -> bool

@@ -10,6 +10,8 @@
 //! No call takes memory. Where two faces are equal, writing their changes compares a fixed number of machine words and looks at nothing of the
 //! site. Else a group of lines is looked at only where its mask differs, and what is told is named by a walk over the site's list of such
 //! things. Lines are held back in a room of 1,024 bytes, so that a text goes out in as few writes as that room allows.
+//! Where a tick has more to tell than one face, [`push_changes`] and [`push_answers`] put it behind what a [`Held`] holds already, and one
+//! [`Held::flush`] writes it all.
 #![tactic(auto)]
 
 mod answer_lines;
@@ -29,12 +31,13 @@ mod step;
 mod timeline;
 mod words;
 
-pub use answer_lines::write_answers;
+pub use answer_lines::{push_answers, write_answers};
 pub use answers::Answers;
-pub use change_lines::write_changes;
+pub use change_lines::{push_changes, write_changes};
 pub use conditions::Conditions;
 pub use face::Face;
 pub use group::Group;
+pub use held::Held;
 pub use op_answer::OpAnswer;
 pub use op_answers::{MOST_ANSWERS, OpAnswers};
 pub use reply::Reply;

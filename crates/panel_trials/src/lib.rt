@@ -27,6 +27,8 @@ mod draws;
 #[cfg(test)]
 mod due_zones;
 #[cfg(test)]
+mod face_lines;
+#[cfg(test)]
 mod hold_tests;
 #[cfg(test)]
 mod hostile_tests;
