@@ -21,7 +21,6 @@ mod loading;
 mod outcome;
 #[cfg(test)]
 mod outside_tests;
-mod page;
 #[cfg(test)]
 mod played;
 mod program;
@@ -37,7 +36,6 @@ mod taken;
 mod tests;
 mod usage;
 mod writing;
-mod zone_lines;
 
 use panel_edges::{FileShelf, StdSink, StdSource};
 use program::panel;
