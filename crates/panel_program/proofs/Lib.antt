@@ -1,4 +1,3 @@
-pub mod Changes
 pub mod Growths
 pub mod Numbers
 pub mod Progresses
@@ -8,6 +7,7 @@ pub mod Steps
 pub mod Closing
 pub mod Written
 pub mod Ends
+pub mod Faces
 pub mod Texts
 pub mod Readings
 pub mod Promises

@@ -193,22 +193,6 @@ run_few (Some block) ticks = omega arith
 pub ticks_few : (run : Run) (r : MayClose run) → run.ticks ≤ 1000000000
 ticks_few run r = let few = r.stands.few in let count = r.stands.count in let le = run_few r.p.block r.p.run in omega (arith, few, count, le)
 
--- the page doesn't matter
-pub stands_page : (site : Site) (p : Progress) (run : Run) (page : List ℕ) → Stands site p run → Stands site p (record run { page = page })
-stands_page site p run page h =
-    record {
-      valid = h.valid;
-      one = h.one;
-      system = h.system;
-      open_is = h.open_is;
-      canonical = h.canonical;
-      order_is = h.order_is;
-      ordered = h.ordered;
-      shown = h.shown;
-      count = h.count;
-      few = h.few;
-    }
-
 shut_by : (site : Site) (ticks : List TickBlock) (o : Option Block) (run : Run) → Stands site (record { run = ticks; block = o }) run → run.is_open ≡ false → (o ≡ None) × Stands site (record { run = closed_by o ticks; block = None }) run
 shut_by site ticks None run h shut = (refl, h)
 shut_by site ticks (Some block) run h shut = not_open (sym h.open_is ∙ shut)

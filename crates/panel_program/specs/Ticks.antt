@@ -8,11 +8,11 @@ use Rattle.panel_program.specs.Zones.{shown_after, nothing_shown, is_same, chang
 
 -- what is written before the first tick: the site, and what its panel shows at opening
 abbrev pub opening_text : Site → List ℕ
-opening_text site = opening_line site ++ changes_text site 1 nothing_shown (shown_after site [])
+opening_text site = opening_line site ++ changes_text site nothing_shown (shown_after site [])
 
 -- what is written of a tick: nothing where the panel shows the same as before it
 abbrev pub tick_text : Site → ℕ → Shown → Shown → List ℕ
-tick_text site tick before after = if is_same before after then [] else (tick_line tick ++ changes_text site 1 before after)
+tick_text site tick before after = if is_same before after then [] else (tick_line tick ++ changes_text site before after)
 
 -- the text of the ticks that were run, the newest first
 abbrev pub text_of : Site → List TickBlock → List ℕ

@@ -7,8 +7,8 @@
 //! it has none, stands in specs/Sites, with the lines of refusals in specs/Refusals.
 //!
 //! `run_site` of src/reading reads the record piece by piece; `Run` takes it line by line. A tick's turns are made when the line behind its
-//! block was read, and its text is written then, in one call. All memory of a run is taken before its first line is written. Between two
-//! lines a tick costs the turns of the system; its text costs the lines that it has.
+//! block was read, and its text is written then, a short one in one call. All memory of a run is taken before its first line is written.
+//! Between two lines a tick costs the turns of the system; its text costs the lines that it has.
 //!
 //! No part takes supplies, links and operations yet: a record's line of these ends the run, and a site that has markers, or for a run outputs
 //! or a second panel, is refused.
@@ -21,7 +21,6 @@ mod loading;
 mod outcome;
 #[cfg(test)]
 mod outside_tests;
-mod page;
 #[cfg(test)]
 mod played;
 mod program;
@@ -37,7 +36,6 @@ mod taken;
 mod tests;
 mod usage;
 mod writing;
-mod zone_lines;
 
 use panel_edges::{FileShelf, StdSink, StdSource};
 use program::panel;

@@ -15,7 +15,6 @@ ghost use Rattle.site_types.specs.Valid.{IsValid};
 ghost use Rattle.site_types.specs.declared.retained.Retained.{Retained as RetainedOf};
 ghost use Rattle.site_types.specs.declared.site.Site.{Site as SiteOf};
 
-use crate::page::Page;
 use crate::run_end::RunEnd;
 use crate::shown::Shown;
 use crate::writing::{PANEL, write_opening, write_tick};
@@ -39,7 +38,6 @@ pub struct Run {
     pub(crate) canonical: Order,
     // How many ticks were run.
     pub(crate) ticks: u64,
-    pub(crate) page: Page,
 }
 
 impl Run {
@@ -53,7 +51,6 @@ impl Run {
         let Ok(system) = System::open(alloc, site, &Retained::empty()) else {
             return Err(NoMemory);
         };
-        let page = Page::new(alloc)?;
         let shown = show(&system);
         Ok(Run {
             system,
@@ -62,7 +59,6 @@ impl Run {
             order: None,
             canonical,
             ticks: 0,
-            page,
         })
     }
 
@@ -87,7 +83,7 @@ impl Run {
         ensures err { OnErr result ((site : SiteOf) → Stands site at_beginning self.old → GrowsByFront (K.written out.old) (K.written out.new) (text_of site [])) }
         ensures cause { HasCause (K.write_faults out.old) (K.write_faults out.new) result }
     {
-        write_opening(&mut self.page, self.system.site(), self.shown, out)
+        write_opening(self.system.site(), self.shown, out)
     }
 
     /// Takes a line of the record, which has this number. The turns of a tick are made when the line behind its block comes, and what
@@ -161,14 +157,7 @@ impl Run {
         }
         let before = self.shown;
         self.make_turns();
-        write_tick(
-            &mut self.page,
-            self.system.site(),
-            self.ticks,
-            before,
-            self.shown,
-            out,
-        )
+        write_tick(self.system.site(), self.ticks, before, self.shown, out)
     }
 
     // Makes the turns of the tick whose block was read.
