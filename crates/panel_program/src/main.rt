@@ -41,6 +41,7 @@ use panel_edges::{FileShelf, StdSink, StdSource};
 use program::panel;
 use std::alloc::AllocError;
 use std::env;
+use std::io::ErrorKind;
 use std::process::ExitCode;
 
 fn main(rt: HostRuntime) -> ExitCode {
@@ -60,12 +61,19 @@ fn main(rt: HostRuntime) -> ExitCode {
     ExitCode::from(outcome.status)
 }
 
-// The words behind the program's name. Where they can't be read there are none.
+// The words behind the program's name. Where they are no text there are none.
 fn words_of(rt: &HostRuntime) -> Result<Vec<String>, AllocError> {
     let mut words = Vec::new(rt.alloc());
-    if let Ok(args) = env::args(rt) {
-        for word in args.skip(1) {
-            words.push(word)?;
+    match env::args(rt) {
+        Ok(args) => {
+            for word in args.skip(1) {
+                words.push(word)?;
+            }
+        }
+        Err(error) => {
+            if error.kind() == ErrorKind::OutOfMemory {
+                return Err(AllocError);
+            }
         }
     }
     Ok(words)
