@@ -1,7 +1,7 @@
 -- What the parts are at first, one after the other.
-use Rattle.std.proofs.Common.{◌≡◌, ◌⊎◌, inl, inr, ℕ, zero, suc, ◌+◌, ◌≤◌, Bool, true, false, List, [], ◌∷◌, ◌++◌, map, Option, Some, None, length, slice_get, ◌==◌, ◌&&◌, nat_lt, if◌then◌else◌, refl, sym, ◌∙◌, ap, subst, add-one, arith}
-use Rattle.std.proofs.lemmas.List.{length_push}
-use Rattle.std.proofs.lemmas.Option.{same_Some, slice_get_within}
+use Rattle.std.proofs.Common.{◌≡◌, ◌⊎◌, inl, inr, ℕ, zero, suc, ◌+◌, ◌≤◌, Bool, true, false, List, [], ◌∷◌, ◌++◌, map, Option, Some, None, length, replicate, ◌<◌, slice_get, ◌==◌, ◌&&◌, nat_lt, if◌then◌else◌, refl, sym, ◌∙◌, ap, subst, add-one, arith}
+use Rattle.std.proofs.lemmas.List.{get_or-replicate, length_push, length-replicate}
+use Rattle.std.proofs.lemmas.Option.{get_or_from_slice_get, same_Some, slice_get_within}
 use Rattle.std.proofs.lemmas.Bool.Decides.{eqb_tells}
 use Rattle.site_types.specs.declared.point_set.PointSet.{PointSet}
 use Rattle.site_types.specs.Valid.{IsValid, HasZone}
@@ -18,7 +18,7 @@ use Rattle.panel_conditions.specs.PointSets.{loop_address, no_set, put_at}
 use Rattle.panel_conditions.specs.Points.{points_where}
 use Rattle.panel_conditions.specs.Missing.{zone_is_off}
 use Rattle.panel_conditions.specs.Parts.{is_asked, is_so, points_from}
-use Rattle.panel_conditions.specs.Stands.{are_first_watches, first_watch, AreZoneSets, TellsPoints, WatchesZone, WatchesZones, WatchesPoints, Shows, nothing_shown, HasPlaces, HasZoneNumber, set_or_none, point_is_off, zone_of_is_off}
+use Rattle.panel_conditions.specs.Stands.{are_first_watches, first_watch, AreZoneSets, TellMissing, TellsPoints, WatchesZone, WatchesZones, WatchesPoints, Shows, nothing_shown, HasPlaces, HasZoneNumber, set_or_none, point_is_off, zone_of_is_off}
 use Rattle.site_types.specs.Changes.{HasOwnPlaces}
 use Rattle.site_types.specs.declared.zone.Zone.{Zone}
 use Rattle.site_types.specs.Done.{moves_floor, cancels, kept_point}
@@ -154,16 +154,25 @@ zone_sets_more site kept panel n before after s h e is = record {
   ];
 }
 
+-- nothing was told of any point
+pub none_told : (n : ℕ) (told : List Bool) → told ≡ replicate n false → TellMissing [] told
+none_told n told is place b at =
+    let here : slice_get (replicate n false) place ≡ Some b = ap (λ l. slice_get l place) (sym is) ∙ at in
+    let within = slice_get_within (replicate n false) place b here in
+    let small : place < n = omega (arith, within, length-replicate n false) in
+    sym (get_or_from_slice_get (replicate n false) place b false here) ∙ get_or-replicate n place false false small
+
 pub points_first : (site : Site) (kept : Retained) (panel : ℕ) (points : Points) → IsValid site → HasOwnPlaces site → points.addresses.items ≡ map (loop_address panel) site.points →
-    AreZoneSets site kept panel (length site.zones) points.of_zones.items → points.missing ≡ no_set →
+    AreZoneSets site kept panel (length site.zones) points.of_zones.items → points.missing ≡ no_set → TellMissing [] points.told.items →
     (off zone_off : PointSet) → points.off ≡ points_from off → points.zone_off ≡ points_from zone_off →
     off ≡ points_where site panel (λ place. is_asked site kept Disabled (slice_get site.points place)) → zone_off ≡ points_where site panel (λ place. is_asked site kept ZoneDisabled (slice_get site.points place)) →
     WatchesPoints site kept panel [] [] points
-points_first site kept panel points valid own addresses sets missing off zone_off from zone_from is zone_is = record {
+points_first site kept panel points valid own addresses sets missing told off zone_off from zone_from is zone_is = record {
   own = own;
   addresses = addresses;
   of_zones = zones_asked site kept panel points.of_zones.items valid sets;
   missing = missing ∙ sym (none_is site panel);
+  told = told;
   off = subst (TellsPoints site panel (point_is_off site kept []) []) (sym from)
       (told_from site panel (point_is_off site kept []) off (λ x. is ∙ points_same site panel (λ place. is_asked site kept Disabled (slice_get site.points place)) (point_is_off site kept [] x) (λ place. retained (slice_get site.points place))));
   zone_off = subst (TellsPoints site panel (zone_of_is_off site kept []) []) (sym zone_from)

@@ -163,12 +163,17 @@ pub record AreZoneSets (site : Site) (kept : Retained) (panel n : ℕ) (sets : L
   pub count : length sets ≡ n
   pub each : (zone : ℕ) (points : PointSet) → slice_get sets zone ≡ Some points → points ≡ points_where site panel (λ place. is_asked site kept (OfZone zone) (slice_get site.points place))
 
+-- by the places of points, whether the last finding of each told it missing
+abbrev pub TellMissing : List Finding → List Bool → Type 0
+TellMissing taken told = (place : ℕ) (b : Bool) → slice_get told place ≡ Some b → b ≡ missing_found taken place
+
 -- the points are kept by address, zone and state as the findings and operations tell
 pub record WatchesPoints (site : Site) (kept : Retained) (panel : ℕ) (done : List Done) (taken : List Finding) (points : Points) : Type 0 where
   pub own : HasOwnPlaces site
   pub addresses : points.addresses.items ≡ map (loop_address panel) site.points
   pub of_zones : (zone : ℕ) → set_or_none (slice_get points.of_zones.items zone) ≡ points_where site panel (λ place. is_asked site kept (OfZone zone) (slice_get site.points place))
   pub missing : points.missing ≡ points_where site panel (missing_found taken)
+  pub told : TellMissing taken points.told.items
   pub off : TellsPoints site panel (point_is_off site kept done) done points.off
   pub zone_off : TellsPoints site panel (zone_of_is_off site kept done) done points.zone_off
 

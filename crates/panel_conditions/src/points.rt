@@ -1,6 +1,10 @@
-ghost use Rattle.std.specs.Prelude.{◌≡◌, ◌-◌, ℕ, map, slice_get, slice_index, IfOk, Some, option_copied};
+ghost use Rattle.std.specs.Prelude.{◌≡◌, ◌≢◌, ◌⊎◌, ◌-◌, ◌++◌, ◌∷◌, ℕ, Bool, List, true, map, slice_get, slice_index, IfOk, Some, option_copied};
 ghost use Rattle.site_types.specs.Bits.{has_bit};
 ghost use Rattle.site_types.specs.Valid.{IsValid};
+ghost use Rattle.site_types.specs.declared.site.Site.{Site as SitePlan};
+ghost use Rattle.site_types.specs.declared.retained.Retained.{Retained as Kept};
+ghost use Rattle.site_types.specs.Done.{Done};
+ghost use Rattle.coincidence_rules.specs.declared.finding.Finding.{Finding as Found};
 
 use crate::asked::Asked;
 use crate::loop_address::LoopAddress;
@@ -20,6 +24,8 @@ pub struct Points {
     of_zones: Vec<PointSet>,
     /// The points whose last three answers were silent.
     missing: PointSet,
+    /// Whether the last finding of each point of the site told it missing, by its place.
+    told: Vec<bool>,
     off: PointSwitch,
     zone_off: PointSwitch,
 }
@@ -37,10 +43,12 @@ impl Points {
         let of_zones = sets_of_zones(alloc, site, panel, kept)?;
         let off = PointSwitch::new(points_that(site, panel, kept, Asked::Disabled));
         let zone_off = PointSwitch::new(points_that(site, panel, kept, Asked::ZoneDisabled));
+        let told = vec![in alloc; false; site.points.len()]?;
         Ok(Points {
             addresses,
             of_zones,
             missing: no_points(),
+            told,
             off,
             zone_off,
         })
@@ -48,10 +56,44 @@ impl Points {
 
     /// Takes note of a finding.
     pub fn take(&mut self, finding: &Finding)
+        ensures watches { (site : SitePlan) (kept : Kept) (panel : ℕ) (done : List Done) (taken : List Found) → WatchesPoints site kept panel done taken self.old → WatchesPoints site kept panel done (taken ++ finding.now ∷ []) self.new }
+        ensures off { (self.new.off ≡ self.old.off) × (self.new.zone_off ≡ self.old.zone_off) }
+    {
+        let place = finding.point as usize;
+        if self.has_told(place, finding.missing) {
+            return;
+        }
+        self.put_missing(finding);
+        self.mark(place, finding.missing);
+    }
+
+    // Whether the last finding of a point told the same.
+    fn has_told(&self, place: usize, missing: bool) -> bool
+        ensures { result ≡ true → slice_get self.now.told.items place ≡ Some missing }
+    {
+        match self.told.get(place) {
+            Some(told) => *told == missing,
+            None => false,
+        }
+    }
+
+    // Puts the point of a finding among the missing ones, or takes it out.
+    fn put_missing(&mut self, finding: &Finding)
         ensures { self.new ≡ points_taken finding.now self.old }
     {
         let address = self.address_of(finding.point);
         put(&mut self.missing, address, finding.missing);
+    }
+
+    // Marks what the finding of a point told.
+    fn mark(&mut self, place: usize, missing: bool)
+        ensures told { (k : ℕ) (b : Bool) → slice_get self.new.told.items k ≡ Some b → ((k ≡ place) × (missing ≡ b)) ⊎ ((k ≢ place) × (slice_get self.old.told.items k ≡ Some b)) }
+        ensures kept { (self.new.addresses ≡ self.old.addresses) × (self.new.of_zones ≡ self.old.of_zones) × (self.new.missing ≡ self.old.missing) }
+        ensures off { (self.new.off ≡ self.old.off) × (self.new.zone_off ≡ self.old.zone_off) }
+    {
+        if place < self.told.len() {
+            self.told[place] = missing;
+        }
     }
 
     /// Takes note of an operation that was done in a tick.

@@ -1,6 +1,4 @@
-use Rattle.std.proofs.Common.{◌++◌, ◌∷◌, [], sym, subst}
-use Rattle.panel_conditions.specs.Stands.{WatchesPoints}
-use Rattle.panel_conditions.proofs.Watched.{are_numbered, zones_more, points_more}
+use Rattle.panel_conditions.proofs.Watched.{are_numbered, zones_more}
 use Rattle.panel_conditions.proofs.Drawn.{settled_more}
 use Rattle.panel_conditions.proofs.hold.Hold.take.Goals as goal
 
@@ -9,9 +7,7 @@ returns-clause-watches c site kept panel done taken h = record {
   zones =
       zones_more site panel done taken c.args.finding.now c.args.self.now.zones.watches.items c.take.new.self.watches.items c.take.ensures.count
       (c.take.ensures.watches (are_numbered site panel done taken c.args.self.now.zones.watches.items h.zones)) h.zones;
-  points =
-      subst (WatchesPoints site kept panel done (taken ++ c.args.finding.now ∷ [])) (sym c.take-2.ensures)
-      (points_more site kept panel done taken c.args.finding.now c.args.self.now.points h.points);
+  points = c.take-2.ensures.watches site kept panel done taken h.points;
   muted = h.muted;
 }
 
