@@ -52,3 +52,5 @@ pub mod Accepted
 pub mod FirstsShow
 pub mod Supplies
 pub mod CutOff
+pub mod Steps
+pub mod EntriesAddUp

@@ -7,11 +7,12 @@ use Rattle.site_types.specs.declared.zone.Zone.{Zone}
 use Rattle.site_types.specs.Bits.{has_bit}
 use Rattle.site_types.specs.Done.{Done}
 use Rattle.site_types.specs.Valid.{IsValid}
+use Rattle.face_text.specs.declared.face.Face.{Face}
 use Rattle.panel_rules.specs.Moments.{Moment, tick_of, IsRun, IsPanel, HaveAllTurned}
 use Rattle.panel_rules.specs.Due.{IsDue, LoneSignals}
 use Rattle.panel_rules.specs.DueOutputs.{IsDueOn}
 use Rattle.panel_rules.specs.CausedOutputs.{IsCausedAtPanel, IsCausedOutput}
-use Rattle.panel_rules.specs.Faces.{Face, face_with}
+use Rattle.panel_rules.specs.Faces.{face_with}
 
 -- a face shows a zone in alarm, a zone in first state, or an output of its panel on
 abbrev pub shows_zone : Face → Zone → Bool

@@ -4,35 +4,19 @@ use Rattle.std.specs.List.{range_with_len}
 use Rattle.tick_units.specs.declared.task.Task.TheVariants.{Hold}
 use Rattle.site_types.specs.declared.buzzer.Buzzer.{Buzzer}
 use Rattle.site_types.specs.declared.fault_set.FaultSet.{FaultSet}
-use Rattle.site_types.specs.declared.point_set.PointSet.{PointSet}
 use Rattle.site_types.specs.declared.retained.Retained.{Retained}
 use Rattle.site_types.specs.declared.site.Site.{Site}
 use Rattle.site_types.specs.declared.word.Word.{Word}
 use Rattle.site_types.specs.Done.{Done, PointOff, ZoneOff, OutputOff, InTest, DelaysOff, in_force, muted_before}
 use Rattle.site_types.specs.Limits.{most_panels}
 use Rattle.coincidence_rules.specs.Places.{zones_where}
+use Rattle.face_text.specs.declared.face.Face.{Face}
 use Rattle.panel_conditions.specs.Points.{points_where}
 use Rattle.panel_conditions.specs.Shown.{is_news, sounds}
 use Rattle.panel_rules.specs.Moments.{Moment, Began, Happened, Turned, Kept, tick_of, latest_turn}
 use Rattle.panel_rules.specs.Words.{latest_word, kept_word_of}
 use Rattle.panel_rules.specs.Outputs.{outputs_where, is_on, is_confirmed_out}
 use Rattle.panel_rules.specs.Run.{tells_fault, facts_of, faults_of}
-
--- what a panel shows: the zones in alarm and the first states by panel, its faults, its outputs that are on and those that are confirmed, its disablements and tests, its delays, its buzzer and its counter
-pub record Face : Type 0 where
-  pub panel : ℕ
-  pub zones : List ℕ
-  pub firsts : List ℕ
-  pub faults : FaultSet
-  pub outputs : ℕ
-  pub confirmed : ℕ
-  pub points_off : PointSet
-  pub zones_off : ℕ
-  pub outputs_off : ℕ
-  pub test : ℕ
-  pub delays_off : Bool
-  pub buzzer : Buzzer
-  pub counter : ℕ
 
 module _ (site : Site) (kept : Retained) (done : List Done) where
   -- the settings in force at a tick, the other parts given
