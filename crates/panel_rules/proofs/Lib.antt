@@ -54,3 +54,5 @@ pub mod Supplies
 pub mod CutOff
 pub mod Steps
 pub mod EntriesAddUp
+pub mod LaterDone
+pub mod CountersAddUp

@@ -18,6 +18,10 @@ use Rattle.panel_rules.specs.Words.{latest_word, kept_word_of}
 use Rattle.panel_rules.specs.Outputs.{outputs_where, is_on, is_confirmed_out}
 use Rattle.panel_rules.specs.Run.{tells_fault, facts_of, faults_of}
 
+-- the counter of a panel in what is kept
+abbrev pub counter_in : ℕ → Retained → ℕ
+counter_in panel stored = slice_index stored.counters (panel - 1)
+
 module _ (site : Site) (kept : Retained) (done : List Done) where
   -- the settings in force at a tick, the other parts given
   abbrev pub with_settings : ℕ → ℕ → (ℕ → Word) → FaultSet → (ℕ → Bool) → (ℕ → Bool) → Buzzer → ℕ → Face
@@ -62,10 +66,6 @@ module _ (site : Site) (kept : Retained) (done : List Done) where
   abbrev pub buzzer_of : ℕ → List Moment → Buzzer
   buzzer_of panel moments =
       sounds (latest_word site kept done (tells_fault site kept done) panel moments) (nat_lt (muted_before panel (latest_turn panel Hold moments) done) (last_news panel moments))
-
-  -- the counter of a panel in what is kept
-  abbrev pub counter_in : ℕ → Retained → ℕ
-  counter_in panel stored = slice_index stored.counters (panel - 1)
 
   -- the face of a panel, with what is kept
   abbrev pub face_with : Retained → ℕ → List Moment → Face

@@ -1,11 +1,18 @@
 -- What the timeline of a run tells, and how entries into the fire alarm condition are counted, whatever befell.
-use Rattle.std.specs.Prelude.{◌≡◌, ◌≤◌, ◌<◌, ◌+◌, ◌-◌, ℕ, true, false, List, [], ◌∷◌, length, Some, slice_get, if◌then◌else◌}
+use Rattle.std.specs.Prelude.{◌≡◌, ◌≤◌, ◌<◌, ◌+◌, ◌-◌, ◌==◌, ◌&&◌, ℕ, min, Bool, true, false, List, [], ◌∷◌, length, Some, slice_get, if◌then◌else◌}
+use Rattle.std.specs.List.{list_any}
+use Rattle.site_types.specs.declared.operation.Operation.{Operation}
+use Rattle.site_types.specs.declared.operation.Operation.TheVariants.{Mute, Override, Silence, Resound, Reset, Cancel, Disable, Enable, Test, Untest, Delays, Clear}
 use Rattle.site_types.specs.declared.retained.Retained.{Retained}
 use Rattle.site_types.specs.declared.site.Site.{Site}
+use Rattle.site_types.specs.Changes.{AreCounters}
 use Rattle.site_types.specs.Done.{Done}
+use Rattle.site_types.specs.Limits.{greatest_count}
 use Rattle.face_text.specs.declared.step.Step.{Step}
-use Rattle.panel_rules.specs.Moments.{Moment, Began, Happened, Turned, Kept, tick_of, up_to}
-use Rattle.panel_rules.specs.Batches.{entries, new_entries}
+use Rattle.panel_rules.specs.Moments.{Moment, Began, Happened, Turned, Kept, IsPanel, tick_of, up_to}
+use Rattle.panel_rules.specs.Operations.{operations}
+use Rattle.panel_rules.specs.Batches.{entries, kept_after, new_entries}
+use Rattle.panel_rules.specs.Faces.{counter_in}
 use Rattle.panel_rules.specs.Timeline.{answers_now, faces_of, failed_now, is_told, step_of, timeline_of}
 
 -- the ticks of steps rise from after one on, and none is after another
@@ -44,3 +51,29 @@ abbrev pub EntriesAreCountedOnce : Type 0
 EntriesAreCountedOnce =
     (site : Site) (kept : Retained) (done : List Done) (panel : ℕ) (moments : List Moment) →
     length (entries site kept done panel moments) ≡ counted_entries site kept done panel moments + length (new_entries site kept done panel moments)
+
+-- the operation is the clearing of a counter
+abbrev pub is_clearing : Operation → Bool
+is_clearing Clear = true
+is_clearing Mute = false
+is_clearing Override = false
+is_clearing Silence = false
+is_clearing Resound = false
+is_clearing Reset = false
+is_clearing (Cancel zone) = false
+is_clearing (Disable item) = false
+is_clearing (Enable item) = false
+is_clearing (Test zone) = false
+is_clearing (Untest zone) = false
+is_clearing (Delays on) = false
+
+-- what was done clears the counter at the place of a panel's
+abbrev pub clears_counter : ℕ → Done → Bool
+clears_counter panel done = is_clearing done.operation && (done.panel - 1 == panel - 1)
+
+-- the counter of a panel that nobody cleared is the one at opening and the entries that were counted, up to 999,999
+abbrev pub CountersAddUp : Type 0
+CountersAddUp =
+    (site : Site) (kept : Retained) (moments : List Moment) (panel : ℕ) → site.panels ≤ 8 → IsPanel site.panels panel → length kept.counters ≡ 8 → AreCounters kept.counters
+    → list_any (clears_counter panel) (operations site kept moments).done ≡ false
+    → counter_in panel (kept_after site kept moments) ≡ min (counter_in panel kept + counted_entries site kept (operations site kept moments).done panel moments) greatest_count

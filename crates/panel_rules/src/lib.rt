@@ -45,7 +45,8 @@ pub use outputs::{
 };
 pub use records::{asked_once_in_a_round, records_are_runs};
 pub use timelines::{
-    entries_are_counted_once, steps_rise, told_ticks_are_steps, untold_ticks_change_nothing,
+    counters_add_up, entries_are_counted_once, steps_rise, told_ticks_are_steps,
+    untold_ticks_change_nothing,
 };
 pub use words::{
     due_hand_is_kept, due_release_is_kept, due_zone_is_kept, kept_by_the_ring, kept_hand_is_caused,
