@@ -54,3 +54,7 @@ pub mod FirstsShow
 pub mod FireTold
 pub mod Supplies
 pub mod CutOff
+pub mod Steps
+pub mod EntriesAddUp
+pub mod LaterDone
+pub mod CountersAddUp

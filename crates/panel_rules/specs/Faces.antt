@@ -1,4 +1,4 @@
--- The face of a panel: all that it shows, by what has befallen.
+-- The face of a panel: all that it shows.
 use Rattle.std.specs.Prelude.{ℕ, ◌-◌, ◌==◌, ◌&&◌, nat_lt, Bool, List, [], ◌∷◌, map, slice_index, if◌then◌else◌}
 use Rattle.std.specs.List.{range_with_len}
 use Rattle.tick_units.specs.declared.task.Task.TheVariants.{Hold}
@@ -9,14 +9,18 @@ use Rattle.site_types.specs.declared.site.Site.{Site}
 use Rattle.site_types.specs.declared.word.Word.{Word}
 use Rattle.site_types.specs.Done.{Done, PointOff, ZoneOff, OutputOff, InTest, DelaysOff, in_force, muted_before}
 use Rattle.site_types.specs.Limits.{most_panels}
-use Rattle.face_text.specs.declared.face.Face.{Face}
 use Rattle.coincidence_rules.specs.Places.{zones_where}
+use Rattle.face_text.specs.declared.face.Face.{Face}
 use Rattle.panel_conditions.specs.Points.{points_where}
 use Rattle.panel_conditions.specs.Shown.{is_news, sounds}
 use Rattle.panel_rules.specs.Moments.{Moment, Began, Happened, Turned, Kept, tick_of, latest_turn}
 use Rattle.panel_rules.specs.Words.{latest_word, kept_word_of}
 use Rattle.panel_rules.specs.Outputs.{outputs_where, is_on, is_confirmed_out}
 use Rattle.panel_rules.specs.Run.{tells_fault, facts_of, faults_of}
+
+-- the counter of a panel in what is kept
+abbrev pub counter_in : ℕ → Retained → ℕ
+counter_in panel stored = slice_index stored.counters (panel - 1)
 
 module _ (site : Site) (kept : Retained) (done : List Done) where
   -- the settings in force at a tick, the other parts given
@@ -62,10 +66,6 @@ module _ (site : Site) (kept : Retained) (done : List Done) where
   abbrev pub buzzer_of : ℕ → List Moment → Buzzer
   buzzer_of panel moments =
       sounds (latest_word site kept done (tells_fault site kept done) panel moments) (nat_lt (muted_before panel (latest_turn panel Hold moments) done) (last_news panel moments))
-
-  -- the counter of a panel in what is kept
-  abbrev pub counter_in : ℕ → Retained → ℕ
-  counter_in panel stored = slice_index stored.counters (panel - 1)
 
   -- the face of a panel, with what is kept
   abbrev pub face_with : Retained → ℕ → List Moment → Face

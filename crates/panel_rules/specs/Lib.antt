@@ -31,6 +31,7 @@ pub mod OutputLaws
 pub mod OutputDeadlines
 pub mod FaceLaws
 pub mod OtherDeadlines
+pub mod TimelineLaws
 pub mod Examples
 pub mod OutputExamples
 pub mod AlarmExamples

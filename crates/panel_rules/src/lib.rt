@@ -19,6 +19,7 @@ mod operations;
 mod other_deadlines;
 mod outputs;
 mod records;
+mod timelines;
 mod words;
 mod zones;
 
@@ -45,6 +46,10 @@ pub use outputs::{
     indicated_output_is_on, on_output_is_caused, unasked_is_off,
 };
 pub use records::{asked_once_in_a_round, records_are_runs};
+pub use timelines::{
+    counters_add_up, entries_are_counted_once, steps_rise, told_ticks_are_steps,
+    untold_ticks_change_nothing,
+};
 pub use words::{
     due_hand_is_kept, due_release_is_kept, due_zone_is_kept, kept_by_the_ring, kept_hand_is_caused,
     kept_release_is_caused, kept_zone_is_caused, newest_over_chains,
