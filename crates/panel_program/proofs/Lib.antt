@@ -12,4 +12,5 @@ pub mod Texts
 pub mod Readings
 pub mod Promises
 pub mod Outcomes
+pub mod Matrices
 pub mod Naming

@@ -1,13 +1,14 @@
 -- What each command answers.
-use Rattle.std.specs.Prelude.{◌≡◌, ℕ, List, [], ◌∷◌, Option, Result, Ok, Err}
+use Rattle.std.specs.Prelude.{◌≡◌, ◌⊎◌, ℕ, List, [], ◌∷◌, Option, Result, Ok, Err}
 use Rattle.site_types.specs.declared.site.Site.{Site}
 use Rattle.panel_program.specs.declared.command.Command.{Command}
-use Rattle.panel_program.specs.declared.command.Command.TheVariants.{Usage, Check, Run}
+use Rattle.panel_program.specs.declared.command.Command.TheVariants.{Usage, Check, Run, Matrix}
 use Rattle.panel_program.specs.declared.outcome.Outcome.{Outcome}
 use Rattle.panel_program.specs.declared.stop.Stop.{Stop}
 use Rattle.panel_program.specs.Lines.{counts_line, usage_line}
 use Rattle.panel_program.specs.Refusals.{stop_status, stop_text}
-use Rattle.panel_program.specs.Runs.{Ran}
+use Rattle.panel_program.specs.Matrix.{IsMatrix}
+use Rattle.panel_program.specs.Runs.{Ran, RanNothing}
 use Rattle.panel_program.specs.Sites.{Loads}
 use Rattle.panel_program.specs.Writings.{Says}
 
@@ -31,8 +32,14 @@ abbrev pub Runs : List ℕ → Option (List ℕ) → Option (List ℕ) → Outco
 Runs bytes old new outcome (Ok site) = Ran site bytes old new outcome
 Runs bytes old new outcome (Err stop) = Tells (stop_status stop) (stop_text stop) old new outcome
 
+-- the matrix tells which outputs each zone asks for, or why there is no site; where memory ran out it tells nothing
+abbrev pub Draws : Option (List ℕ) → Option (List ℕ) → Outcome → Result Site Stop → Type 0
+Draws old new outcome (Ok site) = RanNothing old new outcome ⊎ ((text : List ℕ) × IsMatrix site text × Tells 0 text old new outcome)
+Draws old new outcome (Err stop) = Tells (stop_status stop) (stop_text stop) old new outcome
+
 -- what a command answers, by the file under the site's name and the bytes of the record
 abbrev pub Answers : Command → Option (List ℕ) → List ℕ → Option (List ℕ) → Option (List ℕ) → Outcome → Type 0
 Answers Usage file bytes old new outcome = Tells 2 usage_line old new outcome
 Answers Check file bytes old new outcome = (result : Result Site Stop) × Loads Check file result × Checks old new outcome result
 Answers Run file bytes old new outcome = (result : Result Site Stop) × Loads Run file result × Runs bytes old new outcome result
+Answers Matrix file bytes old new outcome = (result : Result Site Stop) × Loads Matrix file result × Draws old new outcome result

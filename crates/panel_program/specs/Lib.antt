@@ -1,5 +1,6 @@
 pub mod Words
 pub mod Lines
+pub mod Matrix
 pub mod Zones
 pub mod Ticks
 pub mod Records
@@ -10,3 +11,4 @@ pub mod Stands
 pub mod Runs
 pub mod Sites
 pub mod Commands
+pub mod Cycles

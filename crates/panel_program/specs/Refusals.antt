@@ -4,7 +4,7 @@ use Rattle.std.specs.Fmt.{signed_decimal}
 use Rattle.site_document.specs.declared.refusal.SiteRefusal.{SiteRefusal}
 use Rattle.site_document.specs.declared.refusal.SiteRefusal.TheVariants as code
 use Rattle.panel_program.specs.declared.stop.Stop.{Stop}
-use Rattle.panel_program.specs.declared.stop.Stop.TheVariants.{Absent, Refused, NotBuilt, ReadFault, NoMemory}
+use Rattle.panel_program.specs.declared.stop.Stop.TheVariants.{Absent, Refused, Cycle, NotBuilt, ReadFault, NoMemory}
 
 -- a refusal with a key or a name
 abbrev pub named_text : List ℕ → List ℕ → List ℕ → List ℕ
@@ -41,6 +41,7 @@ refusal_status code.NoMemory = 9
 abbrev pub stop_text : Stop → List ℕ
 stop_text Absent = codes "refused site 0\n"
 stop_text (Refused refusal) = refusal_text refusal
+stop_text (Cycle line) = line
 stop_text NotBuilt = codes "refused site 12\n"
 stop_text ReadFault = codes "fault read\n"
 stop_text NoMemory = []
@@ -48,6 +49,7 @@ stop_text NoMemory = []
 abbrev pub stop_status : Stop → ℕ
 stop_status Absent = 3
 stop_status (Refused refusal) = refusal_status refusal
+stop_status (Cycle line) = 3
 stop_status NotBuilt = 3
 stop_status ReadFault = 6
 stop_status NoMemory = 9

@@ -8,6 +8,7 @@ pub enum Command {
     Usage,
     Check,
     Run,
+    Matrix,
 }
 
 /// The command that has these words.
@@ -18,6 +19,8 @@ pub fn command_of(words: &[String]) -> Command
         [word, _site] => {
             if word.as_str() == "check" {
                 Command::Check
+            } else if word.as_str() == "matrix" {
+                Command::Matrix
             } else {
                 Command::Usage
             }

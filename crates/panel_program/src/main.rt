@@ -10,14 +10,19 @@
 //! block was read, and its text is written then, a short one in one call. All memory of a run is taken before its first line is written.
 //! Between two lines a tick costs the turns of the system; its text costs the lines that it has.
 //!
-//! No part takes supplies, links and operations yet: a record's line of these ends the run, and a site that has markers, or for a run outputs
-//! or a second panel, is refused.
+//! No part takes supplies, links and operations yet: a record's line of these ends the run. A site that has outputs or a second panel is refused
+//! for a run.
 #![tactic(auto)]
 
+#[cfg(test)]
+mod cause_tests;
 mod command;
+mod cycle_lines;
 mod last_lines;
 mod lines;
+mod loaded;
 mod loading;
+mod matrix;
 mod outcome;
 #[cfg(test)]
 mod outside_tests;

@@ -1,20 +1,25 @@
-ghost use Rattle.std.specs.Prelude.{◌≡◌, ◌⊎◌, [], IfSome, map, string_bytes};
+ghost use Rattle.std.specs.Prelude.{◌≡◌, ◌≢◌, ◌⊎◌, [], IfSome, Ok, map, string_bytes};
+ghost use Rattle.cause_effect.specs.Stands.{IsPlanOf};
 ghost use Rattle.panel_edges.specs.Faults.{Rose};
 ghost use Rattle.panel_edges.specs.Shelves.{file_of};
-ghost use Rattle.panel_program.specs.Commands.{Answers, site_word};
+ghost use Rattle.panel_program.specs.Commands.{Answers, Draws, site_word};
 ghost use Rattle.panel_program.specs.Lines.{usage_line};
 ghost use Rattle.panel_program.specs.Words.{command_of as command_by};
-ghost use Rattle.panel_program.specs.declared.command.Command.TheVariants.{Check as CheckCommand, Run as RunCommand};
+ghost use Rattle.panel_program.specs.declared.command.Command.TheVariants.{Check as CheckCommand, Matrix as MatrixCommand, Run as RunCommand};
+ghost use Rattle.site_types.specs.Valid.{IsValid};
 
 use crate::command::{Command, command_of};
 use crate::lines::counts_line;
 use crate::loading::load;
+use crate::matrix::matrix_of;
 use crate::outcome::Outcome;
 use crate::reading::run_site;
 use crate::saying::say;
 use crate::site_lines::stop_with;
 use crate::usage::USAGE;
+use cause_effect::Plan;
 use panel_edges::{Shelf, Sink, Source};
+use site_types::Site;
 use std::alloc::Global;
 
 /// Does what the words ask for. All that is said goes to `out`, refusals too.
@@ -38,6 +43,7 @@ pub fn panel<F: Shelf, S: Source, K: Sink>(
         Command::Usage => say(USAGE, 2, 0, out),
         Command::Check => check(alloc, words[1].as_str(), shelf, out),
         Command::Run => run(alloc, words[1].as_str(), shelf, input, out),
+        Command::Matrix => matrix(alloc, words[1].as_str(), shelf, out),
     }
 }
 
@@ -50,11 +56,41 @@ fn check<F: Shelf, K: Sink>(alloc: Global, name: &str, shelf: &mut F, out: &mut 
     ensures store { result.store_failures ≡ 0 }
 {
     match load(alloc, Command::Check, name, shelf) {
-        Ok(site) => {
-            let line = counts_line(&site);
+        Ok(loaded) => {
+            let line = counts_line(&loaded.site);
             say(line.as_str().as_bytes(), 0, 0, out)
         }
         Err(stop) => stop_with(&stop, out),
+    }
+}
+
+// Tells which outputs each zone asks for.
+fn matrix<F: Shelf, K: Sink>(alloc: Global, name: &str, shelf: &mut F, out: &mut K) -> Outcome
+    ensures answers { IfSome (F.files shelf.old) (λ held. Answers MatrixCommand (file_of name.now held) [] (K.written out.old) (K.written out.new) result) }
+    ensures read { result.status ≡ 6 → Rose (F.faults shelf.old) (F.faults shelf.new) }
+    ensures write { result.status ≡ 7 → Rose (K.write_faults out.old) (K.write_faults out.new) }
+    ensures memory { result.status ≡ 9 → K.written out.new ≡ K.written out.old }
+    ensures store { result.store_failures ≡ 0 }
+{
+    match load(alloc, Command::Matrix, name, shelf) {
+        Ok(loaded) => draw(alloc, &loaded.site, &loaded.plan, out),
+        Err(stop) => stop_with(&stop, out),
+    }
+}
+
+// Writes the matrix of a site.
+fn draw<K: Sink>(alloc: Global, site: &Site, plan: &Plan, out: &mut K) -> Outcome
+    requires valid { IsValid site.now }
+    requires plan { IsPlanOf site.now plan.now }
+    ensures drawn { Draws (K.written out.old) (K.written out.new) result (Ok site.now) }
+    ensures read { result.status ≢ 6 }
+    ensures write { result.status ≡ 7 → Rose (K.write_faults out.old) (K.write_faults out.new) }
+    ensures memory { result.status ≡ 9 → K.written out.new ≡ K.written out.old }
+    ensures store { result.store_failures ≡ 0 }
+{
+    match matrix_of(alloc, site, plan) {
+        Ok(text) => say(text.as_slice(), 0, 0, out),
+        Err(_) => Outcome::after(9, 0),
     }
 }
 
@@ -73,7 +109,7 @@ fn run<F: Shelf, S: Source, K: Sink>(
     ensures store { result.store_failures ≡ 0 }
 {
     match load(alloc, Command::Run, name, shelf) {
-        Ok(site) => run_site(alloc, site, input, out),
+        Ok(loaded) => run_site(alloc, loaded.site, input, out),
         Err(stop) => stop_with(&stop, out),
     }
 }

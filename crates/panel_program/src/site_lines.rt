@@ -37,6 +37,7 @@ fn status_of_stop(stop: &Stop) -> u8
     match stop {
         Stop::Absent => 3,
         Stop::Refused(refusal) => status_of_refusal(refusal),
+        Stop::Cycle(_) => 3,
         Stop::NotBuilt => 3,
         Stop::ReadFault => 6,
         Stop::NoMemory => 9,
@@ -69,6 +70,7 @@ fn write_stop<K: Sink>(stop: &Stop, out: &mut K) -> Result<(), Failed>
     match stop {
         Stop::Absent => write_all(out, b"refused site 0\n"),
         Stop::Refused(refusal) => write_refusal(refusal, out),
+        Stop::Cycle(line) => write_all(out, line.as_slice()),
         Stop::NotBuilt => write_all(out, b"refused site 12\n"),
         Stop::ReadFault => write_all(out, b"fault read\n"),
         Stop::NoMemory => Ok(()),

@@ -1,4 +1,5 @@
 use site_config::SiteRefusal;
+use tick_units::Items;
 
 /// Why a command ends before its site is at hand.
 #[derive(Drop)]
@@ -7,6 +8,8 @@ pub enum Stop {
     Absent,
     /// The site file is refused, or memory ran out while it was read.
     Refused(SiteRefusal),
+    /// Markers depend on themselves: the line that names them.
+    Cycle(Items<u8>),
     /// The site has something for which no part is built yet.
     NotBuilt,
     /// The file could not be read.

@@ -204,10 +204,6 @@ fn answers_each_refused_site_with_its_line(rt: HostRuntime) -> Result<(), Fail> 
             "format = 1\nsite = \"one\"\npanels = -9",
             "refused site 5 panels -9\n",
         ),
-        (
-            "format = 1\nsite = \"one\"\npanels = 1\nmarker = [{ name = \"a\", kind = \"any\", terms = [\"fault:1\"] }]",
-            "refused site 12\n",
-        ),
     ];
     for words in [["check", "site"].as_slice(), RUN.as_slice()] {
         for (site, text) in sites {
@@ -273,12 +269,14 @@ fn answers_other_words_with_the_usage(rt: HostRuntime) -> Result<(), Fail> {
     let alloc = rt.alloc();
     let usage =
         "usage: panel check SITE, run SITE JOURNAL, matrix SITE, drill SEED TICKS, serve SITE JOURNAL PORT COUNT, move OLD NEW JOURNAL TARGET, audit SITE RECORD TEXT, node SITE JOURNAL PANEL PORT COUNT, import SITE FILE REGISTER\n";
-    let lists: [&[&str]; 6] = [
+    let lists: [&[&str]; 8] = [
         &[],
         &["drill", "1", "0"],
         &["run", "site"],
         &["check"],
         &["check", "site", "journal"],
+        &["matrix"],
+        &["matrix", "site", "journal"],
         &["run", "site", "journal", "more"],
     ];
     for words in lists {

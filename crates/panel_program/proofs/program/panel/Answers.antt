@@ -1,7 +1,7 @@
 use Rattle.std.proofs.Common.{◌≡◌, ◌∙◌, ap, sym, subst}
 use Rattle.std.specs.Prelude.{map, string_bytes}
 use Rattle.panel_edges.specs.Shelves.{file_of}
-use Rattle.panel_program.specs.declared.command.Command.TheVariants.{Usage, Check, Run}
+use Rattle.panel_program.specs.declared.command.Command.TheVariants.{Usage, Check, Run, Matrix}
 use Rattle.panel_program.specs.Commands.{Answers, site_word}
 use Rattle.panel_program.specs.Lines.{usage_line}
 use Rattle.panel_program.specs.Words.{command_of}
@@ -14,6 +14,9 @@ check_is e = cc
 
 run_is : Run ≡ Usage → ⊥
 run_is e = cc
+
+matrix_is : Matrix ≡ Usage → ⊥
+matrix_is e = cc
 
 pub returns-in-Usage-clause-answers : goal.returns-in-Usage-clause-answers
 unfolding usage_line
@@ -54,3 +57,18 @@ returns-in-Run-clause-answers g c =
     (λ bytes answers. subst (λ command. Answers command (file_of (site_word words) held) bytes old new c.run.result) (sym is)
     (subst (λ text. Answers Run (file_of text held) bytes old new c.run.result) name answers)) told)
     c.run.ensures.answers
+
+pub returns-in-Matrix-clause-answers : goal.returns-in-Matrix-clause-answers
+returns-in-Matrix-clause-answers g c =
+    let words = map string_bytes c.args.words.now in
+    let old = g.K.Stream.written c.args.out.now in
+    let new = g.K.Stream.written c.matrix.new.out in
+    let is : command_of words ≡ Matrix = sym c.command_of.ensures ∙ c.in-Matrix.is in
+    let name : c.as_str-in-Matrix.result.now ≡ site_word words =
+    c.as_str-in-Matrix.ensures.value ∙ ap string_bytes c.index-words-1-in-Matrix.is ∙ sym (site_word_is c.args.words.now c.index-words-1-in-Matrix.result (λ e. matrix_is (sym is ∙ e)))
+    in
+    some_weaker (g.F.Shelf.files c.args.shelf.now)
+    (λ held answers. some_always (g.S.Stream.left c.args.input.now)
+    (λ bytes. subst (λ command. Answers command (file_of (site_word words) held) bytes old new c.matrix.result) (sym is)
+    (subst (λ text. Answers Matrix (file_of text held) bytes old new c.matrix.result) name answers)))
+    c.matrix.ensures.answers
