@@ -1,5 +1,6 @@
 pub mod Busy
 pub mod Holding
+pub mod Joining
 pub mod Listing
 pub mod Pages
 pub mod Rest

@@ -14,7 +14,7 @@ use Rattle.face_text.specs.Changes.{change_of, changes_text, group_text, groups_
 use Rattle.face_text.specs.Slots.{Slot, Thing, Delays, Sounding, Count, is_named, last_of, line_of, line_of_thing, name_in, number_of_truth, numbers_in, page, shows, slots, slots_of, value_in}
 
 -- the texts of one more number
-pub range_more : (f : ℕ → List ℕ) (n : ℕ) → flat_map f (range_with_len 1 (n + 1)) ≡ flat_map f (range_with_len 1 n) ++ f (n + 1)
+pub range_more : {A : Type 0} (f : ℕ → List A) (n : ℕ) → flat_map f (range_with_len 1 (n + 1)) ≡ flat_map f (range_with_len 1 n) ++ f (n + 1)
 range_more f n =
     let one : 1 + n ≡ n + 1 = omega arith in
     let ranges = map-range_with_len_more (λ k. k) 1 n (n + 1) one in
@@ -23,8 +23,8 @@ range_more f n =
     ∙ ap (λ xs. flat_map f (map (λ k. k) (range_with_len 1 n)) ++ xs) (append-nil (f (n + 1))) ∙ ap (λ xs. xs ++ f (n + 1)) (flat_map-map f (λ k. k) (range_with_len 1 n))
 
 -- the texts of the first numbers stand at the front of those of more
-front_by : (f : ℕ → List ℕ) (m k : ℕ) → (k ≡ suc m) ⊎ (k ≢ suc m) → (k ≤ m → (rest : List ℕ) × (flat_map f (range_with_len 1 m) ≡ flat_map f (range_with_len 1 k) ++ rest)) → k ≤ suc m →
-    (rest : List ℕ) × (flat_map f (range_with_len 1 (suc m)) ≡ flat_map f (range_with_len 1 k) ++ rest)
+front_by : {A : Type 0} (f : ℕ → List A) (m k : ℕ) → (k ≡ suc m) ⊎ (k ≢ suc m) → (k ≤ m → (rest : List A) × (flat_map f (range_with_len 1 m) ≡ flat_map f (range_with_len 1 k) ++ rest)) → k ≤ suc m →
+    (rest : List A) × (flat_map f (range_with_len 1 (suc m)) ≡ flat_map f (range_with_len 1 k) ++ rest)
 front_by f m k (inl same) ih few = ([], ap (λ n. flat_map f (range_with_len 1 n)) (sym same) ∙ sym (append-nil (flat_map f (range_with_len 1 k))))
 front_by f m k (inr other) ih few =
     let front = ih (omega (arith, few, other)) in
@@ -39,16 +39,16 @@ same_or_other m n = elim (eqb_tells m n) [
   | inr h ↦ inr h.1
 ]
 
-pub range_front : (f : ℕ → List ℕ) (n k : ℕ) → k ≤ n → (rest : List ℕ) × (flat_map f (range_with_len 1 n) ≡ flat_map f (range_with_len 1 k) ++ rest)
+pub range_front : {A : Type 0} (f : ℕ → List A) (n k : ℕ) → k ≤ n → (rest : List A) × (flat_map f (range_with_len 1 n) ≡ flat_map f (range_with_len 1 k) ++ rest)
 range_front f zero k few = let none : k ≡ 0 = omega (arith, few) in ([], ap (λ n. flat_map f (range_with_len 1 n)) (sym none) ∙ sym (append-nil (flat_map f (range_with_len 1 k))))
 range_front f (suc m) k few = front_by f m k (same_or_other k (suc m)) (range_front f m k) few
 
 -- the texts of one more item, and of those that follow
-pub items_more : {X : Type 0} (f : X → List ℕ) (xs : List X) (k : ℕ) (d : X) → k < length xs → flat_map f (take (k + 1) xs) ≡ flat_map f (take k xs) ++ f (get_or xs k d)
+pub items_more : {X A : Type 0} (f : X → List A) (xs : List X) (k : ℕ) (d : X) → k < length xs → flat_map f (take (k + 1) xs) ≡ flat_map f (take k xs) ++ f (get_or xs k d)
 items_more f xs k d within =
     ap (flat_map f) (take_more xs k d within) ∙ flat_map-append f (take k xs) (get_or xs k d ∷ []) ∙ ap (λ ys. flat_map f (take k xs) ++ ys) (append-nil (f (get_or xs k d)))
 
-pub items_front : {X : Type 0} (f : X → List ℕ) (xs : List X) (k : ℕ) → flat_map f xs ≡ flat_map f (take k xs) ++ flat_map f (drop k xs)
+pub items_front : {X A : Type 0} (f : X → List A) (xs : List X) (k : ℕ) → flat_map f xs ≡ flat_map f (take k xs) ++ flat_map f (drop k xs)
 items_front f xs k = ap (flat_map f) (sym (take-append-drop k xs)) ∙ flat_map-append f (take k xs) (drop k xs)
 
 -- what the site hasn't is told by nothing
@@ -145,12 +145,12 @@ number_front site before after group last place within =
     (front.0, front.1 ∙ ap (λ xs. xs ++ front.0) (number_next site before after group place))
 
 -- an item of a list that is another one
-pub item_next : {X : Type 0} (f : X → List ℕ) (xs ys : List X) (k : ℕ) (d : X) (text : List ℕ) → ys ≡ xs → k < length xs → text ≡ f (get_or ys k d) →
+pub item_next : {X A : Type 0} (f : X → List A) (xs ys : List X) (k : ℕ) (d : X) (text : List A) → ys ≡ xs → k < length xs → text ≡ f (get_or ys k d) →
     flat_map f (take (k + 1) xs) ≡ flat_map f (take k xs) ++ text
 item_next f xs ys k d text same within is =
     items_more f xs k d within ∙ ap (λ t. flat_map f (take k xs) ++ t) (sym (is ∙ ap (λ zs. f (get_or zs k d)) same))
 
-pub item_front : {X : Type 0} (f : X → List ℕ) (xs ys : List X) (k : ℕ) (d : X) (text : List ℕ) → ys ≡ xs → k < length xs → text ≡ f (get_or ys k d) →
+pub item_front : {X A : Type 0} (f : X → List A) (xs ys : List X) (k : ℕ) (d : X) (text : List A) → ys ≡ xs → k < length xs → text ≡ f (get_or ys k d) →
     flat_map f xs ≡ (flat_map f (take k xs) ++ text) ++ flat_map f (drop (k + 1) xs)
 item_front f xs ys k d text same within is = items_front f xs (k + 1) ∙ ap (λ t. t ++ flat_map f (drop (k + 1) xs)) (item_next f xs ys k d text same within is)
 

@@ -2,5 +2,6 @@ pub mod Answers
 pub mod Changes
 pub mod Faces
 pub mod Holding
+pub mod Lists
 pub mod Slots
 pub mod Timelines

@@ -7,6 +7,8 @@
 //! is the lines of the slots whose values differ, in the order of the page. The text of a whole run is a function of its timeline
 //! (`specs/Timelines`), as is which timelines a run can have.
 //!
+//! [`push_list`] puts a list of a face in JSON from the same slots.
+//!
 //! No call takes memory. Where two faces are equal, writing their changes compares a fixed number of machine words and looks at nothing of the
 //! site. Else a group of lines is looked at only where its mask differs, and what is told is named by a walk over the site's list of such
 //! things. Lines are held back in a room of 1,024 bytes, so that a text goes out in as few writes as that room allows. Where a tick has more
@@ -18,8 +20,10 @@ mod answers;
 mod change_lines;
 mod conditions;
 mod face;
+mod face_list;
 mod group;
 mod held;
+mod lists;
 mod masks;
 mod naming;
 mod op_answer;
@@ -35,8 +39,10 @@ pub use answers::Answers;
 pub use change_lines::{push_changes, write_changes};
 pub use conditions::Conditions;
 pub use face::Face;
+pub use face_list::FaceList;
 pub use group::Group;
 pub use held::Held;
+pub use lists::push_list;
 pub use op_answer::OpAnswer;
 pub use op_answers::{MOST_ANSWERS, OpAnswers};
 pub use reply::Reply;

@@ -31,6 +31,8 @@ mod due_zones;
 #[cfg(test)]
 mod face_lines;
 #[cfg(test)]
+mod face_lists;
+#[cfg(test)]
 mod hold_tests;
 #[cfg(test)]
 mod hostile_tests;
