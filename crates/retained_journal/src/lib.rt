@@ -6,6 +6,7 @@
 #![tactic(auto)]
 
 mod batch;
+mod cell_bytes;
 mod changes;
 mod create_refusal;
 mod disk_fault;
@@ -19,6 +20,7 @@ mod open_refusal;
 mod replay;
 mod slot_bytes;
 mod slots;
+mod steps;
 
 pub use batch::Batch;
 pub use create_refusal::CreateRefusal;
