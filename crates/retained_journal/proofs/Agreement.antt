@@ -1,5 +1,5 @@
 -- What is read at a place of one file and of another whose bytes are the same there.
-use Rattle.std.proofs.Common.{◌≡◌, ◌+◌, ◌*◌, ◌<◌, ◌≤◌, ℕ, zero, suc, Bool, true, false, List, map, slice_index, refl, sym, ap, ◌∙◌, subst, arith, add-zero, zero-add}
+use Rattle.std.proofs.Common.{◌≡◌, ◌+◌, ◌-◌, ◌*◌, ◌<◌, ◌≤◌, ℕ, zero, suc, Bool, true, false, List, map, slice_index, refl, sym, ap, ◌∙◌, subst, arith, add-zero, zero-add}
 use Rattle.std.specs.List.{range_with_len}
 use Rattle.byteorder.specs.Endian.{big_from, little_from}
 use Rattle.site_types.specs.declared.point_set.PointSet.{PointSet}
@@ -77,20 +77,22 @@ numbers-agree file at other from agrees =
 abbrev the_set : List (List ℕ) → PointSet
 the_set rows = record { loops = rows }
 
-module _ (wide : Bool) (file : List ℕ) (at : ℕ) (other : List ℕ) (from : ℕ) (agrees : Agrees 906 file at other from) where
-  there : (k m : ℕ) → k + m ≤ 906 → Agrees m file (at + k) other (from + k)
-  there k m fits = part 906 file at other from k m agrees fits
+module _ (wide : Bool) (file : List ℕ) (at : ℕ) (other : List ℕ) (from : ℕ) (agrees : Agrees 905 file (at + 1) other (from + 1)) where
+  there : (k m : ℕ) → 1 ≤ k → k + m ≤ 906 → Agrees m file (at + k) other (from + k)
+  there k m some fits = record {
+    same = λ i less. subst (λ (x : ℕ). slice_index file x ≡ slice_index other (from + k + i)) (omega (arith, some)) (subst (λ (x : ℕ). slice_index file (at + 1 + (k - 1 + i)) ≡ slice_index other x) (omega (arith, some)) (agrees.same (k - 1 + i) (omega (arith, some, fits, less))));
+  }
 
-  further : (k j m : ℕ) → k + j + m ≤ 906 → Agrees m file (at + k + j) other (from + k + j)
-  further k j m fits = part (j + m) file (at + k) other (from + k) j m (there k (j + m) (omega arith)) (omega arith)
+  further : (k j m : ℕ) → 1 ≤ k → k + j + m ≤ 906 → Agrees m file (at + k + j) other (from + k + j)
+  further k j m some fits = part (j + m) file (at + k) other (from + k) j m (there k (j + m) some (omega arith)) (omega arith)
 
   loop-agrees : (b : Bool) (which : ℕ) → which < 32 → loop_at b at which file ≡ loop_at b from which other
   loop-agrees true which less =
-      let low = mask-agrees 12 file (at + 9 + 12 * which) other (from + 9 + 12 * which) (further 9 (12 * which) 12 (omega arith)) in
-      let high = mask-agrees 12 file (at + 490 + 12 * which) other (from + 490 + 12 * which) (further 490 (12 * which) 12 (omega arith)) in
+      let low = mask-agrees 12 file (at + 9 + 12 * which) other (from + 9 + 12 * which) (further 9 (12 * which) 12 (omega arith) (omega arith)) in
+      let high = mask-agrees 12 file (at + 490 + 12 * which) other (from + 490 + 12 * which) (further 490 (12 * which) 12 (omega arith) (omega arith)) in
       rw (low, high) refl
   loop-agrees false which less =
-      let low = mask-agrees 12 file (at + 9 + 12 * which) other (from + 9 + 12 * which) (further 9 (12 * which) 12 (omega arith)) in
+      let low = mask-agrees 12 file (at + 9 + 12 * which) other (from + 9 + 12 * which) (further 9 (12 * which) 12 (omega arith) (omega arith)) in
       rw low refl
 
   panel-agrees : (panel : ℕ) → panel < 8 → panel_points wide at panel file ≡ panel_points wide from panel other
@@ -103,15 +105,21 @@ module _ (wide : Bool) (file : List ℕ) (at : ℕ) (other : List ℕ) (from : �
   unfolding points_at
   points-agree = map-same (λ panel. panel_points wide at panel file) (λ panel. panel_points wide from panel other) 0 8 (λ i low high. panel-agrees i (omega arith))
 
-  pub retained-agrees : retained_at wide at file ≡ retained_at wide from other
-  retained-agrees =
+  pub retained-body : retained_at wide at file ≡ retained_at wide from other
+  retained-body =
       let points = points-agree in
-      let zones = numbers-agree file (at + 393) other (from + 393) (there 393 32 (omega arith)) in
-      let outputs = numbers-agree file (at + 425) other (from + 425) (there 425 32 (omega arith)) in
-      let delays = agrees.same 457 (omega arith) in
-      let counters = numbers-agree file (at + 458) other (from + 458) (there 458 32 (omega arith)) in
-      let tests = numbers-agree file (at + 874) other (from + 874) (there 874 32 (omega arith)) in
+      let zones = numbers-agree file (at + 393) other (from + 393) (there 393 32 (omega arith) (omega arith)) in
+      let outputs = numbers-agree file (at + 425) other (from + 425) (there 425 32 (omega arith) (omega arith)) in
+      let delays = first_byte 1 file (at + 457) other (from + 457) (there 457 1 (omega arith) (omega arith)) (omega arith) in
+      let counters = numbers-agree file (at + 458) other (from + 458) (there 458 32 (omega arith) (omega arith)) in
+      let tests = numbers-agree file (at + 874) other (from + 874) (there 874 32 (omega arith) (omega arith)) in
       rw (points, zones, outputs, delays, counters, tests) refl
 
-  pub slot_number-agrees : slot_number at file ≡ slot_number from other
-  slot_number-agrees = number-agrees 8 file (at + 1) other (from + 1) (there 1 8 (omega arith))
+body_of : (file : List ℕ) (at : ℕ) (other : List ℕ) (from : ℕ) → Agrees 906 file at other from → Agrees 905 file (at + 1) other (from + 1)
+body_of file at other from agrees = part 906 file at other from 1 905 agrees (omega arith)
+
+pub retained-agrees : (wide : Bool) (file : List ℕ) (at : ℕ) (other : List ℕ) (from : ℕ) → Agrees 906 file at other from → retained_at wide at file ≡ retained_at wide from other
+retained-agrees wide file at other from agrees = retained-body wide file at other from (body_of file at other from agrees)
+
+pub slot_number-agrees : (wide : Bool) (file : List ℕ) (at : ℕ) (other : List ℕ) (from : ℕ) → Agrees 906 file at other from → slot_number at file ≡ slot_number from other
+slot_number-agrees wide file at other from agrees = number-agrees 8 file (at + 1) other (from + 1) (part 906 file at other from 1 8 agrees (omega arith))

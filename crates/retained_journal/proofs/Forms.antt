@@ -71,7 +71,7 @@ unfolding is_in_form
 kind_within wide kind h = within 1 7 kind h
 
 -- where no byte is wrong, each is in its form
-right_byte : (wide : Bool) (at : ℕ) (file : List ℕ) (place : ℕ) → wrong_byte wide at file place ≡ None → is_in_form wide (slice_index file at) place (slice_index file (at + place)) ≡ true
+pub right_byte : (wide : Bool) (at : ℕ) (file : List ℕ) (place : ℕ) → wrong_byte wide at file place ≡ None → is_in_form wide (slice_index file at) place (slice_index file (at + place)) ≡ true
 right_byte wide at file place none = go (is_in_form wide (slice_index file at) place (slice_index file (at + place))) refl none
   where
     go : (b : Bool) → is_in_form wide (slice_index file at) place (slice_index file (at + place)) ≡ b → (if b then None else Some (at + place)) ≡ None → is_in_form wide (slice_index file at) place (slice_index file (at + place)) ≡ true

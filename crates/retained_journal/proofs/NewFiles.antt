@@ -18,7 +18,7 @@ use Rattle.retained_journal.proofs.Finding.{found-none, none_below}
 use Rattle.retained_journal.proofs.FrontAgreement.{six, byte_same, number_same, part_same, retained_same}
 use Rattle.retained_journal.proofs.Replaying.{cells-none}
 
-bytes_eq_same : (xs : List ℕ) → bytes_eq xs xs ≡ true
+pub bytes_eq_same : (xs : List ℕ) → bytes_eq xs xs ≡ true
 bytes_eq_same xs = (bytes_eq-Decides xs xs).1 refl
 
 pub new_file_same : (digest : List ℕ) (state : Retained) (front file : List ℕ) → IsNewFile digest state front → Agrees 2048 front 0 file 0 → length file ≡ 2048 → IsNewFile digest state file

@@ -34,3 +34,7 @@ numbers_back numbers size fits =
 pub number_back : (n : ℕ) (rest : List ℕ) → n < 2 ^ 64 → number_at 8 0 (bytes_high_first 8 n ++ rest) ≡ n
 unfolding number_at
 number_back n rest fits = big_number-reads_back 8 n rest fits
+
+pub short_back : (n : ℕ) (rest : List ℕ) → n < 2 ^ 32 → number_at 4 0 (bytes_high_first 4 n ++ rest) ≡ n
+unfolding number_at
+short_back n rest fits = big_number-reads_back 4 n rest fits

@@ -1,5 +1,6 @@
 -- What an open journal says of the file that was read.
 use Rattle.std.specs.Prelude.{◌≡◌, ◌+◌, ◌&&◌, ◌||◌, ◌≤◌, nat_lt, not, ℕ, Bool, true, false, List, [], length, if◌then◌else◌}
+use Rattle.site_types.specs.Changes.{nothing_retained}
 use Rattle.retained_journal.specs.declared.journal.Journal.{Journal}
 use Rattle.retained_journal.specs.declared.log_gate.LogGate.TheVariants.{Shut, Open}
 use Rattle.retained_journal.specs.declared.replay.Replay.{Replay}
@@ -53,3 +54,16 @@ pub record IsReadFrom (wide : Bool) (digest file : List ℕ) (journal : Journal)
 -- a file whose front has an open log gate is whole
 abbrev pub IsLong : List ℕ → List ℕ → Type 0
 IsLong front file = is_open log_gate front ≡ true → whole_bytes ≤ length file
+
+-- the journal of a new file, which keeps nothing yet
+pub record IsNewJournal (wide : Bool) (digest : List ℕ) (journal : Journal) : Type 0 where
+  pub same_wide : journal.wide ≡ wide
+  pub same_digest : journal.digest ≡ digest
+  pub kept : journal.kept ≡ nothing_retained
+  pub tried : journal.tried ≡ 0
+  pub number : journal.number ≡ 1
+  pub second : journal.second ≡ false
+  pub cells : journal.cells ≡ 0
+  pub log : journal.log ≡ Shut
+  pub slot : journal.slot_may_be_open ≡ false
+  pub torn : journal.torn ≡ true

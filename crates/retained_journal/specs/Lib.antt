@@ -1,6 +1,8 @@
+pub mod Batches
 pub mod Cells
 pub mod Creating
 pub mod Fields
+pub mod Images
 pub mod Journals
 pub mod NewFiles
 pub mod Opening

@@ -3,6 +3,7 @@ use Rattle.std.specs.Prelude.{◌≡◌, ◌⊎◌, ℕ, ◌+◌, ◌*◌, ◌^�
 use Rattle.std.specs.List.{range_with_len}
 use Rattle.site_types.specs.declared.point_set.PointSet.{PointSet}
 use Rattle.site_types.specs.declared.retained.Retained.{Retained}
+use Rattle.site_types.specs.Changes.{AreCounters}
 use Rattle.site_types.specs.Done.{no_points}
 use Rattle.retained_journal.specs.Fields.{number_at, mask_at, numbers_at}
 
@@ -66,3 +67,9 @@ HasNarrowPoints wide points = (panel : ℕ) → panel < 8 → HasNarrowLoops wid
 abbrev pub SameButLoops : ℕ → ℕ → List ℕ → List ℕ → Type 0
 SameButLoops first count old new =
     (i : ℕ) → (i < 9 + 12 * first) ⊎ (9 + 12 * (first + count) ≤ i) → (i < 490 + 12 * first) ⊎ (490 + 12 * (first + count) ≤ i) → slice_index new i ≡ slice_index old i
+
+-- A state that a slot can keep: its points have room, and no counter is past its end.
+pub record IsKeepable (wide : Bool) (state : Retained) : Type 0 where
+  pub fits : FitPoints state.points
+  pub narrow : HasNarrowPoints wide state.points
+  pub small : AreCounters state.counters

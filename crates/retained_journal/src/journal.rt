@@ -1,16 +1,21 @@
-ghost use Rattle.std.specs.Prelude.{◌≡◌, ◌≢◌, ◌⊎◌, ◌+◌, ◌<◌, ◌≤◌, ◌^◌, None, Some, ℕ, List, length, not, IfErr, IfOk, IfSome, OnOk, ◌↔◌, false, if◌then◌else◌};
-ghost use Rattle.panel_edges.specs.Crashes.{Stays};
-ghost use Rattle.site_types.specs.Changes.{AreCounters, nothing_retained};
+ghost use Rattle.std.specs.Prelude.{◌≡◌, ◌≢◌, ◌⊎◌, ◌+◌, ◌<◌, ◌≤◌, ◌^◌, None, Some, ℕ, List, length, not, IfErr, IfOk, IfSome, OnErr, OnOk, ◌↔◌, false, true, if◌then◌else◌};
+ghost use Rattle.panel_edges.specs.Crashes.{LeavesOnly, Stays};
+ghost use Rattle.panel_edges.specs.Faults.{HasCause};
+ghost use Rattle.panel_edges.specs.Disks.{Becomes};
+ghost use Rattle.site_types.specs.Changes.{AreCounters, changed_by, nothing_retained};
+ghost use Rattle.retained_journal.specs.Batches.{IsBatch};
 ghost use Rattle.retained_journal.specs.Creating.{HasCreateCause};
-ghost use Rattle.retained_journal.specs.Fields.{Agrees};
-ghost use Rattle.retained_journal.specs.Journals.{IsLong, IsOfFront, IsReadFrom, IsReplayOf};
-ghost use Rattle.retained_journal.specs.Opening.{Empty, Opens, Refuses, change_out_of_form, front_refusal, is_second as second_counts, opened, refusal_of};
+ghost use Rattle.retained_journal.specs.Fields.{Agrees, first_in};
+ghost use Rattle.retained_journal.specs.Images.{HasRoom, HasRoom2, IsSound, KeepsAll, MayLeave, MayLeaveOr, OpensToKept, SameFront, Stands};
+ghost use Rattle.retained_journal.specs.Journals.{IsLong, IsNewJournal, IsOfFront, IsReadFrom, IsReplayOf};
+ghost use Rattle.retained_journal.specs.Opening.{Empty, Opens, Refuses, change_out_of_form, counted, great_counter, is_second as second_counts, opened, refusal_of};
 ghost use Rattle.retained_journal.specs.Places.{slot_place as place_of_slot};
 ghost use Rattle.retained_journal.specs.Replays.{HasRefusalCause};
-ghost use Rattle.retained_journal.specs.Slots.{FitPoints, HasNarrowPoints, retained_at as state_at, slot_number};
+ghost use Rattle.retained_journal.specs.Slots.{FitPoints, HasNarrowPoints, IsKeepable, retained_at as state_at, slot_number};
 
 use crate::batch::Batch;
 use crate::create_refusal::CreateRefusal;
+use crate::disk_fault::DiskFault;
 use crate::fields::number_at;
 use crate::front::{Front, check_front, is_second, read_front};
 use crate::layout::{LOG_GATE, slot_place};
@@ -25,29 +30,29 @@ use site_types::Retained;
 /// A journal that is open.
 #[derive(Drop)]
 pub struct Journal {
-    wide: bool,
-    digest: [u8; 32],
+    pub(crate) wide: bool,
+    pub(crate) digest: [u8; 32],
     /// What is kept.
-    kept: Retained,
+    pub(crate) kept: Retained,
     /// The batch that was last attempted.
-    attempt: Batch,
+    pub(crate) attempt: Batch,
     /// Whether the next call mends first.
-    torn: bool,
+    pub(crate) torn: bool,
     /// How many commits were tried.
-    tried: u64,
+    pub(crate) tried: u64,
     /// The last number that a slot or a cell was given.
-    number: u64,
+    pub(crate) number: u64,
     /// Whether the chosen slot is slot B.
-    second: bool,
+    pub(crate) second: bool,
     /// How many cells count.
-    cells: u8,
-    log: LogGate,
+    pub(crate) cells: u8,
+    pub(crate) log: LogGate,
     /// Whether the gate of the other slot may be open.
-    slot_may_be_open: bool,
+    pub(crate) slot_may_be_open: bool,
     /// Whether the gate of the next cell may be open.
-    cell_may_be_open: bool,
+    pub(crate) cell_may_be_open: bool,
     /// Whether a move to the other slot was begun and not ended.
-    moving: bool,
+    pub(crate) moving: bool,
 }
 
 impl Journal {
@@ -65,6 +70,9 @@ impl Journal {
         ensures kept { IfOk result (λ r. r.0.kept ≡ r.1) }
         ensures ok { IfOk result (λ r. IfSome (D.seen disk.old) (λ file. (opened wide digest file ≡ Opens r.1) ⊎ ((opened wide digest file ≡ Empty) × (r.1 ≡ nothing_retained)))) }
         ensures err { IfErr result (λ e. e ≢ OpenRefusal.DiskFault → IfSome (D.seen disk.old) (λ file. opened wide digest file ≡ Refuses e)) }
+        ensures stands { IfOk result (λ r. Stands D.honest D.images disk.new r.0) }
+        ensures read { IfOk result (λ r. IfSome (D.seen disk.old) (λ file. 0 < length file → IsReadFrom wide digest file r.0)) }
+        ensures fresh { IfOk result (λ r. (r.0.tried ≡ 0) × (r.0.wide ≡ wide) × (r.0.digest ≡ digest)) }
         ensures unwritten { IfSome (D.seen disk.old) (λ file. 0 < length file → D.seen disk.new ≡ D.seen disk.old) }
         ensures cause { HasRefusalCause (D.faults disk.old) (D.faults disk.new) result }
     {
@@ -116,9 +124,89 @@ impl Journal {
         &self.kept
     }
 
+    /// Mends the journal where an earlier call left it torn.
+    ///
+    /// # Errors
+    ///
+    /// A call of the disk failed. The journal is torn yet, and keeps what it kept.
+    pub fn mend<D: Disk>(&mut self, disk: &mut D) -> Result<(), DiskFault>
+        requires { Stands D.honest D.images disk.old self.old }
+        ensures stands { Stands D.honest D.images disk.new self.new }
+        ensures same { KeepsAll self.old self.new }
+        ensures ok { OnOk result (self.new.torn ≡ false) }
+        ensures err { OnErr result (self.new.torn ≡ true) }
+        // After Ok each file that a crash may leave opens to what is kept, and all cells that count are known.
+        ensures opens { D.honest disk.new → HasRoom self.new → OnOk result ((file : List ℕ) → D.images disk.new file → OpensToKept self.new file × (counted file ≡ self.new.cells)) }
+        ensures moments { D.honest disk.old → HasRoom self.old → LeavesOnly D.moment D.left_since disk.old disk.new (MayLeave self.old) }
+        ensures unwritten { self.old.torn ≡ false → D.seen disk.new ≡ D.seen disk.old }
+        ensures honest { D.honest disk.new ↔ D.honest disk.old }
+        ensures cause { HasCause (D.faults disk.old) (D.faults disk.new) result }
+    {
+        if self.torn {
+            self.make_whole(disk)?;
+            self.torn = false;
+        }
+        Ok(())
+    }
+
+    /// Keeps a batch of 1 to 72 changes.
+    ///
+    /// # Errors
+    ///
+    /// A call of the disk failed. The journal is torn and keeps what it kept; a crash may leave the batch, until the journal
+    /// is mended.
+    pub fn commit<D: Disk>(&mut self, disk: &mut D, batch: &Batch) -> Result<(), DiskFault>
+        requires stands { Stands D.honest D.images disk.old self.old }
+        requires batch { IsBatch self.old.wide batch.now.items }
+        requires few { self.old.tried ≤ 1000000000 }
+        ensures stands { Stands D.honest D.images disk.new self.new }
+        ensures ok { OnOk result ((self.new.kept ≡ changed_by batch.now.items self.old.kept) × (self.new.torn ≡ false) × (self.new.attempt.items ≡ batch.now.items)) }
+        ensures err { OnErr result ((self.new.kept ≡ self.old.kept) × (self.new.torn ≡ true) × ((self.new.attempt.items ≡ batch.now.items) ⊎ (self.new.attempt ≡ self.old.attempt))) }
+        ensures same { (self.new.wide ≡ self.old.wide) × (self.new.digest ≡ self.old.digest) × (self.new.tried ≡ self.old.tried + 1) × (self.new.number ≤ self.old.number + 2) }
+        ensures opens { D.honest disk.new → HasRoom self.new → OnOk result ((file : List ℕ) → D.images disk.new file → OpensToKept self.new file × (counted file ≡ self.new.cells)) }
+        ensures moments { D.honest disk.old → HasRoom2 self.old → LeavesOnly D.moment D.left_since disk.old disk.new (MayLeaveOr self.old batch.now.items) }
+        ensures front { OnOk result (self.old.torn ≡ false → self.old.cells < 64 → Becomes SameFront (D.seen disk.old) (D.seen disk.new)) }
+        ensures honest { D.honest disk.new ↔ D.honest disk.old }
+        ensures cause { HasCause (D.faults disk.old) (D.faults disk.new) result }
+    {
+        self.tried += 1;
+        self.mend(disk)?;
+        self.begin(batch);
+        self.append(disk)?;
+        self.torn = false;
+        Ok(())
+    }
+
+    // The batch is the one last attempted from now on.
+    fn begin(&mut self, batch: &Batch)
+        ensures { (self.new ≡ record self.old { torn = true; attempt = self.new.attempt }) × (self.new.attempt.items ≡ batch.now.items) }
+    {
+        let mut attempt = Batch::new();
+        match attempt.try_extend_from_slice(batch.as_slice()) {
+            Ok(()) => {}
+            Err(_) => unreachable!(),
+        }
+        self.torn = true;
+        self.attempt = attempt;
+    }
+
+    /// Whether the next call mends first.
+    pub fn torn(&self) -> bool
+        ensures { result ≡ self.now.torn }
+    {
+        self.torn
+    }
+
+    /// How many cells count.
+    pub fn cells(&self) -> u8
+        ensures { result ≡ self.now.cells }
+    {
+        self.cells
+    }
+
     // The journal of a new file.
     fn of_new(digest: [u8; 32], wide: bool) -> Journal
-        ensures { (result.wide ≡ wide) × (result.digest ≡ digest) × (result.kept ≡ nothing_retained) }
+        ensures { IsNewJournal wide digest result }
     {
         Journal {
             wide,
@@ -184,6 +272,8 @@ fn read_journal<D: Disk>(
     wide: bool,
 ) -> Result<Journal, OpenRefusal>
     requires { IfSome (D.seen disk.old) (λ file. len ≡ length file) }
+    ensures sound { IfOk result IsSound }
+    ensures fresh { IfOk result (λ journal. (journal.tried ≡ 0) × (journal.wide ≡ wide) × (journal.digest ≡ digest)) }
     ensures ok { IfOk result (λ journal. IfSome (D.seen disk.old) (λ file. (refusal_of wide digest file ≡ None) × IsReadFrom wide digest file journal)) }
     ensures err { IfErr result (λ e. e ≢ OpenRefusal.DiskFault → IfSome (D.seen disk.old) (λ file. refusal_of wide digest file ≡ Some e)) }
     ensures seen { D.seen disk.new ≡ D.seen disk.old }
@@ -207,7 +297,9 @@ fn read_counted<D: Disk>(
 ) -> Result<Replay, OpenRefusal>
     requires second { second ≡ second_counts front.now }
     requires number { slot_number (place_of_slot second) front.now ≤ 2 ^ 63 }
+    requires counters { first_in (great_counter (place_of_slot second) front.now) 8 ≡ None }
     requires told { IfSome (D.seen disk.old) (λ file. Agrees 2048 front.now 0 file 0 × IsLong front.now file) }
+    ensures keeps { IfOk result (λ replay. IsKeepable wide replay.kept × (replay.cells ≤ 64) × (replay.number ≤ 2 ^ 63 + 64)) }
     ensures ok { IfOk result (λ replay. IfSome (D.seen disk.old) (λ file. (change_out_of_form wide file ≡ None) × IsReplayOf wide file replay)) }
     ensures err { IfErr result (λ e. e ≢ OpenRefusal.DiskFault → IfSome (D.seen disk.old) (λ file. change_out_of_form wide file ≡ Some e)) }
     ensures seen { D.seen disk.new ≡ D.seen disk.old }

@@ -1,11 +1,22 @@
 //! The journal: what outlives a power cut, in one file.
 //!
-//! [`Journal::open`] gives what the file of a site keeps, or says why it is refused; [`Journal::create`] makes such a file
-//! with a state. What a file opens to is one definition, `opened` of `specs/Opening`, over the bytes alone: two slots
-//! that hold a whole state each, and 64 cells that hold the changes of one commit each. No call takes memory.
+//! Begin with [`Journal::open`], which gives what the file of a site keeps or says why it is refused, and makes a new journal
+//! of an empty file. [`Journal::commit`] keeps a batch of changes, [`Journal::mend`] makes good what an earlier fault left;
+//! [`Journal::create`] makes a file with a state. What the crate promises of any disk that keeps its trait's meaning:
+//!
+//! - *A batch is kept whole or not at all.* Each file that a crash may leave, at each moment since opening and within a call
+//!   too, opens to the kept state, or to that with the whole batch last attempted.
+//! - *Ok is durable.* After it each such file opens to the kept state alone.
+//! - *A fault loses nothing.* The kept state is as before; the next mending or commit makes the journal whole.
+//! - *Opening is one definition*, `opened` of `specs/Opening`, over the bytes alone: two slots that hold a whole state each,
+//!   and 64 cells that hold the changes of one commit each.
+//!
+//! A commit costs two writes and two syncs, and every 65th a slot more. No call takes memory. docs/journal.md walks through
+//! each write and each moment of a cut; `specs/Images` says what each file holds that a crash may leave.
 #![tactic(auto)]
 
 mod batch;
+mod cell_bytes;
 mod changes;
 mod create_refusal;
 mod disk_fault;
@@ -19,6 +30,9 @@ mod open_refusal;
 mod replay;
 mod slot_bytes;
 mod slots;
+mod steps;
+#[cfg(test)]
+mod tests;
 
 pub use batch::Batch;
 pub use create_refusal::CreateRefusal;

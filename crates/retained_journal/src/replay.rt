@@ -6,6 +6,7 @@ ghost use Rattle.retained_journal.specs.declared.open_refusal.OpenRefusal.TheVar
 ghost use Rattle.retained_journal.specs.Cells.{cell_changes, is_next as counts_next, wrong_in_cell as wrong_byte};
 ghost use Rattle.retained_journal.specs.Fields.{Agrees};
 ghost use Rattle.retained_journal.specs.Places.{cell_place as place_of_cell, whole_bytes};
+ghost use Rattle.retained_journal.specs.Slots.{IsKeepable};
 ghost use Rattle.retained_journal.specs.Replays.{EndsReplay, HasRefusalCause, RefusesReplay, TakesCell};
 
 use crate::changes::{apply_changes, wrong_in_cell};
@@ -35,9 +36,11 @@ impl Replay {
         requires told { IfSome (D.seen disk.old) (λ file. whole_bytes ≤ length file) }
         requires begun { (self.old.cells ≡ 0) × (self.old.is_next_open ≡ false) }
         requires number { self.old.number ≤ 2 ^ 63 }
+        requires keeps { IsKeepable self.old.wide self.old.kept }
         ensures ok { OnOk result (IfSome (D.seen disk.old) (λ file. EndsReplay file self.old self.new)) }
         ensures err { IfErr result (λ e. e ≢ OpenRefusal.DiskFault → IfSome (D.seen disk.old) (λ file. RefusesReplay file self.old e)) }
         ensures bound { OnOk result ((self.new.wide ≡ self.old.wide) × (self.new.number ≡ self.old.number + self.new.cells) × (self.new.cells ≤ 64)) }
+        ensures keeps { OnOk result (IsKeepable self.new.wide self.new.kept) }
         ensures seen { D.seen disk.new ≡ D.seen disk.old }
         ensures honest { D.honest disk.new ↔ D.honest disk.old }
         ensures crash { D.honest disk.old → Stays (D.images disk.old) (D.images disk.new) }

@@ -1,4 +1,4 @@
-use Rattle.std.proofs.Common.{◌≡◌, ◌≢◌, subst, sym, ◌∙◌}
+use Rattle.std.proofs.Common.{ap, arith, ◌≡◌, ◌≢◌, subst, sym, ◌∙◌}
 use Rattle.std.specs.Prelude.{IfSome, Some}
 use Rattle.retained_journal.specs.declared.open_refusal.OpenRefusal.TheVariants.{DiskFault}
 use Rattle.retained_journal.specs.Opening.{change_out_of_form}
@@ -6,6 +6,10 @@ use Rattle.retained_journal.proofs.Openings.{begun_at, replay_open, replay_refus
 use Rattle.retained_journal.proofs.Refused.{handed_on}
 use Rattle.retained_journal.proofs.Told.{both_told}
 use Rattle.std.proofs.lemmas.Option.{IfSome_then}
+use Rattle.retained_journal.specs.Places.{slot_place}
+use Rattle.retained_journal.specs.declared.replay.Replay.{Replay}
+use Rattle.retained_journal.specs.Slots.{IsKeepable}
+use Rattle.retained_journal.proofs.Keeping.{keeps_slot, small_counters}
 use Rattle.retained_journal.proofs.journal.read_counted.Goals as goal
 
 pub returns-in_err-read_cells-clause-err : goal.returns-in_err-read_cells-clause-err
@@ -27,3 +31,17 @@ returns-else-front-eq1-clause-ok g c =
     let is = subst (λ at. c.begin_replay-replay.result ≡ begun_at c.args.wide at c.args.front.now) c.slot_place.ensures c.begin_replay-replay.ensures in
     IfSome_then (g.D.Disk.seen c.args.disk.now) c.requires.told
     (λ file told. replay_shut c.args.wide c.args.front.now file c.args.second told.0 c.requires.second c.begin_replay-replay.result is c.if-front-eq1.false)
+
+pub read_cells-requires-clause-keeps : goal.read_cells-requires-clause-keeps
+read_cells-requires-clause-keeps g c =
+    let is = subst (λ at. c.begin_replay-replay.result ≡ begun_at c.args.wide at c.args.front.now) c.slot_place.ensures c.begin_replay-replay.ensures in
+    let at = slot_place c.args.second in
+    subst (λ (r : Replay). IsKeepable r.wide r.kept) (sym is) (keeps_slot c.args.wide at c.args.front.now c.fits-front (small_counters at c.args.front.now c.requires.counters))
+
+pub returns-else-front-eq1-clause-keeps : goal.returns-else-front-eq1-clause-keeps
+returns-else-front-eq1-clause-keeps g c =
+    let is = subst (λ at. c.begin_replay-replay.result ≡ begun_at c.args.wide at c.args.front.now) c.slot_place.ensures c.begin_replay-replay.ensures in
+    let at = slot_place c.args.second in
+    let number = ap (λ (r : Replay). r.number) is in
+    let cells = ap (λ (r : Replay). r.cells) is in
+    (subst (λ (r : Replay). IsKeepable c.args.wide r.kept) (sym is) (keeps_slot c.args.wide at c.args.front.now c.fits-front (small_counters at c.args.front.now c.requires.counters)), omega (arith, cells), omega (arith, number, c.requires.number))

@@ -9,6 +9,9 @@ use Rattle.retained_journal.specs.declared.replay.Replay.{Replay}
 use Rattle.retained_journal.specs.declared.open_refusal.OpenRefusal.TheVariants.{DiskFault}
 use Rattle.retained_journal.proofs.Refused.{handed_on}
 use Rattle.retained_journal.proofs.Told.{both_told, each_told}
+use Rattle.retained_journal.specs.Cells.{cell_changes}
+use Rattle.retained_journal.specs.Slots.{IsKeepable}
+use Rattle.retained_journal.proofs.Keeping.{can_keep_cell, keeps-batch}
 use Rattle.retained_journal.proofs.replay.Replay.read_cells.Goals as goal
 
 pub loop-cell-init : goal.loop-cell-init
@@ -17,6 +20,7 @@ loop-cell-init g c = record {
   cells = c.requires.begun.0;
   number = omega arith;
   wide = refl;
+  keeps = c.requires.keeps;
   shut = c.requires.begun.1;
   seen = refl;
   honest = (λ h. h, λ h. h);
@@ -37,12 +41,18 @@ loop-cell-preserved g c =
       cells = omega (arith, cells, before.cells);
       number = omega (arith, numbers, before.number);
       wide = ap (λ (r : Replay). r.wide) took.2 ∙ before.wide;
+      keeps = subst (λ (r : Replay). IsKeepable r.wide r.kept) (sym took.2) (keeps-batch c.loop-cell.self.wide (cell_changes 0 c.in_ok-bytes.bytes) c.loop-cell.self.kept (can_keep_cell c.loop-cell.self.wide 0 c.in_ok-bytes.bytes took.1) before.keeps);
       shut = ap (λ (r : Replay). r.is_next_open) took.2 ∙ before.shut;
       seen = read.seen ∙ before.seen;
       honest = (λ h. before.honest.0 (read.honest.0 h), λ h. read.honest.1 (before.honest.1 h));
       crash = λ honest file image. before.crash honest file (read.crash (before.honest.1 honest) file image);
       later = omega (arith, before.later, read.cause.later);
     }
+
+pub returns-then-not-branch-clause-keeps : goal.returns-then-not-branch-clause-keeps
+returns-then-not-branch-clause-keeps g c =
+    let took = subst (λ b. TakesCell c.loop-cell.self c.in_ok-bytes.bytes (Ok b) c.take.new.self) c.if-not-branch.true c.in_ok-take.ensures in
+    subst (λ (r : Replay). IsKeepable r.wide r.kept) (sym took.1) c.loop-cell.invariant.keeps
 
 pub returns-then-not-branch-clause-ok : goal.returns-then-not-branch-clause-ok
 returns-then-not-branch-clause-ok g c =

@@ -2,6 +2,7 @@ use Rattle.std.proofs.Common.{◌≡◌, ◌+◌, ◌≤◌, false}
 use Rattle.std.specs.Prelude.{IfSome, ◌↔◌}
 use Rattle.panel_edges.specs.Crashes.{Stays}
 use Rattle.retained_journal.specs.Replays.{HasReplayed}
+use Rattle.retained_journal.specs.Slots.{IsKeepable}
 use Rattle.retained_journal.proofs.replay.Replay.read_cells.Given as goal
 
 abbrev pub invariant-loop-cell : goal.invariant-loop-cell
@@ -11,6 +12,7 @@ invariant-loop-cell g l =
       cells : l.self.cells ≡ l.cell;
       number : l.self.number ≡ l.initial.self.number + l.cell;
       wide : l.self.wide ≡ l.initial.self.wide;
+      keeps : IsKeepable l.self.wide l.self.kept;
       shut : l.self.is_next_open ≡ false;
       seen : g.D.Disk.seen l.disk ≡ g.D.Disk.seen l.initial.disk;
       honest : g.D.Disk.honest l.disk ↔ g.D.Disk.honest l.initial.disk;

@@ -1,0 +1,32 @@
+use Rattle.std.proofs.Common.{◌≡◌, subst}
+use Rattle.std.specs.Prelude.{IfSome, None}
+use Rattle.site_types.specs.declared.retained.Retained.{Retained}
+use Rattle.retained_journal.specs.Journals.{IsReadFrom}
+use Rattle.retained_journal.specs.NewFiles.{IsNewFile}
+use Rattle.retained_journal.specs.Opening.{refusal_of}
+use Rattle.retained_journal.proofs.Calls.{only_so}
+use Rattle.retained_journal.proofs.ReadImages.{keeps_nothing, new_image, read_image, sound_new}
+use Rattle.retained_journal.proofs.journal.Journal.open.Goals as goal
+
+pub returns-then-len-eq0-clause-stands : goal.returns-then-len-eq0-clause-stands
+returns-then-len-eq0-clause-stands g c = record {
+  sound = sound_new c.args.wide c.args.digest c.of_new.result c.of_new.ensures;
+  each = λ honest file here.
+      new_image c.args.wide c.args.digest file c.of_new.result c.of_new.ensures
+      (subst (λ (s : Retained). IsNewFile c.args.digest s file) c.empty-kept.ensures (c.in_ok-write_new.ensures.ok (c.write_new.ensures.honest.0 honest) file here)) (keeps_nothing c.args.wide);
+}
+
+pub returns-clause-stands : goal.returns-clause-stands
+returns-clause-stands g c = record {
+  sound = c.in_ok-journal.ensures.sound;
+  each = λ honest file here.
+      let j = c.in_ok-journal.journal in
+      let at_len = c.read_journal.ensures.honest.0 honest in
+      let at_sync = c.len.ensures.honest.0 at_len in
+      let at_first = c.sync.ensures.honest.0 at_sync in
+      let seen = g.met.D.Disk.reads_as_image c.sync.new.self at_sync in
+      let was = c.len.ensures.crash at_sync file (c.read_journal.ensures.crash at_len file here) in
+      let told = subst (λ s. IfSome s (λ f. (refusal_of c.args.wide c.args.digest f ≡ None) × IsReadFrom c.args.wide c.args.digest f j)) c.len.ensures.seen c.in_ok-journal.ensures.ok in
+      let so = only_so (g.D.Disk.seen c.sync.new.self) seen.0 (g.D.Disk.images c.sync.new.self) (λ f. (refusal_of c.args.wide c.args.digest f ≡ None) × IsReadFrom c.args.wide c.args.digest f j) seen.1 told (c.in_ok-sync.ensures.durable at_first) file was in
+      read_image c.args.wide c.args.digest file j so.1 so.0;
+}
