@@ -5,7 +5,12 @@ ghost use Rattle.std.specs.Prelude.{◌≡◌, ◌<◌, ◌≤◌, Some, None};
 use crate::outcome::Outcome;
 use crate::played::{RUN, THIN, files_of, record_of, words_of};
 use crate::program::panel;
-use panel_edges::{Failed, MemoryShelf, MemorySink, MemorySource, Sink, Source, Stream};
+use crate::shown::Shown;
+use crate::writing::{PAGE_BYTES, write_tick};
+use panel_edges::{
+    Failed, MemoryShelf, MemorySink, MemorySource, Sink, SoundMemorySink, Source, Stream,
+};
+use site_config::read_site;
 use std::alloc::{AllocError, Global};
 use std::test::Fail;
 
@@ -308,5 +313,38 @@ fn ends_with_the_faults_of_shelf_and_first_calls(rt: HostRuntime) -> Result<(), 
     let outcome = panel(alloc, &words, &mut shelf, &mut input, &mut out);
     assert_eq!(rt; outcome, Outcome::after(7, 0));
     assert_eq!(rt; out.bytes.as_slice(), b"site one panels 1\n".as_slice());
+    Ok(())
+}
+
+#[test]
+fn writes_the_text_of_a_tick_in_one_piece(rt: HostRuntime) -> Result<(), Fail> {
+    let alloc = rt.alloc();
+    let mut text = String::from_str(alloc, "format = 1\nsite = \"one\"\npanels = 1\n")?;
+    for before in 0..32u8 {
+        let number = before + 1;
+        text.push_str("[[zone]]\npanel = 1\n")?;
+        text.push_str(format!(in alloc;
+            "name = \"hall-number-{number}\"\nnumber = {number}\n"
+        )?.as_str())?;
+    }
+    let Ok(site) = read_site(alloc, text.as_str().as_bytes()) else {
+        return Err(Fail::from("site"));
+    };
+    let Ok(mut page) = SoundMemorySink::new(alloc, PAGE_BYTES) else {
+        return Err(Fail::from("memory"));
+    };
+    let Ok(mut out) = MemorySink::new(alloc, PAGE_BYTES, Vec::new(alloc)) else {
+        return Err(Fail::from("memory"));
+    };
+    let before = Shown {
+        alarm: 0,
+        first: u32::MAX,
+    };
+    let after = Shown {
+        alarm: u32::MAX,
+        first: 0,
+    };
+    assert!(rt; write_tick(&mut page, &site, 7, before, after, &mut out).is_ok());
+    assert_eq!(rt; (out.calls, out.bytes.len()), (1, 1_653));
     Ok(())
 }

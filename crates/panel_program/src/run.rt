@@ -17,9 +17,9 @@ ghost use Rattle.site_types.specs.declared.site.Site.{Site as SiteOf};
 
 use crate::run_end::RunEnd;
 use crate::shown::Shown;
-use crate::writing::{PANEL, write_opening, write_tick};
+use crate::writing::{PAGE_BYTES, PANEL, write_opening, write_tick};
 use panel_core::System;
-use panel_edges::{Failed, NoMemory, Sink};
+use panel_edges::{Failed, NoMemory, Sink, SoundMemorySink};
 use record_lines::Line;
 use site_types::{Event, Retained, Site};
 use std::alloc::Global;
@@ -38,6 +38,8 @@ pub struct Run {
     pub(crate) canonical: Order,
     // How many ticks were run.
     pub(crate) ticks: u64,
+    // Where the text of a tick is put together before it is written.
+    pub(crate) page: SoundMemorySink,
 }
 
 impl Run {
@@ -51,6 +53,7 @@ impl Run {
         let Ok(system) = System::open(alloc, site, &Retained::empty()) else {
             return Err(NoMemory);
         };
+        let page = SoundMemorySink::new(alloc, PAGE_BYTES)?;
         let shown = show(&system);
         Ok(Run {
             system,
@@ -59,6 +62,7 @@ impl Run {
             order: None,
             canonical,
             ticks: 0,
+            page,
         })
     }
 
@@ -83,7 +87,7 @@ impl Run {
         ensures err { OnErr result ((site : SiteOf) → Stands site at_beginning self.old → GrowsByFront (K.written out.old) (K.written out.new) (text_of site [])) }
         ensures cause { HasCause (K.write_faults out.old) (K.write_faults out.new) result }
     {
-        write_opening(self.system.site(), self.shown, out)
+        write_opening(&mut self.page, self.system.site(), self.shown, out)
     }
 
     /// Takes a line of the record, which has this number. The turns of a tick are made when the line behind its block comes, and what
@@ -157,7 +161,14 @@ impl Run {
         }
         let before = self.shown;
         self.make_turns();
-        write_tick(self.system.site(), self.ticks, before, self.shown, out)
+        write_tick(
+            &mut self.page,
+            self.system.site(),
+            self.ticks,
+            before,
+            self.shown,
+            out,
+        )
     }
 
     // Makes the turns of the tick whose block was read.

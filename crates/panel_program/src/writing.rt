@@ -12,24 +12,34 @@ use crate::lines::{opening_line, tick_line};
 use crate::shown::Shown;
 use arrayvec::ArrayString;
 use face_text::{Held, push_changes};
-use panel_edges::{Failed, Sink};
+use panel_edges::{Failed, Sink, SoundMemorySink, write_all};
 use site_types::Site;
 
 /// The one panel of a run.
 pub const PANEL: u8 = 1;
 
-/// Writes the first lines of a run.
-pub fn write_opening<K: Sink>(site: &Site, shown: Shown, out: &mut K) -> Result<(), Failed>
+/// The bytes of the page on which the text of a tick is put together.
+pub const PAGE_BYTES: usize = 65_536;
+
+/// Writes the first lines of a run, in one piece where they fit the page.
+pub fn write_opening<K: Sink>(
+    page: &mut SoundMemorySink,
+    site: &Site,
+    shown: Shown,
+    out: &mut K,
+) -> Result<(), Failed>
     ensures ok { OnOk result (Grows (K.written out.old) (K.written out.new) (opening_words site.now ++ changes_text site.now nothing_shown shown)) }
     ensures err { OnErr result (GrowsByFront (K.written out.old) (K.written out.new) (opening_words site.now ++ changes_text site.now nothing_shown shown)) }
     ensures cause { HasCause (K.write_faults out.old) (K.write_faults out.new) result }
 {
     let nothing = Shown { alarm: 0, first: 0 };
-    write_under(&opening_line(site), site, nothing, shown, out)
+    write_under(page, &opening_line(site), site, nothing, shown, out)
 }
 
-/// Writes what the panel shows otherwise than before the tick. Where it shows the same, nothing is written.
+/// Writes what the panel shows otherwise than before the tick, in one piece where it fits the page. Where it shows the same, nothing is
+/// written.
 pub fn write_tick<K: Sink>(
+    page: &mut SoundMemorySink,
     site: &Site,
     tick: u64,
     before: Shown,
@@ -43,11 +53,34 @@ pub fn write_tick<K: Sink>(
     if before == after {
         return Ok(());
     }
-    write_under(&tick_line(tick), site, before, after, out)
+    write_under(page, &tick_line(tick), site, before, after, out)
 }
 
-// Writes a line and the lines of what changed below it, in as few pieces as the room for lines allows.
+// Writes a line and the lines of what changed below it, in one piece where they fit the page.
 fn write_under<K: Sink>(
+    page: &mut SoundMemorySink,
+    line: &ArrayString<64>,
+    site: &Site,
+    before: Shown,
+    after: Shown,
+    out: &mut K,
+) -> Result<(), Failed>
+    requires { length line.now.bytes ≤ 64 }
+    ensures ok { OnOk result (Grows (K.written out.old) (K.written out.new) (line.now.bytes ++ changes_text site.now before after)) }
+    ensures err { OnErr result (GrowsByFront (K.written out.old) (K.written out.new) (line.now.bytes ++ changes_text site.now before after)) }
+    ensures cause { HasCause (K.write_faults out.old) (K.write_faults out.new) result }
+{
+    page.bytes.clear();
+    page.passed = false;
+    let put = put_under(line, site, before, after, page);
+    if put.is_err() || page.passed {
+        return put_under(line, site, before, after, out);
+    }
+    write_all(out, page.bytes.as_slice())
+}
+
+// Puts a line and the lines of what changed below it, in as few pieces as the room for lines allows.
+fn put_under<K: Sink>(
     line: &ArrayString<64>,
     site: &Site,
     before: Shown,

@@ -1,37 +1,21 @@
-use Rattle.std.proofs.Common.{◌++◌, ◌∙◌, [], append-nil, ap, sym}
-use Rattle.face_text.proofs.Holding.{all_written, front_of, moves_more, moves_none, part_written}
+use Rattle.std.proofs.Common.{◌≡◌, ◌++◌, ◌∙◌, [], ℕ, Bool, true, false, List, Some, None, Result, Ok, Err, OnOk, OnErr, if◌then◌else◌, is_err, ap, subst, sym}
+use Rattle.panel_edges.specs.Contents.{Grows, GrowsByFront}
 use Rattle.panel_program.specs.Zones.{changes_text}
 use Rattle.panel_program.proofs.writing.write_under.Goals as goal
 
-pub returns-in_err-push-clause-err : goal.returns-in_err-push-clause-err
-returns-in_err-push-clause-err g c =
-    let changes = changes_text c.args.site.now c.args.before c.args.after in
-    let held = c.new-held.result in
-    let line = c.as_bytes.ensures.value ∙ c.as_str.ensures.value in
-    front_of held held _ _ _ [] c.as_bytes.result.now changes _ c.from_residual.result
-    c.new-held.ensures c.from_residual.ensures.0 (ap (λ xs. xs ++ changes) (sym line)) (moves_none held _) c.in_err-push.ensures.text.err
+same_front : (one other : List ℕ) → Some one ≡ Some other → one ≡ [] → other ≡ []
+same_front one other same none = cc
 
-pub returns-in_err-put_changes-clause-err : goal.returns-in_err-put_changes-clause-err
-returns-in_err-put_changes-clause-err g c =
-    let changes = changes_text c.args.site.now c.args.before c.args.after in
-    let line = c.as_bytes.ensures.value ∙ c.as_str.ensures.value in
-    let text = c.as_bytes.result.now in
-    front_of c.new-held.result c.push.new.self _ _ _ text changes [] _ c.from_residual-in_err-put_changes.result
-    c.new-held.ensures c.from_residual-in_err-put_changes.ensures.0 (ap (λ xs. xs ++ changes) (sym line) ∙ sym (append-nil (text ++ changes)))
-    c.in_ok-push.ensures.text.ok c.in_err-put_changes.ensures.text.err
-
-pub returns-clause-ok : goal.returns-clause-ok
-returns-clause-ok g c =
-    let changes = changes_text c.args.site.now c.args.before c.args.after in
-    let line = c.as_bytes.ensures.value ∙ c.as_str.ensures.value in
-    let text = c.as_bytes.result.now in
-    all_written c.new-held.result c.put_changes.new.held _ _ _ (text ++ changes) _ c.flush.result c.new-held.ensures (ap (λ xs. xs ++ changes) (sym line))
-    (moves_more c.new-held.result c.push.new.self c.put_changes.new.held _ _ _ text changes c.in_ok-push.ensures.text.ok c.in_ok-put_changes.ensures.text.ok) c.flush.ensures.written
+-- a page that was empty and was not passed has the text that was put
+text_of_page : {T E : Type 0} (put : Result T E) (cleared bytes text : List ℕ) (passed : Bool) → is_err put ≡ false → cleared ≡ [] → passed ≡ false
+    → OnOk put (Grows (Some cleared) (if passed then None else Some bytes) text) → bytes ≡ text
+text_of_page (Err e) cleared bytes text passed fine none kept h = cc
+text_of_page (Ok x) cleared bytes text true fine none kept h = cc
+text_of_page (Ok x) cleared bytes text false fine none kept (before, was, is) = is ∙ ap (λ xs. xs ++ text) (same_front cleared before was none)
 
 pub returns-clause-err : goal.returns-clause-err
 returns-clause-err g c =
-    let changes = changes_text c.args.site.now c.args.before c.args.after in
-    let line = c.as_bytes.ensures.value ∙ c.as_str.ensures.value in
-    let text = c.as_bytes.result.now in
-    part_written c.new-held.result c.put_changes.new.held _ _ _ (text ++ changes) _ c.flush.result c.new-held.ensures (ap (λ xs. xs ++ changes) (sym line))
-    (moves_more c.new-held.result c.push.new.self c.put_changes.new.held _ _ _ text changes c.in_ok-push.ensures.text.ok c.in_ok-put_changes.ensures.text.ok) c.flush.ensures.err
+    let text = c.args.line.now.bytes ++ changes_text c.args.site.now c.args.before c.args.after in
+    let fine = sym c.is_err.ensures.value ∙ c.if-is_err.false in
+    let is = c.as_slice.ensures.value ∙ text_of_page c.put_under-put.result c.clear.new.self.items c.put_under-put.new.out.bytes.items text c.put_under-put.new.out.passed fine c.clear.ensures.items c.if-page.false c.put_under-put.ensures.ok in
+    subst (λ t. OnErr c.write_all.result (GrowsByFront (g.K.Stream.written c.args.out.now) (g.K.Stream.written c.write_all.new.out) t)) is c.write_all.ensures.err
