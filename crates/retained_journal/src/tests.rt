@@ -205,10 +205,33 @@ fn a_cut_within_the_65th_commit_leaves_64_or_65(rt: HostRuntime) -> Result<(), F
     Ok(())
 }
 
+// Whether each file that a cut may leave after so many calls of the log, or after more, opens to one of two counters. Of
+// each write that wasn't synced nothing is left, its first byte, its first half or all.
+fn opens_to(
+    alloc: Global,
+    disk: &MemoryDisk,
+    since: usize,
+    counters: [u32; 2],
+) -> Result<bool, AllocError> {
+    for calls in since..=disk.log.len() {
+        for bytes in [0usize, 1, 300, 1_000] {
+            let kept = vec![in alloc; bytes; disk.log.len()]?;
+            let Ok(file) = disk.cut(alloc, calls, &kept) else {
+                return Ok(false);
+            };
+            match counter_in(alloc, file) {
+                Some(counter) if counter == counters[0] || counter == counters[1] => {}
+                _ => return Ok(false),
+            }
+        }
+    }
+    Ok(true)
+}
+
 #[test]
-fn mending_leaves_what_is_kept_alone(rt: HostRuntime) -> Result<(), Fail> {
+fn a_fault_anywhere_loses_nothing(rt: HostRuntime) -> Result<(), Fail> {
     let alloc = rt.alloc();
-    for failing in 1..100u64 {
+    for failing in 1..90u64 {
         let fails = vec![in alloc; failing]?;
         let mut disk = MemoryDisk::new(alloc, Vec::new(alloc), 400, 100_000, fails).expect(
             &rt, "memory",
@@ -217,14 +240,30 @@ fn mending_leaves_what_is_kept_alone(rt: HostRuntime) -> Result<(), Fail> {
             assert!(rt; failing <= 5, "{failing}");
             continue;
         };
-        let kept = count_entries(&mut journal, &mut disk, 3);
+        let opened = disk.log.len();
+        let one = count_entries(&mut journal, &mut disk, 1);
+        assert!(rt; opens_to(alloc, &disk, opened, [0, 1])?, "{failing}");
+        let first = disk.log.len();
+        let two = one.wrapping_add(count_entries(&mut journal, &mut disk, 1));
+        assert!(rt;
+            opens_to(alloc, &disk, first, [one, one.wrapping_add(1)])?,
+            "{failing}"
+        );
+        let second = disk.log.len();
+        let three = two.wrapping_add(count_entries(&mut journal, &mut disk, 1));
+        assert!(rt;
+            opens_to(alloc, &disk, second, [two, two.wrapping_add(1)])?,
+            "{failing}"
+        );
         assert_eq!(rt; journal.mend(&mut disk), Ok(()));
-        assert_eq!(rt; (journal.torn(), journal.kept().counters[0]), (false, kept));
-        for bytes in [0usize, 1, 300, 1_000] {
-            let cut = vec![in alloc; bytes; disk.log.len()]?;
-            let file = disk.cut(alloc, disk.log.len(), &cut).expect(&rt, "memory");
-            assert_eq!(rt; counter_in(alloc, file), Some(kept), "{failing} {bytes}");
-        }
+        assert_eq!(rt;
+            (journal.torn(), journal.kept().counters[0]),
+            (false, three)
+        );
+        assert!(rt;
+            opens_to(alloc, &disk, disk.log.len(), [three, three])?,
+            "{failing}"
+        );
     }
     Ok(())
 }
