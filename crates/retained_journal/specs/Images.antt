@@ -99,7 +99,7 @@ pub record Stands {D : Type 0} (honest : D → Type 0) (images : D → List ℕ 
   pub sound : IsSound journal
   pub each : honest disk → (file : List ℕ) → images disk file → IsImage journal file
 
--- the number of the chosen slot was at most 2^62 when the journal was opened
+-- the number of the chosen slot was at most 2^62 when the journal was opened: each commit gives at most two
 abbrev pub IsEarly : Journal → Type 0
 IsEarly journal = journal.number ≤ 2 ^ 62 + 64 + 2 * journal.tried
 
@@ -163,3 +163,7 @@ pub record StaysSo (old new : Journal) : Type 0 where
 -- what a crash may leave while a batch is committed: what it may leave before, or what is kept with this batch
 abbrev pub MayLeaveOr : Journal → List Change → List ℕ → Type 0
 MayLeaveOr journal batch file = MayLeave journal file ⊎ (opened journal.wide journal.digest file ≡ Opens (changed_by batch journal.kept))
+
+-- such a journal has room for the numbers of as many commits as it may be asked for
+abbrev pub EarlyHasRoom : Type 0
+EarlyHasRoom = (journal : Journal) → IsEarly journal → journal.tried ≤ 1000000001 → HasRoom journal × HasRoom2 journal

@@ -6,9 +6,9 @@ ghost use Rattle.site_types.specs.Changes.{AreCounters, changed_by, nothing_reta
 ghost use Rattle.retained_journal.specs.Batches.{IsBatch};
 ghost use Rattle.retained_journal.specs.Creating.{HasCreateCause};
 ghost use Rattle.retained_journal.specs.Fields.{Agrees, first_in};
-ghost use Rattle.retained_journal.specs.Images.{HasRoom, HasRoom2, IsSound, KeepsAll, MayLeave, MayLeaveOr, OpensToKept, SameFront, Stands};
+ghost use Rattle.retained_journal.specs.Images.{HasRoom, HasRoom2, IsEarly, IsSound, KeepsAll, MayLeave, MayLeaveOr, OpensToKept, SameFront, Stands};
 ghost use Rattle.retained_journal.specs.Journals.{IsLong, IsNewJournal, IsOfFront, IsReadFrom, IsReplayOf};
-ghost use Rattle.retained_journal.specs.Opening.{Empty, Opens, Refuses, change_out_of_form, counted, great_counter, is_second as second_counts, opened, refusal_of};
+ghost use Rattle.retained_journal.specs.Opening.{Empty, Opens, Refuses, change_out_of_form, chosen_place, counted, great_counter, is_second as second_counts, opened, refusal_of};
 ghost use Rattle.retained_journal.specs.Places.{slot_place as place_of_slot};
 ghost use Rattle.retained_journal.specs.Replays.{HasRefusalCause};
 ghost use Rattle.retained_journal.specs.Slots.{FitPoints, HasNarrowPoints, IsKeepable, retained_at as state_at, slot_number};
@@ -72,6 +72,7 @@ impl Journal {
         ensures err { IfErr result (λ e. e ≢ OpenRefusal.DiskFault → IfSome (D.seen disk.old) (λ file. opened wide digest file ≡ Refuses e)) }
         ensures stands { IfOk result (λ r. Stands D.honest D.images disk.new r.0) }
         ensures read { IfOk result (λ r. IfSome (D.seen disk.old) (λ file. 0 < length file → IsReadFrom wide digest file r.0)) }
+        ensures early { IfOk result (λ r. IfSome (D.seen disk.old) (λ file. slot_number (chosen_place file) file ≤ 2 ^ 62 → IsEarly r.0)) }
         ensures fresh { IfOk result (λ r. (r.0.tried ≡ 0) × (r.0.wide ≡ wide) × (r.0.digest ≡ digest)) }
         ensures unwritten { IfSome (D.seen disk.old) (λ file. 0 < length file → D.seen disk.new ≡ D.seen disk.old) }
         ensures cause { HasRefusalCause (D.faults disk.old) (D.faults disk.new) result }
@@ -133,6 +134,7 @@ impl Journal {
         requires { Stands D.honest D.images disk.old self.old }
         ensures stands { Stands D.honest D.images disk.new self.new }
         ensures same { KeepsAll self.old self.new }
+        ensures early { IsEarly self.old → IsEarly self.new }
         ensures ok { OnOk result (self.new.torn ≡ false) }
         ensures err { OnErr result (self.new.torn ≡ true) }
         // After Ok each file that a crash may leave opens to what is kept, and all cells that count are known.
@@ -162,6 +164,7 @@ impl Journal {
         ensures stands { Stands D.honest D.images disk.new self.new }
         ensures ok { OnOk result ((self.new.kept ≡ changed_by batch.now.items self.old.kept) × (self.new.torn ≡ false) × (self.new.attempt.items ≡ batch.now.items)) }
         ensures err { OnErr result ((self.new.kept ≡ self.old.kept) × (self.new.torn ≡ true) × ((self.new.attempt.items ≡ batch.now.items) ⊎ (self.new.attempt ≡ self.old.attempt))) }
+        ensures early { IsEarly self.old → IsEarly self.new }
         ensures same { (self.new.wide ≡ self.old.wide) × (self.new.digest ≡ self.old.digest) × (self.new.tried ≡ self.old.tried + 1) × (self.new.number ≤ self.old.number + 2) }
         ensures opens { D.honest disk.new → HasRoom self.new → OnOk result ((file : List ℕ) → D.images disk.new file → OpensToKept self.new file × (counted file ≡ self.new.cells)) }
         ensures moments { D.honest disk.old → HasRoom2 self.old → LeavesOnly D.moment D.left_since disk.old disk.new (MayLeaveOr self.old batch.now.items) }

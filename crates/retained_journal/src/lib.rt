@@ -11,6 +11,9 @@
 //! - *Opening is one definition*, `opened` of `specs/Opening`, over the bytes alone: two slots that hold a whole state each,
 //!   and 64 cells that hold the changes of one commit each.
 //!
+//! What is said of crashes has the premise that numbers stay below 2^63; [`early_has_room`] says that they do where the chosen
+//! slot's was at most 2^62 at opening.
+//!
 //! A commit costs two writes and two syncs, and every 65th a slot more. No call takes memory. docs/journal.md walks through
 //! each write and each moment of a cut; `specs/Images` says what each file holds that a crash may leave.
 #![tactic(auto)]
@@ -28,6 +31,7 @@ mod log_gate;
 mod new_file;
 mod open_refusal;
 mod replay;
+mod room;
 mod slot_bytes;
 mod slots;
 mod steps;
@@ -39,3 +43,4 @@ pub use create_refusal::CreateRefusal;
 pub use disk_fault::DiskFault;
 pub use journal::Journal;
 pub use open_refusal::OpenRefusal;
+pub use room::early_has_room;
