@@ -267,3 +267,23 @@ fn a_fault_anywhere_loses_nothing(rt: HostRuntime) -> Result<(), Fail> {
     }
     Ok(())
 }
+
+#[test]
+fn a_created_journal_opens_to_its_state(rt: HostRuntime) -> Result<(), Fail> {
+    let alloc = rt.alloc();
+    let Ok(mut disk) = SoundMemoryDisk::new(alloc, Vec::new(alloc)) else {
+        return Err(Fail::from("memory"));
+    };
+    let state = Retained {
+        counters: [0, 0, 41, 0, 0, 0, 0, 999_999],
+        ..Retained::empty()
+    };
+    assert_eq!(rt; Journal::create(&mut disk, DIGEST, true, &state), Ok(()));
+    let (journal, kept) = Journal::open(&mut disk, DIGEST, true).expect(&rt, "opened");
+    assert_eq!(rt; (&kept, journal.kept()), (&state, &state));
+    assert_eq!(rt;
+        Journal::create(&mut disk, DIGEST, true, &state),
+        Err(CreateRefusal::NotEmpty { length: 2_048 })
+    );
+    Ok(())
+}
