@@ -142,23 +142,23 @@ const ALARM: Heard = Heard::Alarm;
 const QUIET: Heard = Heard::Quiet;
 
 // Points of the site with a zone of no type, and of the one with a zone of type A.
-const M1: u16 = 0;
+const CALL_POINT: u16 = 0;
 
-const SECOND: u16 = 1;
+const DETECTOR_2: u16 = 1;
 
-const NINTH: u16 = 2;
+const DETECTOR_9: u16 = 2;
 
 #[test]
 fn a_zone_of_no_type_is_confirmed_when_its_detector_is_asked(rt: HostRuntime) -> Result<(), Fail> {
     let alloc = rt.alloc();
-    let once = [(12, SECOND, 1, 1, 0, 1)];
-    drive(&rt, alloc, ONE, 12, &[(1, SECOND, ALARM)], &[], &once)?;
+    let once = [(12, DETECTOR_2, 1, 1, 0, 1)];
+    drive(&rt, alloc, ONE, 12, &[(1, DETECTOR_2, ALARM)], &[], &once)?;
     drive(
         &rt,
         alloc,
         ONE,
         24,
-        &[(1, SECOND, ALARM), (12, SECOND, QUIET)],
+        &[(1, DETECTOR_2, ALARM), (12, DETECTOR_2, QUIET)],
         &[],
         &[],
     )?;
@@ -167,7 +167,7 @@ fn a_zone_of_no_type_is_confirmed_when_its_detector_is_asked(rt: HostRuntime) ->
         alloc,
         ONE,
         24,
-        &[(1, SECOND, ALARM), (13, SECOND, QUIET)],
+        &[(1, DETECTOR_2, ALARM), (13, DETECTOR_2, QUIET)],
         &[],
         &once,
     )
@@ -180,12 +180,12 @@ fn a_reset_leaves_the_answer_of_its_own_tick(rt: HostRuntime) -> Result<(), Fail
         rt.alloc(),
         ONE,
         25,
-        &[(1, NINTH, ALARM)],
+        &[(1, DETECTOR_9, ALARM)],
         &[done_at(13, Operation::Reset)],
         &[
-            (1, NINTH, 1, 1, 0, 1),
-            (13, NINTH, 1, 1, 0, 1),
-            (25, NINTH, 1, 1, 0, 1),
+            (1, DETECTOR_9, 1, 1, 0, 1),
+            (13, DETECTOR_9, 1, 1, 0, 1),
+            (25, DETECTOR_9, 1, 1, 0, 1),
         ],
     )
 }
@@ -197,12 +197,12 @@ fn a_disabled_point_counts_again_once_it_is_enabled(rt: HostRuntime) -> Result<(
         rt.alloc(),
         ONE,
         37,
-        &[(5, NINTH, ALARM)],
+        &[(5, DETECTOR_9, ALARM)],
         &[
-            done_at(2, Operation::Disable(Item::Point(NINTH))),
-            done_at(30, Operation::Enable(Item::Point(NINTH))),
+            done_at(2, Operation::Disable(Item::Point(DETECTOR_9))),
+            done_at(30, Operation::Enable(Item::Point(DETECTOR_9))),
         ],
-        &[(37, NINTH, 1, 1, 0, 1)],
+        &[(37, DETECTOR_9, 1, 1, 0, 1)],
     )
 }
 
@@ -213,9 +213,9 @@ fn a_call_point_confirms_a_zone_of_type_a_at_once(rt: HostRuntime) -> Result<(),
         rt.alloc(),
         TYPE_A,
         12,
-        &[(1, M1, ALARM)],
+        &[(1, CALL_POINT, ALARM)],
         &[],
-        &[(12, M1, 1, 1, 1, 1)],
+        &[(12, CALL_POINT, 1, 1, 1, 1)],
     )
 }
 
@@ -224,15 +224,15 @@ fn one_detector_of_type_a_confirms_after_its_time_of_verifying(
     rt: HostRuntime,
 ) -> Result<(), Fail> {
     let alloc = rt.alloc();
-    let first = (1, NINTH, 1, 0, 0, 0);
-    let second = (13, NINTH, 1, 0, 0, 0);
-    let third = (25, NINTH, 1, 1, 0, 1);
+    let first = (1, DETECTOR_9, 1, 0, 0, 0);
+    let second = (13, DETECTOR_9, 1, 0, 0, 0);
+    let third = (25, DETECTOR_9, 1, 1, 0, 1);
     drive(
         &rt,
         alloc,
         TYPE_A,
         25,
-        &[(1, NINTH, ALARM)],
+        &[(1, DETECTOR_9, ALARM)],
         &[],
         &[first, second, third],
     )?;
@@ -241,13 +241,17 @@ fn one_detector_of_type_a_confirms_after_its_time_of_verifying(
         alloc,
         TYPE_A,
         49,
-        &[(1, NINTH, ALARM), (2, NINTH, QUIET), (14, NINTH, ALARM)],
+        &[
+            (1, DETECTOR_9, ALARM),
+            (2, DETECTOR_9, QUIET),
+            (14, DETECTOR_9, ALARM),
+        ],
         &[],
         &[
             first,
-            (25, NINTH, 1, 0, 0, 0),
-            (37, NINTH, 1, 0, 0, 0),
-            (49, NINTH, 1, 1, 0, 1),
+            (25, DETECTOR_9, 1, 0, 0, 0),
+            (37, DETECTOR_9, 1, 0, 0, 0),
+            (49, DETECTOR_9, 1, 1, 0, 1),
         ],
     )?;
     drive(
@@ -255,7 +259,7 @@ fn one_detector_of_type_a_confirms_after_its_time_of_verifying(
         alloc,
         TYPE_A,
         60,
-        &[(1, NINTH, ALARM), (26, NINTH, QUIET)],
+        &[(1, DETECTOR_9, ALARM), (26, DETECTOR_9, QUIET)],
         &[],
         &[first, second, third],
     )

@@ -11,11 +11,11 @@ use std::test::Fail;
 use tick_units::{Lane, Tick};
 
 // Places in site ONE: its points, and its zones, whose bits are 1 and 2.
-const M1: u16 = 0;
+const HALL_CALL_POINT: u16 = 0;
 
-const D9: u16 = 2;
+const HALL_DETECTOR: u16 = 2;
 
-const D17: u16 = 3;
+const LAB_DETECTOR: u16 = 3;
 
 const HALL: u16 = 0;
 
@@ -166,10 +166,10 @@ fn tells_an_alarm_by_hand(rt: HostRuntime) -> Result<(), Fail> {
         rt.alloc(),
         ONE,
         &[
-            at(12, by_hand(12, M1, 1), None, by_hand_seen),
+            at(12, by_hand(12, HALL_CALL_POINT, 1), None, by_hand_seen),
             at(13, None, Some(Operation::Reset), by_hand_seen),
             at(14, None, None, nothing(1)),
-            at(25, alarm(25, D9, 1, 1), None, zones(1, 2)),
+            at(25, alarm(25, HALL_DETECTOR, 1, 1), None, zones(1, 2)),
         ],
     )
 }
@@ -183,11 +183,16 @@ fn shows_a_zone_again_after_a_reset(rt: HostRuntime) -> Result<(), Fail> {
         rt.alloc(),
         ONE,
         &[
-            at(1, alarm(1, D9, 1, 1), None, zones(1, 1)),
-            at(13, alarm(13, D9, 1, 1), Some(Operation::Reset), zones(1, 1)),
+            at(1, alarm(1, HALL_DETECTOR, 1, 1), None, zones(1, 1)),
+            at(
+                13,
+                alarm(13, HALL_DETECTOR, 1, 1),
+                Some(Operation::Reset),
+                zones(1, 1),
+            ),
             at(14, None, None, nothing(1)),
             at(24, None, None, nothing(1)),
-            at(25, alarm(25, D9, 1, 1), None, zones(1, 2)),
+            at(25, alarm(25, HALL_DETECTOR, 1, 1), None, zones(1, 2)),
         ],
     )
 }
@@ -214,9 +219,9 @@ fn ends_a_first_state_by_an_alarm_or_by_time(rt: HostRuntime) -> Result<(), Fail
         alloc,
         both.as_str(),
         &[
-            at(1, alarm(1, D9, 1, 0), None, first(1)),
+            at(1, alarm(1, HALL_DETECTOR, 1, 0), None, first(1)),
             at(600, None, None, first(1)),
-            at(601, alarm(601, D17, 2, 3), None, zones(3, 1)),
+            at(601, alarm(601, LAB_DETECTOR, 2, 3), None, zones(3, 1)),
         ],
     )?;
     drive(
@@ -224,9 +229,9 @@ fn ends_a_first_state_by_an_alarm_or_by_time(rt: HostRuntime) -> Result<(), Fail
         alloc,
         both.as_str(),
         &[
-            at(1, alarm(1, D9, 1, 0), None, first(1)),
+            at(1, alarm(1, HALL_DETECTOR, 1, 0), None, first(1)),
             at(601, None, None, first(1)),
-            at(602, alarm(602, D17, 2, 0), None, first(2)),
+            at(602, alarm(602, LAB_DETECTOR, 2, 0), None, first(2)),
             at(1202, None, None, first(2)),
             at(1203, None, None, nothing(0)),
         ],
@@ -260,12 +265,22 @@ fn shows_a_short_an_open_piece_and_missing_points(rt: HostRuntime) -> Result<(),
             with_outside(at(1, None, None, told(missing(0, 0), shorted)), shorted),
             with_outside(at(13, None, None, told(missing(0, 0), shorted)), shorted),
             with_outside(
-                at(25, silent(25, D9), None, told(missing(9, 0), shorted)),
+                at(
+                    25,
+                    silent(25, HALL_DETECTOR),
+                    None,
+                    told(missing(9, 0), shorted),
+                ),
                 shorted,
             ),
             with_outside(at(30, None, None, told(missing(9, 0), both)), both),
             with_outside(
-                at(62, silent(62, D17), None, told(missing(9, 17), both)),
+                at(
+                    62,
+                    silent(62, LAB_DETECTOR),
+                    None,
+                    told(missing(9, 17), both),
+                ),
                 both,
             ),
         ],
@@ -275,21 +290,21 @@ fn shows_a_short_an_open_piece_and_missing_points(rt: HostRuntime) -> Result<(),
 // A point is disabled in tick 2 and enabled in tick 30: in between it isn't shown as missing, and its answers count for nothing.
 #[test]
 fn shows_nothing_of_a_disabled_point(rt: HostRuntime) -> Result<(), Fail> {
-    let off = Some(Operation::Disable(Item::Point(D9)));
-    let on = Some(Operation::Enable(Item::Point(D9)));
+    let off = Some(Operation::Disable(Item::Point(HALL_DETECTOR)));
+    let on = Some(Operation::Enable(Item::Point(HALL_DETECTOR)));
     let shown = faults(missing(9, 0), Buzzer::Fault);
     drive(
         &rt,
         rt.alloc(),
         ONE,
         &[
-            at(2, silent(2, D9), off, shown),
+            at(2, silent(2, HALL_DETECTOR), off, shown),
             at(3, None, None, nothing(0)),
-            at(13, silent(13, D9), None, nothing(0)),
-            at(25, silent(25, D9), None, nothing(0)),
+            at(13, silent(13, HALL_DETECTOR), None, nothing(0)),
+            at(25, silent(25, HALL_DETECTOR), None, nothing(0)),
             at(30, None, on, nothing(0)),
             at(31, None, None, shown),
-            at(37, alarm(37, D9, 1, 1), None, zones(1, 1)),
+            at(37, alarm(37, HALL_DETECTOR, 1, 1), None, zones(1, 1)),
         ],
     )
 }
@@ -338,13 +353,13 @@ fn mutes_until_something_new_is_shown(rt: HostRuntime) -> Result<(), Fail> {
         &[
             at(
                 1,
-                silent(1, D9),
+                silent(1, HALL_DETECTOR),
                 Some(Operation::Mute),
                 faults(missing(9, 0), Buzzer::Fault),
             ),
             at(2, None, off, faults(missing(9, 0), Buzzer::Off)),
             at(3, None, None, nothing(0)),
-            at(14, alarm(14, D17, 2, 2), None, zones(2, 1)),
+            at(14, alarm(14, LAB_DETECTOR, 2, 2), None, zones(2, 1)),
         ],
     )
 }

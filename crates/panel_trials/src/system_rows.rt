@@ -58,27 +58,35 @@ const ALARM: PointState = PointState::Alarm;
 const QUIET: PointState = PointState::Quiet;
 
 // Points of the site with a zone of no type, and of the one with a zone of type A.
-const M1: u16 = 0;
+const CALL_POINT: u16 = 0;
 
-const D2: u16 = 1;
+const DETECTOR_2: u16 = 1;
 
-const D9: u16 = 2;
+const DETECTOR_9: u16 = 2;
 
 #[test]
 fn shows_a_zone_of_no_type_when_its_detector_was_asked(rt: HostRuntime) -> Result<(), Fail> {
     let alloc = rt.alloc();
     let shown = [(12, 1, 0)];
     let late = [(14, 1, 0)];
-    drive_both(&rt, alloc, ONE, 20, &[(1, D2, ALARM)], &shown, &late)?;
-    let quiet_in_time = [(1, D2, ALARM), (12, D2, QUIET)];
+    drive_both(
+        &rt,
+        alloc,
+        ONE,
+        20,
+        &[(1, DETECTOR_2, ALARM)],
+        &shown,
+        &late,
+    )?;
+    let quiet_in_time = [(1, DETECTOR_2, ALARM), (12, DETECTOR_2, QUIET)];
     drive_both(&rt, alloc, ONE, 24, &quiet_in_time, &[], &[])?;
-    let quiet_too_late = [(1, D2, ALARM), (13, D2, QUIET)];
+    let quiet_too_late = [(1, DETECTOR_2, ALARM), (13, DETECTOR_2, QUIET)];
     drive_both(&rt, alloc, ONE, 24, &quiet_too_late, &shown, &late)
 }
 
 #[test]
 fn shows_a_zone_of_type_a_by_hand_at_once(rt: HostRuntime) -> Result<(), Fail> {
-    let reports = [(1, M1, ALARM)];
+    let reports = [(1, CALL_POINT, ALARM)];
     drive_both(
         &rt,
         rt.alloc(),
@@ -95,8 +103,20 @@ fn shows_a_zone_of_type_a_once_a_detector_is_verified(rt: HostRuntime) -> Result
     let alloc = rt.alloc();
     let soon = [(25, 1, 0)];
     let late = [(27, 1, 0)];
-    drive_both(&rt, alloc, TYPE_A, 40, &[(1, D9, ALARM)], &soon, &late)?;
-    let begun_anew = [(1, D9, ALARM), (2, D9, QUIET), (14, D9, ALARM)];
+    drive_both(
+        &rt,
+        alloc,
+        TYPE_A,
+        40,
+        &[(1, DETECTOR_9, ALARM)],
+        &soon,
+        &late,
+    )?;
+    let begun_anew = [
+        (1, DETECTOR_9, ALARM),
+        (2, DETECTOR_9, QUIET),
+        (14, DETECTOR_9, ALARM),
+    ];
     drive_both(
         &rt,
         alloc,
@@ -106,7 +126,7 @@ fn shows_a_zone_of_type_a_once_a_detector_is_verified(rt: HostRuntime) -> Result
         &[(49, 1, 0)],
         &[(51, 1, 0)],
     )?;
-    let gone_after = [(1, D9, ALARM), (26, D9, QUIET)];
+    let gone_after = [(1, DETECTOR_9, ALARM), (26, DETECTOR_9, QUIET)];
     drive_both(&rt, alloc, TYPE_A, 60, &gone_after, &soon, &late)
 }
 
