@@ -1,2 +1,1 @@
-mod Benches
 mod Systems

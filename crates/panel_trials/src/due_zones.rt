@@ -1,16 +1,13 @@
 //! Drawn records of points without operations: each zone that is due by a plain program is shown, whatever the orders of turns, and a zone
 //! that is shown has an answer that confirms it.
 
-use crate::coincidence_sites::ALL_TYPES;
-use crate::draws::Draws;
-use crate::plain_rules::{Judged, PlainRules};
-use crate::sites::site_of;
 use crate::system_ticks::{Report, opened, order_of, run_tick, shown};
 use site_types::{Answer, Heard, PointState, Rule, Site, Zone, has_bit_32};
 use std::alloc::Global;
 use std::process::Abort;
 use std::test::Fail;
 use tick_units::Tick;
+use trial_base::{ALL_TYPES, Draws, Judged, PlainRules, site_of};
 
 const RECORDS: u64 = 20;
 

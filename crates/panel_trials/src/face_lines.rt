@@ -1,6 +1,5 @@
 //! The lines of faces and answers, at a site of two panels.
 
-use crate::sites::{SCHOOL, site_of};
 use face_text::{
     Answers, Conditions, Face, OpAnswer, OpAnswers, Reply, write_answers, write_changes,
 };
@@ -9,6 +8,7 @@ use site_types::{Buzzer, FaultSet, PointSet, Site};
 use std::alloc::Global;
 use std::process::Abort;
 use std::test::Fail;
+use trial_base::{SCHOOL, site_of};
 
 // What a panel may show, in the order of its page, without the panel's number in front and the state behind.
 const PAGE_1: &str =

@@ -1,10 +1,10 @@
 //! The lists of a face in JSON, at a site of two panels.
 
-use crate::sites::{SCHOOL, site_of};
 use face_text::{Face, FaceList, Held, push_list};
 use panel_edges::MemorySink;
 use site_types::{FaultSet, PointSet};
 use std::test::Fail;
+use trial_base::{SCHOOL, site_of};
 
 #[test]
 fn lists_what_a_face_shows(rt: HostRuntime) -> Result<(), Fail> {

@@ -2,12 +2,12 @@
 
 ghost use Rattle.std.specs.Prelude.{◌≡◌};
 
-use crate::sites::site_of;
 use crate::system_ticks::{opened, reversed_order, run_tick, taken};
 use arrayvec::ArrayVec;
 use std::alloc::Global;
 use std::test::Fail;
 use tick_units::{Lane, Order};
+use trial_base::site_of;
 
 // One panel with four full loops, a section of twelve addresses for each zone.
 fn full_panel(alloc: Global) -> Result<String, Fail> {

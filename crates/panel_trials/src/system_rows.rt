@@ -1,12 +1,11 @@
 //! Which zones a panel shows in whole records, in the canonical and in the reversed order of turns, against what was worked out by hand.
 
-use crate::coincidence_sites::{PARTNERS, TYPE_A};
-use crate::sites::{ONE, site_of};
 use crate::system_ticks::{Report, opened, order_of, run_tick, shown};
 use site_types::PointState;
 use std::alloc::Global;
 use std::process::Abort;
 use std::test::Fail;
+use trial_base::{ONE, PARTNERS, TYPE_A, site_of};
 
 /// From a tick on these zones are shown in alarm, and these in first state.
 type Shown = (u64, u32, u32);

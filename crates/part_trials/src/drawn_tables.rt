@@ -1,0 +1,296 @@
+//! Drawn tables of markers of all kinds, solved from scratch and from change to change, against a plain program that goes over all markers again
+//! and again, from none true, until as many rounds are made as there are markers.
+
+ghost use Rattle.std.specs.Prelude.{◌≡◌, ◌<◌};
+
+use cause_effect::{Facts, Plan, Steps, Values, compile};
+use site_types::{Combine, Marker, Site, Term};
+use std::alloc::{AllocError, Global};
+use std::marker::Brand;
+use std::sync::ledger::{Blank, Ledger};
+use std::test::Fail;
+use trial_base::{Draws, site_of};
+
+const TABLES: u64 = 120;
+
+const CHANGES: u64 = 40;
+
+/// A prime, so that each multiple of the places below it is an order of them.
+const MARKERS: u64 = 13;
+
+const ZONES: &str = r#"
+format = 1
+site = "drawn"
+panels = 3
+zone = [
+  { name = "a", panel = 1, number = 1 },
+  { name = "b", panel = 1, number = 32 },
+  { name = "c", panel = 2, number = 7 },
+  { name = "d", panel = 3, number = 1 },
+]
+marker = ["#;
+
+/// How often a marker of each kind was true, and how often one became true or false.
+#[derive(Clone, Copy, Default)]
+struct Tally {
+    all: u32,
+    any: u32,
+    at_least: u32,
+    rose: u32,
+    fell: u32,
+}
+
+impl Tally {
+    fn add(&mut self, combine: Combine, before: bool, after: bool) {
+        let kind = match combine {
+            Combine::All => &mut self.all,
+            Combine::Any => &mut self.any,
+            Combine::AtLeast(_) => &mut self.at_least,
+        };
+        *kind = kind.saturating_add(after as u32);
+        self.rose = self.rose.saturating_add((after && !before) as u32);
+        self.fell = self.fell.saturating_add((before && !after) as u32);
+    }
+}
+
+// ---- a drawn table
+
+/// The order in which a table's markers may depend on each other: each on those of lower rank.
+#[derive(Clone, Copy)]
+struct Ranks {
+    factor: u64,
+    first: u64,
+}
+
+impl Ranks {
+    fn drawn(draws: &mut Draws) -> Ranks {
+        Ranks {
+            factor: 1 + draws.below(MARKERS - 1),
+            first: draws.below(MARKERS),
+        }
+    }
+
+    fn rank_of(self, marker: u64) -> u64 {
+        self.factor.wrapping_mul(marker).wrapping_add(self.first) % MARKERS
+    }
+
+    // A marker of lower rank, where there is one.
+    fn lower(self, marker: u64, draws: &mut Draws) -> Option<u64> {
+        let rank = draws.below(self.rank_of(marker));
+        (0..MARKERS).find(|other| self.rank_of(*other) == rank && self.rank_of(marker) > rank)
+    }
+}
+
+fn drawn_term(
+    alloc: Global,
+    marker: u64,
+    ranks: Ranks,
+    draws: &mut Draws,
+) -> Result<String, AllocError> {
+    let zone = match draws.below(4) {
+        0 => "a",
+        1 => "b",
+        2 => "c",
+        _ => "d",
+    };
+    match (draws.below(7), ranks.lower(marker, draws)) {
+        (0, _) => format!(in alloc; "fault:{}", 1 + draws.below(3)),
+        (1, _) => format!(in alloc; "manual:{zone}"),
+        (2..=4, Some(other)) => format!(in alloc; "marker:m{other}"),
+        _ => format!(in alloc; "zone:{zone}"),
+    }
+}
+
+fn drawn_marker(
+    alloc: Global,
+    marker: u64,
+    ranks: Ranks,
+    draws: &mut Draws,
+) -> Result<String, AllocError> {
+    let count = 1 + draws.below(5);
+    let mut terms = drawn_term(alloc, marker, ranks, draws)?;
+    for _term in 1..count {
+        let term = drawn_term(alloc, marker, ranks, draws)?;
+        terms = format!(in alloc; "{terms}\", \"{term}")?;
+    }
+    let kind = match draws.below(3) {
+        0 => format!(in alloc; "\"all\"")?,
+        1 => format!(in alloc; "\"any\"")?,
+        _ => format!(in alloc; "\"atleast\", count = {}", 1 + draws.below(count))?,
+    };
+    format!(in alloc; "  {{ name = \"m{marker}\", kind = {kind}, terms = [\"{terms}\"] }},\n")
+}
+
+fn drawn_text(alloc: Global, draws: &mut Draws) -> Result<String, AllocError> {
+    let ranks = Ranks::drawn(draws);
+    let mut text = format!(in alloc; "{ZONES}\n")?;
+    for marker in 0..MARKERS {
+        let line = drawn_marker(alloc, marker, ranks, draws)?;
+        text = format!(in alloc; "{text}{line}")?;
+    }
+    format!(in alloc; "{text}]\n")
+}
+
+// ---- drawn facts
+
+// The bits of zones and call points that some zone of the site has, and some that none has.
+fn drawn_bit(draws: &mut Draws) -> u32 {
+    match draws.below(5) {
+        0 => 1 << 31,
+        1 => 1 << 6,
+        2 => 1 << 1,
+        _ => 1,
+    }
+}
+
+// The facts with one bit turned.
+fn turned(facts: &Facts, draws: &mut Draws) -> Facts {
+    let mut after = *facts;
+    let panel = draws.below(4) as usize;
+    match draws.below(5) {
+        0 => after.manual[panel] ^= drawn_bit(draws),
+        1 => after.faults ^= 1 << draws.below(4),
+        _ => after.zones[panel] ^= drawn_bit(draws),
+    }
+    after
+}
+
+// The facts after a change: of none, of a few, or of all.
+fn drawn_change(facts: &Facts, draws: &mut Draws) -> Facts {
+    if draws.below(20) == 0 {
+        return Facts::default();
+    }
+    let mut after = *facts;
+    for _turn in 0..draws.below(5) {
+        after = turned(&after, draws);
+    }
+    after
+}
+
+// ---- the plain program
+
+fn has(mask: u32, number: u8) -> bool {
+    (1..=32).contains(&number) && (mask >> (number - 1)) & 1 == 1
+}
+
+fn has_zone(site: &Site, masks: &[u32; 8], place: u16) -> bool {
+    match site.zones.get(place as usize) {
+        Some(zone) => (1..=8).contains(&zone.panel)
+            && has(masks[zone.panel as usize - 1], zone.number),
+        None => false,
+    }
+}
+
+fn holds(site: &Site, facts: &Facts, values: &[bool], term: Term) -> bool {
+    match term {
+        Term::Zone(place) => has_zone(site, &facts.zones, place),
+        Term::Manual(place) => has_zone(site, &facts.manual, place),
+        Term::Fault(panel) => has(facts.faults as u32, panel),
+        Term::Marker(place) => values.get(place as usize) == Some(&true),
+    }
+}
+
+fn is_met(site: &Site, facts: &Facts, values: &[bool], marker: &Marker) -> bool {
+    let mut met = 0_usize;
+    for term in marker.terms.as_slice() {
+        met = met.saturating_add(holds(site, facts, values, *term) as usize);
+    }
+    match marker.combine {
+        Combine::All => met == marker.terms.len(),
+        Combine::Any => met > 0,
+        Combine::AtLeast(needed) => met >= needed as usize,
+    }
+}
+
+fn plain_solution(alloc: Global, site: &Site, facts: &Facts) -> Result<Vec<bool>, AllocError> {
+    let mut values = Vec::new(alloc);
+    for _round in 0..=site.markers.len() {
+        let mut next = Vec::new(alloc);
+        for marker in site.markers.as_slice() {
+            next.push(is_met(site, facts, &values, marker))?;
+        }
+        values = next;
+    }
+    Ok(values)
+}
+
+// ---- both
+
+// Goes on from the solution over the facts before a change, with a counter that is let go.
+fn go_on<L: Ledger>(plan: &Plan, before: &Facts, after: &Facts, values: &mut Values, blank: Blank)
+    requires name { blank.name ≡ L.name }
+    requires parts { blank.parts ≡ L.parts }
+    requires some { 0 < blank.parts }
+{
+    let mut steps: Steps<L> = Steps::new(blank);
+    plan.solve_changed(before, after, values, &mut steps);
+}
+
+fn change(plan: &Plan, before: &Facts, after: &Facts, values: &mut Values) {
+    go_on::<Brand>(plan, before, after, values, Blank::new(1));
+}
+
+fn is_true(values: &Values, place: usize) -> bool {
+    values.marker.get(place) == Some(&true)
+}
+
+fn is_same(values: &Values, plain: &[bool]) -> bool {
+    plain
+        .iter()
+        .enumerate()
+        .all(|(place, value)| is_true(values, place) == *value)
+}
+
+fn tell(site: &Site, before: &Values, after: &Values, tally: &mut Tally) {
+    for (place, marker) in site.markers.as_slice().iter().enumerate() {
+        tally.add(
+            marker.combine,
+            is_true(before, place),
+            is_true(after, place),
+        );
+    }
+}
+
+fn try_table(alloc: Global, seed: u64, tally: &mut Tally) -> Result<bool, Fail> {
+    let mut draws = Draws::from_seed(seed);
+    let text = drawn_text(alloc, &mut draws)?;
+    let site = site_of(alloc, &text)?;
+    let Ok(plan) = compile(alloc, &site) else {
+        return Ok(false);
+    };
+    let mut facts = Facts::default();
+    let mut values = Values::none();
+    plan.solve(&facts, &mut values);
+    for _change in 0..CHANGES {
+        let after = drawn_change(&facts, &mut draws);
+        let before = values;
+        change(&plan, &facts, &after, &mut values);
+        let mut afresh = Values::none();
+        plan.solve(&after, &mut afresh);
+        let plain = plain_solution(alloc, &site, &after)?;
+        if !is_same(&values, &plain) || !is_same(&afresh, &plain) {
+            return Ok(false);
+        }
+        tell(&site, &before, &values, tally);
+        facts = after;
+    }
+    Ok(true)
+}
+
+#[test]
+fn solves_drawn_tables_as_the_plain_program_does(rt: HostRuntime) -> Result<(), Fail> {
+    let mut tally = Tally::default();
+    for seed in 1..=TABLES {
+        assert!(rt; try_table(rt.alloc(), seed, &mut tally)?, "seed {seed}");
+    }
+    for (count, what) in [
+        (tally.all, "all of"),
+        (tally.any, "any of"),
+        (tally.at_least, "at least"),
+        (tally.rose, "became true"),
+        (tally.fell, "became false"),
+    ] {
+        assert!(rt; count >= 1000, "{what} {count}");
+    }
+    Ok(())
+}
