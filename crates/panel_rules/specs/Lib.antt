@@ -1,6 +1,7 @@
 pub mod Moments
 pub mod Latest
 pub mod States
+pub mod Storing
 pub mod Records
 pub mod Reached
 pub mod Answers
