@@ -1,0 +1,1 @@
+-- The answers of a tick are in form.

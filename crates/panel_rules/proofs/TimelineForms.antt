@@ -1,0 +1,1 @@
+-- The timeline of a run is in form.
