@@ -1,10 +1,9 @@
 -- What the answers of operations say: one that was denied needed level 2 to 4 and had less, and each that wasn't busy was among the first of its panel and tick.
-use Rattle.std.proofs.Common.{◌≡◌, ℕ, ◌+◌, ◌≤◌, ◌<◌, ◌⊎◌, inl, inr, Bool, true, false, List, [], ◌∷◌, Option, Some, None, if◌then◌else◌, refl, sym, ◌∙◌, ap, subst, arith}
+use Rattle.std.proofs.Common.{◌≡◌, ℕ, ◌≤◌, ◌<◌, ◌⊎◌, inl, inr, Bool, true, false, List, [], ◌∷◌, Option, Some, None, if◌then◌else◌, refl, sym, ◌∙◌, ap, subst, arith}
 use Rattle.std.specs.Prelude.{nat_le, nat_lt, option_map, slice_index_or}
 use Rattle.std.specs.List.{AllByRecursion}
 use Rattle.std.proofs.lemmas.Bool.Decides.{leb_tells}
 use Rattle.tick_units.specs.declared.task.Task.TheVariants.{Desk}
-use Rattle.sha2.specs.Sha256.{sha256}
 use Rattle.site_types.specs.declared.event.Event.TheVariants.{Op, Point, Cable, Supply, Link, Confirmed}
 use Rattle.site_types.specs.declared.operation.Operation.{Operation}
 use Rattle.site_types.specs.declared.operation.Operation.TheVariants.{Mute, Override, Silence, Resound, Reset, Cancel, Disable, Enable, Test, Untest, Delays, Clear}
@@ -91,9 +90,12 @@ level_some false true c = omega arith
 level_some false false true = omega arith
 level_some false false false = omega arith
 
+level_in_least : (lists : List (List (List ℕ))) (digest : List ℕ) → 1 ≤ level_in lists digest
+level_in_least lists digest = level_some (holds (slice_index_or lists 2 []) digest) (holds (slice_index_or lists 1 []) digest) (holds (slice_index_or lists 0 []) digest)
+
 level_least : (site : Site) (code : Option (List ℕ)) → 1 ≤ level_of site code
 level_least site None = omega arith
-level_least site (Some code) = level_some (holds (slice_index_or site.codes 2 []) (sha256 code)) (holds (slice_index_or site.codes 1 []) (sha256 code)) (holds (slice_index_or site.codes 0 []) (sha256 code))
+level_least site (Some code) = level_in_least site.codes _
 
 abbrev HasLevel : Request → Type 0
 HasLevel r = 1 ≤ r.level

@@ -1,24 +1,22 @@
 -- The faces of a run: one for each panel, each holding only things of the site, with a counter that has an end.
-use Rattle.std.proofs.Common.{◌≡◌, ℕ, zero, suc, ◌+◌, ◌-◌, ◌<◌, ◌==◌, Bool, true, false, List, [], ◌∷◌, Some, length, slice_get, map, refl, sym, ◌∙◌, ap, subst, arith, if◌then◌else◌}
+use Rattle.std.proofs.Common.{◌≡◌, ℕ, zero, suc, ◌+◌, ◌-◌, ◌<◌, ◌==◌, Bool, true, false, List, [], ◌∷◌, Some, slice_get, map, refl, sym, ◌∙◌, ap, subst, arith, if◌then◌else◌}
 use Rattle.std.specs.List.{range_with_len}
 use Rattle.std.proofs.lemmas.List.FromFn.{length-map-range_with_len}
 use Rattle.site_types.specs.declared.change.Change.{Change}
-use Rattle.site_types.specs.declared.fault_set.FaultSet.{FaultSet}
 use Rattle.site_types.specs.declared.retained.Retained.{Retained}
 use Rattle.site_types.specs.declared.site.Site.{Site}
 use Rattle.site_types.specs.declared.word.Word.{Word}
 use Rattle.site_types.specs.Changes.{AreCounters, changed, changed_by}
 use Rattle.site_types.specs.Done.{Done}
-use Rattle.site_types.specs.Limits.{greatest_count}
 use Rattle.site_types.proofs.Changes.{counters-changed}
 use Rattle.face_text.specs.declared.face.Face.{Face}
 use Rattle.face_text.specs.Slots.{is_named, zone_name}
-use Rattle.face_text.specs.Timelines.{AreFaces, IsFaceOf, of_site}
-use Rattle.panel_rules.specs.Moments.{Moment, Began, Happened, Turned, Kept, IsPanel, tick_of}
-use Rattle.panel_rules.specs.States.{is_up, piece_of}
-use Rattle.panel_rules.specs.Kept.{heard, kept_at, made_at}
+use Rattle.face_text.specs.Timelines.{AreFaces, IsFaceOf}
+use Rattle.panel_rules.specs.Moments.{Moment, Began, Happened, Turned, Kept, IsPanel}
+use Rattle.panel_rules.specs.States.{piece_of}
+use Rattle.panel_rules.specs.Kept.{kept_at, made_at}
 use Rattle.panel_rules.specs.Words.{kept_word_of, latest_word, word_made}
-use Rattle.panel_rules.specs.Run.{faults_of, faults_with, tells_fault}
+use Rattle.panel_rules.specs.Run.{faults_with, tells_fault}
 use Rattle.panel_rules.specs.Faces.{face_with, shown_word}
 use Rattle.panel_rules.specs.Operations.{operations}
 use Rattle.panel_rules.specs.Batches.{batch, kept_after}

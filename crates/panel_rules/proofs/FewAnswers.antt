@@ -1,5 +1,5 @@
 -- At most 64 operations are answered by number in a tick: of each of at most eight panels four of the tick and four of the one before.
-use Rattle.std.proofs.Common.{◌≡◌, ◌≢◌, ℕ, zero, suc, ◌+◌, ◌-◌, ◌*◌, ◌≤◌, ◌<◌, ◌==◌, ◌&&◌, ◌||◌, inl, inr, Bool, true, false, List, [], ◌∷◌, ◌++◌, length, Option, Some, None, slice_get, if◌then◌else◌, refl, sym, ◌∙◌, ap, arith}
+use Rattle.std.proofs.Common.{◌≡◌, ◌≢◌, ℕ, zero, suc, ◌+◌, ◌-◌, ◌*◌, ◌≤◌, ◌==◌, ◌&&◌, ◌||◌, inl, inr, Bool, true, false, List, [], ◌∷◌, ◌++◌, length, Option, Some, None, slice_get, if◌then◌else◌, refl, sym, ◌∙◌, ap, arith}
 use Rattle.std.specs.Prelude.{filter, nat_le, nat_lt, option_map}
 use Rattle.std.specs.List.{cons_option, filter_map}
 use Rattle.std.proofs.lemmas.Bool.Decides.{eqb_tells, leb_tells}
@@ -9,14 +9,14 @@ use Rattle.access_levels.specs.Levels.{level_of}
 use Rattle.face_text.specs.declared.op_answer.OpAnswer.{OpAnswer}
 use Rattle.panel_rules.specs.Moments.{Moment, Began, Happened, Turned, Kept, tick_of}
 use Rattle.panel_rules.specs.Operations.{Request, Answered, request_of, requests, requests_in}
-use Rattle.panel_rules.specs.Timeline.{answer_in, is_busy, told_answer}
+use Rattle.panel_rules.specs.Timeline.{is_busy, told_answer}
 use Rattle.panel_rules.proofs.AnswerLaws.{eq_is}
 use Rattle.panel_rules.proofs.AnswersFit.{is_told_or_busy}
 use Rattle.panel_rules.proofs.Bools.{parts}
 use Rattle.panel_rules.proofs.Counting.{one, count, count-append, count-none, each_by}
 use Rattle.panel_rules.proofs.Floors.{lt_from}
 
-length_filter : {X : Type 0} (test : X → Bool) (xs : List X) → length (filter test xs) ≡ count test xs
+pub length_filter : {X : Type 0} (test : X → Bool) (xs : List X) → length (filter test xs) ≡ count test xs
 length_filter test [] = refl
 length_filter test (x ∷ xs) = go (test x) (length_filter test xs)
   where
@@ -86,7 +86,7 @@ module _ (panel tick : ℕ) where
 -- ---- of all panels
 
 -- of panel 1 to some, early in a tick
-abbrev is_early_up_to : ℕ → ℕ → Request → Bool
+abbrev pub is_early_up_to : ℕ → ℕ → Request → Bool
 is_early_up_to panels tick r = (nat_le 1 r.panel && nat_le r.panel panels) && ((r.tick == tick) && nat_lt r.earlier 4)
 
 nowhere : (panel : ℕ) (b : Bool) → ((nat_le 1 panel && nat_le panel 0) && b) ≡ false
@@ -157,14 +157,14 @@ few_asked site moments tick =
 
 -- ---- of those that are told
 
-pub told_few : (answers : List Answered) (tick : ℕ) (test : Request → Bool) (asked : List Request)
-    → ((k : ℕ) (r : Request) (a : Answered) → slice_get asked k ≡ Some r → answer_in tick answers r ≡ Some a → is_busy a.reply ≡ false → test r ≡ true)
-    → length (filter_map told_answer (filter_map (answer_in tick answers) asked)) ≤ count test asked
-told_few answers tick test [] passes = omega arith
-told_few answers tick test (r ∷ asked) passes = go (answer_in tick answers r) refl (told_few answers tick test asked (λ k x a is e free. passes (suc k) x a is e free))
+pub told_few : (look : Request → Option Answered) (test : Request → Bool) (asked : List Request)
+    → ((k : ℕ) (r : Request) (a : Answered) → slice_get asked k ≡ Some r → look r ≡ Some a → is_busy a.reply ≡ false → test r ≡ true)
+    → length (filter_map told_answer (filter_map look asked)) ≤ count test asked
+told_few look test [] passes = omega arith
+told_few look test (r ∷ asked) passes = go (look r) refl (told_few look test asked (λ k x a is e free. passes (suc k) x a is e free))
   where
-    either : (a : Answered) → answer_in tick answers r ≡ Some a → (o : Option OpAnswer) → told_answer a ≡ o → (is_busy a.reply ≡ false → test r ≡ true) → length (filter_map told_answer (filter_map (answer_in tick answers) asked)) ≤ count test asked →
-        length (cons_option o (filter_map told_answer (filter_map (answer_in tick answers) asked))) ≤ one (test r) + count test asked
+    either : (a : Answered) → look r ≡ Some a → (o : Option OpAnswer) → told_answer a ≡ o → (is_busy a.reply ≡ false → test r ≡ true) → length (filter_map told_answer (filter_map look asked)) ≤ count test asked →
+        length (cons_option o (filter_map told_answer (filter_map look asked))) ≤ one (test r) + count test asked
     either a e None t free ih = omega (arith, ih)
     either a e (Some op) t free ih =
         elim (is_told_or_busy a) [
@@ -172,7 +172,7 @@ told_few answers tick test (r ∷ asked) passes = go (answer_in tick answers r) 
           | inr h ↦ (let z = ap one (free h.free) in omega (arith, ih, z))
         ]
 
-    go : (o : Option Answered) → answer_in tick answers r ≡ o → length (filter_map told_answer (filter_map (answer_in tick answers) asked)) ≤ count test asked →
-        length (filter_map told_answer (cons_option o (filter_map (answer_in tick answers) asked))) ≤ one (test r) + count test asked
+    go : (o : Option Answered) → look r ≡ o → length (filter_map told_answer (filter_map look asked)) ≤ count test asked →
+        length (filter_map told_answer (cons_option o (filter_map look asked))) ≤ one (test r) + count test asked
     go None e ih = omega (arith, ih)
     go (Some a) e ih = either a e (told_answer a) refl (λ free. passes 0 r a refl e free) ih
