@@ -65,3 +65,4 @@ pub mod AnswersFit
 pub mod FewAnswers
 pub mod AnswersRise
 pub mod TimelineForms
+pub mod EventsOfSite

@@ -40,7 +40,7 @@ pub use lanes::{lanes_hold_few, lanes_keep_their_tick, taken_by_the_next_tick};
 pub use markers::{one_solution, solution_solves};
 pub use operations::{
     answered_by_the_next_tick, answered_once, answers_are_to_requests, answers_stay,
-    kept_is_in_force, settings_change_once,
+    kept_is_in_force, operations_are_of_site, settings_change_once,
 };
 pub use other_deadlines::{
     accepted_is_in_force, away_is_missing, bad_supply_is_shown, cut_off_is_silent, link_is_shown,
