@@ -1,4 +1,4 @@
--- The timeline of a run is in form, so its text can be read back: a face for each panel, which holds only things of the site; steps that rise and tell something; answers by number.
+-- The timeline of a run is in form: a face for each panel, which holds only things of the site; steps that rise and tell something; answers by number.
 use Rattle.std.specs.Prelude.{◌≡◌, ◌≢◌, ◌⊎◌, ◌≤◌, ◌<◌, ◌+◌, ◌-◌, ◌^◌, ℕ, true, List, length, Some, slice_get}
 use Rattle.site_types.specs.declared.retained.Retained.{Retained}
 use Rattle.site_types.specs.declared.site.Site.{Site}
@@ -25,7 +25,7 @@ FacesAreOfSite = (site : Site) (kept : Retained) (moments : List Moment) (panel 
 abbrev pub CountersHaveAnEnd : Type 0
 CountersHaveAnEnd = (site : Site) (kept : Retained) (moments : List Moment) (panel : ℕ) → AreCounters kept.counters → (face_of site kept panel moments).counter ≤ greatest_count
 
--- a run of a valid site that can be told: its operations are at panels of the site, no counter is past its end at opening, and its moments are fewer than numbers of a text go up to
+-- a run of a valid site that can be told: its operations are of the site, no counter is past its end at opening, and fewer than 2^64 moments befell, so that each number of it goes into a text
 pub record CanBeTold (site : Site) (kept : Retained) (moments : List Moment) : Type 0 where
   pub valid : IsValid site
   pub run : IsRun site.panels moments

@@ -15,7 +15,7 @@ pub fn counters_have_an_end()
     ensures { CountersHaveAnEnd }
 {}
 
-/// The answers of a tick rise by number and are at most 64, and only panels of the site are busy.
+/// The answers of a tick rise by number, at most 64 of them; a denied operation needed level 2 to 4 and had less; and only panels of the site are busy.
 pub fn answers_rise()
     ensures { AnswersRise }
 {}
@@ -25,7 +25,7 @@ pub fn told_ticks_tell()
     ensures { ToldTicksTell }
 {}
 
-/// **The timeline of a run is in form**: what a text of it has to say, it can say.
+/// **The timeline of a run is in form**: faces of all panels with things of the site alone, steps that rise and tell something, answers by number.
 pub fn timeline_is_in_form()
     ensures { TimelineIsInForm }
 {}
