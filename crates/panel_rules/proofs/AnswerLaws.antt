@@ -197,7 +197,7 @@ module _ (site : Site) (kept : Retained) (test : Request → Bool) where
       omega (arith, ih, t)
 
 -- two that have one number are one
-same_request : (site : Site) (moments : List Moment) (i j : ℕ) (r x : Request) → slice_get (requests site moments) i ≡ Some r → slice_get (requests site moments) j ≡ Some x → r.number ≡ x.number → r ≡ x
+pub same_request : (site : Site) (moments : List Moment) (i j : ℕ) (r x : Request) → slice_get (requests site moments) i ≡ Some r → slice_get (requests site moments) j ≡ Some x → r.number ≡ x.number → r ≡ x
 same_request site moments i j r x is is' same =
     let a = numbered_by_place site moments i r is in
     let b = numbered_by_place site moments j x is' in

@@ -20,7 +20,7 @@ use Rattle.panel_rules.specs.OutputLaws.{FaultsAreTold}
 use Rattle.panel_rules.proofs.KeptWords.{kept_is}
 use Rattle.panel_rules.proofs.FactsAgree.{on_same}
 
-past_short : (past moments : List Moment) → IsPast past moments → length past ≤ length moments
+pub past_short : (past moments : List Moment) → IsPast past moments → length past ≤ length moments
 past_short past moments present = omega arith
 past_short past moments (later moment before h) = let ih = past_short past before h in omega (arith, ih)
 

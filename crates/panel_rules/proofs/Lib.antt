@@ -58,3 +58,11 @@ pub mod Steps
 pub mod EntriesAddUp
 pub mod LaterDone
 pub mod CountersAddUp
+pub mod NamedMasks
+pub mod NamedFaces
+pub mod FacesInForm
+pub mod AnswersFit
+pub mod FewAnswers
+pub mod AnswersRise
+pub mod TimelineForms
+pub mod EventsOfSite

@@ -18,7 +18,7 @@ fell (Turned panel task) before tick l = omega (arith, l)
 fell (Kept failed) before tick l = omega (arith, l)
 
 -- a history up to a tick that it has reached ends in that tick
-up_to_tick : (tick : ℕ) (moments : List Moment) → tick ≤ tick_of moments → tick_of (up_to tick moments) ≡ tick
+pub up_to_tick : (tick : ℕ) (moments : List Moment) → tick ≤ tick_of moments → tick_of (up_to tick moments) ≡ tick
 up_to_tick tick [] reached = omega (arith, reached)
 up_to_tick tick (moment ∷ before) reached =
     elim (leb_tells (tick_of (moment ∷ before)) tick) [

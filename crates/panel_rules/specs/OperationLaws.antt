@@ -1,12 +1,12 @@
 -- What follows for operations: at most one answer each, one by the end of the tick after, and nothing of it is ever taken back.
-use Rattle.std.specs.Prelude.{◌≡◌, ◌≤◌, ◌<◌, ℕ, ◌+◌, true, List, ◌++◌, Some, slice_get}
+use Rattle.std.specs.Prelude.{◌≡◌, ◌≤◌, ◌<◌, ℕ, ◌+◌, true, List, [], ◌∷◌, ◌++◌, Some, slice_get}
 use Rattle.site_types.specs.declared.retained.Retained.{Retained}
 use Rattle.site_types.specs.declared.site.Site.{Site}
 use Rattle.site_types.specs.Changes.{IsSized}
 use Rattle.site_types.specs.Done.{Done, Setting, IsSetting, at_opening, in_force, is_on}
-use Rattle.site_types.specs.Events.{has_operands}
+use Rattle.site_types.specs.Events.{has_event, has_operands}
 use Rattle.site_types.specs.Valid.{IsValid}
-use Rattle.panel_rules.specs.Moments.{Moment, tick_of, IsRun, IsPanel, IsPast, has_kept}
+use Rattle.panel_rules.specs.Moments.{Moment, Began, Happened, Turned, Kept, tick_of, IsRun, IsPanel, IsPast, has_kept}
 use Rattle.panel_rules.specs.Operations.{Request, Answered, requests, operations}
 use Rattle.panel_rules.specs.Batches.{kept_after}
 
@@ -60,6 +60,18 @@ SettingsChangeOnce =
 -- each operation asked for is at a panel of the site, which has what it names
 abbrev pub AreOfSite : Site → List Moment → Type 0
 AreOfSite site moments = (place : ℕ) (r : Request) → slice_get (requests site moments) place ≡ Some r → IsPanel site.panels r.panel × (has_operands site r.panel r.operation ≡ true)
+
+-- each event is of the site, at the panel that it names
+abbrev pub AreEventsOf : Site → List Moment → Type 0
+AreEventsOf site [] = Unit {0}
+AreEventsOf site (Began ∷ before) = AreEventsOf site before
+AreEventsOf site (Happened event ∷ before) = AreEventsOf site before × (has_event site event ≡ true)
+AreEventsOf site (Turned panel task ∷ before) = AreEventsOf site before
+AreEventsOf site (Kept failed ∷ before) = AreEventsOf site before
+
+-- so each operation is
+abbrev pub OperationsAreOfSite : Type 0
+OperationsAreOfSite = (site : Site) (moments : List Moment) → AreEventsOf site moments → AreOfSite site moments
 
 -- what is kept of each setting is its value from the next tick on
 abbrev pub KeptIsInForce : Type 0

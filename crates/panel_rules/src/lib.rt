@@ -13,6 +13,7 @@
 
 mod examples;
 mod faces;
+mod forms;
 mod lanes;
 mod markers;
 mod operations;
@@ -31,11 +32,15 @@ pub use faces::{
     due_output_is_shown, due_zone_is_shown, fire_is_counted, lone_zone_is_shown,
     shown_output_is_caused, shown_zone_is_caused,
 };
+pub use forms::{
+    answers_rise, counters_have_an_end, faces_are_by_panel, faces_are_of_site, timeline_is_in_form,
+    told_ticks_tell,
+};
 pub use lanes::{lanes_hold_few, lanes_keep_their_tick, taken_by_the_next_tick};
 pub use markers::{one_solution, solution_solves};
 pub use operations::{
     answered_by_the_next_tick, answered_once, answers_are_to_requests, answers_stay,
-    kept_is_in_force, settings_change_once,
+    kept_is_in_force, operations_are_of_site, settings_change_once,
 };
 pub use other_deadlines::{
     accepted_is_in_force, away_is_missing, bad_supply_is_shown, cut_off_is_silent, link_is_shown,

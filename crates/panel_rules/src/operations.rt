@@ -1,4 +1,4 @@
-ghost use Rattle.panel_rules.specs.OperationLaws.{AnsweredOnce, AnswersAreToRequests, AnsweredByTheNextTick, AnswersStay, SettingsChangeOnce, KeptIsInForce};
+ghost use Rattle.panel_rules.specs.OperationLaws.{AnsweredOnce, AnswersAreToRequests, AnsweredByTheNextTick, AnswersStay, OperationsAreOfSite, SettingsChangeOnce, KeptIsInForce};
 
 /// Each operation has at most one answer.
 pub fn answered_once()
@@ -23,6 +23,11 @@ pub fn answers_stay()
 /// A setting changes at most once in a tick.
 pub fn settings_change_once()
     ensures { SettingsChangeOnce }
+{}
+
+/// Where each event is of the site, as a record's events are, each operation is at a panel of the site, which has what it names.
+pub fn operations_are_of_site()
+    ensures { OperationsAreOfSite }
 {}
 
 /// What is kept over a power cut is, of each setting, the value that is in force from the next tick on.
