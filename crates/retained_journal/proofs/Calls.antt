@@ -1,8 +1,8 @@
 -- How one call, a write with its sync, takes a journal on.
 use Rattle.std.proofs.Common.{inl, zero, suc, [], ◌∷◌, replicate, ◌≡◌, ◌+◌, ◌*◌, ◌^◌, ◌<◌, ◌≤◌, ℕ, Bool, true, false, List, length, slice_index, refl, sym, ◌∙◌, subst, arith}
-use Rattle.panel_edges.specs.Crashes.{After, Elapses, Follows, LeavesOnly, Only}
+use Rattle.panel_edges.specs.Crashes.{After, Elapses, Follows, LeavesOnly, Only, Stays}
 use Rattle.panel_edges.specs.Disks.{Becomes, Holds, Torn}
-use Rattle.panel_edges.proofs.Moments.{one_call, stays}
+use Rattle.panel_edges.proofs.Moments.{one_call, stays, then_more, weaker}
 use Rattle.retained_journal.specs.declared.journal.Journal.{Journal}
 use Rattle.retained_journal.specs.declared.log_gate.LogGate.TheVariants.{Shut, Ready, Open}
 use Rattle.retained_journal.specs.Images.{HasRoom, HasZeros, IsImage, IsSound, OpensToKeptOrAttempt, SameFront, Stands}
@@ -42,6 +42,14 @@ module _ {D : Type 0} (honest : D → Type 0) (images : D → List ℕ → Type 
     pub no_moment : (j : Journal) (disk : D) → Stands honest images disk j → honest disk → HasRoom j → LeavesOnly moment left_since disk disk (OpensToKeptOrAttempt j)
     no_moment j disk stands h room = stays moment left_since disk (OpensToKeptOrAttempt j) (λ c left. opens_image j c stands.sound (stands.each h c (only_now disk c h left)) room)
 
+    -- no call at all leaves nothing new
+    pub nothing_new : (disk : D) → honest disk → LeavesOnly moment left_since disk disk (images disk)
+    nothing_new disk h = stays moment left_since disk (images disk) (λ c left. only_now disk c h left)
+
+    -- nor does one that isn't a write
+    pub brings_nothing : (old new : D) → honest old → Stays (images old) (images new) → Elapses (moment old) (moment new) (left_since old) (left_since new) (images new) → LeavesOnly moment left_since old new (images old)
+    brings_nothing old new h crash time = one_call moment left_since old new (images old) (images new) (λ c left. only_now old c h left) time crash
+
     -- at each moment of the call a crash leaves what is kept, or that with the batch last attempted
     pub its_moments : (j : Journal) (old new : D) (at n : ℕ) → Stands honest images old j → Spares j at n → honest old → HasRoom j
         → Elapses (moment old) (moment new) (left_since old) (left_since new) (After (Torn at n) (images old)) → LeavesOnly moment left_since old new (OpensToKeptOrAttempt j)
@@ -59,6 +67,11 @@ module _ {D : Type 0} (honest : D → Type 0) (images : D → List ℕ → Type 
         (λ c left. opens_image j c stands.sound (stands.each h c (only_now old c h left)) room)
         time
         (λ c here. let was = crash h c here in opens_image j c stands.sound (torn_keeps j was.0 c at n (stands.each h was.0 was.1) was.2 spares stands.sound.few) room)
+
+-- one part that leaves nothing new after another
+pub nothing_more : {D : Type 0} (moment : D → ℕ) (left_since : D → ℕ → List ℕ → Type 0) (images : D → List ℕ → Type 0) (old mid new : D) → Stays (images old) (images mid)
+    → LeavesOnly moment left_since old mid (images old) → LeavesOnly moment left_since mid new (images mid) → LeavesOnly moment left_since old new (images old)
+nothing_more moment left_since images old mid new crash first second = then_more moment left_since old mid new (images old) first (weaker moment left_since mid new (images mid) (images old) crash second)
 
 -- ---- a journal with one field set is sound
 

@@ -71,10 +71,14 @@ impl Journal {
         ensures ok { IfOk result (λ r. IfSome (D.seen disk.old) (λ file. (opened wide digest file ≡ Opens r.1) ⊎ ((opened wide digest file ≡ Empty) × (r.1 ≡ nothing_retained)))) }
         ensures err { IfErr result (λ e. e ≢ OpenRefusal.DiskFault → IfSome (D.seen disk.old) (λ file. opened wide digest file ≡ Refuses e)) }
         ensures stands { IfOk result (λ r. Stands D.honest D.images disk.new r.0) }
+        ensures opens { D.honest disk.new → IfOk result (λ r. (file : List ℕ) → D.images disk.new file → OpensToKept r.0 file × (counted file ≡ r.0.cells)) }
         ensures read { IfOk result (λ r. IfSome (D.seen disk.old) (λ file. 0 < length file → IsReadFrom wide digest file r.0)) }
         ensures early { IfOk result (λ r. IfSome (D.seen disk.old) (λ file. slot_number (chosen_place file) file ≤ 2 ^ 62 → IsEarly r.0)) }
         ensures fresh { IfOk result (λ r. (r.0.tried ≡ 0) × (r.0.wide ≡ wide) × (r.0.digest ≡ digest)) }
         ensures unwritten { IfSome (D.seen disk.old) (λ file. 0 < length file → D.seen disk.new ≡ D.seen disk.old) }
+        // Nothing is written to a file that isn't empty: at each moment of the call a crash leaves what it might have left before.
+        ensures untouched { D.honest disk.old → IfSome (D.seen disk.old) (λ file. 0 < length file → LeavesOnly D.moment D.left_since disk.old disk.new (D.images disk.old)) }
+        ensures honest { D.honest disk.new ↔ D.honest disk.old }
         ensures cause { HasRefusalCause (D.faults disk.old) (D.faults disk.new) result }
     {
         disk.sync()?;
@@ -106,7 +110,10 @@ impl Journal {
         ensures ok { D.honest disk.old → OnOk result ((file : List ℕ) → D.images disk.new file → opened wide digest file ≡ Opens state.now) }
         ensures empty { OnOk result (IfSome (D.seen disk.old) (λ file. length file ≡ 0)) }
         ensures err { IfErr result (λ e. e ≢ CreateRefusal.DiskFault → IfSome (D.seen disk.old) (λ file. (0 < length file) × (e ≡ CreateRefusal.NotEmpty (length file)))) }
-        ensures unwritten { IfErr result (λ e. e ≢ CreateRefusal.DiskFault → D.seen disk.new ≡ D.seen disk.old) }
+        ensures unwritten { IfSome (D.seen disk.old) (λ file. 0 < length file → D.seen disk.new ≡ D.seen disk.old) }
+        // Nothing is written to a file that isn't empty: at each moment of the call a crash leaves what it might have left before.
+        ensures untouched { D.honest disk.old → IfSome (D.seen disk.old) (λ file. 0 < length file → LeavesOnly D.moment D.left_since disk.old disk.new (D.images disk.old)) }
+        ensures honest { D.honest disk.new ↔ D.honest disk.old }
         ensures cause { HasCreateCause (D.faults disk.old) (D.faults disk.new) result }
     {
         disk.sync()?;
@@ -282,6 +289,7 @@ fn read_journal<D: Disk>(
     ensures seen { D.seen disk.new ≡ D.seen disk.old }
     ensures honest { D.honest disk.new ↔ D.honest disk.old }
     ensures crash { D.honest disk.old → Stays (D.images disk.old) (D.images disk.new) }
+    ensures moments { D.honest disk.old → LeavesOnly D.moment D.left_since disk.old disk.new (D.images disk.old) }
     ensures cause { HasRefusalCause (D.faults disk.old) (D.faults disk.new) result }
 {
     let front = read_front(disk, len)?;
@@ -308,6 +316,7 @@ fn read_counted<D: Disk>(
     ensures seen { D.seen disk.new ≡ D.seen disk.old }
     ensures honest { D.honest disk.new ↔ D.honest disk.old }
     ensures crash { D.honest disk.old → Stays (D.images disk.old) (D.images disk.new) }
+    ensures moments { D.honest disk.old → LeavesOnly D.moment D.left_since disk.old disk.new (D.images disk.old) }
     ensures cause { HasRefusalCause (D.faults disk.old) (D.faults disk.new) result }
 {
     let mut replay = begin_replay(front, wide, slot_place(second));
