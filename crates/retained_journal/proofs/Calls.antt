@@ -6,7 +6,7 @@ use Rattle.panel_edges.proofs.Moments.{one_call, stays, then_more, weaker}
 use Rattle.retained_journal.specs.declared.journal.Journal.{Journal}
 use Rattle.retained_journal.specs.declared.log_gate.LogGate.TheVariants.{Shut, Ready, Open}
 use Rattle.retained_journal.specs.Images.{HasRoom, HasZeros, IsImage, IsSound, OpensToKeptOrAttempt, SameFront, Stands}
-use Rattle.std.specs.Prelude.{not, Option, Some, None, IfSome}
+use Rattle.std.specs.Prelude.{not, Option, Some, None, IfSome, Result, Ok, Err, OnOk, OnErr}
 use Rattle.site_types.specs.Changes.{changed_by}
 use Rattle.retained_journal.specs.Batches.{IsBatch}
 use Rattle.retained_journal.proofs.Images.{opens_image}
@@ -107,6 +107,9 @@ module _ (j : Journal) (s : IsSound j) where
 pub front_stays : (at : ℕ) (bytes old new : List ℕ) → 2048 ≤ at → Holds at bytes old new → SameFront old new
 front_stays at bytes old new past holds = record { no_shorter = let s = holds.size in omega (arith, s); same_bytes = λ i front less. holds.same i less (inl (omega (arith, front, past))) }
 
+torn_front : (at n : ℕ) (old new : List ℕ) → 2048 ≤ at → Torn at n old new → SameFront old new
+torn_front at n old new past torn = record { no_shorter = torn.no_shorter; same_bytes = λ i front less. torn.same i less (inl (omega (arith, front, past))) }
+
 pub fronts : (old mid new : Option (List ℕ)) → Becomes SameFront old mid → Becomes SameFront mid new → Becomes SameFront old new
 fronts None mid new one two = tt
 fronts (Some old) None new one two = absurd one
@@ -120,6 +123,25 @@ pub becomes_front : (at : ℕ) (bytes : List ℕ) (old new : Option (List ℕ)) 
 becomes_front at bytes None new past became = tt
 becomes_front at bytes (Some old) None past became = absurd became
 becomes_front at bytes (Some old) (Some new) past became = front_stays at bytes old new past became
+
+-- the same of a write that failed
+pub torn_becomes_front : (at n : ℕ) (old new : Option (List ℕ)) → 2048 ≤ at → Becomes (Torn at n) old new → Becomes SameFront old new
+torn_becomes_front at n None new past became = tt
+torn_becomes_front at n (Some old) None past became = absurd became
+torn_becomes_front at n (Some old) (Some new) past became = torn_front at n old new past became
+
+-- nothing was written
+pub front_kept : (old new : Option (List ℕ)) → new ≡ old → Becomes SameFront old new
+front_kept old new same = subst (Becomes SameFront old) (sym same) (go old)
+  where
+    go : (seen : Option (List ℕ)) → Becomes SameFront seen seen
+    go None = tt
+    go (Some file) = record { no_shorter = omega arith; same_bytes = λ i front less. refl }
+
+-- a write with its sync behind the front, whatever it answered
+pub either_front : {E : Type 0} (r : Result (Unit {0}) E) (at : ℕ) (bytes : List ℕ) (old new : Option (List ℕ)) → 2048 ≤ at → OnOk r (Becomes (Holds at bytes) old new) → OnErr r (Becomes (Torn at (length bytes)) old new) → Becomes SameFront old new
+either_front (Ok u) at bytes old new past ok err = becomes_front at bytes old new past ok
+either_front (Err e) at bytes old new past ok err = torn_becomes_front at (length bytes) old new past err
 
 zeros_long : length {A = ℕ} (replicate 592 0) ≡ 592
 zeros_long = refl

@@ -15,7 +15,7 @@ use Rattle.retained_journal.specs.Places.{cell_place, digest_place, file_mark, l
 use Rattle.retained_journal.specs.Slots.{counters_at, retained_at, slot_number}
 use Rattle.retained_journal.specs.Cells.{cell_changes, changes_of_cells, is_next, wrong_in_cell}
 use Rattle.retained_journal.specs.Opening.{Opens, change_out_of_form, chosen_place, counted, counter_too_great, damaged, front_refusal, is_open, is_second, kept_in, no_open_slot, not_a_journal, number_too_great, opened, other_site}
-use Rattle.retained_journal.specs.Images.{HasLog, HoldsBatch, HoldsCopy, IsBehind, IsImage, IsSound, MayCount, OpensToKept, OpensToKeptOrAttempt, chosen_of, next_of, other_of}
+use Rattle.retained_journal.specs.Images.{HasLog, HoldsBatch, HoldsCopy, IsBehind, IsImage, IsSound, MayCount, MayLeave, OpensToKept, OpensToKeptOrAttempt, chosen_of, next_of, other_of}
 use Rattle.retained_journal.proofs.Finding.{none_below}
 use Rattle.retained_journal.proofs.FrontAgreement.{six}
 use Rattle.retained_journal.proofs.NewFiles.{bytes_eq_same, no_great_counter, opens_with}
@@ -323,3 +323,15 @@ module _ (j : Journal) (c : List ℕ) (sound : IsSound j) (image : IsImage j c) 
       by_other true (inl behind) = by_chosen (stays_chosen j.second c image.gate (inr behind))
       by_other true (inr moving) = absurd (let m = moving.0 in cc)
       by_other false shut = by_chosen (stays_chosen j.second c image.gate (inl shut))
+
+  -- it opens to what is kept, or where the journal is torn to that with the batch last attempted
+  pub may_leave : MayLeave j c
+  may_leave = go j.torn refl
+    where
+      go : (b : Bool) → j.torn ≡ b → MayLeave j c
+      go true is = torn is opens_image
+        where
+          torn : j.torn ≡ true → OpensToKeptOrAttempt j c → MayLeave j c
+          torn t (inl kept) = inl kept
+          torn t (inr attempt) = inr (t, attempt)
+      go false is = let whole = sound.untorn is in inl (opens_whole whole.0 whole.1 whole.2).0

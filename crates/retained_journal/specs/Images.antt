@@ -125,8 +125,8 @@ abbrev pub HasZeros : ℕ → List ℕ → Type 0
 HasZeros cells file = 0 < cells → (slice_index file (cell_place 0) ≡ 0) × (cell_place cells ≤ length file)
 
 -- a slot and a cell may get the next two numbers
-abbrev pub HasRoom2 : Journal → Type 0
-HasRoom2 journal = journal.number + 1 < 2 ^ 63
+abbrev pub HasRoomForTwo : Journal → Type 0
+HasRoomForTwo journal = journal.number + 1 < 2 ^ 63
 
 -- What is kept, the batch last attempted and the count of tries are as they were.
 pub record StaysKept (old new : Journal) : Type 0 where
@@ -166,4 +166,4 @@ MayLeaveOr journal batch file = MayLeave journal file ⊎ (opened journal.wide j
 
 -- such a journal has room for the numbers of as many commits as it may be asked for
 abbrev pub EarlyHasRoom : Type 0
-EarlyHasRoom = (journal : Journal) → IsEarly journal → journal.tried ≤ 1000000001 → HasRoom journal × HasRoom2 journal
+EarlyHasRoom = (journal : Journal) → IsEarly journal → journal.tried ≤ 1000000001 → HasRoom journal × HasRoomForTwo journal

@@ -6,7 +6,7 @@ ghost use Rattle.site_types.specs.Changes.{AreCounters, changed_by, nothing_reta
 ghost use Rattle.retained_journal.specs.Batches.{IsBatch};
 ghost use Rattle.retained_journal.specs.Creating.{HasCreateCause};
 ghost use Rattle.retained_journal.specs.Fields.{Agrees, first_in};
-ghost use Rattle.retained_journal.specs.Images.{HasRoom, HasRoom2, IsEarly, IsSound, KeepsAll, MayLeave, MayLeaveOr, OpensToKept, SameFront, Stands};
+ghost use Rattle.retained_journal.specs.Images.{HasRoom, HasRoomForTwo, IsEarly, IsSound, KeepsAll, MayLeave, MayLeaveOr, OpensToKept, SameFront, Stands};
 ghost use Rattle.retained_journal.specs.Journals.{IsLong, IsNewJournal, IsOfFront, IsReadFrom, IsReplayOf};
 ghost use Rattle.retained_journal.specs.Opening.{Empty, Opens, Refuses, change_out_of_form, chosen_place, counted, great_counter, is_second as second_counts, opened, refusal_of};
 ghost use Rattle.retained_journal.specs.Places.{slot_place as place_of_slot};
@@ -57,7 +57,7 @@ pub struct Journal {
 
 impl Journal {
     /// Opens the journal of a site by the digest of its site file, and gives what it keeps. A file of no bytes becomes a
-    /// new journal; no other is written.
+    /// new journal; nothing is written to any other.
     ///
     /// # Errors
     ///
@@ -110,7 +110,8 @@ impl Journal {
         ensures ok { D.honest disk.old → OnOk result ((file : List ℕ) → D.images disk.new file → opened wide digest file ≡ Opens state.now) }
         ensures empty { OnOk result (IfSome (D.seen disk.old) (λ file. length file ≡ 0)) }
         ensures err { IfErr result (λ e. e ≢ CreateRefusal.DiskFault → IfSome (D.seen disk.old) (λ file. (0 < length file) × (e ≡ CreateRefusal.NotEmpty (length file)))) }
-        ensures unwritten { IfSome (D.seen disk.old) (λ file. 0 < length file → D.seen disk.new ≡ D.seen disk.old) }
+        ensures unwritten { IfErr result (λ e. e ≢ CreateRefusal.DiskFault → D.seen disk.new ≡ D.seen disk.old) }
+        ensures seen { IfSome (D.seen disk.old) (λ file. 0 < length file → D.seen disk.new ≡ D.seen disk.old) }
         // Nothing is written to a file that isn't empty: at each moment of the call a crash leaves what it might have left before.
         ensures untouched { D.honest disk.old → IfSome (D.seen disk.old) (λ file. 0 < length file → LeavesOnly D.moment D.left_since disk.old disk.new (D.images disk.old)) }
         ensures honest { D.honest disk.new ↔ D.honest disk.old }
@@ -146,6 +147,7 @@ impl Journal {
         ensures err { OnErr result (self.new.torn ≡ true) }
         // After Ok each file that a crash may leave opens to what is kept, and all cells that count are known.
         ensures opens { D.honest disk.new → HasRoom self.new → OnOk result ((file : List ℕ) → D.images disk.new file → OpensToKept self.new file × (counted file ≡ self.new.cells)) }
+        ensures images { D.honest disk.new → HasRoom self.new → (file : List ℕ) → D.images disk.new file → MayLeave self.new file }
         ensures moments { D.honest disk.old → HasRoom self.old → LeavesOnly D.moment D.left_since disk.old disk.new (MayLeave self.old) }
         ensures unwritten { self.old.torn ≡ false → D.seen disk.new ≡ D.seen disk.old }
         ensures honest { D.honest disk.new ↔ D.honest disk.old }
@@ -174,8 +176,9 @@ impl Journal {
         ensures early { IsEarly self.old → IsEarly self.new }
         ensures same { (self.new.wide ≡ self.old.wide) × (self.new.digest ≡ self.old.digest) × (self.new.tried ≡ self.old.tried + 1) × (self.new.number ≤ self.old.number + 2) }
         ensures opens { D.honest disk.new → HasRoom self.new → OnOk result ((file : List ℕ) → D.images disk.new file → OpensToKept self.new file × (counted file ≡ self.new.cells)) }
-        ensures moments { D.honest disk.old → HasRoom2 self.old → LeavesOnly D.moment D.left_since disk.old disk.new (MayLeaveOr self.old batch.now.items) }
-        ensures front { OnOk result (self.old.torn ≡ false → self.old.cells < 64 → Becomes SameFront (D.seen disk.old) (D.seen disk.new)) }
+        ensures images { D.honest disk.new → HasRoom self.new → (file : List ℕ) → D.images disk.new file → MayLeave self.new file }
+        ensures moments { D.honest disk.old → HasRoomForTwo self.old → LeavesOnly D.moment D.left_since disk.old disk.new (MayLeaveOr self.old batch.now.items) }
+        ensures front { self.old.torn ≡ false → self.old.cells < 64 → Becomes SameFront (D.seen disk.old) (D.seen disk.new) }
         ensures honest { D.honest disk.new ↔ D.honest disk.old }
         ensures cause { HasCause (D.faults disk.old) (D.faults disk.new) result }
     {
