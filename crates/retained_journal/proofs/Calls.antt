@@ -46,10 +46,6 @@ module _ {D : Type 0} (honest : D → Type 0) (images : D → List ℕ → Type 
     pub nothing_new : (disk : D) → honest disk → LeavesOnly moment left_since disk disk (images disk)
     nothing_new disk h = stays moment left_since disk (images disk) (λ c left. only_now disk c h left)
 
-    -- nor does one that isn't a write
-    pub brings_nothing : (old new : D) → honest old → Stays (images old) (images new) → Elapses (moment old) (moment new) (left_since old) (left_since new) (images new) → LeavesOnly moment left_since old new (images old)
-    brings_nothing old new h crash time = one_call moment left_since old new (images old) (images new) (λ c left. only_now old c h left) time crash
-
     -- at each moment of the call a crash leaves what is kept, or that with the batch last attempted
     pub its_moments : (j : Journal) (old new : D) (at n : ℕ) → Stands honest images old j → Spares j at n → honest old → HasRoom j
         → Elapses (moment old) (moment new) (left_since old) (left_since new) (After (Torn at n) (images old)) → LeavesOnly moment left_since old new (OpensToKeptOrAttempt j)
@@ -69,9 +65,9 @@ module _ {D : Type 0} (honest : D → Type 0) (images : D → List ℕ → Type 
         (λ c here. let was = crash h c here in opens_image j c stands.sound (torn_keeps j was.0 c at n (stands.each h was.0 was.1) was.2 spares stands.sound.few) room)
 
 -- one part that leaves nothing new after another
-pub nothing_more : {D : Type 0} (moment : D → ℕ) (left_since : D → ℕ → List ℕ → Type 0) (images : D → List ℕ → Type 0) (old mid new : D) → Stays (images old) (images mid)
+pub still_nothing_new : {D : Type 0} (moment : D → ℕ) (left_since : D → ℕ → List ℕ → Type 0) (images : D → List ℕ → Type 0) (old mid new : D) → Stays (images old) (images mid)
     → LeavesOnly moment left_since old mid (images old) → LeavesOnly moment left_since mid new (images mid) → LeavesOnly moment left_since old new (images old)
-nothing_more moment left_since images old mid new crash first second = then_more moment left_since old mid new (images old) first (weaker moment left_since mid new (images mid) (images old) crash second)
+still_nothing_new moment left_since images old mid new crash first second = then_more moment left_since old mid new (images old) first (weaker moment left_since mid new (images mid) (images old) crash second)
 
 -- ---- a journal with one field set is sound
 

@@ -2,7 +2,6 @@ use Rattle.std.proofs.Common.{ap, arith, ◌≡◌, ◌≢◌, subst, sym, ◌�
 use Rattle.std.specs.Prelude.{IfSome, Some}
 use Rattle.retained_journal.specs.declared.open_refusal.OpenRefusal.TheVariants.{DiskFault}
 use Rattle.retained_journal.specs.Opening.{change_out_of_form}
-use Rattle.retained_journal.proofs.Calls.{nothing_new}
 use Rattle.retained_journal.proofs.Openings.{begun_at, replay_open, replay_refused, replay_shut}
 use Rattle.retained_journal.proofs.Refused.{handed_on}
 use Rattle.retained_journal.proofs.Told.{both_told}
@@ -46,6 +45,3 @@ returns-else-front-eq1-clause-keeps g c =
     let number = ap (λ (r : Replay). r.number) is in
     let cells = ap (λ (r : Replay). r.cells) is in
     (subst (λ (r : Replay). IsKeepable c.args.wide r.kept) (sym is) (keeps_slot c.args.wide at c.args.front.now c.fits-front (small_counters at c.args.front.now c.requires.counters)), omega (arith, cells), omega (arith, number, c.requires.number))
-
-pub returns-else-front-eq1-clause-moments : goal.returns-else-front-eq1-clause-moments
-returns-else-front-eq1-clause-moments g c honest = nothing_new g.D.Disk.honest g.D.Disk.images g.D.Disk.moment g.D.Disk.left_since g.met.D.Disk.only_now c.args.disk.now honest

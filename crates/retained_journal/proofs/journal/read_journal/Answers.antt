@@ -3,7 +3,6 @@ use Rattle.std.specs.Prelude.{IfSome, Some, None}
 use Rattle.retained_journal.specs.declared.open_refusal.OpenRefusal.TheVariants.{DiskFault}
 use Rattle.retained_journal.specs.Journals.{IsReplayOf}
 use Rattle.retained_journal.specs.Opening.{change_out_of_form, front_refusal, refusal_of}
-use Rattle.retained_journal.proofs.Calls.{nothing_more}
 use Rattle.retained_journal.proofs.FrontAgreement.{front_same}
 use Rattle.retained_journal.proofs.Openings.{front_passes, front_refuses, passes_none, passes_some, read_so}
 use Rattle.retained_journal.proofs.Refused.{handed_on}
@@ -43,13 +42,3 @@ returns-clause-ok g c =
       front_passes c.args.wide c.args.digest file None (ap (λ (n : ℕ). front_refusal c.args.digest n file) (sym len) ∙ sym (front_same front file agrees c.args.digest c.args.len) ∙ passed) read.0,
       read_so c.args.wide front file c.is_second-second.result agrees c.is_second-second.ensures c.args.digest c.in_ok-replay.replay c.of_front.result c.of_front.ensures read.1,
     ))
-
-pub returns-in_err-replay-clause-moments : goal.returns-in_err-replay-clause-moments
-returns-in_err-replay-clause-moments g c honest =
-    let front = c.read_front.ensures in
-    nothing_more g.D.Disk.moment g.D.Disk.left_since g.D.Disk.images c.args.disk.now c.read_front.new.disk c.read_counted.new.disk (front.crash honest) (front.moments honest) (c.read_counted.ensures.moments (front.honest.1 honest))
-
-pub returns-clause-moments : goal.returns-clause-moments
-returns-clause-moments g c honest =
-    let front = c.read_front.ensures in
-    nothing_more g.D.Disk.moment g.D.Disk.left_since g.D.Disk.images c.args.disk.now c.read_front.new.disk c.read_counted.new.disk (front.crash honest) (front.moments honest) (c.read_counted.ensures.moments (front.honest.1 honest))

@@ -1,7 +1,6 @@
 use Rattle.std.proofs.Common.{ℕ, subst}
 use Rattle.std.proofs.lemmas.Option.{IfSome_then}
 use Rattle.retained_journal.specs.Fields.{Agrees}
-use Rattle.retained_journal.proofs.Calls.{brings_nothing}
 use Rattle.retained_journal.proofs.Reading.{range_read}
 use Rattle.retained_journal.proofs.replay.read_cell.Goals as goal
 
@@ -9,11 +8,3 @@ pub returns-clause-ok : goal.returns-clause-ok
 returns-clause-ok g c =
     IfSome_then (g.D.Disk.seen c.args.disk.now) c.in_ok-read_at.ensures.ok
     (λ file read. subst (λ (at : ℕ). Agrees 592 c.read_at.new.into 0 file at) c.cell_place.ensures (range_read 592 c.cell_place.result file c.read_at.new.into read))
-
-pub returns-in_err-read_at-clause-moments : goal.returns-in_err-read_at-clause-moments
-returns-in_err-read_at-clause-moments g c honest =
-    brings_nothing g.D.Disk.honest g.D.Disk.images g.D.Disk.moment g.D.Disk.left_since g.met.D.Disk.only_now c.args.disk.now c.read_at.new.self honest (c.read_at.ensures.crash honest) (c.read_at.ensures.time honest)
-
-pub returns-clause-moments : goal.returns-clause-moments
-returns-clause-moments g c honest =
-    brings_nothing g.D.Disk.honest g.D.Disk.images g.D.Disk.moment g.D.Disk.left_since g.met.D.Disk.only_now c.args.disk.now c.read_at.new.self honest (c.read_at.ensures.crash honest) (c.read_at.ensures.time honest)

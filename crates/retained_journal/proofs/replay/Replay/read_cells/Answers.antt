@@ -9,7 +9,7 @@ use Rattle.retained_journal.specs.declared.replay.Replay.{Replay}
 use Rattle.retained_journal.specs.declared.open_refusal.OpenRefusal.TheVariants.{DiskFault}
 use Rattle.retained_journal.proofs.Refused.{handed_on}
 use Rattle.retained_journal.proofs.Told.{both_told, each_told}
-use Rattle.retained_journal.proofs.Calls.{nothing_more, nothing_new}
+use Rattle.retained_journal.proofs.Calls.{still_nothing_new, nothing_new}
 use Rattle.retained_journal.specs.Cells.{cell_changes}
 use Rattle.retained_journal.specs.Slots.{IsKeepable}
 use Rattle.retained_journal.proofs.Keeping.{can_keep_cell, keeps-batch}
@@ -48,7 +48,7 @@ loop-cell-preserved g c =
       seen = read.seen ∙ before.seen;
       honest = (λ h. before.honest.0 (read.honest.0 h), λ h. read.honest.1 (before.honest.1 h));
       crash = λ honest file image. before.crash honest file (read.crash (before.honest.1 honest) file image);
-      moments = λ honest. nothing_more g.D.Disk.moment g.D.Disk.left_since g.D.Disk.images c.args.disk.now c.loop-cell.disk c.read_cell.new.disk (before.crash honest) (before.moments honest) (read.moments (before.honest.1 honest));
+      moments = λ honest. still_nothing_new g.D.Disk.moment g.D.Disk.left_since g.D.Disk.images c.args.disk.now c.loop-cell.disk c.read_cell.new.disk (before.crash honest) (before.moments honest) (read.moments (before.honest.1 honest));
       later = omega (arith, before.later, read.cause.later);
     }
 
@@ -81,18 +81,3 @@ returns-in_err-take-clause-err g c =
     both_told (g.D.Disk.seen c.args.disk.now) before.replayed (subst (λ seen. IfSome seen (λ file. Agrees 592 c.in_ok-bytes.bytes 0 file (cell_place c.loop-cell.cell))) before.seen c.in_ok-bytes.ensures.ok)
     (λ file replayed agrees. subst (λ r. RefusesReplay file c.args.self.now r) (sym (same ∙ took.1.3))
     (replay_refuses file c.in_ok-bytes.bytes c.args.self.now c.loop-cell.self c.loop-cell.cell replayed agrees c.loop-cell-test.true took.0 took.1.0 took.1.1 took.1.2)))
-
-pub returns-in_err-bytes-clause-moments : goal.returns-in_err-bytes-clause-moments
-returns-in_err-bytes-clause-moments g c honest =
-    let before = c.loop-cell.invariant in
-    nothing_more g.D.Disk.moment g.D.Disk.left_since g.D.Disk.images c.args.disk.now c.loop-cell.disk c.read_cell.new.disk (before.crash honest) (before.moments honest) (c.read_cell.ensures.moments (before.honest.1 honest))
-
-pub returns-in_err-take-clause-moments : goal.returns-in_err-take-clause-moments
-returns-in_err-take-clause-moments g c honest =
-    let before = c.loop-cell.invariant in
-    nothing_more g.D.Disk.moment g.D.Disk.left_since g.D.Disk.images c.args.disk.now c.loop-cell.disk c.read_cell.new.disk (before.crash honest) (before.moments honest) (c.read_cell.ensures.moments (before.honest.1 honest))
-
-pub returns-then-not-branch-clause-moments : goal.returns-then-not-branch-clause-moments
-returns-then-not-branch-clause-moments g c honest =
-    let before = c.loop-cell.invariant in
-    nothing_more g.D.Disk.moment g.D.Disk.left_since g.D.Disk.images c.args.disk.now c.loop-cell.disk c.read_cell.new.disk (before.crash honest) (before.moments honest) (c.read_cell.ensures.moments (before.honest.1 honest))
