@@ -1,13 +1,14 @@
 -- How one call, a write with its sync, takes a journal on.
-use Rattle.std.proofs.Common.{inl, zero, suc, [], ◌∷◌, replicate, ◌≡◌, ◌+◌, ◌*◌, ◌^◌, ◌<◌, ◌≤◌, ℕ, Bool, true, false, List, length, slice_index, refl, sym, ◌∙◌, subst, arith}
+use Rattle.std.proofs.Common.{inl, zero, suc, [], ◌∷◌, replicate, ◌≡◌, ◌+◌, ◌*◌, ◌^◌, ◌<◌, ◌≤◌, ℕ, Bool, true, false, List, length, slice_index, refl, sym, ap, ◌∙◌, subst, arith}
 use Rattle.panel_edges.specs.Crashes.{After, Elapses, Follows, LeavesOnly, Only, Stays}
 use Rattle.panel_edges.specs.Disks.{Becomes, Holds, Torn}
 use Rattle.panel_edges.proofs.Moments.{one_call, stays, then_more, weaker}
 use Rattle.retained_journal.specs.declared.journal.Journal.{Journal}
 use Rattle.retained_journal.specs.declared.log_gate.LogGate.TheVariants.{Shut, Ready, Open}
-use Rattle.retained_journal.specs.Images.{HasRoom, HasZeros, IsImage, IsSound, OpensToKeptOrAttempt, SameFront, Stands}
+use Rattle.retained_journal.specs.Images.{HasRoom, HasZeros, IsImage, IsSound, KeepsAll, OpensToKeptOrAttempt, OpensToKeptOrWith, SameFront, Stands}
 use Rattle.std.specs.Prelude.{not, Option, Some, None, IfSome, Result, Ok, Err, OnOk, OnErr}
 use Rattle.site_types.specs.Changes.{changed_by}
+use Rattle.site_types.specs.declared.change.Change.{Change}
 use Rattle.retained_journal.specs.Batches.{IsBatch}
 use Rattle.retained_journal.proofs.Images.{opens_image}
 use Rattle.std.proofs.lemmas.List.{get_or-replicate}
@@ -68,6 +69,22 @@ module _ {D : Type 0} (honest : D → Type 0) (images : D → List ℕ → Type 
 pub still_nothing_new : {D : Type 0} (moment : D → ℕ) (left_since : D → ℕ → List ℕ → Type 0) (images : D → List ℕ → Type 0) (old mid new : D) → Stays (images old) (images mid)
     → LeavesOnly moment left_since old mid (images old) → LeavesOnly moment left_since mid new (images mid) → LeavesOnly moment left_since old new (images old)
 still_nothing_new moment left_since images old mid new crash first second = then_more moment left_since old mid new (images old) first (weaker moment left_since mid new (images mid) (images old) crash second)
+
+pub same_batch : (j k : Journal) → k.attempt ≡ j.attempt → k.attempt.items ≡ j.attempt.items
+same_batch j k same = rw same
+
+-- a journal that was mended and then began a batch
+module _ (j mended begun : Journal) (same : KeepsAll j mended) (is : begun ≡ record mended { torn = true; attempt = begun.attempt }) where
+  pub begun_number : begun.number ≡ j.number
+  begun_number = ap (λ (k : Journal). k.number) is ∙ same.same_number
+
+  -- what it leaves with its attempt is what was kept with that batch
+  pub with_attempt : (batch : List Change) → begun.attempt.items ≡ batch → (file : List ℕ) → OpensToKeptOrAttempt begun file → OpensToKeptOrWith j batch file
+  with_attempt batch attempt file h =
+      let wide = ap (λ (k : Journal). k.wide) is ∙ same.same_wide in
+      let digest = ap (λ (k : Journal). k.digest) is ∙ same.same_digest in
+      let kept = ap (λ (k : Journal). k.kept) is ∙ same.same_kept in
+      rw (← wide, ← digest, ← kept, ← attempt) h
 
 -- ---- a journal with one field set is sound
 

@@ -1,5 +1,6 @@
 -- What each file holds that a crash may leave of an open journal.
 use Rattle.std.specs.Prelude.{◌≡◌, ◌≢◌, ◌⊎◌, ◌+◌, ◌*◌, ◌^◌, ◌<◌, ◌≤◌, not, ℕ, Bool, true, false, List, length, slice_index, MatchBool, None}
+use Rattle.panel_edges.specs.Crashes.{LeavesOnly}
 use Rattle.site_types.specs.Changes.{AreCounters, changed_by}
 use Rattle.site_types.specs.declared.change.Change.{Change}
 use Rattle.site_types.specs.declared.retained.Retained.{Retained}
@@ -163,6 +164,16 @@ pub record StaysSo (old new : Journal) : Type 0 where
 -- what a crash may leave while a batch is committed: what it may leave before, or what is kept with this batch
 abbrev pub MayLeaveOr : Journal → List Change → List ℕ → Type 0
 MayLeaveOr journal batch file = MayLeave journal file ⊎ (opened journal.wide journal.digest file ≡ Opens (changed_by batch journal.kept))
+
+-- the file opens to what is kept, or to it with this whole batch
+abbrev pub OpensToKeptOrWith : Journal → List Change → List ℕ → Type 0
+OpensToKeptOrWith journal batch file = OpensToKept journal file ⊎ (opened journal.wide journal.digest file ≡ Opens (changed_by batch journal.kept))
+
+-- A call has two parts: up to some state of its disk a crash leaves a file that has P, within the part too, and from that state on one that has Q.
+pub record LeavesInTurn {D : Type 0} (moment : D → ℕ) (left_since : D → ℕ → List ℕ → Type 0) (old new : D) (P Q : List ℕ → Type 0) : Type 0 where
+  pub between : D
+  pub first : LeavesOnly moment left_since old between P
+  pub second : LeavesOnly moment left_since between new Q
 
 -- such a journal has room for the numbers of as many commits as it may be asked for
 abbrev pub EarlyHasRoom : Type 0

@@ -6,7 +6,7 @@ ghost use Rattle.site_types.specs.Changes.{AreCounters, changed_by, nothing_reta
 ghost use Rattle.retained_journal.specs.Batches.{IsBatch};
 ghost use Rattle.retained_journal.specs.Creating.{HasCreateCause};
 ghost use Rattle.retained_journal.specs.Fields.{Agrees, first_in};
-ghost use Rattle.retained_journal.specs.Images.{HasRoom, HasRoomForTwo, IsEarly, IsSound, KeepsAll, MayLeave, MayLeaveOr, OpensToKept, SameFront, Stands};
+ghost use Rattle.retained_journal.specs.Images.{HasRoom, HasRoomForTwo, IsEarly, IsSound, KeepsAll, LeavesInTurn, MayLeave, MayLeaveOr, OpensToKept, OpensToKeptOrWith, SameFront, Stands};
 ghost use Rattle.retained_journal.specs.Journals.{IsLong, IsNewJournal, IsOfFront, IsReadFrom, IsReplayOf};
 ghost use Rattle.retained_journal.specs.Opening.{Empty, Opens, Refuses, change_out_of_form, chosen_place, counted, great_counter, is_second as second_counts, opened, refusal_of};
 ghost use Rattle.retained_journal.specs.Places.{slot_place as place_of_slot};
@@ -178,6 +178,10 @@ impl Journal {
         ensures opens { D.honest disk.new → HasRoom self.new → OnOk result ((file : List ℕ) → D.images disk.new file → OpensToKept self.new file × (counted file ≡ self.new.cells)) }
         ensures images { D.honest disk.new → HasRoom self.new → (file : List ℕ) → D.images disk.new file → MayLeave self.new file }
         ensures moments { D.honest disk.old → HasRoomForTwo self.old → LeavesOnly D.moment D.left_since disk.old disk.new (MayLeaveOr self.old batch.now.items) }
+        // The earlier batch may be left until the mending has ended, and this one only from then on: the mending failed, or the call had both parts.
+        ensures in_turn { D.honest disk.old → HasRoomForTwo self.old →
+            ((self.new.attempt ≡ self.old.attempt) × LeavesOnly D.moment D.left_since disk.old disk.new (MayLeave self.old))
+            ⊎ ((self.new.attempt.items ≡ batch.now.items) × LeavesInTurn D.moment D.left_since disk.old disk.new (MayLeave self.old) (OpensToKeptOrWith self.old batch.now.items)) }
         ensures front { self.old.torn ≡ false → self.old.cells < 64 → Becomes SameFront (D.seen disk.old) (D.seen disk.new) }
         ensures honest { D.honest disk.new ↔ D.honest disk.old }
         ensures cause { HasCause (D.faults disk.old) (D.faults disk.new) result }
