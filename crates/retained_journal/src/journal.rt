@@ -97,7 +97,8 @@ impl Journal {
     ///
     /// # Errors
     ///
-    /// The file isn't empty, and nothing was written; or the disk failed, and the file may be written in part.
+    /// The file isn't empty, or the disk failed. Nothing is written to a file that isn't empty; an empty one may be written in
+    /// part where the disk failed.
     pub fn create<D: Disk>(
         disk: &mut D,
         digest: [u8; 32],
