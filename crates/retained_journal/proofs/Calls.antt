@@ -10,8 +10,9 @@ use Rattle.std.specs.Prelude.{not, Option, Some, None, IfSome, Result, Ok, Err, 
 use Rattle.site_types.specs.Changes.{changed_by}
 use Rattle.site_types.specs.declared.change.Change.{Change}
 use Rattle.retained_journal.specs.Batches.{IsBatch}
-use Rattle.retained_journal.proofs.Images.{opens_image}
+use Rattle.retained_journal.proofs.Images.{opens_image, whole_counts}
 use Rattle.std.proofs.lemmas.List.{get_or-replicate}
+use Rattle.retained_journal.specs.Opening.{counted}
 use Rattle.retained_journal.specs.Places.{cell_place, whole_bytes}
 use Rattle.retained_journal.proofs.Keeping.{keeps-batch}
 use Rattle.retained_journal.proofs.Torn.{Spares, torn_holds, torn_keeps}
@@ -37,6 +38,11 @@ module _ {D : Type 0} (honest : D → Type 0) (images : D → List ℕ → Type 
   -- what each image of a journal has, each image of another has
   pub other_stands : (j k : Journal) (disk : D) → Stands honest images disk j → IsSound k → ((c : List ℕ) → honest disk → images disk c → IsImage j c → IsImage k c) → Stands honest images disk k
   other_stands j k disk stands sound step = record { sound = sound; each = λ h c now'. step c h now' (stands.each h c now') }
+
+  -- where no step is left out, as many cells of what a read gives count as are known
+  pub counts_read : (j : Journal) (disk : D) (seen : Option (List ℕ)) → Stands honest images disk j → honest disk → (file : List ℕ) × (seen ≡ Some file) × images disk file
+      → j.log ≡ Open → j.cell_may_be_open ≡ false → j.moving ≡ false → IfSome seen (λ file. counted file ≡ j.cells)
+  counts_read j disk seen stands h read open' sure still = subst (λ s. IfSome s (λ file. counted file ≡ j.cells)) (sym read.1) (whole_counts j read.0 stands.sound (stands.each h read.0 read.2) open' sure still).1
 
   module _ (moment : D → ℕ) (left_since : D → ℕ → List ℕ → Type 0) (only_now : (disk : D) (c : List ℕ) → honest disk → left_since disk (moment disk) c → images disk c) where
     -- no call at all

@@ -72,6 +72,7 @@ impl Journal {
         ensures err { IfErr result (λ e. e ≢ OpenRefusal.DiskFault → IfSome (D.seen disk.old) (λ file. opened wide digest file ≡ Refuses e)) }
         ensures stands { IfOk result (λ r. Stands D.honest D.images disk.new r.0) }
         ensures opens { D.honest disk.new → IfOk result (λ r. (file : List ℕ) → D.images disk.new file → OpensToKept r.0 file × (counted file ≡ r.0.cells)) }
+        ensures cells { IfOk result (λ r. IfSome (D.seen disk.new) (λ file. r.0.torn ≡ false → counted file ≡ r.0.cells)) }
         ensures read { IfOk result (λ r. IfSome (D.seen disk.old) (λ file. 0 < length file → IsReadFrom wide digest file r.0)) }
         ensures early { IfOk result (λ r. IfSome (D.seen disk.old) (λ file. slot_number (chosen_place file) file ≤ 2 ^ 62 → IsEarly r.0)) }
         ensures fresh { IfOk result (λ r. (r.0.tried ≡ 0) × (r.0.wide ≡ wide) × (r.0.digest ≡ digest)) }
@@ -148,6 +149,7 @@ impl Journal {
         ensures err { OnErr result (self.new.torn ≡ true) }
         // After Ok each file that a crash may leave opens to what is kept, and all cells that count are known.
         ensures opens { D.honest disk.new → HasRoom self.new → OnOk result ((file : List ℕ) → D.images disk.new file → OpensToKept self.new file × (counted file ≡ self.new.cells)) }
+        ensures cells { D.honest disk.new → OnOk result (IfSome (D.seen disk.new) (λ file. counted file ≡ self.new.cells)) }
         ensures images { D.honest disk.new → HasRoom self.new → (file : List ℕ) → D.images disk.new file → MayLeave self.new file }
         ensures moments { D.honest disk.old → HasRoom self.old → LeavesOnly D.moment D.left_since disk.old disk.new (MayLeave self.old) }
         ensures unwritten { self.old.torn ≡ false → D.seen disk.new ≡ D.seen disk.old }
@@ -177,6 +179,7 @@ impl Journal {
         ensures early { IsEarly self.old → IsEarly self.new }
         ensures same { (self.new.wide ≡ self.old.wide) × (self.new.digest ≡ self.old.digest) × (self.new.tried ≡ self.old.tried + 1) × (self.new.number ≤ self.old.number + 2) }
         ensures opens { D.honest disk.new → HasRoom self.new → OnOk result ((file : List ℕ) → D.images disk.new file → OpensToKept self.new file × (counted file ≡ self.new.cells)) }
+        ensures cells { D.honest disk.new → OnOk result (IfSome (D.seen disk.new) (λ file. counted file ≡ self.new.cells)) }
         ensures images { D.honest disk.new → HasRoom self.new → (file : List ℕ) → D.images disk.new file → MayLeave self.new file }
         ensures moments { D.honest disk.old → HasRoomForTwo self.old → LeavesOnly D.moment D.left_since disk.old disk.new (MayLeaveOr self.old batch.now.items) }
         // The earlier batch may be left until the mending has ended, and this one only from then on: the mending failed, or the call had both parts.

@@ -1,7 +1,7 @@
 use Rattle.std.proofs.Common.{inl, inr, ◌∙◌, arith}
 use Rattle.panel_edges.proofs.Moments.{weaker}
 use Rattle.retained_journal.specs.Images.{OpensToKeptOrAttempt, OpensToKeptOrWith}
-use Rattle.retained_journal.proofs.Calls.{begun_number, same_batch, with_attempt}
+use Rattle.retained_journal.proofs.Calls.{begun_number, counts_read, same_batch, with_attempt}
 use Rattle.retained_journal.proofs.Images.{may_leave, opens_whole}
 use Rattle.retained_journal.proofs.journal.Journal.commit.Goals as goal
 
@@ -57,3 +57,8 @@ returns-clause-in_turn g c honest room =
             (c.append.ensures.moments (c.mend.ensures.honest.1 honest) (let number = begun_number _ c.mend.new.self begun same is.0 in omega (arith, room, number)));
       },
     )
+
+pub returns-clause-cells : goal.returns-clause-cells
+returns-clause-cells g c honest =
+    let whole = c.in_ok-append.ensures.ok in
+    counts_read g.D.Disk.honest g.D.Disk.images c.append.new.self c.append.new.disk (g.D.Disk.seen c.append.new.disk) c.append.ensures.stands honest (g.met.D.Disk.reads_as_image c.append.new.disk honest) whole.1 whole.2 whole.3
