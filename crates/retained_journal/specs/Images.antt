@@ -108,9 +108,17 @@ IsEarly journal = journal.number ≤ 2 ^ 62 + 64 + 2 * journal.tried
 abbrev pub OpensToKept : Journal → List ℕ → Type 0
 OpensToKept journal file = opened journal.wide journal.digest file ≡ Opens journal.kept
 
+-- the file opens to what is kept with this whole batch
+abbrev pub OpensToKeptWith : Journal → List Change → List ℕ → Type 0
+OpensToKeptWith journal batch file = opened journal.wide journal.digest file ≡ Opens (changed_by batch journal.kept)
+
+-- the file opens to what is kept, or to it with this whole batch
+abbrev pub OpensToKeptOrWith : Journal → List Change → List ℕ → Type 0
+OpensToKeptOrWith journal batch file = OpensToKept journal file ⊎ OpensToKeptWith journal batch file
+
 -- the file opens to what is kept, or to it with the whole batch last attempted
 abbrev pub OpensToKeptOrAttempt : Journal → List ℕ → Type 0
-OpensToKeptOrAttempt journal file = OpensToKept journal file ⊎ (opened journal.wide journal.digest file ≡ Opens (changed_by journal.attempt.items journal.kept))
+OpensToKeptOrAttempt journal file = OpensToKeptOrWith journal journal.attempt.items file
 
 -- a slot may get the next number
 abbrev pub HasRoom : Journal → Type 0
@@ -150,7 +158,7 @@ pub record KeepsAll (old new : Journal) : Type 0 where
 
 -- what a crash may leave of a journal: what is kept, and where it is torn also that with the whole batch last attempted
 abbrev pub MayLeave : Journal → List ℕ → Type 0
-MayLeave journal file = OpensToKept journal file ⊎ ((journal.torn ≡ true) × (opened journal.wide journal.digest file ≡ Opens (changed_by journal.attempt.items journal.kept)))
+MayLeave journal file = OpensToKept journal file ⊎ ((journal.torn ≡ true) × OpensToKeptWith journal journal.attempt.items file)
 
 -- The batch last attempted and the count of tries are as they were, and at most two numbers were given.
 pub record StaysSo (old new : Journal) : Type 0 where
@@ -163,13 +171,9 @@ pub record StaysSo (old new : Journal) : Type 0 where
 
 -- what a crash may leave while a batch is committed: what it may leave before, or what is kept with this batch
 abbrev pub MayLeaveOr : Journal → List Change → List ℕ → Type 0
-MayLeaveOr journal batch file = MayLeave journal file ⊎ (opened journal.wide journal.digest file ≡ Opens (changed_by batch journal.kept))
+MayLeaveOr journal batch file = MayLeave journal file ⊎ OpensToKeptWith journal batch file
 
--- the file opens to what is kept, or to it with this whole batch
-abbrev pub OpensToKeptOrWith : Journal → List Change → List ℕ → Type 0
-OpensToKeptOrWith journal batch file = OpensToKept journal file ⊎ (opened journal.wide journal.digest file ≡ Opens (changed_by batch journal.kept))
-
--- A call has two parts: up to some state of its disk a crash leaves a file that has P, within the part too, and from that state on one that has Q.
+-- A call has two parts: a crash at any moment up to some state of its disk leaves a file that has P, and from that state on one that has Q.
 pub record LeavesInTurn {D : Type 0} (moment : D → ℕ) (left_since : D → ℕ → List ℕ → Type 0) (old new : D) (P Q : List ℕ → Type 0) : Type 0 where
   pub between : D
   pub first : LeavesOnly moment left_since old between P
