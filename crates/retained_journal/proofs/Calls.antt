@@ -1,16 +1,18 @@
 -- How one call, a write with its sync, takes a journal on.
-use Rattle.std.proofs.Common.{inl, zero, suc, [], ◌∷◌, replicate, ◌≡◌, ◌+◌, ◌*◌, ◌^◌, ◌<◌, ◌≤◌, ℕ, Bool, true, false, List, length, slice_index, refl, sym, ◌∙◌, subst, arith}
-use Rattle.panel_edges.specs.Crashes.{After, Elapses, Follows, LeavesOnly, Only}
+use Rattle.std.proofs.Common.{inl, zero, suc, [], ◌∷◌, replicate, ◌≡◌, ◌+◌, ◌*◌, ◌^◌, ◌<◌, ◌≤◌, ℕ, Bool, true, false, List, length, slice_index, refl, sym, ap, ◌∙◌, subst, arith}
+use Rattle.panel_edges.specs.Crashes.{After, Elapses, Follows, LeavesOnly, Only, Stays}
 use Rattle.panel_edges.specs.Disks.{Becomes, Holds, Torn}
-use Rattle.panel_edges.proofs.Moments.{one_call, stays}
+use Rattle.panel_edges.proofs.Moments.{one_call, stays, then_more, weaker}
 use Rattle.retained_journal.specs.declared.journal.Journal.{Journal}
 use Rattle.retained_journal.specs.declared.log_gate.LogGate.TheVariants.{Shut, Ready, Open}
-use Rattle.retained_journal.specs.Images.{HasRoom, HasZeros, IsImage, IsSound, OpensToKeptOrAttempt, SameFront, Stands}
-use Rattle.std.specs.Prelude.{not, Option, Some, None, IfSome}
+use Rattle.retained_journal.specs.Images.{HasRoom, HasZeros, IsImage, IsSound, KeepsAll, OpensToKeptOrAttempt, OpensToKeptOrWith, SameFront, Stands}
+use Rattle.std.specs.Prelude.{not, Option, Some, None, IfSome, Result, Ok, Err, OnOk, OnErr}
 use Rattle.site_types.specs.Changes.{changed_by}
+use Rattle.site_types.specs.declared.change.Change.{Change}
 use Rattle.retained_journal.specs.Batches.{IsBatch}
-use Rattle.retained_journal.proofs.Images.{opens_image}
+use Rattle.retained_journal.proofs.Images.{opens_image, whole_counts}
 use Rattle.std.proofs.lemmas.List.{get_or-replicate}
+use Rattle.retained_journal.specs.Opening.{counted}
 use Rattle.retained_journal.specs.Places.{cell_place, whole_bytes}
 use Rattle.retained_journal.proofs.Keeping.{keeps-batch}
 use Rattle.retained_journal.proofs.Torn.{Spares, torn_holds, torn_keeps}
@@ -37,10 +39,19 @@ module _ {D : Type 0} (honest : D → Type 0) (images : D → List ℕ → Type 
   pub other_stands : (j k : Journal) (disk : D) → Stands honest images disk j → IsSound k → ((c : List ℕ) → honest disk → images disk c → IsImage j c → IsImage k c) → Stands honest images disk k
   other_stands j k disk stands sound step = record { sound = sound; each = λ h c now'. step c h now' (stands.each h c now') }
 
+  -- where no step is left out, as many cells of what a read gives count as are known
+  pub counts_read : (j : Journal) (disk : D) (seen : Option (List ℕ)) → Stands honest images disk j → honest disk → (file : List ℕ) × (seen ≡ Some file) × images disk file
+      → j.log ≡ Open → j.cell_may_be_open ≡ false → j.moving ≡ false → IfSome seen (λ file. counted file ≡ j.cells)
+  counts_read j disk seen stands h read open' sure still = subst (λ s. IfSome s (λ file. counted file ≡ j.cells)) (sym read.1) (whole_counts j read.0 stands.sound (stands.each h read.0 read.2) open' sure still).1
+
   module _ (moment : D → ℕ) (left_since : D → ℕ → List ℕ → Type 0) (only_now : (disk : D) (c : List ℕ) → honest disk → left_since disk (moment disk) c → images disk c) where
     -- no call at all
     pub no_moment : (j : Journal) (disk : D) → Stands honest images disk j → honest disk → HasRoom j → LeavesOnly moment left_since disk disk (OpensToKeptOrAttempt j)
     no_moment j disk stands h room = stays moment left_since disk (OpensToKeptOrAttempt j) (λ c left. opens_image j c stands.sound (stands.each h c (only_now disk c h left)) room)
+
+    -- no call at all leaves nothing new
+    pub nothing_new : (disk : D) → honest disk → LeavesOnly moment left_since disk disk (images disk)
+    nothing_new disk h = stays moment left_since disk (images disk) (λ c left. only_now disk c h left)
 
     -- at each moment of the call a crash leaves what is kept, or that with the batch last attempted
     pub its_moments : (j : Journal) (old new : D) (at n : ℕ) → Stands honest images old j → Spares j at n → honest old → HasRoom j
@@ -59,6 +70,27 @@ module _ {D : Type 0} (honest : D → Type 0) (images : D → List ℕ → Type 
         (λ c left. opens_image j c stands.sound (stands.each h c (only_now old c h left)) room)
         time
         (λ c here. let was = crash h c here in opens_image j c stands.sound (torn_keeps j was.0 c at n (stands.each h was.0 was.1) was.2 spares stands.sound.few) room)
+
+-- one part that leaves nothing new after another
+pub still_nothing_new : {D : Type 0} (moment : D → ℕ) (left_since : D → ℕ → List ℕ → Type 0) (images : D → List ℕ → Type 0) (old mid new : D) → Stays (images old) (images mid)
+    → LeavesOnly moment left_since old mid (images old) → LeavesOnly moment left_since mid new (images mid) → LeavesOnly moment left_since old new (images old)
+still_nothing_new moment left_since images old mid new crash first second = then_more moment left_since old mid new (images old) first (weaker moment left_since mid new (images mid) (images old) crash second)
+
+pub same_batch : (j k : Journal) → k.attempt ≡ j.attempt → k.attempt.items ≡ j.attempt.items
+same_batch j k same = rw same
+
+-- a journal that was mended and then began a batch
+module _ (j mended begun : Journal) (same : KeepsAll j mended) (is : begun ≡ record mended { torn = true; attempt = begun.attempt }) where
+  pub begun_number : begun.number ≡ j.number
+  begun_number = ap (λ (k : Journal). k.number) is ∙ same.same_number
+
+  -- what it leaves with its attempt is what was kept with that batch
+  pub with_attempt : (batch : List Change) → begun.attempt.items ≡ batch → (file : List ℕ) → OpensToKeptOrAttempt begun file → OpensToKeptOrWith j batch file
+  with_attempt batch attempt file h =
+      let wide = ap (λ (k : Journal). k.wide) is ∙ same.same_wide in
+      let digest = ap (λ (k : Journal). k.digest) is ∙ same.same_digest in
+      let kept = ap (λ (k : Journal). k.kept) is ∙ same.same_kept in
+      rw (← wide, ← digest, ← kept, ← attempt) h
 
 -- ---- a journal with one field set is sound
 
@@ -94,6 +126,9 @@ module _ (j : Journal) (s : IsSound j) where
 pub front_stays : (at : ℕ) (bytes old new : List ℕ) → 2048 ≤ at → Holds at bytes old new → SameFront old new
 front_stays at bytes old new past holds = record { no_shorter = let s = holds.size in omega (arith, s); same_bytes = λ i front less. holds.same i less (inl (omega (arith, front, past))) }
 
+torn_front : (at n : ℕ) (old new : List ℕ) → 2048 ≤ at → Torn at n old new → SameFront old new
+torn_front at n old new past torn = record { no_shorter = torn.no_shorter; same_bytes = λ i front less. torn.same i less (inl (omega (arith, front, past))) }
+
 pub fronts : (old mid new : Option (List ℕ)) → Becomes SameFront old mid → Becomes SameFront mid new → Becomes SameFront old new
 fronts None mid new one two = tt
 fronts (Some old) None new one two = absurd one
@@ -107,6 +142,25 @@ pub becomes_front : (at : ℕ) (bytes : List ℕ) (old new : Option (List ℕ)) 
 becomes_front at bytes None new past became = tt
 becomes_front at bytes (Some old) None past became = absurd became
 becomes_front at bytes (Some old) (Some new) past became = front_stays at bytes old new past became
+
+-- the same of a write that failed
+pub torn_becomes_front : (at n : ℕ) (old new : Option (List ℕ)) → 2048 ≤ at → Becomes (Torn at n) old new → Becomes SameFront old new
+torn_becomes_front at n None new past became = tt
+torn_becomes_front at n (Some old) None past became = absurd became
+torn_becomes_front at n (Some old) (Some new) past became = torn_front at n old new past became
+
+-- nothing was written
+pub front_kept : (old new : Option (List ℕ)) → new ≡ old → Becomes SameFront old new
+front_kept old new same = subst (Becomes SameFront old) (sym same) (go old)
+  where
+    go : (seen : Option (List ℕ)) → Becomes SameFront seen seen
+    go None = tt
+    go (Some file) = record { no_shorter = omega arith; same_bytes = λ i front less. refl }
+
+-- a write with its sync behind the front, whatever it answered
+pub either_front : {E : Type 0} (r : Result (Unit {0}) E) (at : ℕ) (bytes : List ℕ) (old new : Option (List ℕ)) → 2048 ≤ at → OnOk r (Becomes (Holds at bytes) old new) → OnErr r (Becomes (Torn at (length bytes)) old new) → Becomes SameFront old new
+either_front (Ok u) at bytes old new past ok err = becomes_front at bytes old new past ok
+either_front (Err e) at bytes old new past ok err = torn_becomes_front at (length bytes) old new past err
 
 zeros_long : length {A = ℕ} (replicate 592 0) ≡ 592
 zeros_long = refl

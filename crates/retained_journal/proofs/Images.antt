@@ -15,7 +15,7 @@ use Rattle.retained_journal.specs.Places.{cell_place, digest_place, file_mark, l
 use Rattle.retained_journal.specs.Slots.{counters_at, retained_at, slot_number}
 use Rattle.retained_journal.specs.Cells.{cell_changes, changes_of_cells, is_next, wrong_in_cell}
 use Rattle.retained_journal.specs.Opening.{Opens, change_out_of_form, chosen_place, counted, counter_too_great, damaged, front_refusal, is_open, is_second, kept_in, no_open_slot, not_a_journal, number_too_great, opened, other_site}
-use Rattle.retained_journal.specs.Images.{HasLog, HoldsBatch, HoldsCopy, IsBehind, IsImage, IsSound, MayCount, OpensToKept, OpensToKeptOrAttempt, chosen_of, next_of, other_of}
+use Rattle.retained_journal.specs.Images.{HasLog, HoldsBatch, HoldsCopy, IsBehind, IsImage, IsSound, MayCount, MayLeave, OpensToKept, OpensToKeptOrAttempt, chosen_of, next_of, other_of}
 use Rattle.retained_journal.proofs.Finding.{none_below}
 use Rattle.retained_journal.proofs.FrontAgreement.{six}
 use Rattle.retained_journal.proofs.NewFiles.{bytes_eq_same, no_great_counter, opens_with}
@@ -145,6 +145,38 @@ next_number_is number at file next = both (slice_index file at == 1) (eqb_tells 
     both a (inl same) h = same.1
     both true (inr other) h = absurd (let e = other.0 in cc)
     both false (inr other) h = absurd (cc)
+
+-- ---- what counts in an image where no step is left out
+
+module _ (j : Journal) (c : List ℕ) (sound : IsSound j) (image : IsImage j c) (open' : j.log ≡ Open) (sure : j.cell_may_be_open ≡ false) (still : j.moving ≡ false) where
+  -- the chosen slot, and the cells that are known
+  pub whole_counts : (is_second c ≡ j.second) × (counted c ≡ j.cells)
+  whole_counts = by_other j.slot_may_be_open image.other
+    where
+      one : slice_index c log_gate ≡ 1
+      one = (subst (λ log. HasLog log j.cells c) open' image.log).0
+
+      not_next : j.cells < 64 → is_next (j.number + 1) (next_of j) c ≡ false
+      not_next free = go j.cell_may_be_open sure (image.next (subst MayCount (sym open') tt) free)
+        where
+          go : (b : Bool) → b ≡ false → MatchBool b ((number_at 8 (next_of j + 1) c ≢ j.number + 1) ⊎ HoldsBatch j c) (slice_index c (next_of j) ≢ 1) → is_next (j.number + 1) (next_of j) c ≡ false
+          go true is h = absurd (cc)
+          go false is h = not_next_gate (j.number + 1) (next_of j) c h
+
+      numbers : j.number + 1 ≡ slot_number (chosen_of j) c + 1 + j.cells
+      numbers = let n = image.number in omega (arith, n)
+
+      end : ((nat_le 64 j.cells ≡ true) × (64 ≤ j.cells)) ⊎ ((nat_le 64 j.cells ≡ false) × (j.cells < 64)) → (j.cells ≡ 64) ⊎ ((j.cells < 64) × (is_next (slot_number (chosen_of j) c + 1 + j.cells) (cell_place j.cells) c ≡ false))
+      end (inl full) = inl (let f = full.1 in let s = sound.few in omega (arith, f, s))
+      end (inr free) = inr (free.1, subst (λ (n : ℕ). is_next n (next_of j) c ≡ false) numbers (not_next free.1))
+
+      by_chosen : is_second c ≡ j.second → (is_second c ≡ j.second) × (counted c ≡ j.cells)
+      by_chosen second = (second, counted_open c (chosen_of j) j.cells one (ap slot_place second) image.counts (end (leb_tells 64 j.cells)))
+
+      by_other : (b : Bool) → MatchBool b (IsBehind j.second (slot_number (other_of j) c) (slot_number (chosen_of j) c) ⊎ ((j.moving ≡ true) × HoldsCopy j c)) (slice_index c (other_of j) ≢ 1) → (is_second c ≡ j.second) × (counted c ≡ j.cells)
+      by_other true (inl behind) = by_chosen (stays_chosen j.second c image.gate (inr behind))
+      by_other true (inr moving) = absurd (let m = moving.0 in cc)
+      by_other false shut = by_chosen (stays_chosen j.second c image.gate (inl shut))
 
 -- ---- an image opens to what is kept, or to that with the batch last attempted
 
@@ -297,29 +329,16 @@ module _ (j : Journal) (c : List ℕ) (sound : IsSound j) (image : IsImage j c) 
 
   -- where no step is left out, it opens to what is kept, and the cells that count are those that are known
   pub opens_whole : j.log ≡ Open → j.cell_may_be_open ≡ false → j.moving ≡ false → OpensToKept j c × (counted c ≡ j.cells)
-  opens_whole open' sure still = by_other j.slot_may_be_open image.other
+  opens_whole open' sure still = let counts = whole_counts j c sound image open' sure still in (opens_cells counts.0 counts.1, counts.1)
+
+  -- it opens to what is kept, or where the journal is torn to that with the batch last attempted
+  pub may_leave : MayLeave j c
+  may_leave = go j.torn refl
     where
-      one : slice_index c log_gate ≡ 1
-      one = (subst (λ log. HasLog log j.cells c) open' image.log).0
-
-      not_next : j.cells < 64 → is_next (j.number + 1) (next_of j) c ≡ false
-      not_next free = go j.cell_may_be_open sure (image.next (may_count one) free)
+      go : (b : Bool) → j.torn ≡ b → MayLeave j c
+      go true is = torn is opens_image
         where
-          go : (b : Bool) → b ≡ false → MatchBool b ((number_at 8 (next_of j + 1) c ≢ j.number + 1) ⊎ HoldsBatch j c) (slice_index c (next_of j) ≢ 1) → is_next (j.number + 1) (next_of j) c ≡ false
-          go true is h = absurd (cc)
-          go false is h = not_next_gate (j.number + 1) (next_of j) c h
-
-      numbers : j.number + 1 ≡ slot_number (chosen_of j) c + 1 + j.cells
-      numbers = let n = image.number in omega (arith, n)
-
-      end : ((nat_le 64 j.cells ≡ true) × (64 ≤ j.cells)) ⊎ ((nat_le 64 j.cells ≡ false) × (j.cells < 64)) → (j.cells ≡ 64) ⊎ ((j.cells < 64) × (is_next (slot_number (chosen_of j) c + 1 + j.cells) (cell_place j.cells) c ≡ false))
-      end (inl full) = inl (let f = full.1 in let s = sound.few in omega (arith, f, s))
-      end (inr free) = inr (free.1, subst (λ (n : ℕ). is_next n (next_of j) c ≡ false) numbers (not_next free.1))
-
-      by_chosen : is_second c ≡ j.second → OpensToKept j c × (counted c ≡ j.cells)
-      by_chosen second = let count = counted_open c (chosen_of j) j.cells one (chosen_is second) image.counts (end (leb_tells 64 j.cells)) in (opens_cells second count, count)
-
-      by_other : (b : Bool) → MatchBool b (IsBehind j.second (slot_number (other_of j) c) (slot_number (chosen_of j) c) ⊎ ((j.moving ≡ true) × HoldsCopy j c)) (slice_index c (other_of j) ≢ 1) → OpensToKept j c × (counted c ≡ j.cells)
-      by_other true (inl behind) = by_chosen (stays_chosen j.second c image.gate (inr behind))
-      by_other true (inr moving) = absurd (let m = moving.0 in cc)
-      by_other false shut = by_chosen (stays_chosen j.second c image.gate (inl shut))
+          torn : j.torn ≡ true → OpensToKeptOrAttempt j c → MayLeave j c
+          torn t (inl kept) = inl kept
+          torn t (inr attempt) = inr (t, attempt)
+      go false is = let whole = sound.untorn is in inl (opens_whole whole.0 whole.1 whole.2).0

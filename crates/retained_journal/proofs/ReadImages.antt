@@ -18,13 +18,14 @@ use Rattle.retained_journal.specs.Fields.{bytes_at, first_in, number_at, run_len
 use Rattle.retained_journal.specs.Places.{cell_place, file_mark, log_gate, slot_place, whole_bytes}
 use Rattle.retained_journal.specs.Slots.{AreNarrow, FitHalves, FitLoops, HasNarrowLoops, IsKeepable, counters_at, slot_number}
 use Rattle.retained_journal.specs.Cells.{is_next, wrong_in_cell}
-use Rattle.retained_journal.specs.Opening.{change_out_of_form, chosen_place, counted, damaged, first_of, front_refusal, great_counter, is_open, is_second, refusal_of}
-use Rattle.retained_journal.specs.Images.{HasLog, HoldsBatch, HoldsCopy, IsBehind, IsImage, IsSound, MayCount, chosen_of, next_of, other_of}
+use Rattle.retained_journal.specs.Opening.{change_out_of_form, chosen_place, counted, damaged, first_of, front_refusal, great_counter, is_open, is_second, kept_in, refusal_of}
+use Rattle.retained_journal.specs.Images.{HasLog, HoldsBatch, HoldsCopy, IsBehind, IsImage, IsSound, MayCount, OpensToKept, chosen_of, next_of, other_of}
 use Rattle.retained_journal.specs.Journals.{IsNewJournal, IsOfFront, IsReadFrom}
 use Rattle.retained_journal.specs.NewFiles.{IsNewFile}
 use Rattle.retained_journal.proofs.Finding.{none_each}
 use Rattle.retained_journal.proofs.Images.{is_next_both}
 use Rattle.retained_journal.proofs.Keeping.{small_counters}
+use Rattle.retained_journal.proofs.NewFiles.{new_counted, new_opens, opens_with}
 use Rattle.retained_journal.proofs.Openings.{is_one, no_cause}
 use Rattle.retained_journal.proofs.Replaying.{cells-none, run_holds, run_past}
 
@@ -181,6 +182,14 @@ module _ (wide : Bool) (digest file : List ℕ) (j : Journal) (read : IsReadFrom
       count_open : is_open log_gate file ≡ true → counted file ≡ run_length (λ k. is_next (slot_number (chosen_place file) file + 1 + k) (cell_place k) file) 0 64
       count_open o = rw o refl
 
+  -- it opens to what the journal keeps, and as many cells count as the journal says
+  pub read_opens : OpensToKept j file × (counted file ≡ j.cells)
+  read_opens =
+      let w = read.same_wide in
+      let d = read.same_digest in
+      let k = read.kept in
+      (rw (w, d, k) (opens_with (length file) (let l = long.0 in omega (arith, l)) (front_refusal digest (length file) file) (change_out_of_form wide file) (kept_in wide file) causes.0 causes.1), sym read.cells)
+
   pub read_image : IsImage j file
   read_image = record {
     size = long.0;
@@ -259,6 +268,15 @@ module _ (wide : Bool) (digest file : List ℕ) (j : Journal) (read : IsReadFrom
       other_is : (b : Bool) → j.slot_may_be_open ≡ b → MatchBool b (IsBehind j.second (slot_number (other_of j) file) (slot_number (chosen_of j) file) ⊎ ((j.moving ≡ true) × HoldsCopy j file)) (slice_index file (other_of j) ≢ 1)
       other_is true is = inl (behind is)
       other_is false is = not_gate (slice_index file (other_of j)) (sym (read.slot ∙ ap (λ (b : Bool). is_open (slot_place (not b)) file) (sym read.second)) ∙ is)
+
+-- a new file opens to what a new journal keeps
+pub new_opens_kept : (wide : Bool) (digest file : List ℕ) (j : Journal) → IsNewJournal wide digest j → IsNewFile digest nothing_retained file → OpensToKept j file × (counted file ≡ j.cells)
+new_opens_kept wide digest file j new is =
+    let keeps = keeps_nothing wide in
+    let w = new.same_wide in
+    let d = new.same_digest in
+    let k = new.kept in
+    (rw (w, d, k) (new_opens digest nothing_retained file is wide keeps.narrow keeps.small), new_counted digest nothing_retained file is ∙ sym new.cells)
 
 -- a new file is an image of a new journal
 pub new_image : (wide : Bool) (digest file : List ℕ) (j : Journal) → IsNewJournal wide digest j → IsNewFile digest nothing_retained file → IsKeepable wide nothing_retained → IsImage j file

@@ -1,5 +1,6 @@
 -- What each file holds that a crash may leave of an open journal.
 use Rattle.std.specs.Prelude.{◌≡◌, ◌≢◌, ◌⊎◌, ◌+◌, ◌*◌, ◌^◌, ◌<◌, ◌≤◌, not, ℕ, Bool, true, false, List, length, slice_index, MatchBool, None}
+use Rattle.panel_edges.specs.Crashes.{LeavesOnly}
 use Rattle.site_types.specs.Changes.{AreCounters, changed_by}
 use Rattle.site_types.specs.declared.change.Change.{Change}
 use Rattle.site_types.specs.declared.retained.Retained.{Retained}
@@ -107,9 +108,17 @@ IsEarly journal = journal.number ≤ 2 ^ 62 + 64 + 2 * journal.tried
 abbrev pub OpensToKept : Journal → List ℕ → Type 0
 OpensToKept journal file = opened journal.wide journal.digest file ≡ Opens journal.kept
 
+-- the file opens to what is kept with this whole batch
+abbrev pub OpensToKeptWith : Journal → List Change → List ℕ → Type 0
+OpensToKeptWith journal batch file = opened journal.wide journal.digest file ≡ Opens (changed_by batch journal.kept)
+
+-- the file opens to what is kept, or to it with this whole batch
+abbrev pub OpensToKeptOrWith : Journal → List Change → List ℕ → Type 0
+OpensToKeptOrWith journal batch file = OpensToKept journal file ⊎ OpensToKeptWith journal batch file
+
 -- the file opens to what is kept, or to it with the whole batch last attempted
 abbrev pub OpensToKeptOrAttempt : Journal → List ℕ → Type 0
-OpensToKeptOrAttempt journal file = OpensToKept journal file ⊎ (opened journal.wide journal.digest file ≡ Opens (changed_by journal.attempt.items journal.kept))
+OpensToKeptOrAttempt journal file = OpensToKeptOrWith journal journal.attempt.items file
 
 -- a slot may get the next number
 abbrev pub HasRoom : Journal → Type 0
@@ -125,8 +134,8 @@ abbrev pub HasZeros : ℕ → List ℕ → Type 0
 HasZeros cells file = 0 < cells → (slice_index file (cell_place 0) ≡ 0) × (cell_place cells ≤ length file)
 
 -- a slot and a cell may get the next two numbers
-abbrev pub HasRoom2 : Journal → Type 0
-HasRoom2 journal = journal.number + 1 < 2 ^ 63
+abbrev pub HasRoomForTwo : Journal → Type 0
+HasRoomForTwo journal = journal.number + 1 < 2 ^ 63
 
 -- What is kept, the batch last attempted and the count of tries are as they were.
 pub record StaysKept (old new : Journal) : Type 0 where
@@ -149,7 +158,7 @@ pub record KeepsAll (old new : Journal) : Type 0 where
 
 -- what a crash may leave of a journal: what is kept, and where it is torn also that with the whole batch last attempted
 abbrev pub MayLeave : Journal → List ℕ → Type 0
-MayLeave journal file = OpensToKept journal file ⊎ ((journal.torn ≡ true) × (opened journal.wide journal.digest file ≡ Opens (changed_by journal.attempt.items journal.kept)))
+MayLeave journal file = OpensToKept journal file ⊎ ((journal.torn ≡ true) × OpensToKeptWith journal journal.attempt.items file)
 
 -- The batch last attempted and the count of tries are as they were, and at most two numbers were given.
 pub record StaysSo (old new : Journal) : Type 0 where
@@ -162,8 +171,14 @@ pub record StaysSo (old new : Journal) : Type 0 where
 
 -- what a crash may leave while a batch is committed: what it may leave before, or what is kept with this batch
 abbrev pub MayLeaveOr : Journal → List Change → List ℕ → Type 0
-MayLeaveOr journal batch file = MayLeave journal file ⊎ (opened journal.wide journal.digest file ≡ Opens (changed_by batch journal.kept))
+MayLeaveOr journal batch file = MayLeave journal file ⊎ OpensToKeptWith journal batch file
+
+-- A call has two parts: a crash at any moment up to some state of its disk leaves a file that has P, and from that state on one that has Q.
+pub record LeavesInTurn {D : Type 0} (moment : D → ℕ) (left_since : D → ℕ → List ℕ → Type 0) (old new : D) (P Q : List ℕ → Type 0) : Type 0 where
+  pub between : D
+  pub first : LeavesOnly moment left_since old between P
+  pub second : LeavesOnly moment left_since between new Q
 
 -- such a journal has room for the numbers of as many commits as it may be asked for
 abbrev pub EarlyHasRoom : Type 0
-EarlyHasRoom = (journal : Journal) → IsEarly journal → journal.tried ≤ 1000000001 → HasRoom journal × HasRoom2 journal
+EarlyHasRoom = (journal : Journal) → IsEarly journal → journal.tried ≤ 1000000001 → HasRoom journal × HasRoomForTwo journal

@@ -1,7 +1,7 @@
 //! The first 2,048 bytes of a journal file, and why a file is refused by them.
 
 ghost use Rattle.std.specs.Prelude.{◌≡◌, ◌+◌, ◌≤◌, length, IfOk, IfSome, OnOk, ◌↔◌, ◌++◌, take, drop};
-ghost use Rattle.panel_edges.specs.Crashes.{Stays};
+ghost use Rattle.panel_edges.specs.Crashes.{LeavesOnly, Stays};
 ghost use Rattle.panel_edges.specs.Faults.{HasCause};
 ghost use Rattle.retained_journal.specs.Fields.{Agrees, first_in};
 ghost use Rattle.retained_journal.specs.Opening.{counter_too_great, cut_short, front_refusal, great_counter as great, is_second as second_counts, no_open_slot, not_a_journal, number_too_great, other_site, passes};
@@ -25,6 +25,7 @@ pub(crate) fn read_front<D: Disk>(disk: &mut D, len: u64) -> Result<Front, Faile
     ensures seen { D.seen disk.new ≡ D.seen disk.old }
     ensures honest { D.honest disk.new ↔ D.honest disk.old }
     ensures crash { D.honest disk.old → Stays (D.images disk.old) (D.images disk.new) }
+    ensures moments { D.honest disk.old → LeavesOnly D.moment D.left_since disk.old disk.new (D.images disk.old) }
     ensures cause { HasCause (D.faults disk.old) (D.faults disk.new) result }
 {
     let mut front = [0; FRONT_BYTES];
@@ -40,6 +41,7 @@ fn read_beginning<D: Disk>(disk: &mut D, into: &mut [u8], count: usize) -> Resul
     ensures seen { D.seen disk.new ≡ D.seen disk.old }
     ensures honest { D.honest disk.new ↔ D.honest disk.old }
     ensures crash { D.honest disk.old → Stays (D.images disk.old) (D.images disk.new) }
+    ensures moments { D.honest disk.old → LeavesOnly D.moment D.left_since disk.old disk.new (D.images disk.old) }
     ensures cause { HasCause (D.faults disk.old) (D.faults disk.new) result }
 {
     disk.read_at(0, &mut into[..count])

@@ -6,7 +6,7 @@ ghost use Rattle.site_types.specs.Changes.{AreCounters, changed_by, nothing_reta
 ghost use Rattle.retained_journal.specs.Batches.{IsBatch};
 ghost use Rattle.retained_journal.specs.Creating.{HasCreateCause};
 ghost use Rattle.retained_journal.specs.Fields.{Agrees, first_in};
-ghost use Rattle.retained_journal.specs.Images.{HasRoom, HasRoom2, IsEarly, IsSound, KeepsAll, MayLeave, MayLeaveOr, OpensToKept, SameFront, Stands};
+ghost use Rattle.retained_journal.specs.Images.{HasRoom, HasRoomForTwo, IsEarly, IsSound, KeepsAll, LeavesInTurn, MayLeave, MayLeaveOr, OpensToKept, OpensToKeptOrWith, SameFront, Stands};
 ghost use Rattle.retained_journal.specs.Journals.{IsLong, IsNewJournal, IsOfFront, IsReadFrom, IsReplayOf};
 ghost use Rattle.retained_journal.specs.Opening.{Empty, Opens, Refuses, change_out_of_form, chosen_place, counted, great_counter, is_second as second_counts, opened, refusal_of};
 ghost use Rattle.retained_journal.specs.Places.{slot_place as place_of_slot};
@@ -57,7 +57,7 @@ pub struct Journal {
 
 impl Journal {
     /// Opens the journal of a site by the digest of its site file, and gives what it keeps. A file of no bytes becomes a
-    /// new journal; no other is written.
+    /// new journal; nothing is written to any other.
     ///
     /// # Errors
     ///
@@ -71,10 +71,15 @@ impl Journal {
         ensures ok { IfOk result (λ r. IfSome (D.seen disk.old) (λ file. (opened wide digest file ≡ Opens r.1) ⊎ ((opened wide digest file ≡ Empty) × (r.1 ≡ nothing_retained)))) }
         ensures err { IfErr result (λ e. e ≢ OpenRefusal.DiskFault → IfSome (D.seen disk.old) (λ file. opened wide digest file ≡ Refuses e)) }
         ensures stands { IfOk result (λ r. Stands D.honest D.images disk.new r.0) }
+        ensures opens { D.honest disk.new → IfOk result (λ r. (file : List ℕ) → D.images disk.new file → OpensToKept r.0 file × (counted file ≡ r.0.cells)) }
+        ensures cells { IfOk result (λ r. IfSome (D.seen disk.new) (λ file. r.0.torn ≡ false → counted file ≡ r.0.cells)) }
         ensures read { IfOk result (λ r. IfSome (D.seen disk.old) (λ file. 0 < length file → IsReadFrom wide digest file r.0)) }
         ensures early { IfOk result (λ r. IfSome (D.seen disk.old) (λ file. slot_number (chosen_place file) file ≤ 2 ^ 62 → IsEarly r.0)) }
         ensures fresh { IfOk result (λ r. (r.0.tried ≡ 0) × (r.0.wide ≡ wide) × (r.0.digest ≡ digest)) }
         ensures unwritten { IfSome (D.seen disk.old) (λ file. 0 < length file → D.seen disk.new ≡ D.seen disk.old) }
+        // Nothing is written to a file that isn't empty: at each moment of the call a crash leaves what it might have left before.
+        ensures untouched { D.honest disk.old → IfSome (D.seen disk.old) (λ file. 0 < length file → LeavesOnly D.moment D.left_since disk.old disk.new (D.images disk.old)) }
+        ensures honest { D.honest disk.new ↔ D.honest disk.old }
         ensures cause { HasRefusalCause (D.faults disk.old) (D.faults disk.new) result }
     {
         disk.sync()?;
@@ -93,7 +98,8 @@ impl Journal {
     ///
     /// # Errors
     ///
-    /// The file isn't empty, and nothing was written; or the disk failed, and the file may be written in part.
+    /// The file isn't empty, or the disk failed. Nothing is written to a file that isn't empty; an empty one may be written in
+    /// part where the disk failed.
     pub fn create<D: Disk>(
         disk: &mut D,
         digest: [u8; 32],
@@ -107,6 +113,10 @@ impl Journal {
         ensures empty { OnOk result (IfSome (D.seen disk.old) (λ file. length file ≡ 0)) }
         ensures err { IfErr result (λ e. e ≢ CreateRefusal.DiskFault → IfSome (D.seen disk.old) (λ file. (0 < length file) × (e ≡ CreateRefusal.NotEmpty (length file)))) }
         ensures unwritten { IfErr result (λ e. e ≢ CreateRefusal.DiskFault → D.seen disk.new ≡ D.seen disk.old) }
+        ensures seen { IfSome (D.seen disk.old) (λ file. 0 < length file → D.seen disk.new ≡ D.seen disk.old) }
+        // Nothing is written to a file that isn't empty: at each moment of the call a crash leaves what it might have left before.
+        ensures untouched { D.honest disk.old → IfSome (D.seen disk.old) (λ file. 0 < length file → LeavesOnly D.moment D.left_since disk.old disk.new (D.images disk.old)) }
+        ensures honest { D.honest disk.new ↔ D.honest disk.old }
         ensures cause { HasCreateCause (D.faults disk.old) (D.faults disk.new) result }
     {
         disk.sync()?;
@@ -139,6 +149,8 @@ impl Journal {
         ensures err { OnErr result (self.new.torn ≡ true) }
         // After Ok each file that a crash may leave opens to what is kept, and all cells that count are known.
         ensures opens { D.honest disk.new → HasRoom self.new → OnOk result ((file : List ℕ) → D.images disk.new file → OpensToKept self.new file × (counted file ≡ self.new.cells)) }
+        ensures cells { D.honest disk.new → OnOk result (IfSome (D.seen disk.new) (λ file. counted file ≡ self.new.cells)) }
+        ensures images { D.honest disk.new → HasRoom self.new → (file : List ℕ) → D.images disk.new file → MayLeave self.new file }
         ensures moments { D.honest disk.old → HasRoom self.old → LeavesOnly D.moment D.left_since disk.old disk.new (MayLeave self.old) }
         ensures unwritten { self.old.torn ≡ false → D.seen disk.new ≡ D.seen disk.old }
         ensures honest { D.honest disk.new ↔ D.honest disk.old }
@@ -167,8 +179,14 @@ impl Journal {
         ensures early { IsEarly self.old → IsEarly self.new }
         ensures same { (self.new.wide ≡ self.old.wide) × (self.new.digest ≡ self.old.digest) × (self.new.tried ≡ self.old.tried + 1) × (self.new.number ≤ self.old.number + 2) }
         ensures opens { D.honest disk.new → HasRoom self.new → OnOk result ((file : List ℕ) → D.images disk.new file → OpensToKept self.new file × (counted file ≡ self.new.cells)) }
-        ensures moments { D.honest disk.old → HasRoom2 self.old → LeavesOnly D.moment D.left_since disk.old disk.new (MayLeaveOr self.old batch.now.items) }
-        ensures front { OnOk result (self.old.torn ≡ false → self.old.cells < 64 → Becomes SameFront (D.seen disk.old) (D.seen disk.new)) }
+        ensures cells { D.honest disk.new → OnOk result (IfSome (D.seen disk.new) (λ file. counted file ≡ self.new.cells)) }
+        ensures images { D.honest disk.new → HasRoom self.new → (file : List ℕ) → D.images disk.new file → MayLeave self.new file }
+        ensures moments { D.honest disk.old → HasRoomForTwo self.old → LeavesOnly D.moment D.left_since disk.old disk.new (MayLeaveOr self.old batch.now.items) }
+        // The earlier batch may be left until the mending has ended, and this one only from then on: the mending failed, or the call had both parts.
+        ensures in_turn { D.honest disk.old → HasRoomForTwo self.old →
+            ((self.new.attempt ≡ self.old.attempt) × LeavesOnly D.moment D.left_since disk.old disk.new (MayLeave self.old))
+            ⊎ ((self.new.attempt.items ≡ batch.now.items) × LeavesInTurn D.moment D.left_since disk.old disk.new (MayLeave self.old) (OpensToKeptOrWith self.old batch.now.items)) }
+        ensures front { self.old.torn ≡ false → self.old.cells < 64 → Becomes SameFront (D.seen disk.old) (D.seen disk.new) }
         ensures honest { D.honest disk.new ↔ D.honest disk.old }
         ensures cause { HasCause (D.faults disk.old) (D.faults disk.new) result }
     {
@@ -282,6 +300,7 @@ fn read_journal<D: Disk>(
     ensures seen { D.seen disk.new ≡ D.seen disk.old }
     ensures honest { D.honest disk.new ↔ D.honest disk.old }
     ensures crash { D.honest disk.old → Stays (D.images disk.old) (D.images disk.new) }
+    ensures moments { D.honest disk.old → LeavesOnly D.moment D.left_since disk.old disk.new (D.images disk.old) }
     ensures cause { HasRefusalCause (D.faults disk.old) (D.faults disk.new) result }
 {
     let front = read_front(disk, len)?;
@@ -308,6 +327,7 @@ fn read_counted<D: Disk>(
     ensures seen { D.seen disk.new ≡ D.seen disk.old }
     ensures honest { D.honest disk.new ↔ D.honest disk.old }
     ensures crash { D.honest disk.old → Stays (D.images disk.old) (D.images disk.new) }
+    ensures moments { D.honest disk.old → LeavesOnly D.moment D.left_since disk.old disk.new (D.images disk.old) }
     ensures cause { HasRefusalCause (D.faults disk.old) (D.faults disk.new) result }
 {
     let mut replay = begin_replay(front, wide, slot_place(second));

@@ -9,7 +9,7 @@
 //! - *Ok is durable.* After it each such file opens to the kept state alone.
 //! - *A fault loses nothing.* The kept state is as before; the next mending or commit makes the journal whole.
 //! - *Opening is one definition*, `opened` of `specs/Opening`, over the bytes alone: two slots that hold a whole state each,
-//!   and 64 cells that hold the changes of one commit each.
+//!   and 64 cells that hold the changes of one commit each. It writes to an empty file alone.
 //!
 //! What is said of crashes has the premise that numbers stay below 2^63; [`early_has_room`] says that they do where the chosen
 //! slot's was at most 2^62 at opening.

@@ -1,5 +1,5 @@
 ghost use Rattle.std.specs.Prelude.{◌≡◌, ◌≢◌, ◌+◌, ◌<◌, ◌≤◌, ◌^◌, ℕ, Ok, Err, None, Some, true, false, ◌==◌, length, slice_index, IfErr, IfOk, IfSome, OnOk, ◌↔◌};
-ghost use Rattle.panel_edges.specs.Crashes.{Stays};
+ghost use Rattle.panel_edges.specs.Crashes.{LeavesOnly, Stays};
 ghost use Rattle.panel_edges.specs.Faults.{HasCause};
 ghost use Rattle.site_types.specs.Changes.{changed_by};
 ghost use Rattle.retained_journal.specs.declared.open_refusal.OpenRefusal.TheVariants.{Damaged};
@@ -44,6 +44,7 @@ impl Replay {
         ensures seen { D.seen disk.new ≡ D.seen disk.old }
         ensures honest { D.honest disk.new ↔ D.honest disk.old }
         ensures crash { D.honest disk.old → Stays (D.images disk.old) (D.images disk.new) }
+        ensures moments { D.honest disk.old → LeavesOnly D.moment D.left_since disk.old disk.new (D.images disk.old) }
         ensures cause { HasRefusalCause (D.faults disk.old) (D.faults disk.new) result }
     {
         for cell in 0..MOST_CELLS {
@@ -93,6 +94,7 @@ fn read_cell<D: Disk>(disk: &mut D, cell: u8) -> Result<[u8; CELL_BYTES], Failed
     ensures seen { D.seen disk.new ≡ D.seen disk.old }
     ensures honest { D.honest disk.new ↔ D.honest disk.old }
     ensures crash { D.honest disk.old → Stays (D.images disk.old) (D.images disk.new) }
+    ensures moments { D.honest disk.old → LeavesOnly D.moment D.left_since disk.old disk.new (D.images disk.old) }
     ensures cause { HasCause (D.faults disk.old) (D.faults disk.new) result }
 {
     let mut bytes = [0; CELL_BYTES];

@@ -16,7 +16,7 @@ impl Journal {
     ghost use Rattle.panel_edges.specs.Disks.{Becomes};
     ghost use Rattle.site_types.specs.Changes.{changed_by};
     ghost use Rattle.retained_journal.specs.Batches.{CanMakeAll, IsBatch};
-    ghost use Rattle.retained_journal.specs.Images.{HasRoom, HoldsBatch, HoldsCopy, MayCount, OpensToKeptOrAttempt, HasRoom2, HasZeros, KeepsAll, SameFront, StaysKept, StaysSo, Stands, next_of, other_of};
+    ghost use Rattle.retained_journal.specs.Images.{HasRoom, HoldsBatch, HoldsCopy, MayCount, OpensToKeptOrAttempt, HasRoomForTwo, HasZeros, KeepsAll, SameFront, StaysKept, StaysSo, Stands, next_of, other_of};
 
     // Where the other slot begins.
     fn other_at(&self) -> u64
@@ -103,8 +103,6 @@ impl Journal {
     {
         if self.may_next_be_open() {
             write_synced(disk, cell_place(self.cells), &[0])?;
-            self.cell_may_be_open = false;
-            return Ok(());
         }
         self.cell_may_be_open = false;
         Ok(())
@@ -121,7 +119,7 @@ impl Journal {
         ensures stands { Stands D.honest D.images disk.new self.now }
         ensures ok { D.honest disk.old → OnOk result ((file : List ℕ) → D.images disk.new file → HoldsBatch self.now file) }
         ensures moments { D.honest disk.old → HasRoom self.now → LeavesOnly D.moment D.left_since disk.old disk.new (OpensToKeptOrAttempt self.now) }
-        ensures front { OnOk result (Becomes SameFront (D.seen disk.old) (D.seen disk.new)) }
+        ensures front { Becomes SameFront (D.seen disk.old) (D.seen disk.new) }
         ensures honest { D.honest disk.new ↔ D.honest disk.old }
         ensures cause { HasCause (D.faults disk.old) (D.faults disk.new) result }
     {
@@ -143,7 +141,7 @@ impl Journal {
         ensures ok { OnOk result (self.new ≡ record self.old { kept = changed_by self.old.attempt.items self.old.kept; number = self.old.number + 1; cells = self.old.cells + 1; cell_may_be_open = false }) }
         ensures err { OnErr result (self.new ≡ record self.old { cell_may_be_open = true }) }
         ensures moments { D.honest disk.old → HasRoom self.old → LeavesOnly D.moment D.left_since disk.old disk.new (OpensToKeptOrAttempt self.old) }
-        ensures front { OnOk result (Becomes SameFront (D.seen disk.old) (D.seen disk.new)) }
+        ensures front { Becomes SameFront (D.seen disk.old) (D.seen disk.new) }
         ensures honest { D.honest disk.new ↔ D.honest disk.old }
         ensures cause { HasCause (D.faults disk.old) (D.faults disk.new) result }
     {
@@ -274,7 +272,7 @@ impl Journal {
         ensures stands { Stands D.honest D.images disk.new self.new }
         ensures same { StaysKept self.old self.new × (self.new.number ≤ self.old.number + 1) }
         ensures ok { OnOk result ((self.new.log ≡ LogGate.Open) × (self.new.cell_may_be_open ≡ false) × (self.new.cells < 64) × (self.new.moving ≡ false)) }
-        ensures moments { D.honest disk.old → HasRoom2 self.old → LeavesOnly D.moment D.left_since disk.old disk.new (OpensToKeptOrAttempt self.old) }
+        ensures moments { D.honest disk.old → HasRoomForTwo self.old → LeavesOnly D.moment D.left_since disk.old disk.new (OpensToKeptOrAttempt self.old) }
         ensures unwritten { self.old.cells < 64 → (D.seen disk.new ≡ D.seen disk.old) × (self.new ≡ self.old) }
         ensures honest { D.honest disk.new ↔ D.honest disk.old }
         ensures cause { HasCause (D.faults disk.old) (D.faults disk.new) result }
@@ -303,8 +301,8 @@ impl Journal {
         ensures same { StaysSo self.old self.new }
         ensures ok { OnOk result ((self.new.kept ≡ changed_by self.old.attempt.items self.old.kept) × (self.new.log ≡ LogGate.Open) × (self.new.cell_may_be_open ≡ false) × (self.new.moving ≡ false)) }
         ensures err { OnErr result (self.new.kept ≡ self.old.kept) }
-        ensures moments { D.honest disk.old → HasRoom2 self.old → LeavesOnly D.moment D.left_since disk.old disk.new (OpensToKeptOrAttempt self.old) }
-        ensures front { OnOk result (self.old.cells < 64 → Becomes SameFront (D.seen disk.old) (D.seen disk.new)) }
+        ensures moments { D.honest disk.old → HasRoomForTwo self.old → LeavesOnly D.moment D.left_since disk.old disk.new (OpensToKeptOrAttempt self.old) }
+        ensures front { self.old.cells < 64 → Becomes SameFront (D.seen disk.old) (D.seen disk.new) }
         ensures honest { D.honest disk.new ↔ D.honest disk.old }
         ensures cause { HasCause (D.faults disk.old) (D.faults disk.new) result }
     {

@@ -4,7 +4,7 @@ use Rattle.panel_edges.specs.Disks.{Holds}
 use Rattle.retained_journal.specs.Images.{MayCount, Stands, next_of}
 use Rattle.site_types.specs.declared.retained.Retained.{Retained}
 use Rattle.retained_journal.specs.Batches.{CanMakeAll}
-use Rattle.retained_journal.proofs.Calls.{becomes_front, its_moments, other_stands, sound_appended, sound_unsure, still_stands, then_stands}
+use Rattle.retained_journal.proofs.Calls.{becomes_front, its_moments, other_stands, sound_appended, sound_unsure, still_stands, then_stands, torn_becomes_front}
 use Rattle.retained_journal.proofs.Stepped.{appended, batch_after, byte_now, next_may, spares_next_gate}
 use Rattle.retained_journal.proofs.Torn.{Spares}
 use Rattle.retained_journal.proofs.WrittenCells.{can_make}
@@ -56,3 +56,7 @@ returns-clause-stands g c =
 pub returns-clause-front : goal.returns-clause-front
 returns-clause-front g c =
     becomes_front c.cell_place.result (1 ∷ []) (g.D.Disk.seen c.args.disk.now) (g.D.Disk.seen c.write_synced.new.disk) (let e = c.cell_place.ensures in omega (arith, e)) c.in_ok-write_synced.ensures.ok
+
+pub returns-in_err-write_synced-clause-front : goal.returns-in_err-write_synced-clause-front
+returns-in_err-write_synced-clause-front g c =
+    torn_becomes_front c.cell_place.result 1 (g.D.Disk.seen c.args.disk.now) (g.D.Disk.seen c.write_synced.new.disk) (let e = c.cell_place.ensures in omega (arith, e)) c.in_err-write_synced.ensures.err

@@ -1,7 +1,7 @@
 use Rattle.std.proofs.Common.{◌≡◌, ◌+◌, ℕ, drop, take, length, sym, ◌∙◌, subst, arith}
 use Rattle.std.proofs.lemmas.Result.{on_ok_weaker}
 use Rattle.retained_journal.specs.Batches.{IsBatch}
-use Rattle.retained_journal.proofs.Calls.{becomes_front, its_moments, still_stands}
+use Rattle.retained_journal.proofs.Calls.{either_front, its_moments, still_stands}
 use Rattle.retained_journal.proofs.Stepped.{spares_next_body}
 use Rattle.retained_journal.proofs.Torn.{Spares}
 use Rattle.retained_journal.proofs.WrittenParts.{cell_written, tail_size}
@@ -34,6 +34,4 @@ returns-clause-ok g c honest =
 
 pub returns-clause-front : goal.returns-clause-front
 returns-clause-front g c =
-    on_ok_weaker c.write_synced.result
-    (λ became. becomes_front (c.cell_place.result + 1) _ (g.D.Disk.seen c.args.disk.now) (g.D.Disk.seen c.write_synced.new.disk) (let e = c.cell_place.ensures in omega (arith, e)) became)
-    c.write_synced.ensures.ok
+    either_front c.write_synced.result (c.cell_place.result + 1) _ (g.D.Disk.seen c.args.disk.now) (g.D.Disk.seen c.write_synced.new.disk) (let e = c.cell_place.ensures in omega (arith, e)) c.write_synced.ensures.ok c.write_synced.ensures.err

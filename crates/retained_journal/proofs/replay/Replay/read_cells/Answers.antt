@@ -9,6 +9,7 @@ use Rattle.retained_journal.specs.declared.replay.Replay.{Replay}
 use Rattle.retained_journal.specs.declared.open_refusal.OpenRefusal.TheVariants.{DiskFault}
 use Rattle.retained_journal.proofs.Refused.{handed_on}
 use Rattle.retained_journal.proofs.Told.{both_told, each_told}
+use Rattle.retained_journal.proofs.Calls.{still_nothing_new, nothing_new}
 use Rattle.retained_journal.specs.Cells.{cell_changes}
 use Rattle.retained_journal.specs.Slots.{IsKeepable}
 use Rattle.retained_journal.proofs.Keeping.{can_keep_cell, keeps-batch}
@@ -25,6 +26,7 @@ loop-cell-init g c = record {
   seen = refl;
   honest = (λ h. h, λ h. h);
   crash = λ honest file image. image;
+  moments = λ honest. nothing_new g.D.Disk.honest g.D.Disk.images g.D.Disk.moment g.D.Disk.left_since g.met.D.Disk.only_now c.args.disk.now honest;
   later = omega arith;
 }
 
@@ -46,6 +48,7 @@ loop-cell-preserved g c =
       seen = read.seen ∙ before.seen;
       honest = (λ h. before.honest.0 (read.honest.0 h), λ h. read.honest.1 (before.honest.1 h));
       crash = λ honest file image. before.crash honest file (read.crash (before.honest.1 honest) file image);
+      moments = λ honest. still_nothing_new g.D.Disk.moment g.D.Disk.left_since g.D.Disk.images c.args.disk.now c.loop-cell.disk c.read_cell.new.disk (before.crash honest) (before.moments honest) (read.moments (before.honest.1 honest));
       later = omega (arith, before.later, read.cause.later);
     }
 
