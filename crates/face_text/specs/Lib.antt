@@ -1,7 +1,10 @@
 pub mod Answers
 pub mod Changes
+pub mod Entries
 pub mod Faces
 pub mod Holding
 pub mod Lists
+pub mod Reading
 pub mod Slots
+pub mod Telling
 pub mod Timelines

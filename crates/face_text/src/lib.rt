@@ -17,8 +17,10 @@
 
 mod answer_lines;
 mod answers;
+mod change;
 mod change_lines;
 mod conditions;
+mod entry;
 mod face;
 mod face_list;
 mod group;
@@ -36,8 +38,10 @@ mod words;
 
 pub use answer_lines::{push_answers, write_answers};
 pub use answers::Answers;
+pub use change::Change;
 pub use change_lines::{push_changes, write_changes};
 pub use conditions::Conditions;
+pub use entry::Entry;
 pub use face::Face;
 pub use face_list::FaceList;
 pub use group::Group;
