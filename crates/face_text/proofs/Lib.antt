@@ -5,3 +5,5 @@ pub mod Listing
 pub mod Pages
 pub mod Rest
 pub mod SameFaces
+pub mod NeededLaws
+pub mod ToldPages
