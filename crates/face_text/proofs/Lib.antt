@@ -7,3 +7,4 @@ pub mod Rest
 pub mod SameFaces
 pub mod NeededLaws
 pub mod ToldPages
+pub mod ToldAnswers
