@@ -1,6 +1,7 @@
 pub mod Answers
 pub mod Changes
 pub mod Entries
+pub mod EntryLines
 pub mod Faces
 pub mod Holding
 pub mod Lists
