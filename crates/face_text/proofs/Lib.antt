@@ -1,7 +1,9 @@
 pub mod Busy
 pub mod Holding
 pub mod Joining
+pub mod LineEnds
 pub mod Listing
 pub mod Pages
 pub mod Rest
 pub mod SameFaces
+pub mod Spaces
