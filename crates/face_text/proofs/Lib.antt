@@ -1,6 +1,7 @@
 pub mod Busy
 pub mod Holding
 pub mod Joining
+pub mod LineEnds
 pub mod Listing
 pub mod Pages
 pub mod Rest
@@ -8,3 +9,4 @@ pub mod SameFaces
 pub mod NeededLaws
 pub mod ToldPages
 pub mod ToldAnswers
+pub mod Spaces
