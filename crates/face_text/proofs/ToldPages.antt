@@ -16,7 +16,8 @@ use Rattle.face_text.specs.Faces.{empty_face}
 use Rattle.face_text.specs.Slots.{HasPlace, Slot, last_of, line_of, slots, value_in}
 use Rattle.face_text.specs.Telling.{IsSameBehind, face_told}
 use Rattle.face_text.specs.Timelines.{IsFaceOf, faces_text}
-use Rattle.face_text.proofs.NeededLaws.{FaceLaws, change_line}
+use Rattle.face_text.specs.FaceTelling.{AddsItsLine, change_line}
+use Rattle.face_text.proofs.NeededLaws.{FaceLaws}
 
 -- ---- ranks
 
@@ -84,9 +85,8 @@ same_faces_no_text site (face ∷ faces) = rw (same_face_no_text site face) (sam
 
 -- the face of a panel in a block whose last line has this place
 pub record IsPageTold (site : Site) (panel rank : ℕ) (before after : Face) : Type 0 where
-  pub was_form : IsFaceOf site panel before
   pub form : IsFaceOf site panel after
-  pub same : IsSameBehind (rank - panel * 100000) before after
+  pub same : IsSameBehind site panel (rank - panel * 100000) before after
   pub untold : rank ≤ panel * 100000 → before ≡ after
 
 abbrev pub ArePagesTold : Site → ℕ → ℕ → List Face → List Face → Type 0
@@ -102,7 +102,7 @@ ArePages site panel (face ∷ faces) = IsFaceOf site panel face × ArePages site
 
 pub untold_pages : (site : Site) (panel : ℕ) (faces : List Face) → ArePages site panel faces → ArePagesTold site 0 panel faces faces
 untold_pages site panel [] are = tt
-untold_pages site panel (face ∷ faces) are = (record { was_form = are.0; form = are.0; same = λ slot less. refl; untold = λ less. refl }, untold_pages site (suc panel) faces are.1)
+untold_pages site panel (face ∷ faces) are = (record { form = are.0; same = λ slot of less. refl; untold = λ less. refl }, untold_pages site (suc panel) faces are.1)
 
 pub pages_after : (site : Site) (rank panel : ℕ) (befores afters : List Face) → ArePagesTold site rank panel befores afters → ArePages site panel afters
 pages_after site rank panel [] [] told = tt
@@ -120,9 +120,8 @@ all_untold site rank panel (before ∷ befores) (after ∷ afters) low told =
 later_page : (site : Site) (panel rank later : ℕ) (before after : Face) → rank ≤ later → IsPageTold site panel rank before after → IsPageTold site panel later before after
 later_page site panel rank later before after less told =
     record {
-      was_form = told.was_form;
       form = told.form;
-      same = λ slot behind. told.same slot (omega (arith, behind, less));
+      same = λ slot of behind. told.same slot of (omega (arith, behind, less));
       untold = λ low. told.untold (omega (arith, low, less));
     }
 
@@ -139,22 +138,21 @@ place_on_page : (panel rank slot : ℕ) → 0 < slot → rank < panel * 100000 +
 place_on_page panel rank slot from less = omega arith
 
 page_told :
-    (site : Site) → FaceLaws site → (panel rank : ℕ) (before after : Face) (change : Change) → IsPageTold site panel rank before after → IsChange site panel change
-    → rank < panel * 100000 + slot_rank (slot_of change)
+    (site : Site) → FaceLaws → (panel rank : ℕ) (before after : Face) (change : Change) → IsPageTold site panel rank before after → IsChange site panel change
+    → rank < panel * 100000 + slot_rank (slot_of change) → value_in after (slot_of change) ≢ value_of change
     → IsPageTold site panel (panel * 100000 + slot_rank (slot_of change)) before (face_told after change)
-page_told site laws panel rank before after change told is less =
+page_told site laws panel rank before after change told is less news =
     let from : 0 < slot_rank (slot_of change) = (rank_is_small site panel change is).0 in
-    let next = laws.behind panel (rank - panel * 100000) before after change told.was_form told.form is told.same (place_on_page panel rank (slot_rank (slot_of change)) from less) in
+    let next = laws.adds site panel (rank - panel * 100000) before after change told.form told.same is (place_on_page panel rank (slot_rank (slot_of change)) from less) news in
     record {
-      was_form = told.was_form;
-      form = laws.keeps panel after change told.form is;
-      same = λ slot behind. next slot (omega (arith, behind));
+      form = laws.forms.told site panel after change told.form is;
+      same = λ slot of behind. next.behind slot of (omega (arith, behind));
       untold = λ low. absurd (omega (arith, low, from));
     }
 
 -- the faces with one more change told, and their text
 pub change_told :
-    (site : Site) → FaceLaws site → (rank first place : ℕ) (befores afters : List Face) (change : Change) (d : Face)
+    (site : Site) → FaceLaws → (rank first place : ℕ) (befores afters : List Face) (change : Change) (d : Face)
     → ArePagesTold site rank first befores afters → place < length afters → IsChange site (first + place) change
     → rank < (first + place) * 100000 + slot_rank (slot_of change)
     → value_in (get_or afters place d) (slot_of change) ≢ value_of change
@@ -169,9 +167,10 @@ change_told site laws rank first zero (before ∷ befores) (after ∷ afters) ch
     let small = rank_is_small site first change here in
     let rest : befores ≡ afters = all_untold site rank (suc first) befores afters (omega (arith, low, small.1)) told.1 in
     let silent : faces_text site befores afters ≡ [] = ap (λ faces. faces_text site faces afters) rest ∙ same_faces_no_text site afters in
-    let line = laws.one_more first (rank - first * 100000) before after change told.0.was_form told.0.form here told.0.same (place_on_page first rank (slot_rank (slot_of change)) small.0 low) news in
+    let added : AddsItsLine site first before after change = laws.adds site first (rank - first * 100000) before after change told.0.form told.0.same here (place_on_page first rank (slot_rank (slot_of change)) small.0 low) news in
+    let line = added.text in
     let pages : ArePagesTold site (first * 100000 + slot_rank (slot_of change)) first (before ∷ befores) (face_told after change ∷ afters) =
-      (page_told site laws first rank before after change told.0 here low, later_pages site rank (first * 100000 + slot_rank (slot_of change)) (suc first) befores afters (omega (arith, low)) told.1) in
+      (page_told site laws first rank before after change told.0 here low news, later_pages site rank (first * 100000 + slot_rank (slot_of change)) (suc first) befores afters (omega (arith, low)) told.1) in
     let text : changes_text site before (face_told after change) ++ faces_text site befores afters ≡ (changes_text site before after ++ faces_text site befores afters) ++ change_line site first change =
       rw (line, silent) (append-nil _ ∙ ap (λ t. t ++ change_line site first change) (sym (append-nil (changes_text site before after)))) in
     subst
