@@ -10,3 +10,4 @@ pub mod NeededLaws
 pub mod ToldPages
 pub mod ToldAnswers
 pub mod Spaces
+pub mod ToldBlocks
