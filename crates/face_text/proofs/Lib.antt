@@ -11,3 +11,4 @@ pub mod ToldPages
 pub mod ToldAnswers
 pub mod Spaces
 pub mod ToldBlocks
+pub mod ToldForms
