@@ -12,3 +12,4 @@ pub mod ToldAnswers
 pub mod Spaces
 pub mod ToldBlocks
 pub mod ToldForms
+pub mod Accepted

@@ -97,11 +97,11 @@ told_text_is site told form =
     text_by site (told.tick.0 == 0) (opening_line site) (faces_text site (empty_faces site) told.opened) (steps_text site told.opened told.steps) (tick_line told.tick.0) (answers_text told.answers) (empty_faces site)
     (faces_behind told.opened told.steps) told.faces (λ e. form.unanswered (eqb-true told.tick.0 0 e))
 
-no_answers_text : (site : Site) → answers_text no_answers ≡ []
+pub no_answers_text : (site : Site) → answers_text no_answers ≡ []
 no_answers_text site = nothing_answered_text site 0 no_answers (nothing_answered site) (omega arith)
 
 -- a block without a line
-untold_block : (site : Site) (faces : List Face) → AreFaces site faces → IsBlock site 0 faces faces no_answers
+pub untold_block : (site : Site) (faces : List Face) → AreFaces site faces → IsBlock site 0 faces faces no_answers
 untold_block site faces are =
     record { pages = untold_pages site 1 faces (pages_are site faces are); count = are.count; answered = nothing_answered site; content = λ some. absurd (omega (arith, some)) }
 
@@ -156,7 +156,7 @@ pub record IsClosed (site : Site) (told : Told) (last : ℕ) : Type 0 where
   pub text : opening_line site ++ faces_text site (empty_faces site) (opened_by told) ++ steps_text site (opened_by told) (steps_by told) ≡ told_text site told
   pub behind : faces_behind (opened_by told) (steps_by told) ≡ told.faces
 
-told_faces_are : (site : Site) (told : Told) → IsToldForm site told → AreFaces site told.faces
+pub told_faces_are : (site : Site) (told : Told) → IsToldForm site told → AreFaces site told.faces
 told_faces_are site told form = faces_are site told.faces (pages_after site told.rank 1 (befores_of site told) told.faces form.block.pages) form.block.count
 
 closed_opening : (site : Site) (told : Told) (last : ℕ) → IsToldForm site told → told.tick.0 ≡ 0 → IsClosed site told last
