@@ -13,3 +13,4 @@ pub mod Spaces
 pub mod ToldBlocks
 pub mod ToldForms
 pub mod Accepted
+pub mod RunLines
