@@ -201,15 +201,15 @@ pub goes_on_before : (site : Site) (front more : List ℕ) → MayGoOn site (fro
 goes_on_before site front more may =
     record { timeline = may.timeline; form = may.form; rest = more ++ may.rest; text = may.text ∙ append_assoc front more may.rest }
 
-zero_or_more : (n : ℕ) → (n ≡ 0) ⊎ (0 < n)
+pub zero_or_more : (n : ℕ) → (n ≡ 0) ⊎ (0 < n)
 zero_or_more zero = inl refl
 zero_or_more (suc n) = inr (omega arith)
 
-or_second : (a b : Bool) → b ≡ true → (a || b) ≡ true
+pub or_second : (a b : Bool) → b ≡ true → (a || b) ≡ true
 or_second true b e = refl
 or_second false b e = e
 
-or_first : (a b : Bool) → a ≡ true → (a || b) ≡ true
+pub or_first : (a b : Bool) → a ≡ true → (a || b) ≡ true
 or_first a b e = rw e refl
 
 -- in the block of a tick that has no line yet, that Keep's turn failed may be the first

@@ -14,3 +14,4 @@ pub mod ToldBlocks
 pub mod ToldForms
 pub mod Accepted
 pub mod RunLines
+pub mod Runs
