@@ -26,6 +26,7 @@ mod face_list;
 mod fields;
 mod group;
 mod held;
+mod line_reading;
 mod lists;
 mod masks;
 mod naming;
@@ -35,6 +36,7 @@ mod op_answers;
 mod page;
 mod reply;
 mod step;
+mod thing_reading;
 mod timeline;
 mod words;
 
