@@ -1,8 +1,8 @@
 //! Reading which entry a line may be that of. Whether it is, the entry's own line tells.
 
-ghost use Rattle.std.specs.Prelude.{◌≡◌, ◌^◌};
+ghost use Rattle.std.specs.Prelude.{◌≡◌, ◌^◌, IfSome};
 ghost use Rattle.site_types.specs.Valid.{IsValid};
-ghost use Rattle.face_text.specs.Spelled.{answer_spelled, change_spelled, denied_spelled, entry_spelled, number_below, panel_spelled, plain_spelled, reply_spelled, sound_of, truth_of};
+ghost use Rattle.face_text.specs.Spelled.{IsOf64Bits, answer_spelled, change_spelled, denied_spelled, entry_spelled, number_below, panel_spelled, plain_spelled, reply_spelled, sound_of, truth_of};
 
 use crate::change::Change;
 use crate::entry::Entry;
@@ -16,7 +16,8 @@ use tick_units::Tick;
 /// The one entry that a line may be that of, if there is one.
 pub fn read_line(site: &Site, text: &[u8]) -> Option<Entry>
     requires { IsValid site.now }
-    ensures { result ≡ entry_spelled site.now text.now }
+    ensures entry { result ≡ entry_spelled site.now text.now }
+    ensures numbers { IfSome result IsOf64Bits }
 {
     match read_octet(field(text, 0)) {
         Some(panel) => read_panel_line(site, panel, text),
@@ -27,7 +28,8 @@ pub fn read_line(site: &Site, text: &[u8]) -> Option<Entry>
 // A line of a panel.
 fn read_panel_line(site: &Site, panel: u8, text: &[u8]) -> Option<Entry>
     requires { IsValid site.now }
-    ensures { result ≡ panel_spelled site.now panel text.now }
+    ensures entry { result ≡ panel_spelled site.now panel text.now }
+    ensures numbers { IfSome result IsOf64Bits }
 {
     if is_word(field(text, 1), b"busy") {
         let count = read_number(field(text, 2))?;
@@ -40,7 +42,8 @@ fn read_panel_line(site: &Site, panel: u8, text: &[u8]) -> Option<Entry>
 
 // A line that doesn't begin with a panel's number.
 fn read_plain_line(text: &[u8]) -> Option<Entry>
-    ensures { result ≡ plain_spelled text.now }
+    ensures entry { result ≡ plain_spelled text.now }
+    ensures numbers { IfSome result IsOf64Bits }
 {
     let word = field(text, 0);
     if is_word(word, b"op") {
@@ -84,7 +87,8 @@ fn read_change(site: &Site, text: &[u8]) -> Option<Change>
 }
 
 fn read_answer(text: &[u8]) -> Option<Entry>
-    ensures { result ≡ answer_spelled text.now }
+    ensures entry { result ≡ answer_spelled text.now }
+    ensures numbers { IfSome result IsOf64Bits }
 {
     let number = read_number(field(text, 1))?;
     let reply = read_reply(text)?;
