@@ -1,9 +1,12 @@
 pub mod Busy
 pub mod Holding
+pub mod Joined
 pub mod Joining
 pub mod LineEnds
 pub mod Listing
 pub mod Pages
+pub mod Parting
+pub mod Plain
 pub mod Rest
 pub mod SameFaces
 pub mod NeededLaws

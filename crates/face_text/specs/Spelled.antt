@@ -42,6 +42,15 @@ supply_of word =
     if bytes_eq word (codes "mains") then Some 1
     else (if bytes_eq word (codes "standby") then Some 2 else (if bytes_eq word (codes "voltage") then Some 3 else (if bytes_eq word (codes "charger") then Some 4 else None)))
 
+-- the numbers of an answer and of ticks are of 64 bits
+abbrev pub IsOf64Bits : Entry → Type 0
+IsOf64Bits (ChangeEntry panel change) = Unit {0}
+IsOf64Bits (AnswerEntry answer) = answer.number < 2 ^ 64
+IsOf64Bits (BusyEntry panel count) = Unit {0}
+IsOf64Bits StoreFailed = Unit {0}
+IsOf64Bits (TickEntry tick) = tick.0 < 2 ^ 64
+IsOf64Bits (EndEntry tick) = tick.0 < 2 ^ 64
+
 -- ---- names
 
 abbrev pub zone_at : Site → Option Thing → Option Zone
