@@ -16,6 +16,7 @@ use Rattle.face_text.specs.declared.timeline.Timeline.{Timeline}
 use Rattle.face_text.specs.Answers.{answers_text}
 use Rattle.face_text.specs.Entries.{IsEntry, entry_line, rank_of, slot_of, value_of}
 use Rattle.face_text.specs.Reading.{IsRead, MayGoOn, Told, comes_next, entries_text, face_at, faces_behind, is_in_tick, is_news, may_close, no_answers, nothing_told, opened_by, steps_by, timeline_told, told_after, told_next, told_text}
+use Rattle.face_text.specs.ReadSoFar.{AreEntries}
 use Rattle.face_text.specs.Slots.{value_in}
 use Rattle.face_text.specs.Telling.{face_told}
 use Rattle.face_text.specs.Timelines.{IsInForm, empty_faces, end_line, faces_text, opening_line, steps_text, text_of, tick_line}
@@ -145,11 +146,6 @@ next_told site laws lines eight told next (BusyEntry panel count) form is taken 
 next_told site laws lines eight told next StoreFailed form is taken = failed_next site lines told next form taken
 next_told site laws lines eight told next (TickEntry tick) form is taken = tick_next site told next tick form is taken
 next_told site laws lines eight told next (EndEntry tick) form is taken = cc
-
--- entries that texts of the site may have
-abbrev pub AreEntries : Site → List Entry → Type 0
-AreEntries site [] = Unit {0}
-AreEntries site (entry ∷ entries) = IsEntry site entry × AreEntries site entries
 
 pub after_more : (told next : Told) (entry : Entry) (entries : List Entry) → told_after told (entry ∷ entries) ≡ Some next → (one : Told) × (told_next told entry ≡ Some one) × (told_after one entries ≡ Some next)
 after_more told next entry entries taken = by (told_next told entry) refl taken

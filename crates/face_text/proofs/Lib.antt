@@ -18,3 +18,4 @@ pub mod ToldForms
 pub mod Accepted
 pub mod RunLines
 pub mod Runs
+pub mod SameTexts

@@ -18,8 +18,9 @@ use Rattle.face_text.specs.FaceTelling.{AreNews, changes_of, face_after}
 use Rattle.face_text.specs.Reading.{Told, face_at, told_after, told_next}
 use Rattle.face_text.specs.Slots.{value_in}
 use Rattle.face_text.specs.Telling.{face_told}
+use Rattle.face_text.specs.ReadSoFar.{AreEntries}
 use Rattle.face_text.specs.Timelines.{AreAnswers, AreOpAnswers}
-use Rattle.face_text.proofs.Accepted.{AreEntries, after_more}
+use Rattle.face_text.proofs.Accepted.{after_more}
 use Rattle.face_text.proofs.NeededLaws.{FaceLaws}
 use Rattle.face_text.proofs.ToldPages.{ArePages, rank_is_small}
 

@@ -12,8 +12,9 @@ use Rattle.face_text.specs.declared.face.Face.{Face}
 use Rattle.face_text.specs.declared.step.Step.{Step}
 use Rattle.face_text.specs.declared.timeline.Timeline.{Timeline}
 use Rattle.face_text.specs.Reading.{Told, entries_text, faces_behind, may_close, no_answers, nothing_told, opened_by, steps_by, timeline_told, told_after, told_next, told_text}
+use Rattle.face_text.specs.ReadSoFar.{AreEntries}
 use Rattle.face_text.specs.Timelines.{AreAnswers, AreFaces, AreSteps, HasAnswer, IsInForm, empty_faces, end_line, opening_line, text_of}
-use Rattle.face_text.proofs.Accepted.{AreEntries, all_told, ended_told, or_first, or_second, zero_or_more}
+use Rattle.face_text.proofs.Accepted.{all_told, ended_told, or_first, or_second, zero_or_more}
 use Rattle.face_text.proofs.NeededLaws.{FaceLaws, LineLaws}
 use Rattle.face_text.proofs.RunLines.{answer_entries, answer_entries_are, answering, answers_lead, entries_join, face_entries, face_entries_are, faces_lead, leads_first, leads_on, shown}
 use Rattle.face_text.proofs.ToldAnswers.{AreAnswersTold, no_ops_below}

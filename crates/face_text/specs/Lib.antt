@@ -7,6 +7,7 @@ pub mod Faces
 pub mod Fields
 pub mod Holding
 pub mod Lists
+pub mod ReadSoFar
 pub mod Reading
 pub mod Slots
 pub mod Spelled
