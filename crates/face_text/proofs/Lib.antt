@@ -19,3 +19,4 @@ pub mod Accepted
 pub mod RunLines
 pub mod Runs
 pub mod SameTexts
+pub mod FirstBad

@@ -1,0 +1,342 @@
+-- Where reading stops, the first bad line of the text stands.
+use Rattle.std.proofs.Common.{◌≡◌, ◌≢◌, ◌∙◌, ◌⊎◌, ◌<◌, ◌≤◌, ◌+◌, ◌-◌, ◌++◌, ◌==◌, ℕ, zero, suc, List, [], ◌∷◌, Option, Some, None, length, refl, sym, ap, subst, inl, inr, append_assoc, arith, if◌then◌else◌}
+use Rattle.std.specs.Option.{option_and_then}
+use Rattle.std.proofs.lemmas.List.{append-nil, append_cancel_left, length-append, same_from_push}
+use Rattle.site_types.specs.declared.site.Site.{Site}
+use Rattle.tick_units.specs.declared.tick.Tick.{Tick}
+use Rattle.face_text.specs.declared.entry.Entry.{Entry}
+use Rattle.face_text.specs.declared.entry.Entry.TheVariants.{End as EndEntry}
+use Rattle.face_text.specs.declared.timeline.Timeline.{Timeline}
+use Rattle.face_text.specs.Entries.{IsEntry, entry_line}
+use Rattle.face_text.specs.EntryLines.{IsLineOf, IsOneLine, IsParted}
+use Rattle.face_text.specs.Reading.{IsBadLine, IsRead, MayGoOn, Told, entries_text, first_lines, line_ends, nothing_told, timeline_told, told_after, told_next, told_text}
+use Rattle.face_text.specs.ReadSoFar.{AreEntries, IsReadSoFar, IsRefused}
+use Rattle.face_text.specs.Timelines.{IsInForm, empty_faces, end_line, faces_text, opening_line, steps_text, text_of}
+use Rattle.face_text.proofs.Accepted.{after_more, all_told, ended_told, goes_on, goes_on_before}
+use Rattle.face_text.proofs.LineEnds.{first_lines-line, line_ends-append, line_ends-line, same_line}
+use Rattle.face_text.proofs.NeededLaws.{FaceLaws, LineLaws}
+use Rattle.face_text.proofs.RunLines.{entries_join, leads_on}
+use Rattle.face_text.proofs.Runs.{IsTold, is_told}
+use Rattle.face_text.proofs.SameTexts.{GoesOn, all_entries, all_entries_are, entries_front, no_lines, same_front, told_text_of}
+use Rattle.face_text.proofs.ToldForms.{IsToldForm, nothing_is_told, nothing_told_text}
+
+-- ---- what stands behind the lines of a timeline's text that are read
+
+split_told : (told next : Told) (first rest : List Entry) → told_after told (first ++ rest) ≡ Some next → (middle : Told) × (told_after told first ≡ Some middle) × (told_after middle rest ≡ Some next)
+split_told told next [] rest leads = (told, refl, leads)
+split_told told next (entry ∷ first) rest leads =
+    let p = after_more told next entry (first ++ rest) leads in
+    let ih = split_told p.0 next first rest p.2 in
+    let one : told_after told (entry ∷ first) ≡ Some ih.0 = rw p.1 ih.1 in (ih.0, one, ih.2)
+
+-- the next line of a timeline's text: one that may stand there, or the last
+pub record HasNext (site : Site) (timeline : Timeline) (told : Told) (more : List ℕ) : Type 0 where
+  pub entry : Entry
+  pub form : IsEntry site entry
+  pub after : List ℕ
+  pub more_is : more ≡ entry_line site entry ++ after
+  pub stands : ((next : Told) × (told_next told entry ≡ Some next)) ⊎ ((entry ≡ EndEntry timeline.last) × (timeline_told told timeline.last ≡ Some timeline) × (after ≡ []))
+
+-- the front of a list whose last item comes later
+front_of : (xs ys zs : List Entry) (a x y : Entry) → xs ++ a ∷ [] ≡ ys ++ x ∷ y ∷ zs → (front : List Entry) × (xs ≡ ys ++ x ∷ front)
+front_of [] [] zs a x y same = absurd (omega (arith, ap length same))
+front_of (w ∷ xs) [] zs a x y same = let first : w ≡ x = cc in (xs, ap (λ (e : Entry). e ∷ xs) first)
+front_of [] (v ∷ ys) zs a x y same = absurd (omega (arith, ap length same, length-append ys (x ∷ y ∷ zs)))
+front_of (w ∷ xs) (v ∷ ys) zs a x y same =
+    let first : w ≡ v = cc in
+    let rest : xs ++ a ∷ [] ≡ ys ++ x ∷ y ∷ zs = cc in
+    let ih = front_of xs ys zs a x y rest in
+    (ih.0, ap (λ (e : Entry). e ∷ xs) first ∙ ap (λ (all : List Entry). v ∷ all) ih.1)
+
+-- behind the end nothing is told
+not_behind_end : (told next : Told) (entries : List Entry) (last : Tick) → told_after told (all_entries entries last) ≡ Some next → ⊥
+not_behind_end told next entries last leads = let p = split_told told next entries (EndEntry last ∷ []) leads in let none : None ≡ Some next = p.2 in cc
+
+next_of : (site : Site) (timeline : Timeline) (by : IsTold site timeline) (entries rest : List Entry) (told : Told) (more : List ℕ) →
+    told_after (nothing_told site) entries ≡ Some told → all_entries by.entries timeline.last ≡ entries ++ rest → AreEntries site rest → more ≡ entries_text site rest → HasNext site timeline told more
+next_of site timeline by entries [] told more leads all each more_is =
+    let same : all_entries by.entries timeline.last ≡ entries = all ∙ append-nil entries in
+    absurd (not_behind_end (nothing_told site) told by.entries timeline.last (ap (told_after (nothing_told site)) same ∙ leads))
+next_of site timeline by entries (entry ∷ []) told more leads all each more_is =
+    let both = same_from_push by.entries entries (EndEntry timeline.last) entry all in
+    let ends : Some by.told ≡ Some told = sym by.by_them.leads ∙ ap (told_after (nothing_told site)) both.0 ∙ leads in
+    let tolds : by.told ≡ told = cc in
+    record {
+      entry = entry;
+      form = each.0;
+      after = [];
+      more_is = more_is;
+      stands = inr (sym both.1, ap (λ (t : Told). timeline_told t timeline.last) (sym tolds) ∙ by.by_them.ends, refl);
+    }
+next_of site timeline by entries (entry ∷ other ∷ rest) told more leads all each more_is =
+    let front = front_of by.entries entries rest (EndEntry timeline.last) entry other all in
+    let p = split_told (nothing_told site) by.told entries (entry ∷ front.0) (ap (told_after (nothing_told site)) (sym front.1) ∙ by.by_them.leads) in
+    let same : Some p.0 ≡ Some told = sym p.1 ∙ leads in
+    let tolds : p.0 ≡ told = cc in
+    let q = after_more p.0 by.told entry front.0 p.2 in
+    record { entry = entry; form = each.0; after = entries_text site (other ∷ rest); more_is = more_is; stands = inl (q.0, ap (λ (t : Told). told_next t entry) (sym tolds) ∙ q.1) }
+
+pub has_next : (site : Site) → FaceLaws → LineLaws site → site.panels ≤ 8 → (timeline : Timeline) → IsInForm site timeline → (entries : List Entry) (told : Told) (more : List ℕ) →
+    AreEntries site entries → told_after (nothing_told site) entries ≡ Some told → text_of site timeline ≡ (opening_line site ++ entries_text site entries) ++ more → HasNext site timeline told more
+has_next site laws lines eight timeline form entries told more each leads text =
+    let by = is_told site laws lines eight timeline form in
+    let same =
+      append_cancel_left (opening_line site) (entries_text site entries ++ more) (entries_text site (all_entries by.entries timeline.last))
+      (sym (append_assoc (opening_line site) (entries_text site entries) more) ∙ sym text ∙ told_text_of site timeline by) in
+    let on = entries_front site lines entries (all_entries by.entries timeline.last) more each (all_entries_are site by.entries timeline.last by.by_them.each form.last) same in
+    next_of site timeline by entries on.rest told more leads on.others_are on.each on.more_is
+
+-- ---- lines counted
+
+read_front : Site → List Entry → List ℕ
+read_front site entries = opening_line site ++ entries_text site entries
+
+abbrev IsLinesOf : ℕ → List ℕ → Type 0
+IsLinesOf n front = ((k : ℕ) (rest : List ℕ) → first_lines (n + k) (front ++ rest) ≡ front ++ first_lines k rest) × ((rest : List ℕ) → line_ends (front ++ rest) ≡ n + line_ends rest)
+
+one_line_of : (line : List ℕ) → IsOneLine line → IsLinesOf 1 line
+one_line_of line one =
+    let front = λ (rest : List ℕ). ap (λ t. t ++ rest) one.bytes_is ∙ append_assoc one.body (10 ∷ []) rest in (
+      λ k rest.
+        let count : 1 + k ≡ suc k = omega arith in
+        ap (λ (n : ℕ). first_lines n (line ++ rest)) count ∙ ap (first_lines (suc k)) (front rest) ∙ first_lines-line k one.body rest one.no_end
+        ∙ sym (ap (λ t. t ++ first_lines k rest) one.bytes_is ∙ append_assoc one.body (10 ∷ []) (first_lines k rest)),
+      λ rest. let count : suc (line_ends rest) ≡ 1 + line_ends rest = omega arith in ap line_ends (front rest) ∙ line_ends-line one.body rest one.no_end ∙ count,
+    )
+
+lines_join : (n m : ℕ) (front more : List ℕ) → IsLinesOf n front → IsLinesOf m more → IsLinesOf (n + m) (front ++ more)
+lines_join n m front more one other = (
+      λ k rest.
+        let count : n + m + k ≡ n + (m + k) = omega arith in
+        ap (λ (c : ℕ). first_lines c ((front ++ more) ++ rest)) count ∙ ap (first_lines (n + (m + k))) (append_assoc front more rest) ∙ one.0 (m + k) (more ++ rest)
+        ∙ ap (λ t. front ++ t) (other.0 k rest) ∙ sym (append_assoc front more (first_lines k rest)),
+      λ rest.
+        let count : n + (m + line_ends rest) ≡ n + m + line_ends rest = omega arith in
+        ap line_ends (append_assoc front more rest) ∙ one.1 (more ++ rest) ∙ ap (λ (c : ℕ). n + c) (other.1 rest) ∙ count,
+    )
+
+lines_of_entries : (site : Site) → LineLaws site → (entries : List Entry) → AreEntries site entries → IsLinesOf (length entries) (entries_text site entries)
+lines_of_entries site lines [] each = (λ k rest. ap (λ (n : ℕ). first_lines n rest) (plain k), λ rest. sym (plain (line_ends rest)))
+  where
+    plain : (k : ℕ) → 0 + k ≡ k
+    plain k = omega arith
+lines_of_entries site lines (entry ∷ entries) each =
+    let count : 1 + length entries ≡ suc (length entries) = omega arith in
+    subst (λ (n : ℕ). IsLinesOf n (entry_line site entry ++ entries_text site entries)) count
+    (lines_join 1 (length entries) (entry_line site entry) (entries_text site entries) (one_line_of (entry_line site entry) (lines.one_line entry each.0)) (lines_of_entries site lines entries each.1))
+
+lines_of_front : (site : Site) → LineLaws site → (entries : List Entry) → AreEntries site entries → IsLinesOf (suc (length entries)) (opening_line site ++ entries_text site entries)
+lines_of_front site lines entries each =
+    let count : 1 + length entries ≡ suc (length entries) = omega arith in
+    subst (λ (n : ℕ). IsLinesOf n (opening_line site ++ entries_text site entries)) count
+    (lines_join 1 (length entries) (opening_line site) (entries_text site entries) (one_line_of (opening_line site) lines.opening) (lines_of_entries site lines entries each))
+
+-- ---- the lines that are read
+
+told_form : (site : Site) → FaceLaws → LineLaws site → site.panels ≤ 8 → (text rest : List ℕ) (told : Told) (count : ℕ) → IsReadSoFar site text rest told count → IsToldForm site told
+told_form site laws lines eight text rest told count read = (all_told site laws lines eight (nothing_told site) told read.entries (nothing_is_told site laws) read.each read.leads).form
+
+front_is : (site : Site) → FaceLaws → LineLaws site → site.panels ≤ 8 → (text rest : List ℕ) (told : Told) (count : ℕ) (read : IsReadSoFar site text rest told count) →
+    told_text site told ≡ opening_line site ++ entries_text site read.entries
+front_is site laws lines eight text rest told count read =
+    (all_told site laws lines eight (nothing_told site) told read.entries (nothing_is_told site laws) read.each read.leads).text
+    ∙ ap (λ t. t ++ entries_text site read.entries) (nothing_told_text site)
+
+front_goes_on : (site : Site) → FaceLaws → LineLaws site → site.panels ≤ 8 → (text rest : List ℕ) (told : Told) (count : ℕ) (read : IsReadSoFar site text rest told count) →
+    MayGoOn site (opening_line site ++ entries_text site read.entries)
+front_goes_on site laws lines eight text rest told count read =
+    subst (MayGoOn site) (front_is site laws lines eight text rest told count read) (goes_on site lines told (told_form site laws lines eight text rest told count read))
+
+-- the opening is read
+pub begun_reading : (site : Site) (text line rest : List ℕ) → opening_line site ≡ line ++ 10 ∷ [] → text ≡ line ++ 10 ∷ rest → IsReadSoFar site text rest (nothing_told site) 1
+begun_reading site text line rest is text_is =
+    record {
+      entries = [];
+      each = tt;
+      leads = refl;
+      count_is = refl;
+      text_is = text_is ∙ sym (ap (λ t. t ++ rest) (append-nil (opening_line site) ∙ is) ∙ append_assoc line (10 ∷ []) rest);
+    }
+
+-- one more line is read
+pub read_on : (site : Site) (text rest line more : List ℕ) (told next : Told) (count later : ℕ) (entry : Entry) → IsReadSoFar site text rest told count → rest ≡ line ++ 10 ∷ more → IsLineOf site line entry →
+    told_next told entry ≡ Some next → later ≡ count + 1 → IsReadSoFar site text more next later
+read_on site text rest line more told next count later entry read rest_is is taken later_is =
+    record {
+      entries = read.entries ++ entry ∷ [];
+      each = entries_join site read.entries (entry ∷ []) read.each (is.form, tt);
+      leads = leads_on (nothing_told site) told next read.entries (entry ∷ []) read.leads (rw taken refl);
+      count_is = omega (arith, later_is, read.count_is, length-append read.entries (entry ∷ []));
+      text_is = read.text_is ∙ ap (λ t. (opening_line site ++ entries_text site read.entries) ++ t) (rest_is ∙ front is.line_is) ∙ regroup (opening_line site) (entries_text site read.entries) (entry_line site entry) more
+        ∙ ap (λ t. (opening_line site ++ t) ++ more) (sym (entries_push site read.entries entry));
+    }
+  where
+    front : entry_line site entry ≡ line ++ 10 ∷ [] → line ++ 10 ∷ more ≡ entry_line site entry ++ more
+    front same = sym (ap (λ t. t ++ more) same ∙ append_assoc line (10 ∷ []) more)
+
+    regroup : (a b c d : List ℕ) → (a ++ b) ++ (c ++ d) ≡ (a ++ (b ++ c)) ++ d
+    regroup a b c d = simp append_assoc
+
+    entries_push : (s : Site) (entries : List Entry) (last : Entry) → entries_text s (entries ++ last ∷ []) ≡ entries_text s entries ++ entry_line s last
+    entries_push s [] last = append-nil (entry_line s last)
+    entries_push s (first ∷ entries) last = ap (λ t. entry_line s first ++ t) (entries_push s entries last) ∙ sym (append_assoc (entry_line s first) (entries_text s entries) (entry_line s last))
+
+-- the last line is read
+pub read_to_end : (site : Site) → FaceLaws → LineLaws site → site.panels ≤ 8 → (text rest line : List ℕ) (told : Told) (count : ℕ) (last : Tick) (timeline : Timeline) → IsReadSoFar site text rest told count →
+    rest ≡ line ++ 10 ∷ [] → IsLineOf site line (EndEntry last) → timeline_told told last ≡ Some timeline → IsRead site text timeline
+read_to_end site laws lines eight text rest line told count last timeline read rest_is is taken =
+    let ended = ended_told site told last timeline (told_form site laws lines eight text rest told count read) is.form taken in
+    let same : told_text site told ++ end_line last.0 ≡ text =
+      ap (λ t. t ++ end_line last.0) (front_is site laws lines eight text rest told count read) ∙ ap (λ t. (opening_line site ++ entries_text site read.entries) ++ t) (is.line_is ∙ sym rest_is) ∙ sym read.text_is in
+    record { form = ended.form; text_is = ended.text_is ∙ same }
+
+-- ---- where reading stops
+
+-- the line behind some lines that may go on is bad where no text has it, or where it isn't ended
+bad_at : (site : Site) (text front rest : List ℕ) (count number : ℕ) → IsLinesOf count front → text ≡ front ++ rest → MayGoOn site front →
+    ((timeline : Timeline) → IsInForm site timeline → text_of site timeline ≡ front ++ rest → ⊥) →
+    (line_ends rest ≡ 0) ⊎ ((timeline : Timeline) (more : List ℕ) → IsInForm site timeline → text_of site timeline ≡ (front ++ first_lines 1 rest) ++ more → ⊥) → number ≡ count + 1 →
+    IsBadLine site text number
+bad_at site text front rest count number of text_is may none stops is =
+    let so_many : count + 0 ≡ number - 1 = omega (arith, is) in
+    let first : first_lines (number - 1) text ≡ front = ap (λ (n : ℕ). first_lines n text) (sym so_many) ∙ ap (first_lines (count + 0)) text_is ∙ of.0 0 rest ∙ append-nil front in
+    let longer : first_lines number text ≡ front ++ first_lines 1 rest = ap (λ (n : ℕ). first_lines n text) is ∙ ap (first_lines (count + 1)) text_is ∙ of.0 1 rest in
+    let ends : line_ends text ≡ count + line_ends rest = ap line_ends text_is ∙ of.1 rest in
+    record {
+      not_a_text = λ timeline form same. none timeline form (same ∙ text_is);
+      from_one = omega (arith, is);
+      ended = omega (arith, ends, is);
+      before = subst (MayGoOn site) (sym first) may;
+      bad =
+        elim stops [
+          | inl unended ↦ inl (omega (arith, ends, is, unended))
+          | inr never ↦ inr (λ (goes : MayGoOn site (first_lines number text)). never goes.timeline goes.rest goes.form (goes.text ∙ ap (λ t. t ++ goes.rest) longer))
+        ];
+    }
+
+no_lines_yet : IsLinesOf 0 []
+no_lines_yet = (λ k rest. let plain : 0 + k ≡ k = omega arith in ap (λ (n : ℕ). first_lines n rest) plain, λ rest. let plain : line_ends rest ≡ 0 + line_ends rest = omega arith in plain)
+
+begins : (site : Site) → FaceLaws → LineLaws site → MayGoOn site []
+begins site laws lines = goes_on_before site [] (opening_line site) (subst (MayGoOn site) (nothing_told_text site) (goes_on site lines (nothing_told site) (nothing_is_told site laws)))
+
+opens_so : (site : Site) (timeline : Timeline) → (rest : List ℕ) × (text_of site timeline ≡ opening_line site ++ rest)
+opens_so site timeline =
+    let by = regroup (opening_line site) (faces_text site (empty_faces site) timeline.opened) (steps_text site timeline.opened timeline.steps) (end_line timeline.last.0) in
+    ((faces_text site (empty_faces site) timeline.opened ++ steps_text site timeline.opened timeline.steps) ++ end_line timeline.last.0, by)
+  where
+    regroup : (a b c d : List ℕ) → ((a ++ b) ++ c) ++ d ≡ a ++ ((b ++ c) ++ d)
+    regroup a b c d = simp append_assoc
+
+-- the first line isn't ended
+pub bad_first_unended : (site : Site) → FaceLaws → LineLaws site → (text : List ℕ) → line_ends text ≡ 0 → IsBadLine site text 1
+bad_first_unended site laws lines text unended =
+    bad_at site text [] text 0 1 no_lines_yet refl (begins site laws lines)
+    (λ timeline form text_is.
+      let opens = opens_so site timeline in
+      let one = one_line_of (opening_line site) lines.opening in
+      absurd (omega (arith, unended, ap line_ends (sym text_is ∙ opens.1), one.1 opens.0)))
+    (inl unended) refl
+
+not_opening : (site : Site) → LineLaws site → (line : List ℕ) → line_ends line ≡ 0 → (opening_line site ≡ line ++ 10 ∷ [] → ⊥) → (timeline : Timeline) (more : List ℕ) →
+    text_of site timeline ≡ line ++ 10 ∷ more → ⊥
+not_opening site lines line no_end other timeline more text_is =
+    let opens = opens_so site timeline in
+    let whole : IsOneLine (line ++ 10 ∷ []) = record { body = line; no_end = no_end; bytes_is = refl } in
+    let both = same_front (line ++ 10 ∷ []) more (opening_line site) opens.0 whole lines.opening (append_assoc line (10 ∷ []) more ∙ sym text_is ∙ opens.1) in
+    other (sym both.0)
+
+-- the first line isn't the opening's
+pub bad_first : (site : Site) → FaceLaws → LineLaws site → (text line rest : List ℕ) → line_ends line ≡ 0 → text ≡ line ++ 10 ∷ rest → (opening_line site ≡ line ++ 10 ∷ [] → ⊥) → IsBadLine site text 1
+bad_first site laws lines text line rest no_end text_is other =
+    bad_at site text [] text 0 1 no_lines_yet refl (begins site laws lines) (λ timeline form is. not_opening site lines line no_end other timeline rest (is ∙ text_is))
+    (inr (λ timeline more form is.
+      not_opening site lines line no_end other timeline more
+      (is ∙ ap (λ t. t ++ more) (ap (first_lines 1) text_is ∙ first_lines-line 0 line rest no_end) ∙ append_assoc line (10 ∷ []) more)))
+    refl
+
+-- no line is ended any more
+pub bad_unended : (site : Site) → FaceLaws → LineLaws site → site.panels ≤ 8 → (text rest : List ℕ) (told : Told) (count number : ℕ) → IsReadSoFar site text rest told count → line_ends rest ≡ 0 →
+    number ≡ count + 1 → IsBadLine site text number
+bad_unended site laws lines eight text rest told count number read unended is =
+    bad_at site text (opening_line site ++ entries_text site read.entries) rest (suc (length read.entries)) number (lines_of_front site lines read.entries read.each) read.text_is
+    (front_goes_on site laws lines eight text rest told count read)
+    (λ timeline form text_is.
+      let next = has_next site laws lines eight timeline form read.entries told rest read.each read.leads text_is in
+      let one = one_line_of (entry_line site next.entry) (lines.one_line next.entry next.form) in
+      absurd (omega (arith, unended, ap line_ends next.more_is, one.1 next.after)))
+    (inl unended) (is ∙ ap (λ (n : ℕ). n + 1) read.count_is)
+
+clash : {A : Type 0} (o : Option A) (x : A) → o ≡ None → o ≡ Some x → ⊥
+clash o x none some = let both : None ≡ Some x = sym none ∙ some in cc
+
+refuted : (site : Site) → FaceLaws → LineLaws site → site.panels ≤ 8 → (entries : List Entry) (told : Told) (line more : List ℕ) → AreEntries site entries → told_after (nothing_told site) entries ≡ Some told →
+    line_ends line ≡ 0 → IsRefused site told line → (timeline : Timeline) → IsInForm site timeline → text_of site timeline ≡ (opening_line site ++ entries_text site entries) ++ (line ++ 10 ∷ more) → ⊥
+refuted site laws lines eight entries told line more each leads no_end refused timeline form text_is =
+    let next = has_next site laws lines eight timeline form entries told (line ++ 10 ∷ more) each leads text_is in
+    let one = lines.one_line next.entry next.form in
+    let whole : IsOneLine (line ++ 10 ∷ []) = record { body = line; no_end = no_end; bytes_is = refl } in
+    let both = same_front (line ++ 10 ∷ []) more (entry_line site next.entry) next.after whole one (append_assoc line (10 ∷ []) more ∙ next.more_is) in
+    let is : IsLineOf site line next.entry = record { form = next.form; line_is = sym both.0 } in
+    elim next.stands [
+      | inl on ↦ clash (told_next told next.entry) on.0 (refused.goes_not_on next.entry is) on.1
+      | inr end ↦ clash (timeline_told told timeline.last) timeline (refused.ends_not timeline.last (subst (IsLineOf site line) end.0 is)) end.1
+    ]
+
+-- the next line may not stand there
+pub bad_refused : (site : Site) → FaceLaws → LineLaws site → site.panels ≤ 8 → (text rest line more : List ℕ) (told : Told) (count number : ℕ) → IsReadSoFar site text rest told count →
+    rest ≡ line ++ 10 ∷ more → line_ends line ≡ 0 → IsRefused site told line → number ≡ count + 1 → IsBadLine site text number
+bad_refused site laws lines eight text rest line more told count number read rest_is no_end refused is =
+    let front : List ℕ = opening_line site ++ entries_text site read.entries in
+    let first : first_lines 1 rest ≡ line ++ 10 ∷ [] = ap (first_lines 1) rest_is ∙ first_lines-line 0 line more no_end in
+    bad_at site text (opening_line site ++ entries_text site read.entries) rest (suc (length read.entries)) number (lines_of_front site lines read.entries read.each) read.text_is
+    (front_goes_on site laws lines eight text rest told count read)
+    (λ timeline form text_is. refuted site laws lines eight read.entries told line more read.each read.leads no_end refused timeline form (text_is ∙ ap (λ t. front ++ t) rest_is))
+    (inr (λ timeline behind form text_is.
+      refuted site laws lines eight read.entries told line behind read.each read.leads no_end refused timeline form
+      (text_is ∙ ap (λ t. (front ++ t) ++ behind) first ∙ append_assoc front (line ++ 10 ∷ []) behind ∙ ap (λ t. front ++ t) (append_assoc line (10 ∷ []) behind))))
+    (is ∙ ap (λ (n : ℕ). n + 1) read.count_is)
+
+nothing_behind_end : (site : Site) → FaceLaws → LineLaws site → site.panels ≤ 8 → (entries : List Entry) (told : Told) (last : Tick) (more : List ℕ) → AreEntries site entries →
+    told_after (nothing_told site) entries ≡ Some told → IsEntry site (EndEntry last) → more ≢ [] → (timeline : Timeline) → IsInForm site timeline →
+    text_of site timeline ≡ ((opening_line site ++ entries_text site entries) ++ end_line last.0) ++ more → ⊥
+nothing_behind_end site laws lines eight entries told last more each leads small some timeline form text_is =
+    let next =
+      has_next site laws lines eight timeline form entries told (end_line last.0 ++ more) each leads (text_is ∙ append_assoc (opening_line site ++ entries_text site entries) (end_line last.0) more) in
+    let both = same_front (end_line last.0) more (entry_line site next.entry) next.after (lines.one_line (EndEntry last) small) (lines.one_line next.entry next.form) next.more_is in
+    let same : EndEntry last ≡ next.entry = lines.determines (EndEntry last) next.entry small next.form both.0 in
+    elim next.stands [
+      | inl on ↦ clash (told_next told next.entry) on.0 (ap (told_next told) (sym same)) on.1
+      | inr end ↦ some (both.1 ∙ end.2)
+    ]
+
+some_first : (rest : List ℕ) → rest ≢ [] → first_lines 1 rest ≢ []
+some_first [] some = λ e. some refl
+some_first (byte ∷ rest) some = λ e. cc
+
+-- behind the last line there is more
+pub bad_behind_end : (site : Site) → FaceLaws → LineLaws site → site.panels ≤ 8 → (text rest line more : List ℕ) (told : Told) (count number : ℕ) (last : Tick) (timeline : Timeline) →
+    IsReadSoFar site text rest told count → rest ≡ line ++ 10 ∷ more → IsLineOf site line (EndEntry last) → timeline_told told last ≡ Some timeline → more ≢ [] → number ≡ count + 2 → IsBadLine site text number
+bad_behind_end site laws lines eight text rest line more told count number last timeline read rest_is is taken some number_is =
+    let front : List ℕ = opening_line site ++ entries_text site read.entries in
+    let ended = ended_told site told last timeline (told_form site laws lines eight text rest told count read) is.form taken in
+    let text_is : text ≡ (front ++ end_line last.0) ++ more =
+      read.text_is ∙ ap (λ t. front ++ t) (rest_is ∙ sym (ap (λ t. t ++ more) is.line_is ∙ append_assoc line (10 ∷ []) more)) ∙ sym (append_assoc front (end_line last.0) more) in
+    let may : MayGoOn site (front ++ end_line last.0) =
+      record {
+        timeline = timeline;
+        form = ended.form;
+        rest = [];
+        text = ended.text_is ∙ ap (λ t. t ++ end_line last.0) (front_is site laws lines eight text rest told count read) ∙ sym (append-nil (front ++ end_line last.0));
+      } in
+    bad_at site text (front ++ end_line last.0) more (suc (length read.entries) + 1) number
+    (lines_join (suc (length read.entries)) 1 front (end_line last.0) (lines_of_front site lines read.entries read.each) (one_line_of (end_line last.0) (lines.one_line (EndEntry last) is.form))) text_is may
+    (λ other form same. nothing_behind_end site laws lines eight read.entries told last more read.each read.leads is.form some other form same)
+    (inr (λ other behind form same.
+      nothing_behind_end site laws lines eight read.entries told last (first_lines 1 more ++ behind) read.each read.leads is.form (λ e. some_first more some (front_none (first_lines 1 more) behind e)) other form
+      (same ∙ append_assoc (front ++ end_line last.0) (first_lines 1 more) behind)))
+    (omega (arith, number_is, read.count_is))
+  where
+    front_none : (xs ys : List ℕ) → xs ++ ys ≡ [] → xs ≡ []
+    front_none [] ys e = refl
+    front_none (x ∷ xs) ys e = cc
