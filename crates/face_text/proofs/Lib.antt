@@ -4,9 +4,11 @@ pub mod Joined
 pub mod Joining
 pub mod LineEnds
 pub mod Listing
+pub mod NamedThings
 pub mod Pages
 pub mod Parting
 pub mod Plain
 pub mod Rest
 pub mod SameFaces
 pub mod Spaces
+pub mod SpelledLines
