@@ -1,4 +1,6 @@
 pub mod Busy
+pub mod EntryLaws
+pub mod EntryRead
 pub mod Holding
 pub mod Joined
 pub mod Joining
@@ -11,4 +13,5 @@ pub mod Plain
 pub mod Rest
 pub mod SameFaces
 pub mod Spaces
+pub mod SpelledEntries
 pub mod SpelledLines

@@ -70,15 +70,15 @@ abbrev pub state_of : Bool → List ℕ
 state_of true = codes "on"
 state_of false = codes "off"
 
-state_line : (on : Bool) → on_word (number_of_truth on) ≡ 32 ∷ (state_of on ++ 10 ∷ [])
+pub state_line : (on : Bool) → on_word (number_of_truth on) ≡ 32 ∷ (state_of on ++ 10 ∷ [])
 state_line true = refl
 state_line false = refl
 
-state_plain : (on : Bool) → list_all is_plain (state_of on) ≡ true
+pub state_plain : (on : Bool) → list_all is_plain (state_of on) ≡ true
 state_plain true = refl
 state_plain false = refl
 
-state_back : (on : Bool) → truth_of (state_of on) ≡ Some on
+pub state_back : (on : Bool) → truth_of (state_of on) ≡ Some on
 state_back true = refl
 state_back false = refl
 
