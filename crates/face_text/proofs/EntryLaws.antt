@@ -1,5 +1,5 @@
 -- An entry's line has one line end, at its end, and determines the entry.
-use Rattle.std.proofs.Common.{◌≡◌, ◌∙◌, ◌+◌, ◌<◌, ◌^◌, ◌++◌, ◌&&◌, ℕ, suc, true, List, [], ◌∷◌, Option, Some, None, length, refl, sym, ap, append_assoc, arith}
+use Rattle.std.proofs.Common.{◌≡◌, ◌∙◌, ◌<◌, ◌^◌, ◌++◌, ◌&&◌, ℕ, suc, true, List, [], ◌∷◌, Some, length, refl, sym, ap, append_assoc, arith}
 use Rattle.std.specs.Prelude.{codes, decimal}
 use Rattle.std.specs.List.{AllByRecursion, list_all}
 use Rattle.std.proofs.lemmas.Bool.{and_from}
@@ -105,3 +105,29 @@ entries_lines site valid (entry ∷ entries) rest are =
     let text = entries_text site entries in
     ap (first_lines (suc (length entries))) (append_assoc (entry_line site entry) text rest ∙ fronted site entry line (text ++ rest)) ∙ first_lines-line (length entries) line.body (text ++ rest) line.no_end
     ∙ ap (λ t. line.body ++ 10 ∷ t) (entries_lines site valid entries rest are.1) ∙ sym (fronted site entry line text)
+
+-- a text of entries that begins with a line begins with that of an entry
+pub record BeginsWith (site : Site) (line rest : List ℕ) (entries : List Entry) : Type 0 where
+  pub entry : Entry
+  pub more : List Entry
+  pub entries_are : entries ≡ entry ∷ more
+  pub line_of : IsLineOf site line entry
+  pub rest_is : rest ≡ entries_text site more
+
+no_line : (line rest : List ℕ) → [] ≡ line ++ 10 ∷ rest → ⊥
+no_line [] rest same = cc
+no_line (byte ∷ line) rest same = cc
+
+pub entries_begin : (site : Site) → IsValid site → (entries : List Entry) (line rest : List ℕ) → AllByRecursion (IsEntry site) entries → line_ends line ≡ 0 → entries_text site entries ≡ line ++ 10 ∷ rest → BeginsWith site line rest entries
+entries_begin site valid [] line rest are none same = absurd (no_line line rest same)
+entries_begin site valid (entry ∷ entries) line rest are none same =
+    let first = entry_line-one site valid entry are.0 in
+    let text = entries_text site entries in
+    let p = same_line first.body text line rest first.no_end none (sym (fronted site entry first text) ∙ same) in
+    record {
+      entry = entry;
+      more = entries;
+      entries_are = refl;
+      line_of = record { form = are.0; line_is = first.bytes_is ∙ ap (λ t. t ++ 10 ∷ []) p.0 };
+      rest_is = sym p.1;
+    }

@@ -1,6 +1,6 @@
 -- The name of a thing on a panel's page is plain, and is read back to that thing.
-use Rattle.std.proofs.Common.{◌≡◌, ◌∙◌, ◌<◌, ◌≤◌, ◌^◌, ◌&&◌, ℕ, zero, suc, Bool, true, false, cond, List, [], ◌∷◌, Option, Some, None, refl, sym, ap, subst, arith}
-use Rattle.std.specs.Prelude.{◌==◌, codes, decimal, nat_lt, option_map, slice_get, IsTrue, if◌then◌else◌}
+use Rattle.std.proofs.Common.{◌≡◌, ◌∙◌, ◌<◌, ◌≤◌, ◌^◌, ◌&&◌, ℕ, zero, suc, Bool, true, false, cond, List, [], ◌∷◌, Some, None, refl, sym, ap, subst, arith}
+use Rattle.std.specs.Prelude.{◌==◌, codes, decimal, nat_lt, option_map, slice_get, if◌then◌else◌}
 use Rattle.std.specs.List.{find, list_all}
 use Rattle.std.specs.Option.{option_and_then}
 use Rattle.std.proofs.lemmas.Bool.{and_parts, eqb-true, lt-ltb}
@@ -10,16 +10,14 @@ use Rattle.site_types.specs.declared.output.Output.{Output}
 use Rattle.site_types.specs.declared.point.Point.{Point}
 use Rattle.site_types.specs.declared.site.Site.{Site}
 use Rattle.site_types.specs.declared.zone.Zone.{Zone}
-use Rattle.site_types.specs.Numbers.{number_of}
 use Rattle.site_types.specs.Valid.{IsValid}
 use Rattle.site_types.proofs.Finding.{thing_named_iff}
 use Rattle.site_types.proofs.Spelling.{number_of-decimal}
 use Rattle.site_types.proofs.ValidSites.{output_at as output_form, point_at as point_form, zone_at as zone_form}
 use Rattle.face_text.specs.declared.group.Group.{Group}
 use Rattle.face_text.specs.declared.group.Group.TheVariants.{Zones, Firsts, Missing, Broken, Shorted, Supplies, Silent, Links, Unconfirmed, Outputs, Confirmed, PointsOff, ZonesOff, OutputsOff, Tests}
-use Rattle.face_text.specs.declared.numbered.Numbered.{Numbered}
-use Rattle.face_text.specs.Slots.{is_named, last_of, name_in, number_if, output_name, point_name, supply_name, zone_name}
-use Rattle.face_text.specs.Spelled.{number_below, number_spelled, numbered, output_at, output_named, output_spelled, point_at, point_named, point_spelled, supply_of, thing_spelled, zone_at, zone_named, zone_spelled}
+use Rattle.face_text.specs.Slots.{last_of, name_in, number_if, output_name, point_name, supply_name, zone_name}
+use Rattle.face_text.specs.Spelled.{number_below, number_spelled, numbered, output_at, output_named, output_spelled, point_at, point_named, point_spelled, thing_spelled, zone_at, zone_named, zone_spelled}
 use Rattle.face_text.proofs.Plain.{decimal_plain, is_plain, name_plain}
 
 -- ---- what is found in a list by a test

@@ -1,6 +1,6 @@
 -- The line of each entry is its fields, joined by spaces, with a line end; and its fields spell the entry.
 use Rattle.std.proofs.Common.{◌≡◌, ◌∙◌, ◌<◌, ◌≤◌, ◌^◌, ◌++◌, ◌&&◌, ℕ, Bool, true, List, [], ◌∷◌, Option, Some, None, refl, sym, ap, append_assoc, arith}
-use Rattle.std.specs.Prelude.{bytes_eq, codes, decimal, option_map, IsTrue}
+use Rattle.std.specs.Prelude.{codes, decimal, option_map, IsTrue}
 use Rattle.std.specs.List.{list_all}
 use Rattle.std.specs.Option.{option_and_then}
 use Rattle.std.proofs.lemmas.Bool.{and_from}
@@ -22,8 +22,8 @@ use Rattle.face_text.specs.Answers.{reply_words}
 use Rattle.face_text.specs.Entries.{IsChange, IsEntry, counted_line, entry_line, slot_of, value_of}
 use Rattle.face_text.specs.Fields.{field}
 use Rattle.face_text.specs.Slots.{buzzer_line, buzzer_word, counter_line, delays_line, is_named, line_of, name_in, number_of_buzzer, number_of_truth}
-use Rattle.face_text.specs.Spelled.{answer_spelled, by_panel, denied_spelled, entry_spelled, number_below, panel_spelled, plain_spelled, reply_spelled, sound_of, truth_of}
-use Rattle.face_text.specs.Timelines.{IsReply, end_line, tick_line}
+use Rattle.face_text.specs.Spelled.{answer_spelled, by_panel, denied_spelled, number_below, panel_spelled, plain_spelled, reply_spelled, sound_of, truth_of}
+use Rattle.face_text.specs.Timelines.{IsReply}
 use Rattle.face_text.proofs.Joined.{HasFields, fields_of, joined}
 use Rattle.face_text.proofs.NamedThings.{below_back}
 use Rattle.face_text.proofs.Plain.{are_plain, decimal_plain, is_plain}

@@ -1,32 +1,23 @@
 -- The line of each entry is its fields, joined by spaces, with a line end; and its fields spell the entry.
-use Rattle.std.proofs.Common.{◌≡◌, ◌∙◌, ◌<◌, ◌≤◌, ◌^◌, ◌++◌, ◌&&◌, ℕ, zero, suc, Bool, true, false, List, [], ◌∷◌, Option, Some, None, get_or, refl, sym, ap, subst, append_assoc, arith}
-use Rattle.std.specs.Prelude.{◌==◌, bytes_eq, codes, decimal, option_map, IsTrue, if◌then◌else◌}
+use Rattle.std.proofs.Common.{◌≡◌, ◌∙◌, ◌<◌, ◌≤◌, ◌^◌, ◌++◌, ◌&&◌, ℕ, zero, suc, Bool, true, false, List, [], ◌∷◌, Option, Some, get_or, refl, ap, append_assoc, arith}
+use Rattle.std.specs.Prelude.{bytes_eq, codes, decimal, option_map}
 use Rattle.std.specs.List.{list_all}
 use Rattle.std.specs.Option.{option_and_then}
 use Rattle.std.proofs.lemmas.Bool.{and_from}
 use Rattle.std.proofs.lemmas.List.{append-nil}
-use Rattle.site_types.specs.declared.buzzer.Buzzer.{Buzzer}
-use Rattle.site_types.specs.declared.buzzer.Buzzer.TheVariants.{Off, Fault, Fire}
 use Rattle.site_types.specs.declared.site.Site.{Site}
-use Rattle.site_types.specs.Limits.{greatest_count}
-use Rattle.site_types.specs.Numbers.{number_of}
 use Rattle.site_types.specs.Valid.{IsValid}
-use Rattle.site_types.proofs.Spelling.{number_of-decimal}
 use Rattle.face_text.specs.declared.change.Change.{Change}
-use Rattle.face_text.specs.declared.change.Change.TheVariants.{Thing as ThingChange, Delays as DelaysChange, Buzzer as BuzzerChange, Counter as CounterChange}
+use Rattle.face_text.specs.declared.change.Change.TheVariants.{Thing as ThingChange}
 use Rattle.face_text.specs.declared.entry.Entry.{Entry}
-use Rattle.face_text.specs.declared.entry.Entry.TheVariants.{Change as ChangeEntry, Answer as AnswerEntry, Busy as BusyEntry, StoreFailed, Tick as TickEntry, End as EndEntry}
+use Rattle.face_text.specs.declared.entry.Entry.TheVariants.{Change as ChangeEntry}
 use Rattle.face_text.specs.declared.group.Group.{Group}
 use Rattle.face_text.specs.declared.group.Group.TheVariants.{Zones, Firsts, Missing, Broken, Shorted, Supplies, Silent, Links, Unconfirmed, Outputs, Confirmed, PointsOff, ZonesOff, OutputsOff, Tests}
-use Rattle.face_text.specs.declared.op_answer.OpAnswer.{OpAnswer}
-use Rattle.face_text.specs.declared.reply.Reply.{Reply}
-use Rattle.face_text.specs.declared.reply.Reply.TheVariants.{Done, Denied, Waiting, Already, Store}
-use Rattle.face_text.specs.Entries.{IsChange, IsEntry, entry_line, slot_of, value_of}
+use Rattle.face_text.specs.Entries.{entry_line, slot_of}
 use Rattle.face_text.specs.Fields.{field}
-use Rattle.face_text.specs.Slots.{HasPlace, is_named, kind_of, last_of, line_of, line_of_thing, name_in, number_of_buzzer, number_of_truth, on_word, word_of}
-use Rattle.face_text.specs.Spelled.{answer_spelled, by_panel, change_spelled, entry_spelled, number_below, numbered, panel_spelled, plain_spelled, reply_spelled, sound_of, thing_spelled, told_of, truth_of, truth_place}
-use Rattle.face_text.specs.Timelines.{IsReply}
-use Rattle.face_text.proofs.Joined.{HasFields, fields_of, joined, spaced}
+use Rattle.face_text.specs.Slots.{kind_of, last_of, line_of, line_of_thing, name_in, number_of_truth, on_word, word_of}
+use Rattle.face_text.specs.Spelled.{by_panel, entry_spelled, number_below, panel_spelled, thing_spelled, told_of, truth_of, truth_place}
+use Rattle.face_text.proofs.Joined.{HasFields, fields_of, joined}
 use Rattle.face_text.proofs.NamedThings.{ThingBack, below_back, thing_back, word_at, words_of}
 use Rattle.face_text.proofs.Plain.{are_plain, decimal_plain, is_plain}
 
