@@ -1,9 +1,12 @@
 pub mod Busy
+pub mod EntryLaws
+pub mod EntryRead
 pub mod Holding
 pub mod Joined
 pub mod Joining
 pub mod LineEnds
 pub mod Listing
+pub mod NamedThings
 pub mod Pages
 pub mod Parting
 pub mod Plain
@@ -20,3 +23,5 @@ pub mod RunLines
 pub mod Runs
 pub mod SameTexts
 pub mod FirstBad
+pub mod SpelledEntries
+pub mod SpelledLines

@@ -1,7 +1,6 @@
 -- Line ends of a text: how many there are, what the first lines are, and that bytes up to a line end are parted in one way.
-use Rattle.std.proofs.Common.{◌≡◌, ◌∙◌, ◌+◌, ◌<◌, ◌++◌, ℕ, zero, suc, Bool, true, false, List, [], ◌∷◌, get_or, drop, refl, sym, ap, arith, append_assoc}
+use Rattle.std.proofs.Common.{◌≡◌, ◌∙◌, ◌+◌, ◌<◌, ◌++◌, ℕ, zero, suc, Bool, true, false, List, [], ◌∷◌, get_or, drop, refl, sym, ap, arith}
 use Rattle.std.specs.Prelude.{◌==◌, if◌then◌else◌}
-use Rattle.std.proofs.lemmas.Bool.{eqb-true}
 use Rattle.face_text.specs.Reading.{first_lines, line_ends}
 
 ends_front : (here : Bool) (n m : ℕ) → (if here then suc (n + m) else n + m) ≡ (if here then suc n else n) + m

@@ -1,6 +1,6 @@
 -- How a text is parted at its first line end, and how bytes are told to be a line with its end.
-use Rattle.std.proofs.Common.{◌≡◌, ◌∙◌, ◌<◌, ◌≤◌, ◌+◌, ◌++◌, ◌↔◌, ℕ, suc, Bool, true, false, List, [], ◌∷◌, IsTrue, refl, sym, ap, length, get_or, take, drop, take-append-drop, length-append, arith}
-use Rattle.std.specs.Prelude.{◌==◌, bytes_eq, if◌then◌else◌}
+use Rattle.std.proofs.Common.{◌≡◌, ◌∙◌, ◌<◌, ◌≤◌, ◌+◌, ◌++◌, ◌↔◌, ℕ, suc, Bool, true, false, List, [], ◌∷◌, IsTrue, sym, ap, length, get_or, take, drop, take-append-drop, arith}
+use Rattle.std.specs.Prelude.{bytes_eq, if◌then◌else◌}
 use Rattle.std.proofs.lemmas.Bool.{ne_eqb}
 use Rattle.std.proofs.lemmas.List.{append_cancel_left, take-append-le, take_all, take_more}
 use Rattle.std.proofs.lemmas.Slice.Eq.{bytes_eq-Decides}

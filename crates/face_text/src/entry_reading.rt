@@ -5,11 +5,11 @@ ghost use Rattle.site_types.specs.Valid.{IsValid};
 ghost use Rattle.face_text.specs.EntryLines.{ReadsEntry};
 ghost use Rattle.face_text.specs.Timelines.{opening_line as line_of_opening};
 
+use crate::candidates::candidate;
 use crate::entry::Entry;
 use crate::entry_forms::is_entry;
 use crate::entry_lines::{entry_line, opening_line};
 use crate::fields::is_word;
-use crate::line_reading::read_line;
 use site_types::Site;
 
 /// The entry whose line this is, without its end. A line may have any bytes and any length.
@@ -17,7 +17,7 @@ pub fn read_entry(site: &Site, line: &[u8]) -> Option<Entry>
     requires { IsValid site.now }
     ensures { ReadsEntry site.now line.now result }
 {
-    let entry = read_line(site, line)?;
+    let entry = candidate(site, line)?;
     if is_entry(site, &entry) && is_ended(entry_line(site, &entry).as_str().as_bytes(), line) {
         Some(entry)
     } else {

@@ -17,6 +17,7 @@
 
 mod answer_lines;
 mod answers;
+mod candidates;
 mod change;
 mod change_lines;
 mod conditions;
@@ -29,7 +30,6 @@ mod face_list;
 mod fields;
 mod group;
 mod held;
-mod line_reading;
 mod lines;
 mod lists;
 mod masks;

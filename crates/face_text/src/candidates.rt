@@ -1,4 +1,4 @@
-//! Reading which entry a line may be that of. Whether it is, the entry's own line tells.
+//! Which entry a line may be that of. Whether it is, the entry's own line tells.
 
 ghost use Rattle.std.specs.Prelude.{◌≡◌, ◌^◌, IfSome};
 ghost use Rattle.site_types.specs.Valid.{IsValid};
@@ -14,7 +14,7 @@ use site_types::{Buzzer, Site, read_number};
 use tick_units::Tick;
 
 /// The one entry that a line may be that of, if there is one.
-pub fn read_line(site: &Site, text: &[u8]) -> Option<Entry>
+pub fn candidate(site: &Site, text: &[u8]) -> Option<Entry>
     requires { IsValid site.now }
     ensures entry { result ≡ entry_spelled site.now text.now }
     ensures numbers { IfSome result IsOf64Bits }
@@ -127,7 +127,7 @@ fn read_count(text: &[u8]) -> Option<u32>
 {
     match read_number(text) {
         Some(number) => {
-            if number < 4_294_967_296 {
+            if number <= u32::MAX as u64 {
                 Some(number as u32)
             } else {
                 None
