@@ -40,6 +40,13 @@ face_told face (DelaysChange on) = record face { delays_off = not on }
 face_told face (BuzzerChange sound) = record face { buzzer = sound }
 face_told face (CounterChange count) = record face { counter = count }
 
+-- a face has a place for a slot
+abbrev pub IsPlaced : Slot → Type 0
+IsPlaced (Thing group number) = HasPlace group × (1 ≤ number) × (number ≤ last_of group)
+IsPlaced Delays = Unit {0}
+IsPlaced Sounding = Unit {0}
+IsPlaced Count = Unit {0}
+
 -- the page of a panel has a slot: of a thing that the site has, or of delays, buzzer or counter
 abbrev pub IsSlotOf : Site → ℕ → Slot → Type 0
 IsSlotOf site panel (Thing group number) = HasPlace group × (1 ≤ number) × (number ≤ last_of group) × IsTrue (is_named (name_in site panel group number))

@@ -33,6 +33,7 @@ mod op_answers;
 mod page;
 mod reply;
 mod step;
+mod telling;
 mod timeline;
 mod words;
 
