@@ -5,3 +5,4 @@ pub mod Listing
 pub mod Pages
 pub mod Rest
 pub mod SameFaces
+pub mod ToldValues

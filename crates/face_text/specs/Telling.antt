@@ -8,7 +8,7 @@ use Rattle.face_text.specs.declared.change.Change.TheVariants.{Thing as ThingCha
 use Rattle.face_text.specs.declared.face.Face.{Face}
 use Rattle.face_text.specs.declared.group.Group.{Group}
 use Rattle.face_text.specs.declared.group.Group.TheVariants.{Zones, Firsts, Missing, Broken, Shorted, Supplies, Silent, Links, Unconfirmed, Outputs, Confirmed, PointsOff, ZonesOff, OutputsOff, Tests}
-use Rattle.face_text.specs.Entries.{slot_of, slot_rank}
+use Rattle.face_text.specs.Entries.{slot_rank}
 use Rattle.face_text.specs.Slots.{HasPlace, Slot, Thing, Delays, Sounding, Count, is_named, last_of, name_in, value_in}
 
 -- the masks of panels with one bit set or cleared
