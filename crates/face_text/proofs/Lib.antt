@@ -6,3 +6,5 @@ pub mod Pages
 pub mod Rest
 pub mod SameFaces
 pub mod ToldValues
+pub mod KeptMasks
+pub mod KeptPoints
