@@ -8,3 +8,4 @@ pub mod SameFaces
 pub mod ToldValues
 pub mod KeptMasks
 pub mod KeptPoints
+pub mod FaceForm
