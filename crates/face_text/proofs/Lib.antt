@@ -9,3 +9,4 @@ pub mod ToldValues
 pub mod KeptMasks
 pub mod KeptPoints
 pub mod FaceForm
+pub mod SameSlots
