@@ -10,3 +10,4 @@ pub mod KeptMasks
 pub mod KeptPoints
 pub mod FaceForm
 pub mod SameSlots
+pub mod PageOrder
