@@ -11,3 +11,4 @@ pub mod KeptPoints
 pub mod FaceForm
 pub mod SameSlots
 pub mod PageOrder
+pub mod OneMoreLine
