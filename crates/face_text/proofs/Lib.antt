@@ -25,3 +25,10 @@ pub mod SameTexts
 pub mod FirstBad
 pub mod SpelledEntries
 pub mod SpelledLines
+pub mod ToldValues
+pub mod KeptMasks
+pub mod KeptPoints
+pub mod FaceForm
+pub mod SameSlots
+pub mod PageOrder
+pub mod OneMoreLine

@@ -8,7 +8,7 @@ use Rattle.face_text.specs.declared.change.Change.TheVariants.{Thing as ThingCha
 use Rattle.face_text.specs.declared.face.Face.{Face}
 use Rattle.face_text.specs.declared.group.Group.{Group}
 use Rattle.face_text.specs.declared.group.Group.TheVariants.{Zones, Firsts, Missing, Broken, Shorted, Supplies, Silent, Links, Unconfirmed, Outputs, Confirmed, PointsOff, ZonesOff, OutputsOff, Tests}
-use Rattle.face_text.specs.Entries.{slot_of, slot_rank}
+use Rattle.face_text.specs.Entries.{slot_rank}
 use Rattle.face_text.specs.Slots.{HasPlace, Slot, Thing, Delays, Sounding, Count, is_named, last_of, name_in, value_in}
 
 -- the masks of panels with one bit set or cleared
@@ -39,6 +39,13 @@ face_told face (ThingChange group number on) = with_thing face group number on
 face_told face (DelaysChange on) = record face { delays_off = not on }
 face_told face (BuzzerChange sound) = record face { buzzer = sound }
 face_told face (CounterChange count) = record face { counter = count }
+
+-- a face has a place for a slot
+abbrev pub IsPlaced : Slot → Type 0
+IsPlaced (Thing group number) = HasPlace group × (1 ≤ number) × (number ≤ last_of group)
+IsPlaced Delays = Unit {0}
+IsPlaced Sounding = Unit {0}
+IsPlaced Count = Unit {0}
 
 -- the page of a panel has a slot: of a thing that the site has, or of delays, buzzer or counter
 abbrev pub IsSlotOf : Site → ℕ → Slot → Type 0

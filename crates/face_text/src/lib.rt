@@ -41,6 +41,7 @@ mod page;
 mod reply;
 mod step;
 mod thing_reading;
+mod telling;
 mod timeline;
 mod words;
 
