@@ -43,7 +43,7 @@ grown_told :
     → IsNextTold site told (record { opened = told.opened; steps = told.steps; tick = told.tick; faces = faces; answers = answers; rank = rank }) line
 grown_told site told faces answers rank line form next unanswered =
     let after : Told = record { opened = told.opened; steps = told.steps; tick = told.tick; faces = faces; answers = answers; rank = rank } in
-    let is : IsToldForm site after = record { block = next.block; small = form.small; unanswered = unanswered; opened = form.opened; steps = form.steps } in
+    let is : IsToldForm site after = record { block = next.block; small = form.small; unanswered = unanswered; no_steps = form.no_steps; opened = form.opened; steps = form.steps } in
     record {
       form = is;
       text =
@@ -121,6 +121,7 @@ tick_next site told next tick form is taken =
         block = subst (λ (faces : List Face). IsBlock site 0 faces told.faces no_answers) (sym before) (untold_block site told.faces (told_faces_are site told form));
         small = is;
         unanswered = λ z. no_answers_text site;
+        no_steps = λ z. absurd (omega (arith, z, less));
         opened = λ some. shut.opened;
         steps = λ some. shut.steps;
       } in

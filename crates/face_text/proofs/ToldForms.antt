@@ -4,6 +4,7 @@ use Rattle.std.specs.Prelude.{nat_le, nat_lt, slice_get, slice_set}
 use Rattle.std.specs.List.{range_with_len}
 use Rattle.std.proofs.lemmas.Bool.{and_parts, eq-eqb, eqb-false, eqb-true, leb-true, ltb-true, ne_eqb, not-true, or_cases}
 use Rattle.std.proofs.lemmas.List.{append-nil, length-map}
+use Rattle.std.proofs.lemmas.List.FromFn.{map-range_with_len_more}
 use Rattle.site_types.specs.declared.site.Site.{Site}
 use Rattle.tick_units.specs.declared.tick.Tick.{Tick}
 use Rattle.face_text.specs.declared.answers.Answers.{Answers}
@@ -66,6 +67,13 @@ range_size first (suc count) = ap suc (range_size (first + 1) count)
 pub empty_faces_are : (site : Site) → FaceLaws → AreFaces site (empty_faces site)
 empty_faces_are site laws = faces_are site (empty_faces site) (empty_pages site laws 1 site.panels) (length-map (range_with_len 1 site.panels) empty_face ∙ range_size 1 site.panels)
 
+pub empty_faces_more : (place : ℕ) (faces more : List Face) (face : Face) → faces ≡ map empty_face (range_with_len 1 place) → face ≡ empty_face (place + 1) → more ≡ faces ++ face ∷ [] →
+    more ≡ map empty_face (range_with_len 1 (place + 1))
+empty_faces_more place faces more face so_far is one_more =
+    let next : 1 + place ≡ place + 1 = omega arith in
+    one_more ∙ ap (λ (all : List Face). all ++ face ∷ []) so_far ∙ ap (λ (last : Face). map empty_face (range_with_len 1 place) ++ last ∷ []) is
+    ∙ sym (map-range_with_len_more empty_face 1 place (place + 1) next)
+
 -- ---- what is told is in form
 
 -- the faces before the block
@@ -81,6 +89,7 @@ pub record IsToldForm (site : Site) (told : Told) : Type 0 where
   pub block : IsBlock site told.rank (befores_of site told) told.faces told.answers
   pub small : told.tick.0 < 2 ^ 64
   pub unanswered : told.tick.0 ≡ 0 → answers_text told.answers ≡ []
+  pub no_steps : told.tick.0 ≡ 0 → told.steps ≡ []
   pub opened : 0 < told.tick.0 → AreFaces site told.opened
   pub steps : 0 < told.tick.0 → AreSteps site 0 told.opened (told.tick.0 - 1) told.steps
 
@@ -111,6 +120,7 @@ nothing_is_told site laws =
       block = untold_block site (empty_faces site) (empty_faces_are site laws);
       small = omega arith;
       unanswered = λ e. no_answers_text site;
+      no_steps = λ e. refl;
       opened = λ some. absurd (omega (arith, some));
       steps = λ some. absurd (omega (arith, some));
     }
@@ -164,9 +174,9 @@ closed_opening site told last form zero_tick =
     let e : (told.tick.0 == 0) ≡ true = eq-eqb told.tick.0 0 zero_tick in
     record {
       opened = rw e (told_faces_are site told form);
-      steps = rw e (omega arith);
-      text = rw e (append-nil _);
-      behind = rw e refl;
+      steps = rw (e, form.no_steps zero_tick) (omega arith);
+      text = rw (e, form.no_steps zero_tick) (append-nil _);
+      behind = rw (e, form.no_steps zero_tick) refl;
     }
 
 closed_tick : (site : Site) (told : Told) (last : ℕ) → IsToldForm site told → 0 < told.tick.0 → 0 < told.rank → told.tick.0 ≤ last → IsClosed site told last

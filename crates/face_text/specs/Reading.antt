@@ -11,6 +11,8 @@ use Rattle.face_text.specs.declared.entry.Entry.TheVariants.{Change as ChangeEnt
 use Rattle.face_text.specs.declared.face.Face.{Face}
 use Rattle.face_text.specs.declared.op_answer.OpAnswer.{OpAnswer}
 use Rattle.face_text.specs.declared.step.Step.{Step}
+use Rattle.face_text.specs.declared.text_refusal.TextRefusal.{TextRefusal}
+use Rattle.face_text.specs.declared.text_refusal.TextRefusal.TheVariants.{BadLine, NoMemory}
 use Rattle.face_text.specs.declared.timeline.Timeline.{Timeline}
 use Rattle.face_text.specs.Entries.{entry_line, rank_of, slot_of, value_of}
 use Rattle.face_text.specs.Faces.{empty_face}
@@ -50,6 +52,11 @@ pub record IsBadLine (site : Site) (text : List ℕ) (line : ℕ) : Type 0 where
 pub record IsRead (site : Site) (text : List ℕ) (timeline : Timeline) : Type 0 where
   pub form : IsInForm site timeline
   pub text_is : text_of site timeline ≡ text
+
+-- why a text isn't read: its first bad line, or for want of memory
+abbrev pub IsRefusal : Site → List ℕ → TextRefusal → Type 0
+IsRefusal site text (BadLine line) = IsBadLine site text line
+IsRefusal site text NoMemory = Unit {0}
 
 -- ---- line by line
 
@@ -98,7 +105,7 @@ abbrev pub block_of : Told → Step
 block_of told = record { tick = told.tick; faces = told.faces; answers = told.answers }
 
 abbrev pub steps_by : Told → List Step
-steps_by told = if told.tick.0 == 0 then [] else told.steps ++ block_of told ∷ []
+steps_by told = if told.tick.0 == 0 then told.steps else told.steps ++ block_of told ∷ []
 
 -- what is told after one more line, if the line may stand there; after the last line nothing is told on
 abbrev pub told_next : Told → Entry → Option Told
