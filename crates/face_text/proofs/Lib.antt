@@ -12,3 +12,4 @@ pub mod FaceForm
 pub mod SameSlots
 pub mod PageOrder
 pub mod OneMoreLine
+pub mod AllLines
