@@ -1,5 +1,5 @@
 -- Faces in form: what a change leaves in form, and faces that are equal by their slots.
-use Rattle.std.proofs.Common.{◌≡◌, ◌≤◌, ◌<◌, ◌+◌, ◌-◌, ◌&&◌, ℕ, zero, suc, Bool, true, false, List, [], ◌∷◌, get_or, map, replicate, refl, sym, ◌∙◌, ap, subst, arith}
+use Rattle.std.proofs.Common.{◌≡◌, ◌≤◌, ◌+◌, ◌-◌, ◌&&◌, ℕ, Bool, true, false, List, [], ◌∷◌, get_or, map, replicate, refl, sym, ◌∙◌, ap, subst, arith}
 use Rattle.std.specs.Int.{Width, w8, w32}
 use Rattle.std.specs.Prelude.{not}
 use mir.Val.{bits}
@@ -11,19 +11,19 @@ use Rattle.site_types.specs.declared.fault_set.FaultSet.{FaultSet}
 use Rattle.site_types.specs.declared.point_set.PointSet.{PointSet}
 use Rattle.site_types.specs.declared.site.Site.{Site}
 use Rattle.site_types.specs.Bits.{has_bit, has_point, mask_of, with_bit, with_point}
-use Rattle.site_types.proofs.Masks.{has_bit-zero, mask_same}
+use Rattle.site_types.proofs.Masks.{has_bit-zero}
 use Rattle.face_text.specs.declared.change.Change.{Change}
 use Rattle.face_text.specs.declared.change.Change.TheVariants.{Thing as ThingChange, Delays as DelaysChange, Buzzer as BuzzerChange, Counter as CounterChange}
 use Rattle.face_text.specs.declared.face.Face.{Face}
 use Rattle.face_text.specs.declared.group.Group.{Group}
 use Rattle.face_text.specs.declared.group.Group.TheVariants.{Zones, Firsts, Missing, Broken, Shorted, Supplies, Silent, Links, Unconfirmed, Outputs, Confirmed, PointsOff, ZonesOff, OutputsOff, Tests}
 use Rattle.face_text.specs.Entries.{IsChange}
-use Rattle.face_text.specs.FaceTelling.{AreTheirSlots, KeepsForm}
+use Rattle.face_text.specs.FaceTelling.{KeepsForm}
 use Rattle.face_text.specs.Faces.{empty_face, no_points}
-use Rattle.face_text.specs.Slots.{HasPlace, Slot, Thing, Delays, Sounding, Count, is_named, last_of, name_in, number_of_buzzer, number_of_truth, shows, value_in}
-use Rattle.face_text.specs.Telling.{IsSlotOf, face_told, with_bit_of_panel, with_thing}
-use Rattle.face_text.specs.Timelines.{IsFaceOf, kept_of, kept_points, of_site}
-use Rattle.face_text.proofs.KeptMasks.{at_number, bit_kept, by_number, less_one, none_kept, panels_kept, same_by_number}
+use Rattle.face_text.specs.Slots.{HasPlace, is_named, last_of, name_in}
+use Rattle.face_text.specs.Telling.{face_told, with_bit_of_panel, with_thing}
+use Rattle.face_text.specs.Timelines.{IsFaceOf, kept_points, of_site}
+use Rattle.face_text.proofs.KeptMasks.{bit_kept, by_number, less_one, none_kept, panels_kept}
 use Rattle.face_text.proofs.KeptPoints.{holds_named, holds_none, holds_told, loops_kept}
 use Rattle.face_text.proofs.ToldValues.{with_thing_keeps}
 

@@ -1,5 +1,5 @@
 -- Sets of points that hold only points that a site has.
-use Rattle.std.proofs.Common.{inl, inr, ◌⊎◌, ◌≡◌, ◌≢◌, ◌≤◌, ◌<◌, ◌+◌, ◌-◌, ◌/◌, ◌%◌, ◌^◌, ◌&&◌, ◌==◌, ℕ, zero, suc, Bool, true, false, List, [], ◌∷◌, length, get_or, set, map, refl, sym, ◌∙◌, ap, subst, arith, length-set, get_or-set_same, get_or-set_other}
+use Rattle.std.proofs.Common.{inl, inr, ◌⊎◌, ◌≡◌, ◌≢◌, ◌≤◌, ◌<◌, ◌+◌, ◌-◌, ◌^◌, ◌&&◌, ◌==◌, ℕ, zero, suc, Bool, true, false, List, [], ◌∷◌, length, get_or, set, map, refl, sym, ◌∙◌, ap, subst, arith, length-set, get_or-set_same, get_or-set_other}
 use Rattle.std.specs.Int.{w128}
 use Rattle.std.specs.List.{range_with_len}
 use Rattle.std.proofs.lemmas.List.{get_or-replicate}
@@ -7,7 +7,7 @@ use Rattle.std.proofs.lemmas.Bool.{cases_lt}
 use Rattle.std.proofs.lemmas.Bool.Decides.{eqb_tells}
 use Rattle.site_types.specs.declared.point_set.PointSet.{PointSet}
 use Rattle.site_types.specs.Bits.{IsPlace, bit_of, half_of, has_bit, has_point, mask_of, with_bit, with_point}
-use Rattle.site_types.proofs.ChangedBits.{half_small, set-same, set-other}
+use Rattle.site_types.proofs.ChangedBits.{half_small, set-other}
 use Rattle.site_types.proofs.Masks.{has_bit-mask, has_bit-zero, mask_below, mask_from_bits}
 use Rattle.face_text.specs.Faces.{no_points}
 use Rattle.face_text.proofs.KeptMasks.{at_number, by_number, with_bit_below}

@@ -32,3 +32,4 @@ pub mod FaceForm
 pub mod SameSlots
 pub mod PageOrder
 pub mod OneMoreLine
+pub mod AllLines

@@ -1,5 +1,5 @@
 -- One more change is one more line.
-use Rattle.std.proofs.Common.{inl, inr, ◌⊎◌, ◌≡◌, ◌≢◌, ◌<◌, ◌==◌, ◌++◌, ℕ, suc, List, [], ◌∷◌, refl, sym, ◌∙◌, ap, subst, arith, append_assoc, append-nil, if◌then◌else◌}
+use Rattle.std.proofs.Common.{inl, inr, ◌≡◌, ◌≢◌, ◌<◌, ◌==◌, ◌++◌, ℕ, suc, List, [], ◌∷◌, refl, sym, ◌∙◌, ap, arith, append_assoc, append-nil, if◌then◌else◌}
 use Rattle.std.specs.List.{AllByRecursion, flat_map}
 use Rattle.std.proofs.lemmas.Bool.Decides.{eqb_tells}
 use Rattle.site_types.specs.declared.site.Site.{Site}
@@ -9,7 +9,7 @@ use Rattle.face_text.specs.declared.face.Face.{Face}
 use Rattle.face_text.specs.Changes.{changes_text}
 use Rattle.face_text.specs.Entries.{IsChange, slot_of, slot_rank, value_of}
 use Rattle.face_text.specs.FaceTelling.{AddsItsLine, AddsOneLine, change_line}
-use Rattle.face_text.specs.Slots.{Slot, Thing, Delays, Sounding, Count, line_of, slots, value_in}
+use Rattle.face_text.specs.Slots.{Slot, line_of, slots, value_in}
 use Rattle.face_text.specs.Telling.{IsSameBehind, IsSlotOf, face_told}
 use Rattle.face_text.specs.Timelines.{IsFaceOf}
 use Rattle.face_text.proofs.FaceForm.{keeps_form}
@@ -75,7 +75,7 @@ change_slot site panel (DelaysChange on) is = tt
 change_slot site panel (BuzzerChange sound) is = tt
 change_slot site panel (CounterChange count) is = tt
 
-apart_ranks : (one other : Slot) → slot_rank one < slot_rank other → one ≢ other
+pub apart_ranks : (one other : Slot) → slot_rank one < slot_rank other → one ≢ other
 apart_ranks one other less = λ e. let same : slot_rank one ≡ slot_rank other = ap slot_rank e in omega (arith, less, same)
 
 module _ (site : Site) (panel rank : ℕ) (before shown : Face) (change : Change) (form : IsFaceOf site panel shown) (same : IsSameBehind site panel rank before shown) (is : IsChange site panel change) (above : rank < slot_rank (slot_of change))

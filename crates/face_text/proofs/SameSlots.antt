@@ -1,5 +1,5 @@
 -- Faces of a panel that are equal by the slots of its page.
-use Rattle.std.proofs.Common.{◌≡◌, ◌≤◌, ◌<◌, ◌+◌, ◌&&◌, ℕ, Bool, true, false, refl, sym, ◌∙◌, ap, arith, if◌then◌else◌, List, [], ◌∷◌, map}
+use Rattle.std.proofs.Common.{◌≡◌, ◌≤◌, ◌<◌, ◌+◌, ◌&&◌, ℕ, Bool, true, false, refl, sym, ◌∙◌, ap, arith, if◌then◌else◌, [], ◌∷◌, map}
 use Rattle.std.specs.List.{range_with_len}
 use Rattle.site_types.specs.declared.buzzer.Buzzer.{Buzzer}
 use Rattle.site_types.specs.declared.buzzer.Buzzer.TheVariants.{Off, Fault, Fire}
@@ -11,7 +11,7 @@ use Rattle.face_text.specs.declared.group.Group.TheVariants.{Zones, Firsts, Miss
 use Rattle.face_text.specs.FaceTelling.{AreTheirSlots}
 use Rattle.face_text.specs.Slots.{HasPlace, Slot, Thing, Delays, Sounding, Count, last_of, number_of_buzzer, number_of_truth, shows, value_in}
 use Rattle.face_text.specs.Telling.{IsSlotOf}
-use Rattle.face_text.specs.Timelines.{IsFaceOf, kept_of, kept_points, of_site}
+use Rattle.face_text.specs.Timelines.{kept_of, kept_points, of_site}
 use Rattle.face_text.proofs.FaceForm.{faces_from, faults_from, named, points_from}
 use Rattle.face_text.proofs.KeptMasks.{same_by_number}
 
