@@ -1,6 +1,6 @@
 //! Which entries the text of a run of a site may have.
 
-ghost use Rattle.std.specs.Prelude.{◌≡◌, ◌↔◌, ◌≤◌, IsTrue};
+ghost use Rattle.std.specs.Prelude.{◌↔◌, IsTrue};
 ghost use Rattle.face_text.specs.Entries.{IsChange, IsEntry};
 ghost use Rattle.face_text.specs.Slots.{HasPlace};
 ghost use Rattle.face_text.specs.Spelled.{IsOf64Bits};

@@ -7,6 +7,9 @@
 //! is the lines of the slots whose values differ, in the order of the page. The text of a whole run is a function of its timeline
 //! (`specs/Timelines`), as is which timelines a run can have.
 //!
+//! A line of such a text is read alone: its fields spell one entry at most (`specs/Spelled`), and the line is that entry's if the entry's own line,
+//! put together again, is the same. `proofs/EntryLaws` shows that the line of an entry determines it.
+//!
 //! [`push_list`] puts a list of a face in JSON from the same slots.
 //!
 //! No call takes memory. Where two faces are equal, writing their changes compares a fixed number of machine words and looks at nothing of the

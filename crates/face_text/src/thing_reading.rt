@@ -1,6 +1,6 @@
 //! Reading which thing a line tells of. Whether it is of the line's panel, the line of the thing tells.
 
-ghost use Rattle.std.specs.Prelude.{◌≡◌, ◌^◌, option_map, bytes_eq};
+ghost use Rattle.std.specs.Prelude.{◌≡◌};
 ghost use Rattle.site_types.specs.Valid.{IsValid};
 ghost use Rattle.face_text.specs.Spelled.{disabled_spelled, fault_spelled, number_below, number_spelled, output_named as output_of_name, point_named as point_of_name, supply_of, thing_spelled, truth_place as place_of_truth, zone_named as zone_of_name};
 
