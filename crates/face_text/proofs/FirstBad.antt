@@ -133,7 +133,7 @@ lines_of_front site lines entries each =
 
 -- ---- the lines that are read
 
-told_form : (site : Site) → FaceLaws → LineLaws site → site.panels ≤ 8 → (text rest : List ℕ) (told : Told) (count : ℕ) → IsReadSoFar site text rest told count → IsToldForm site told
+pub told_form : (site : Site) → FaceLaws → LineLaws site → site.panels ≤ 8 → (text rest : List ℕ) (told : Told) (count : ℕ) → IsReadSoFar site text rest told count → IsToldForm site told
 told_form site laws lines eight text rest told count read = (all_told site laws lines eight (nothing_told site) told read.entries (nothing_is_told site laws) read.each read.leads).form
 
 front_is : (site : Site) → FaceLaws → LineLaws site → site.panels ≤ 8 → (text rest : List ℕ) (told : Told) (count : ℕ) (read : IsReadSoFar site text rest told count) →

@@ -33,3 +33,5 @@ pub mod SameSlots
 pub mod PageOrder
 pub mod OneMoreLine
 pub mod AllLines
+pub mod AllLaws
+pub mod ReadSteps
