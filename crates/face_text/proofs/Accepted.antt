@@ -20,11 +20,11 @@ use Rattle.face_text.specs.ReadSoFar.{AreEntries}
 use Rattle.face_text.specs.Slots.{value_in}
 use Rattle.face_text.specs.Telling.{face_told}
 use Rattle.face_text.specs.Timelines.{IsInForm, empty_faces, end_line, faces_text, opening_line, steps_text, text_of, tick_line}
-use Rattle.face_text.proofs.NeededLaws.{FaceLaws, LineLaws}
 use Rattle.face_text.proofs.ToldAnswers.{nothing_answered, nothing_answered_text}
 use Rattle.face_text.proofs.ToldBlocks.{IsBlock, IsNextBlock, answer_block, block_text, busy_block, change_block, failed_block}
 use Rattle.face_text.proofs.ToldForms.{IsClosed, IsToldForm, befores_of, closed, head_text, no_answers_text, nothing_is_told, nothing_told_text, told_faces_are, told_text_is, untold_block}
 use Rattle.face_text.proofs.ToldPages.{same_faces_no_text}
+use Rattle.site_types.specs.Valid.{IsValid}
 
 pub if_taken : {A : Type 0} (b : Bool) (x y : A) → (if b then Some x else None) ≡ Some y → (b ≡ true) × (x ≡ y)
 if_taken true x y e = (refl, cc)
@@ -52,14 +52,14 @@ grown_told site told faces answers rank line form next unanswered =
     }
 
 change_next :
-    (site : Site) → FaceLaws → LineLaws site → site.panels ≤ 8 → (told next : Told) (panel : ℕ) (change : Change) → IsToldForm site told → IsEntry site (ChangeEntry panel change)
+    (site : Site) → IsValid site → (told next : Told) (panel : ℕ) (change : Change) → IsToldForm site told → IsEntry site (ChangeEntry panel change)
     → told_next told (ChangeEntry panel change) ≡ Some next → IsNextTold site told next (entry_line site (ChangeEntry panel change))
-change_next site laws lines eight told next panel change form is taken =
+change_next site valid told next panel change form is taken =
     let p = if_taken (comes_next told (ChangeEntry panel change) && is_news told panel change) _ next taken in
     let tests = and_parts (comes_next told (ChangeEntry panel change)) (is_news told panel change) p.0 in
     let less : told.rank < rank_of (ChangeEntry panel change) = ltb-true told.rank (rank_of (ChangeEntry panel change)) tests.0 in
     let news : value_in (face_at told.faces panel) (slot_of change) ≢ value_of change = eqb-false (value_in (face_at told.faces panel) (slot_of change)) (value_of change) (not-true _ tests.1) in
-    let block = change_block site laws lines eight told.rank (befores_of site told) told.faces told.answers panel change form.block is less news in
+    let block = change_block site valid told.rank (befores_of site told) told.faces told.answers panel change form.block is less news in
     subst (λ (t : Told). IsNextTold site told t (entry_line site (ChangeEntry panel change))) p.1
     (grown_told site told (set told.faces (panel - 1) (face_told (face_at told.faces panel) change)) told.answers (rank_of (ChangeEntry panel change)) (entry_line site (ChangeEntry panel change)) form block form.unanswered)
 
@@ -67,39 +67,39 @@ in_tick : (told : Told) → is_in_tick told ≡ true → (answers : Answers) →
 in_tick told is answers none = absurd (omega (arith, none, ltb-true 0 told.tick.0 is))
 
 answer_next :
-    (site : Site) → LineLaws site → (told next : Told) (answer : OpAnswer) → IsToldForm site told → IsEntry site (AnswerEntry answer) → told_next told (AnswerEntry answer) ≡ Some next
+    (site : Site) → IsValid site → (told next : Told) (answer : OpAnswer) → IsToldForm site told → IsEntry site (AnswerEntry answer) → told_next told (AnswerEntry answer) ≡ Some next
     → IsNextTold site told next (entry_line site (AnswerEntry answer))
-answer_next site lines told next answer form is taken =
+answer_next site valid told next answer form is taken =
     let p = if_taken (is_in_tick told && comes_next told (AnswerEntry answer) && nat_lt (length told.answers.ops) 64) _ next taken in
     let tests = and_parts (is_in_tick told && comes_next told (AnswerEntry answer)) (nat_lt (length told.answers.ops) 64) p.0 in
     let first = and_parts (is_in_tick told) (comes_next told (AnswerEntry answer)) tests.0 in
     let less : told.rank < rank_of (AnswerEntry answer) = ltb-true told.rank (rank_of (AnswerEntry answer)) first.1 in
     let room : length told.answers.ops < 64 = ltb-true (length told.answers.ops) 64 tests.1 in
     let answers : Answers = record told.answers { ops = told.answers.ops ++ answer ∷ [] } in
-    let block = answer_block site lines told.rank (befores_of site told) told.faces told.answers answer form.block is less room in
+    let block = answer_block site valid told.rank (befores_of site told) told.faces told.answers answer form.block is less room in
     subst (λ (t : Told). IsNextTold site told t (entry_line site (AnswerEntry answer))) p.1
     (grown_told site told told.faces answers (rank_of (AnswerEntry answer)) (entry_line site (AnswerEntry answer)) form block (in_tick told first.0 answers))
 
 busy_next :
-    (site : Site) → LineLaws site → site.panels ≤ 8 → (told next : Told) (panel count : ℕ) → IsToldForm site told → IsEntry site (BusyEntry panel count)
+    (site : Site) → IsValid site → (told next : Told) (panel count : ℕ) → IsToldForm site told → IsEntry site (BusyEntry panel count)
     → told_next told (BusyEntry panel count) ≡ Some next → IsNextTold site told next (entry_line site (BusyEntry panel count))
-busy_next site lines eight told next panel count form is taken =
+busy_next site valid told next panel count form is taken =
     let p = if_taken (is_in_tick told && comes_next told (BusyEntry panel count)) _ next taken in
     let first = and_parts (is_in_tick told) (comes_next told (BusyEntry panel count)) p.0 in
     let less : told.rank < rank_of (BusyEntry panel count) = ltb-true told.rank (rank_of (BusyEntry panel count)) first.1 in
     let answers : Answers = record told.answers { busy = set told.answers.busy (panel - 1) count } in
-    let block = busy_block site lines eight told.rank (befores_of site told) told.faces told.answers panel count form.block is less in
+    let block = busy_block site valid told.rank (befores_of site told) told.faces told.answers panel count form.block is less in
     subst (λ (t : Told). IsNextTold site told t (entry_line site (BusyEntry panel count))) p.1
     (grown_told site told told.faces answers (rank_of (BusyEntry panel count)) (entry_line site (BusyEntry panel count)) form block (in_tick told first.0 answers))
 
 failed_next :
-    (site : Site) → LineLaws site → (told next : Told) → IsToldForm site told → told_next told StoreFailed ≡ Some next → IsNextTold site told next (entry_line site StoreFailed)
-failed_next site lines told next form taken =
+    (site : Site) → IsValid site → (told next : Told) → IsToldForm site told → told_next told StoreFailed ≡ Some next → IsNextTold site told next (entry_line site StoreFailed)
+failed_next site valid told next form taken =
     let p = if_taken (is_in_tick told && comes_next told StoreFailed) _ next taken in
     let first = and_parts (is_in_tick told) (comes_next told StoreFailed) p.0 in
     let less : told.rank < rank_of StoreFailed = ltb-true told.rank (rank_of StoreFailed) first.1 in
     let answers : Answers = record told.answers { failed = true } in
-    let block = failed_block site lines told.rank (befores_of site told) told.faces told.answers form.block less in
+    let block = failed_block site valid told.rank (befores_of site told) told.faces told.answers form.block less in
     subst (λ (t : Told). IsNextTold site told t (entry_line site StoreFailed)) p.1
     (grown_told site told told.faces answers (rank_of StoreFailed) (entry_line site StoreFailed) form block (in_tick told first.0 answers))
 
@@ -139,14 +139,14 @@ tick_next site told next tick form is taken =
 -- ---- any line
 
 pub next_told :
-    (site : Site) → FaceLaws → LineLaws site → site.panels ≤ 8 → (told next : Told) (entry : Entry) → IsToldForm site told → IsEntry site entry → told_next told entry ≡ Some next
+    (site : Site) → IsValid site → (told next : Told) (entry : Entry) → IsToldForm site told → IsEntry site entry → told_next told entry ≡ Some next
     → IsNextTold site told next (entry_line site entry)
-next_told site laws lines eight told next (ChangeEntry panel change) form is taken = change_next site laws lines eight told next panel change form is taken
-next_told site laws lines eight told next (AnswerEntry answer) form is taken = answer_next site lines told next answer form is taken
-next_told site laws lines eight told next (BusyEntry panel count) form is taken = busy_next site lines eight told next panel count form is taken
-next_told site laws lines eight told next StoreFailed form is taken = failed_next site lines told next form taken
-next_told site laws lines eight told next (TickEntry tick) form is taken = tick_next site told next tick form is taken
-next_told site laws lines eight told next (EndEntry tick) form is taken = cc
+next_told site valid told next (ChangeEntry panel change) form is taken = change_next site valid told next panel change form is taken
+next_told site valid told next (AnswerEntry answer) form is taken = answer_next site valid told next answer form is taken
+next_told site valid told next (BusyEntry panel count) form is taken = busy_next site valid told next panel count form is taken
+next_told site valid told next StoreFailed form is taken = failed_next site valid told next form taken
+next_told site valid told next (TickEntry tick) form is taken = tick_next site told next tick form is taken
+next_told site valid told next (EndEntry tick) form is taken = cc
 
 pub after_more : (told next : Told) (entry : Entry) (entries : List Entry) → told_after told (entry ∷ entries) ≡ Some next → (one : Told) × (told_next told entry ≡ Some one) × (told_after one entries ≡ Some next)
 after_more told next entry entries taken = by (told_next told entry) refl taken
@@ -156,15 +156,15 @@ after_more told next entry entries taken = by (told_next told entry) refl taken
     by (Some one) e taken = (one, e, taken)
 
 pub all_told :
-    (site : Site) → FaceLaws → LineLaws site → site.panels ≤ 8 → (told next : Told) (entries : List Entry) → IsToldForm site told → AreEntries site entries
+    (site : Site) → IsValid site → (told next : Told) (entries : List Entry) → IsToldForm site told → AreEntries site entries
     → told_after told entries ≡ Some next → IsNextTold site told next (entries_text site entries)
-all_told site laws lines eight told next [] form are taken =
+all_told site valid told next [] form are taken =
     let same : told ≡ next = cc in
     subst (λ (t : Told). IsNextTold site told t []) same (record { form = form; text = sym (append-nil (told_text site told)) })
-all_told site laws lines eight told next (entry ∷ entries) form are taken =
+all_told site valid told next (entry ∷ entries) form are taken =
     let p = after_more told next entry entries taken in
-    let first = next_told site laws lines eight told p.0 entry form are.0 p.1 in
-    let rest = all_told site laws lines eight p.0 next entries first.form are.1 p.2 in
+    let first = next_told site valid told p.0 entry form are.0 p.1 in
+    let rest = all_told site valid p.0 next entries first.form are.1 p.2 in
     record {
       form = rest.form;
       text = rest.text ∙ ap (λ t. t ++ entries_text site entries) first.text ∙ append_assoc (told_text site told) (entry_line site entry) (entries_text site entries);
@@ -210,24 +210,24 @@ pub or_first : (a b : Bool) → a ≡ true → (a || b) ≡ true
 or_first a b e = rw e refl
 
 -- in the block of a tick that has no line yet, that Keep's turn failed may be the first
-failure_goes_on : (site : Site) → LineLaws site → (told : Told) → IsToldForm site told → 0 < told.tick.0 → told.rank ≡ 0 → MayGoOn site (told_text site told)
-failure_goes_on site lines told form some unranked =
+failure_goes_on : (site : Site) → IsValid site → (told : Told) → IsToldForm site told → 0 < told.tick.0 → told.rank ≡ 0 → MayGoOn site (told_text site told)
+failure_goes_on site valid told form some unranked =
     let after : Told =
       record { opened = told.opened; steps = told.steps; tick = told.tick; faces = told.faces; answers = record told.answers { failed = true }; rank = rank_of StoreFailed } in
     let ticking : nat_lt 0 told.tick.0 ≡ true = lt-ltb 0 told.tick.0 some in
     let first : nat_lt told.rank (rank_of StoreFailed) ≡ true = lt-ltb told.rank (rank_of StoreFailed) (omega (arith, unranked)) in
     let taken : told_next told StoreFailed ≡ Some after = rw (ticking, first) refl in
-    let one = failed_next site lines told after form taken in
+    let one = failed_next site valid told after form taken in
     let shut : MayGoOn site (told_text site after) = closed_goes_on site after one.form (or_second (told.tick.0 == 0) (nat_lt 0 (rank_of StoreFailed)) refl) in
     goes_on_before site (told_text site told) (entry_line site StoreFailed) (subst (MayGoOn site) one.text shut)
 
-pub goes_on : (site : Site) → LineLaws site → (told : Told) → IsToldForm site told → MayGoOn site (told_text site told)
-goes_on site lines told form =
+pub goes_on : (site : Site) → IsValid site → (told : Told) → IsToldForm site told → MayGoOn site (told_text site told)
+goes_on site valid told form =
     elim (zero_or_more told.tick.0) [
       | inl none ↦ closed_goes_on site told form (or_first (told.tick.0 == 0) (nat_lt 0 told.rank) (eq-eqb told.tick.0 0 none))
       | inr some ↦
         elim (zero_or_more told.rank) [
-          | inl unranked ↦ failure_goes_on site lines told form some unranked
+          | inl unranked ↦ failure_goes_on site valid told form some unranked
           | inr ranked ↦ closed_goes_on site told form (or_second (told.tick.0 == 0) (nat_lt 0 told.rank) (lt-ltb 0 told.rank ranked))
         ]
     ]

@@ -14,11 +14,12 @@ use Rattle.face_text.specs.ReadSoFar.{AreEntries, IsReadSoFar, IsRefused}
 use Rattle.face_text.specs.Timelines.{IsInForm, empty_faces, end_line, faces_text, opening_line, steps_text, text_of}
 use Rattle.face_text.proofs.Accepted.{after_more, all_told, ended_told, goes_on, goes_on_before}
 use Rattle.face_text.proofs.LineEnds.{first_lines-line, line_ends-append, line_ends-line, same_line}
-use Rattle.face_text.proofs.NeededLaws.{FaceLaws, LineLaws}
 use Rattle.face_text.proofs.RunLines.{entries_join, leads_on}
 use Rattle.face_text.proofs.Runs.{IsTold, is_told}
 use Rattle.face_text.proofs.SameTexts.{GoesOn, all_entries, all_entries_are, entries_front, no_lines, same_front, told_text_of}
 use Rattle.face_text.proofs.ToldForms.{IsToldForm, nothing_is_told, nothing_told_text}
+use Rattle.face_text.proofs.EntryLaws.{entry_line-determines, entry_line-one, opening_line-one}
+use Rattle.site_types.specs.Valid.{IsValid}
 
 -- ---- what stands behind the lines of a timeline's text that are read
 
@@ -76,14 +77,14 @@ next_of site timeline by entries (entry ∷ other ∷ rest) told more leads all 
     let q = after_more p.0 by.told entry front.0 p.2 in
     record { entry = entry; form = each.0; after = entries_text site (other ∷ rest); more_is = more_is; stands = inl (q.0, ap (λ (t : Told). told_next t entry) (sym tolds) ∙ q.1) }
 
-pub has_next : (site : Site) → FaceLaws → LineLaws site → site.panels ≤ 8 → (timeline : Timeline) → IsInForm site timeline → (entries : List Entry) (told : Told) (more : List ℕ) →
+pub has_next : (site : Site) → IsValid site → (timeline : Timeline) → IsInForm site timeline → (entries : List Entry) (told : Told) (more : List ℕ) →
     AreEntries site entries → told_after (nothing_told site) entries ≡ Some told → text_of site timeline ≡ (opening_line site ++ entries_text site entries) ++ more → HasNext site timeline told more
-has_next site laws lines eight timeline form entries told more each leads text =
-    let by = is_told site laws lines eight timeline form in
+has_next site valid timeline form entries told more each leads text =
+    let by = is_told site valid timeline form in
     let same =
       append_cancel_left (opening_line site) (entries_text site entries ++ more) (entries_text site (all_entries by.entries timeline.last))
       (sym (append_assoc (opening_line site) (entries_text site entries) more) ∙ sym text ∙ told_text_of site timeline by) in
-    let on = entries_front site lines entries (all_entries by.entries timeline.last) more each (all_entries_are site by.entries timeline.last by.by_them.each form.last) same in
+    let on = entries_front site valid entries (all_entries by.entries timeline.last) more each (all_entries_are site by.entries timeline.last by.by_them.each form.last) same in
     next_of site timeline by entries on.rest told more leads on.others_are on.each on.more_is
 
 -- ---- lines counted
@@ -115,37 +116,37 @@ lines_join n m front more one other = (
         ap line_ends (append_assoc front more rest) ∙ one.1 (more ++ rest) ∙ ap (λ (c : ℕ). n + c) (other.1 rest) ∙ count,
     )
 
-lines_of_entries : (site : Site) → LineLaws site → (entries : List Entry) → AreEntries site entries → IsLinesOf (length entries) (entries_text site entries)
-lines_of_entries site lines [] each = (λ k rest. ap (λ (n : ℕ). first_lines n rest) (plain k), λ rest. sym (plain (line_ends rest)))
+lines_of_entries : (site : Site) → IsValid site → (entries : List Entry) → AreEntries site entries → IsLinesOf (length entries) (entries_text site entries)
+lines_of_entries site valid [] each = (λ k rest. ap (λ (n : ℕ). first_lines n rest) (plain k), λ rest. sym (plain (line_ends rest)))
   where
     plain : (k : ℕ) → 0 + k ≡ k
     plain k = omega arith
-lines_of_entries site lines (entry ∷ entries) each =
+lines_of_entries site valid (entry ∷ entries) each =
     let count : 1 + length entries ≡ suc (length entries) = omega arith in
     subst (λ (n : ℕ). IsLinesOf n (entry_line site entry ++ entries_text site entries)) count
-    (lines_join 1 (length entries) (entry_line site entry) (entries_text site entries) (one_line_of (entry_line site entry) (lines.one_line entry each.0)) (lines_of_entries site lines entries each.1))
+    (lines_join 1 (length entries) (entry_line site entry) (entries_text site entries) (one_line_of (entry_line site entry) (entry_line-one site valid entry each.0)) (lines_of_entries site valid entries each.1))
 
-lines_of_front : (site : Site) → LineLaws site → (entries : List Entry) → AreEntries site entries → IsLinesOf (suc (length entries)) (opening_line site ++ entries_text site entries)
-lines_of_front site lines entries each =
+lines_of_front : (site : Site) → IsValid site → (entries : List Entry) → AreEntries site entries → IsLinesOf (suc (length entries)) (opening_line site ++ entries_text site entries)
+lines_of_front site valid entries each =
     let count : 1 + length entries ≡ suc (length entries) = omega arith in
     subst (λ (n : ℕ). IsLinesOf n (opening_line site ++ entries_text site entries)) count
-    (lines_join 1 (length entries) (opening_line site) (entries_text site entries) (one_line_of (opening_line site) lines.opening) (lines_of_entries site lines entries each))
+    (lines_join 1 (length entries) (opening_line site) (entries_text site entries) (one_line_of (opening_line site) (opening_line-one site valid)) (lines_of_entries site valid entries each))
 
 -- ---- the lines that are read
 
-pub told_form : (site : Site) → FaceLaws → LineLaws site → site.panels ≤ 8 → (text rest : List ℕ) (told : Told) (count : ℕ) → IsReadSoFar site text rest told count → IsToldForm site told
-told_form site laws lines eight text rest told count read = (all_told site laws lines eight (nothing_told site) told read.entries (nothing_is_told site laws) read.each read.leads).form
+pub told_form : (site : Site) → IsValid site → (text rest : List ℕ) (told : Told) (count : ℕ) → IsReadSoFar site text rest told count → IsToldForm site told
+told_form site valid text rest told count read = (all_told site valid (nothing_told site) told read.entries (nothing_is_told site) read.each read.leads).form
 
-front_is : (site : Site) → FaceLaws → LineLaws site → site.panels ≤ 8 → (text rest : List ℕ) (told : Told) (count : ℕ) (read : IsReadSoFar site text rest told count) →
+front_is : (site : Site) → IsValid site → (text rest : List ℕ) (told : Told) (count : ℕ) (read : IsReadSoFar site text rest told count) →
     told_text site told ≡ opening_line site ++ entries_text site read.entries
-front_is site laws lines eight text rest told count read =
-    (all_told site laws lines eight (nothing_told site) told read.entries (nothing_is_told site laws) read.each read.leads).text
+front_is site valid text rest told count read =
+    (all_told site valid (nothing_told site) told read.entries (nothing_is_told site) read.each read.leads).text
     ∙ ap (λ t. t ++ entries_text site read.entries) (nothing_told_text site)
 
-front_goes_on : (site : Site) → FaceLaws → LineLaws site → site.panels ≤ 8 → (text rest : List ℕ) (told : Told) (count : ℕ) (read : IsReadSoFar site text rest told count) →
+front_goes_on : (site : Site) → IsValid site → (text rest : List ℕ) (told : Told) (count : ℕ) (read : IsReadSoFar site text rest told count) →
     MayGoOn site (opening_line site ++ entries_text site read.entries)
-front_goes_on site laws lines eight text rest told count read =
-    subst (MayGoOn site) (front_is site laws lines eight text rest told count read) (goes_on site lines told (told_form site laws lines eight text rest told count read))
+front_goes_on site valid text rest told count read =
+    subst (MayGoOn site) (front_is site valid text rest told count read) (goes_on site valid told (told_form site valid text rest told count read))
 
 -- the opening is read
 pub begun_reading : (site : Site) (text line rest : List ℕ) → opening_line site ≡ line ++ 10 ∷ [] → text ≡ line ++ 10 ∷ rest → IsReadSoFar site text rest (nothing_told site) 1
@@ -182,12 +183,12 @@ read_on site text rest line more told next count later entry read rest_is is tak
     entries_push s (first ∷ entries) last = ap (λ t. entry_line s first ++ t) (entries_push s entries last) ∙ sym (append_assoc (entry_line s first) (entries_text s entries) (entry_line s last))
 
 -- the last line is read
-pub read_to_end : (site : Site) → FaceLaws → LineLaws site → site.panels ≤ 8 → (text rest line : List ℕ) (told : Told) (count : ℕ) (last : Tick) (timeline : Timeline) → IsReadSoFar site text rest told count →
+pub read_to_end : (site : Site) → IsValid site → (text rest line : List ℕ) (told : Told) (count : ℕ) (last : Tick) (timeline : Timeline) → IsReadSoFar site text rest told count →
     rest ≡ line ++ 10 ∷ [] → IsLineOf site line (EndEntry last) → timeline_told told last ≡ Some timeline → IsRead site text timeline
-read_to_end site laws lines eight text rest line told count last timeline read rest_is is taken =
-    let ended = ended_told site told last timeline (told_form site laws lines eight text rest told count read) is.form taken in
+read_to_end site valid text rest line told count last timeline read rest_is is taken =
+    let ended = ended_told site told last timeline (told_form site valid text rest told count read) is.form taken in
     let same : told_text site told ++ end_line last.0 ≡ text =
-      ap (λ t. t ++ end_line last.0) (front_is site laws lines eight text rest told count read) ∙ ap (λ t. (opening_line site ++ entries_text site read.entries) ++ t) (is.line_is ∙ sym rest_is) ∙ sym read.text_is in
+      ap (λ t. t ++ end_line last.0) (front_is site valid text rest told count read) ∙ ap (λ t. (opening_line site ++ entries_text site read.entries) ++ t) (is.line_is ∙ sym rest_is) ∙ sym read.text_is in
     record { form = ended.form; text_is = ended.text_is ∙ same }
 
 -- ---- where reading stops
@@ -217,8 +218,8 @@ bad_at site text front rest count number of text_is may none stops is =
 no_lines_yet : IsLinesOf 0 []
 no_lines_yet = (λ k rest. let plain : 0 + k ≡ k = omega arith in ap (λ (n : ℕ). first_lines n rest) plain, λ rest. let plain : line_ends rest ≡ 0 + line_ends rest = omega arith in plain)
 
-begins : (site : Site) → FaceLaws → LineLaws site → MayGoOn site []
-begins site laws lines = goes_on_before site [] (opening_line site) (subst (MayGoOn site) (nothing_told_text site) (goes_on site lines (nothing_told site) (nothing_is_told site laws)))
+begins : (site : Site) → IsValid site → MayGoOn site []
+begins site valid = goes_on_before site [] (opening_line site) (subst (MayGoOn site) (nothing_told_text site) (goes_on site valid (nothing_told site) (nothing_is_told site)))
 
 opens_so : (site : Site) (timeline : Timeline) → (rest : List ℕ) × (text_of site timeline ≡ opening_line site ++ rest)
 opens_so site timeline =
@@ -229,52 +230,52 @@ opens_so site timeline =
     regroup a b c d = simp append_assoc
 
 -- the first line isn't ended
-pub bad_first_unended : (site : Site) → FaceLaws → LineLaws site → (text : List ℕ) → line_ends text ≡ 0 → IsBadLine site text 1
-bad_first_unended site laws lines text unended =
-    bad_at site text [] text 0 1 no_lines_yet refl (begins site laws lines)
+pub bad_first_unended : (site : Site) → IsValid site → (text : List ℕ) → line_ends text ≡ 0 → IsBadLine site text 1
+bad_first_unended site valid text unended =
+    bad_at site text [] text 0 1 no_lines_yet refl (begins site valid)
     (λ timeline form text_is.
       let opens = opens_so site timeline in
-      let one = one_line_of (opening_line site) lines.opening in
+      let one = one_line_of (opening_line site) (opening_line-one site valid) in
       absurd (omega (arith, unended, ap line_ends (sym text_is ∙ opens.1), one.1 opens.0)))
     (inl unended) refl
 
-not_opening : (site : Site) → LineLaws site → (line : List ℕ) → line_ends line ≡ 0 → (opening_line site ≡ line ++ 10 ∷ [] → ⊥) → (timeline : Timeline) (more : List ℕ) →
+not_opening : (site : Site) → IsValid site → (line : List ℕ) → line_ends line ≡ 0 → (opening_line site ≡ line ++ 10 ∷ [] → ⊥) → (timeline : Timeline) (more : List ℕ) →
     text_of site timeline ≡ line ++ 10 ∷ more → ⊥
-not_opening site lines line no_end other timeline more text_is =
+not_opening site valid line no_end other timeline more text_is =
     let opens = opens_so site timeline in
     let whole : IsOneLine (line ++ 10 ∷ []) = record { body = line; no_end = no_end; bytes_is = refl } in
-    let both = same_front (line ++ 10 ∷ []) more (opening_line site) opens.0 whole lines.opening (append_assoc line (10 ∷ []) more ∙ sym text_is ∙ opens.1) in
+    let both = same_front (line ++ 10 ∷ []) more (opening_line site) opens.0 whole (opening_line-one site valid) (append_assoc line (10 ∷ []) more ∙ sym text_is ∙ opens.1) in
     other (sym both.0)
 
 -- the first line isn't the opening's
-pub bad_first : (site : Site) → FaceLaws → LineLaws site → (text line rest : List ℕ) → line_ends line ≡ 0 → text ≡ line ++ 10 ∷ rest → (opening_line site ≡ line ++ 10 ∷ [] → ⊥) → IsBadLine site text 1
-bad_first site laws lines text line rest no_end text_is other =
-    bad_at site text [] text 0 1 no_lines_yet refl (begins site laws lines) (λ timeline form is. not_opening site lines line no_end other timeline rest (is ∙ text_is))
+pub bad_first : (site : Site) → IsValid site → (text line rest : List ℕ) → line_ends line ≡ 0 → text ≡ line ++ 10 ∷ rest → (opening_line site ≡ line ++ 10 ∷ [] → ⊥) → IsBadLine site text 1
+bad_first site valid text line rest no_end text_is other =
+    bad_at site text [] text 0 1 no_lines_yet refl (begins site valid) (λ timeline form is. not_opening site valid line no_end other timeline rest (is ∙ text_is))
     (inr (λ timeline more form is.
-      not_opening site lines line no_end other timeline more
+      not_opening site valid line no_end other timeline more
       (is ∙ ap (λ t. t ++ more) (ap (first_lines 1) text_is ∙ first_lines-line 0 line rest no_end) ∙ append_assoc line (10 ∷ []) more)))
     refl
 
 -- no line is ended any more
-pub bad_unended : (site : Site) → FaceLaws → LineLaws site → site.panels ≤ 8 → (text rest : List ℕ) (told : Told) (count number : ℕ) → IsReadSoFar site text rest told count → line_ends rest ≡ 0 →
+pub bad_unended : (site : Site) → IsValid site → (text rest : List ℕ) (told : Told) (count number : ℕ) → IsReadSoFar site text rest told count → line_ends rest ≡ 0 →
     number ≡ count + 1 → IsBadLine site text number
-bad_unended site laws lines eight text rest told count number read unended is =
-    bad_at site text (opening_line site ++ entries_text site read.entries) rest (suc (length read.entries)) number (lines_of_front site lines read.entries read.each) read.text_is
-    (front_goes_on site laws lines eight text rest told count read)
+bad_unended site valid text rest told count number read unended is =
+    bad_at site text (opening_line site ++ entries_text site read.entries) rest (suc (length read.entries)) number (lines_of_front site valid read.entries read.each) read.text_is
+    (front_goes_on site valid text rest told count read)
     (λ timeline form text_is.
-      let next = has_next site laws lines eight timeline form read.entries told rest read.each read.leads text_is in
-      let one = one_line_of (entry_line site next.entry) (lines.one_line next.entry next.form) in
+      let next = has_next site valid timeline form read.entries told rest read.each read.leads text_is in
+      let one = one_line_of (entry_line site next.entry) (entry_line-one site valid next.entry next.form) in
       absurd (omega (arith, unended, ap line_ends next.more_is, one.1 next.after)))
     (inl unended) (is ∙ ap (λ (n : ℕ). n + 1) read.count_is)
 
 clash : {A : Type 0} (o : Option A) (x : A) → o ≡ None → o ≡ Some x → ⊥
 clash o x none some = let both : None ≡ Some x = sym none ∙ some in cc
 
-refuted : (site : Site) → FaceLaws → LineLaws site → site.panels ≤ 8 → (entries : List Entry) (told : Told) (line more : List ℕ) → AreEntries site entries → told_after (nothing_told site) entries ≡ Some told →
+refuted : (site : Site) → IsValid site → (entries : List Entry) (told : Told) (line more : List ℕ) → AreEntries site entries → told_after (nothing_told site) entries ≡ Some told →
     line_ends line ≡ 0 → IsRefused site told line → (timeline : Timeline) → IsInForm site timeline → text_of site timeline ≡ (opening_line site ++ entries_text site entries) ++ (line ++ 10 ∷ more) → ⊥
-refuted site laws lines eight entries told line more each leads no_end refused timeline form text_is =
-    let next = has_next site laws lines eight timeline form entries told (line ++ 10 ∷ more) each leads text_is in
-    let one = lines.one_line next.entry next.form in
+refuted site valid entries told line more each leads no_end refused timeline form text_is =
+    let next = has_next site valid timeline form entries told (line ++ 10 ∷ more) each leads text_is in
+    let one = entry_line-one site valid next.entry next.form in
     let whole : IsOneLine (line ++ 10 ∷ []) = record { body = line; no_end = no_end; bytes_is = refl } in
     let both = same_front (line ++ 10 ∷ []) more (entry_line site next.entry) next.after whole one (append_assoc line (10 ∷ []) more ∙ next.more_is) in
     let is : IsLineOf site line next.entry = record { form = next.form; line_is = sym both.0 } in
@@ -284,27 +285,27 @@ refuted site laws lines eight entries told line more each leads no_end refused t
     ]
 
 -- the next line may not stand there
-pub bad_refused : (site : Site) → FaceLaws → LineLaws site → site.panels ≤ 8 → (text rest line more : List ℕ) (told : Told) (count number : ℕ) → IsReadSoFar site text rest told count →
+pub bad_refused : (site : Site) → IsValid site → (text rest line more : List ℕ) (told : Told) (count number : ℕ) → IsReadSoFar site text rest told count →
     rest ≡ line ++ 10 ∷ more → line_ends line ≡ 0 → IsRefused site told line → number ≡ count + 1 → IsBadLine site text number
-bad_refused site laws lines eight text rest line more told count number read rest_is no_end refused is =
+bad_refused site valid text rest line more told count number read rest_is no_end refused is =
     let front : List ℕ = opening_line site ++ entries_text site read.entries in
     let first : first_lines 1 rest ≡ line ++ 10 ∷ [] = ap (first_lines 1) rest_is ∙ first_lines-line 0 line more no_end in
-    bad_at site text (opening_line site ++ entries_text site read.entries) rest (suc (length read.entries)) number (lines_of_front site lines read.entries read.each) read.text_is
-    (front_goes_on site laws lines eight text rest told count read)
-    (λ timeline form text_is. refuted site laws lines eight read.entries told line more read.each read.leads no_end refused timeline form (text_is ∙ ap (λ t. front ++ t) rest_is))
+    bad_at site text (opening_line site ++ entries_text site read.entries) rest (suc (length read.entries)) number (lines_of_front site valid read.entries read.each) read.text_is
+    (front_goes_on site valid text rest told count read)
+    (λ timeline form text_is. refuted site valid read.entries told line more read.each read.leads no_end refused timeline form (text_is ∙ ap (λ t. front ++ t) rest_is))
     (inr (λ timeline behind form text_is.
-      refuted site laws lines eight read.entries told line behind read.each read.leads no_end refused timeline form
+      refuted site valid read.entries told line behind read.each read.leads no_end refused timeline form
       (text_is ∙ ap (λ t. (front ++ t) ++ behind) first ∙ append_assoc front (line ++ 10 ∷ []) behind ∙ ap (λ t. front ++ t) (append_assoc line (10 ∷ []) behind))))
     (is ∙ ap (λ (n : ℕ). n + 1) read.count_is)
 
-nothing_behind_end : (site : Site) → FaceLaws → LineLaws site → site.panels ≤ 8 → (entries : List Entry) (told : Told) (last : Tick) (more : List ℕ) → AreEntries site entries →
+nothing_behind_end : (site : Site) → IsValid site → (entries : List Entry) (told : Told) (last : Tick) (more : List ℕ) → AreEntries site entries →
     told_after (nothing_told site) entries ≡ Some told → IsEntry site (EndEntry last) → more ≢ [] → (timeline : Timeline) → IsInForm site timeline →
     text_of site timeline ≡ ((opening_line site ++ entries_text site entries) ++ end_line last.0) ++ more → ⊥
-nothing_behind_end site laws lines eight entries told last more each leads small some timeline form text_is =
+nothing_behind_end site valid entries told last more each leads small some timeline form text_is =
     let next =
-      has_next site laws lines eight timeline form entries told (end_line last.0 ++ more) each leads (text_is ∙ append_assoc (opening_line site ++ entries_text site entries) (end_line last.0) more) in
-    let both = same_front (end_line last.0) more (entry_line site next.entry) next.after (lines.one_line (EndEntry last) small) (lines.one_line next.entry next.form) next.more_is in
-    let same : EndEntry last ≡ next.entry = lines.determines (EndEntry last) next.entry small next.form both.0 in
+      has_next site valid timeline form entries told (end_line last.0 ++ more) each leads (text_is ∙ append_assoc (opening_line site ++ entries_text site entries) (end_line last.0) more) in
+    let both = same_front (end_line last.0) more (entry_line site next.entry) next.after (entry_line-one site valid (EndEntry last) small) (entry_line-one site valid next.entry next.form) next.more_is in
+    let same : EndEntry last ≡ next.entry = entry_line-determines site valid (EndEntry last) next.entry small next.form both.0 in
     elim next.stands [
       | inl on ↦ clash (told_next told next.entry) on.0 (ap (told_next told) (sym same)) on.1
       | inr end ↦ some (both.1 ∙ end.2)
@@ -315,11 +316,11 @@ some_first [] some = λ e. some refl
 some_first (byte ∷ rest) some = λ e. cc
 
 -- behind the last line there is more
-pub bad_behind_end : (site : Site) → FaceLaws → LineLaws site → site.panels ≤ 8 → (text rest line more : List ℕ) (told : Told) (count number : ℕ) (last : Tick) (timeline : Timeline) →
+pub bad_behind_end : (site : Site) → IsValid site → (text rest line more : List ℕ) (told : Told) (count number : ℕ) (last : Tick) (timeline : Timeline) →
     IsReadSoFar site text rest told count → rest ≡ line ++ 10 ∷ more → IsLineOf site line (EndEntry last) → timeline_told told last ≡ Some timeline → more ≢ [] → number ≡ count + 2 → IsBadLine site text number
-bad_behind_end site laws lines eight text rest line more told count number last timeline read rest_is is taken some number_is =
+bad_behind_end site valid text rest line more told count number last timeline read rest_is is taken some number_is =
     let front : List ℕ = opening_line site ++ entries_text site read.entries in
-    let ended = ended_told site told last timeline (told_form site laws lines eight text rest told count read) is.form taken in
+    let ended = ended_told site told last timeline (told_form site valid text rest told count read) is.form taken in
     let text_is : text ≡ (front ++ end_line last.0) ++ more =
       read.text_is ∙ ap (λ t. front ++ t) (rest_is ∙ sym (ap (λ t. t ++ more) is.line_is ∙ append_assoc line (10 ∷ []) more)) ∙ sym (append_assoc front (end_line last.0) more) in
     let may : MayGoOn site (front ++ end_line last.0) =
@@ -327,13 +328,13 @@ bad_behind_end site laws lines eight text rest line more told count number last 
         timeline = timeline;
         form = ended.form;
         rest = [];
-        text = ended.text_is ∙ ap (λ t. t ++ end_line last.0) (front_is site laws lines eight text rest told count read) ∙ sym (append-nil (front ++ end_line last.0));
+        text = ended.text_is ∙ ap (λ t. t ++ end_line last.0) (front_is site valid text rest told count read) ∙ sym (append-nil (front ++ end_line last.0));
       } in
     bad_at site text (front ++ end_line last.0) more (suc (length read.entries) + 1) number
-    (lines_join (suc (length read.entries)) 1 front (end_line last.0) (lines_of_front site lines read.entries read.each) (one_line_of (end_line last.0) (lines.one_line (EndEntry last) is.form))) text_is may
-    (λ other form same. nothing_behind_end site laws lines eight read.entries told last more read.each read.leads is.form some other form same)
+    (lines_join (suc (length read.entries)) 1 front (end_line last.0) (lines_of_front site valid read.entries read.each) (one_line_of (end_line last.0) (entry_line-one site valid (EndEntry last) is.form))) text_is may
+    (λ other form same. nothing_behind_end site valid read.entries told last more read.each read.leads is.form some other form same)
     (inr (λ other behind form same.
-      nothing_behind_end site laws lines eight read.entries told last (first_lines 1 more ++ behind) read.each read.leads is.form (λ e. some_first more some (front_none (first_lines 1 more) behind e)) other form
+      nothing_behind_end site valid read.entries told last (first_lines 1 more ++ behind) read.each read.leads is.form (λ e. some_first more some (front_none (first_lines 1 more) behind e)) other form
       (same ∙ append_assoc (front ++ end_line last.0) (first_lines 1 more) behind)))
     (omega (arith, number_is, read.count_is))
   where

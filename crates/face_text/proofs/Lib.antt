@@ -12,7 +12,6 @@ pub mod Parting
 pub mod Plain
 pub mod Rest
 pub mod SameFaces
-pub mod NeededLaws
 pub mod ToldPages
 pub mod ToldAnswers
 pub mod Spaces
@@ -33,5 +32,4 @@ pub mod SameSlots
 pub mod PageOrder
 pub mod OneMoreLine
 pub mod AllLines
-pub mod AllLaws
 pub mod ReadSteps

@@ -18,26 +18,23 @@ use Rattle.face_text.specs.EntryLines.{IsLineOf, IsParted, ReadsEntry}
 use Rattle.face_text.specs.Reading.{IsBadLine, IsRead, IsRefusal, Told, line_ends, nothing_told, timeline_told, told_next}
 use Rattle.face_text.specs.ReadSoFar.{HasPlaceOf, IsEndOf, IsReadSoFar, IsRefused, TextsAreTheirOwn, Turns}
 use Rattle.face_text.specs.Timelines.{opening_line}
-use Rattle.face_text.proofs.AllLaws.{face_laws, line_laws}
 use Rattle.face_text.proofs.FirstBad.{bad_behind_end, bad_first, bad_first_unended, bad_refused, bad_unended, begun_reading, read_on, read_to_end, told_form}
 use Rattle.face_text.proofs.SameTexts.{texts_of_their_own}
+use Rattle.face_text.proofs.ToldPages.{few_panels}
 use Rattle.face_text.proofs.ToldValues.{change_placed}
-
-eight : (site : Site) → IsValid site → site.panels ≤ 8
-eight site valid = omega (arith, valid.forms.panels.1)
 
 -- no two timelines in form have one text
 pub texts_are_their_own : TextsAreTheirOwn
-texts_are_their_own site valid = texts_of_their_own site face_laws (line_laws site valid) (eight site valid)
+texts_are_their_own site valid = texts_of_their_own site valid
 
 -- ---- the first line
 
 pub first_unended : (site : Site) → IsValid site → (text : List ℕ) → line_ends text ≡ 0 → IsBadLine site text 1
-first_unended site valid text unended = bad_first_unended site face_laws (line_laws site valid) text unended
+first_unended site valid text unended = bad_first_unended site valid text unended
 
 pub first_not_opening : (site : Site) → IsValid site → (text line rest : List ℕ) (is : Bool) → IsParted text line rest → IsTrue is ↔ (opening_line site ≡ line ++ 10 ∷ []) → is ≡ false → IsBadLine site text 1
 first_not_opening site valid text line rest is parted tells off =
-    bad_first site face_laws (line_laws site valid) text line rest parted.no_end parted.text_is (λ same. both_ways is off (tells.1 same))
+    bad_first site valid text line rest parted.no_end parted.text_is (λ same. both_ways is off (tells.1 same))
 
 opening_is_long : (site : Site) → 2 ≤ length (opening_line site)
 opening_is_long site = omega arith
@@ -53,7 +50,7 @@ first_is_opening site text line rest told is parted tells on nothing =
 -- ---- any other line
 
 pub no_more_ends : (site : Site) → IsValid site → (text rest : List ℕ) (told : Told) (count : ℕ) → IsReadSoFar site text rest told count → line_ends rest ≡ 0 → IsBadLine site text (count + 1)
-no_more_ends site valid text rest told count read unended = bad_unended site face_laws (line_laws site valid) (eight site valid) text rest told count (count + 1) read unended refl
+no_more_ends site valid text rest told count read unended = bad_unended site valid text rest told count (count + 1) read unended refl
 
 no_entry : {A : Type 0} (site : Site) (line : List ℕ) (entry : Entry) → ReadsEntry site line None → IsLineOf site line entry → A
 no_entry site line entry reads is = let both : None ≡ Some entry = reads.all entry is in cc
@@ -61,7 +58,7 @@ no_entry site line entry reads is = let both : None ≡ Some entry = reads.all e
 pub not_an_entry : (site : Site) → IsValid site → (text rest line behind : List ℕ) (told : Told) (count : ℕ) → IsReadSoFar site text rest told count → IsParted rest line behind → ReadsEntry site line None →
     IsBadLine site text (count + 1)
 not_an_entry site valid text rest line behind told count read parted reads =
-    bad_refused site face_laws (line_laws site valid) (eight site valid) text rest line behind told count (count + 1) read parted.text_is parted.no_end
+    bad_refused site valid text rest line behind told count (count + 1) read parted.text_is parted.no_end
     (record { goes_not_on = λ entry is. no_entry site line entry reads is; ends_not = λ last is. no_entry site line (EndEntry last) reads is }) refl
 
 same_entry : (site : Site) (line : List ℕ) (one other : Entry) → ReadsEntry site line (Some one) → IsLineOf site line other → one ≡ other
@@ -71,7 +68,7 @@ pub not_taken : (site : Site) → IsValid site → (text rest line behind : List
     IsParted rest line behind → ReadsEntry site line (Some entry) → ((last : Tick) → entry ≡ EndEntry last → ⊥) → Turns told entry taken next → taken ≡ false → IsBadLine site text (count + 1)
 not_taken site valid text rest line behind told next count entry taken read parted reads not_end turns off =
     let none : told_next told entry ≡ None = rw off at turns in
-    bad_refused site face_laws (line_laws site valid) (eight site valid) text rest line behind told count (count + 1) read parted.text_is parted.no_end
+    bad_refused site valid text rest line behind told count (count + 1) read parted.text_is parted.no_end
     (record {
       goes_not_on = λ other is. ap (told_next told) (sym (same_entry site line entry other reads is)) ∙ none;
       ends_not = λ last is. absurd (not_end last (same_entry site line entry (EndEntry last) reads is));
@@ -95,8 +92,8 @@ placed site faces (EndEntry tick) count small is = tt
 
 pub has_place : (site : Site) → IsValid site → (text rest line : List ℕ) (told : Told) (count : ℕ) (entry : Entry) → IsReadSoFar site text rest told count → ReadsEntry site line (Some entry) → HasPlaceOf told.faces entry
 has_place site valid text rest line told count entry read reads =
-    let form = told_form site face_laws (line_laws site valid) (eight site valid) text rest told count read in
-    placed site told.faces entry form.block.count (eight site valid) (reads.only entry refl).form
+    let form = told_form site valid text rest told count read in
+    placed site told.faces entry form.block.count (few_panels site valid) (reads.only entry refl).form
 
 -- ---- the last line
 
@@ -107,7 +104,7 @@ pub end_is_read : (site : Site) → IsValid site → (text rest line behind : Li
     IsReadSoFar site text rest told count → IsParted rest line behind → ReadsEntry site line (Some entry) → entry ≡ EndEntry last → IsEndOf told last behind (count + 1) result →
     IfOk result (λ timeline. IsRead site text timeline)
 end_is_read site valid text rest line behind told count entry last (Ok timeline) read parted reads is end =
-    read_to_end site face_laws (line_laws site valid) (eight site valid) text rest line told count last timeline read (parted.text_is ∙ ap (λ (more : List ℕ). line ++ 10 ∷ more) end.1)
+    read_to_end site valid text rest line told count last timeline read (parted.text_is ∙ ap (λ (more : List ℕ). line ++ 10 ∷ more) end.1)
     (last_line site line entry last reads is) end.0
 end_is_read site valid text rest line behind told count entry last (Err refusal) read parted reads is end = tt
 
@@ -123,12 +120,12 @@ pub end_is_refused : (site : Site) → IsValid site → (text rest line behind :
 end_is_refused site valid text rest line behind told count entry last (Ok timeline) read parted reads is end = tt
 end_is_refused site valid text rest line behind told count entry last (Err NoMemory) read parted reads is end = tt
 end_is_refused site valid text rest line behind told count entry last (Err (BadLine number)) read parted reads is (inl early) =
-    bad_refused site face_laws (line_laws site valid) (eight site valid) text rest line behind told count number read parted.text_is parted.no_end
+    bad_refused site valid text rest line behind told count number read parted.text_is parted.no_end
     (record {
       goes_not_on = λ other of. ap (told_next told) (sym (same_entry site line entry other reads of)) ∙ end_refused told entry last is;
       ends_not = λ other of. ap (timeline_told told) (sym (end_of last other (sym is ∙ same_entry site line entry (EndEntry other) reads of))) ∙ early.0;
     })
     early.1
 end_is_refused site valid text rest line behind told count entry last (Err (BadLine number)) read parted reads is (inr late) =
-    bad_behind_end site face_laws (line_laws site valid) (eight site valid) text rest line behind told count number last late.0.0 read parted.text_is (last_line site line entry last reads is) late.0.1 late.1
+    bad_behind_end site valid text rest line behind told count number last late.0.0 read parted.text_is (last_line site line entry last reads is) late.0.1 late.1
     (omega (arith, late.2))

@@ -21,8 +21,8 @@ use Rattle.face_text.specs.Telling.{face_told}
 use Rattle.face_text.specs.ReadSoFar.{AreEntries}
 use Rattle.face_text.specs.Timelines.{AreAnswers, AreOpAnswers}
 use Rattle.face_text.proofs.Accepted.{after_more}
-use Rattle.face_text.proofs.NeededLaws.{FaceLaws}
 use Rattle.face_text.proofs.ToldPages.{ArePages, rank_is_small}
+use Rattle.face_text.proofs.AllLines.{changes_lead_there}
 
 -- ---- lines behind lines
 
@@ -90,14 +90,14 @@ face_entries site panel [] afters = []
 face_entries site panel (before ∷ befores) [] = []
 face_entries site panel (before ∷ befores) (after ∷ afters) = change_entries panel (changes_of site before after) ++ face_entries site (suc panel) befores afters
 
-pub face_entries_are : (site : Site) → FaceLaws → (panel : ℕ) (befores afters : List Face) → 1 ≤ panel → panel + length afters ≤ suc site.panels → ArePages site panel befores → ArePages site panel afters →
+pub face_entries_are : (site : Site) → (panel : ℕ) (befores afters : List Face) → 1 ≤ panel → panel + length afters ≤ suc site.panels → ArePages site panel befores → ArePages site panel afters →
     AreEntries site (face_entries site panel befores afters)
-face_entries_are site laws panel [] afters from to befores_are afters_are = tt
-face_entries_are site laws panel (before ∷ befores) [] from to befores_are afters_are = tt
-face_entries_are site laws panel (before ∷ befores) (after ∷ afters) from to befores_are afters_are =
+face_entries_are site panel [] afters from to befores_are afters_are = tt
+face_entries_are site panel (before ∷ befores) [] from to befores_are afters_are = tt
+face_entries_are site panel (before ∷ befores) (after ∷ afters) from to befores_are afters_are =
     entries_join site (change_entries panel (changes_of site before after)) (face_entries site (suc panel) befores afters)
-    (change_entries_are site panel (changes_of site before after) from (omega (arith, to)) (laws.leads site panel before after befores_are.0 afters_are.0).each)
-    (face_entries_are site laws (suc panel) befores afters (omega arith) (omega (arith, to)) befores_are.1 afters_are.1)
+    (change_entries_are site panel (changes_of site before after) from (omega (arith, to)) (changes_lead_there site panel before after befores_are.0 afters_are.0).each)
+    (face_entries_are site (suc panel) befores afters (omega arith) (omega (arith, to)) befores_are.1 afters_are.1)
 
 -- lines lead from the faces before to the faces after
 pub record LeadsToFaces (told : Told) (start afters : List Face) (rank last : ℕ) (entries : List Entry) : Type 0 where
@@ -105,21 +105,21 @@ pub record LeadsToFaces (told : Told) (start afters : List Face) (rank last : �
   pub low : end ≤ last
   pub leads : told_after (shown told start rank) entries ≡ Some (shown told afters end)
 
-pub faces_lead : (site : Site) → FaceLaws → (told : Told) (front befores afters : List Face) (panel rank : ℕ) → length front + 1 ≡ panel → rank ≤ panel * 100000 → length befores ≡ length afters →
+pub faces_lead : (site : Site) → (told : Told) (front befores afters : List Face) (panel rank : ℕ) → length front + 1 ≡ panel → rank ≤ panel * 100000 → length befores ≡ length afters →
     ArePages site panel befores → ArePages site panel afters →
     LeadsToFaces told (front ++ befores) (front ++ afters) rank ((panel + length afters) * 100000) (face_entries site panel befores afters)
-faces_lead site laws told front [] [] panel rank size low same befores_are afters_are = record { end = rank; low = omega (arith, low); leads = refl }
-faces_lead site laws told front [] (after ∷ afters) panel rank size low same befores_are afters_are = absurd (omega (arith, same))
-faces_lead site laws told front (before ∷ befores) [] panel rank size low same befores_are afters_are = absurd (omega (arith, same))
-faces_lead site laws told front (before ∷ befores) (after ∷ afters) panel rank size low same befores_are afters_are =
-    let there = laws.leads site panel before after befores_are.0 afters_are.0 in
+faces_lead site told front [] [] panel rank size low same befores_are afters_are = record { end = rank; low = omega (arith, low); leads = refl }
+faces_lead site told front [] (after ∷ afters) panel rank size low same befores_are afters_are = absurd (omega (arith, same))
+faces_lead site told front (before ∷ befores) [] panel rank size low same befores_are afters_are = absurd (omega (arith, same))
+faces_lead site told front (before ∷ befores) (after ∷ afters) panel rank size low same befores_are afters_are =
+    let there = changes_lead_there site panel before after befores_are.0 afters_are.0 in
     let changes = changes_of site before after in
     let middle : ℕ = last_place panel rank changes in
     let first : told_after (shown told (front ++ before ∷ befores) rank) (change_entries panel changes) ≡ Some (shown told (front ++ after ∷ befores) middle) =
       changes_lead told front befores before panel rank 0 changes size (omega (arith, low)) there.news
       ∙ ap (λ (face : Face). Some (shown told (front ++ face ∷ befores) middle)) there.there in
     let rest =
-      faces_lead site laws told (front ++ after ∷ []) befores afters (suc panel) middle (omega (arith, length-append front (after ∷ []), size))
+      faces_lead site told (front ++ after ∷ []) befores afters (suc panel) middle (omega (arith, length-append front (after ∷ []), size))
       (last_is_low site panel rank changes there.each (omega (arith, low))) (omega (arith, same)) befores_are.1 afters_are.1 in
     record {
       end = rest.end;

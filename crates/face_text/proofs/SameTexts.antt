@@ -15,9 +15,10 @@ use Rattle.face_text.specs.ReadSoFar.{AreEntries, HaveTextsOfTheirOwn}
 use Rattle.face_text.specs.Timelines.{IsInForm, end_line, opening_line, text_of}
 use Rattle.face_text.proofs.Accepted.{after_more}
 use Rattle.face_text.proofs.LineEnds.{same_line}
-use Rattle.face_text.proofs.NeededLaws.{FaceLaws, LineLaws}
 use Rattle.face_text.proofs.RunLines.{entries_join}
 use Rattle.face_text.proofs.Runs.{IsTold, is_told}
+use Rattle.face_text.proofs.EntryLaws.{entry_line-determines, entry_line-one}
+use Rattle.site_types.specs.Valid.{IsValid}
 
 -- ---- one text, one list of lines
 
@@ -44,17 +45,17 @@ pub record GoesOn (site : Site) (entries others : List Entry) (more : List ℕ) 
   pub each : AreEntries site rest
   pub more_is : more ≡ entries_text site rest
 
-pub entries_front : (site : Site) → LineLaws site → (entries others : List Entry) (more : List ℕ) → AreEntries site entries → AreEntries site others →
+pub entries_front : (site : Site) → IsValid site → (entries others : List Entry) (more : List ℕ) → AreEntries site entries → AreEntries site others →
     entries_text site entries ++ more ≡ entries_text site others → GoesOn site entries others more
-entries_front site lines [] others more are others_are same = record { rest = others; others_are = refl; each = others_are; more_is = same }
-entries_front site lines (entry ∷ entries) [] more are others_are same =
-    absurd (no_lines (entry_line site entry) (entries_text site entries ++ more) (lines.one_line entry are.0) (sym (append_assoc (entry_line site entry) (entries_text site entries) more) ∙ same))
-entries_front site lines (entry ∷ entries) (other ∷ others) more are others_are same =
+entries_front site valid [] others more are others_are same = record { rest = others; others_are = refl; each = others_are; more_is = same }
+entries_front site valid (entry ∷ entries) [] more are others_are same =
+    absurd (no_lines (entry_line site entry) (entries_text site entries ++ more) (entry_line-one site valid entry are.0) (sym (append_assoc (entry_line site entry) (entries_text site entries) more) ∙ same))
+entries_front site valid (entry ∷ entries) (other ∷ others) more are others_are same =
     let front =
-      same_front (entry_line site entry) (entries_text site entries ++ more) (entry_line site other) (entries_text site others) (lines.one_line entry are.0) (lines.one_line other others_are.0)
+      same_front (entry_line site entry) (entries_text site entries ++ more) (entry_line site other) (entries_text site others) (entry_line-one site valid entry are.0) (entry_line-one site valid other others_are.0)
       (sym (append_assoc (entry_line site entry) (entries_text site entries) more) ∙ same) in
-    let first : entry ≡ other = lines.determines entry other are.0 others_are.0 front.0 in
-    let ih = entries_front site lines entries others more are.1 others_are.1 front.1 in
+    let first : entry ≡ other = entry_line-determines site valid entry other are.0 others_are.0 front.0 in
+    let ih = entries_front site valid entries others more are.1 others_are.1 front.1 in
     record {
       rest = ih.rest;
       others_are = ap (λ (e : Entry). e ∷ others) (sym first) ∙ ap (λ (all : List Entry). entry ∷ all) ih.others_are;
@@ -62,9 +63,9 @@ entries_front site lines (entry ∷ entries) (other ∷ others) more are others_
       more_is = ih.more_is;
     }
 
-no_entries : (site : Site) → LineLaws site → (entries : List Entry) → AreEntries site entries → [] ≡ entries_text site entries → entries ≡ []
-no_entries site lines [] are none = refl
-no_entries site lines (entry ∷ entries) are none = absurd (no_lines (entry_line site entry) (entries_text site entries) (lines.one_line entry are.0) (sym none))
+no_entries : (site : Site) → IsValid site → (entries : List Entry) → AreEntries site entries → [] ≡ entries_text site entries → entries ≡ []
+no_entries site valid [] are none = refl
+no_entries site valid (entry ∷ entries) are none = absurd (no_lines (entry_line site entry) (entries_text site entries) (entry_line-one site valid entry are.0) (sym none))
 
 -- ---- all lines of a timeline
 
@@ -88,13 +89,13 @@ end_is one other same = cc
 
 -- ---- no two timelines in form have one text
 
-alike : (site : Site) → LineLaws site → (one other : Timeline) → IsInForm site one → IsInForm site other → IsTold site one → IsTold site other → text_of site one ≡ text_of site other → one ≡ other
-alike site lines one other one_form other_form told another same =
+alike : (site : Site) → IsValid site → (one other : Timeline) → IsInForm site one → IsInForm site other → IsTold site one → IsTold site other → text_of site one ≡ text_of site other → one ≡ other
+alike site valid one other one_form other_form told another same =
     let texts = append_cancel_left (opening_line site) _ _ (sym (told_text_of site one told) ∙ same ∙ told_text_of site other another) in
     let on =
-      entries_front site lines (all_entries told.entries one.last) (all_entries another.entries other.last) [] (all_entries_are site told.entries one.last told.by_them.each one_form.last)
+      entries_front site valid (all_entries told.entries one.last) (all_entries another.entries other.last) [] (all_entries_are site told.entries one.last told.by_them.each one_form.last)
       (all_entries_are site another.entries other.last another.by_them.each other_form.last) (append-nil _ ∙ texts) in
-    let none : on.rest ≡ [] = no_entries site lines on.rest on.each on.more_is in
+    let none : on.rest ≡ [] = no_entries site valid on.rest on.each on.more_is in
     let lists : all_entries another.entries other.last ≡ all_entries told.entries one.last =
       on.others_are ∙ ap (λ (rest : List Entry). all_entries told.entries one.last ++ rest) none ∙ append-nil (all_entries told.entries one.last) in
     let both = same_from_push another.entries told.entries (EndEntry other.last) (EndEntry one.last) lists in
@@ -105,6 +106,6 @@ alike site lines one other one_form other_form told another same =
       sym another.by_them.ends ∙ ap (λ (t : Told). timeline_told t other.last) tolds ∙ ap (timeline_told told.told) last ∙ told.by_them.ends in
     cc
 
-pub texts_of_their_own : (site : Site) → FaceLaws → LineLaws site → site.panels ≤ 8 → HaveTextsOfTheirOwn site
-texts_of_their_own site laws lines eight one other one_form other_form same =
-    alike site lines one other one_form other_form (is_told site laws lines eight one one_form) (is_told site laws lines eight other other_form) same
+pub texts_of_their_own : (site : Site) → IsValid site → HaveTextsOfTheirOwn site
+texts_of_their_own site valid one other one_form other_form same =
+    alike site valid one other one_form other_form (is_told site valid one one_form) (is_told site valid other other_form) same

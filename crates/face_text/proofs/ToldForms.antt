@@ -20,10 +20,10 @@ use Rattle.face_text.specs.Reading.{MayGoOn, Told, block_of, comes_next, face_at
 use Rattle.face_text.specs.Slots.{value_in}
 use Rattle.face_text.specs.Telling.{face_told}
 use Rattle.face_text.specs.Timelines.{AreAnswers, AreFaces, AreSteps, HasAnswer, IsFaceOf, IsInForm, empty_faces, end_line, faces_text, opening_line, step_text, steps_text, text_of, tick_line}
-use Rattle.face_text.proofs.NeededLaws.{FaceLaws, LineLaws}
 use Rattle.face_text.proofs.ToldAnswers.{answered_or_not, answers_are, nothing_answered, nothing_answered_text}
 use Rattle.face_text.proofs.ToldBlocks.{IsBlock, IsNextBlock, answer_block, block_text, busy_block, change_block, failed_block}
 use Rattle.face_text.proofs.ToldPages.{ArePages, pages_after, same_faces_no_text, untold_pages}
+use Rattle.face_text.proofs.FaceForm.{keeps_form}
 
 -- ---- faces of all panels
 
@@ -54,18 +54,18 @@ pub pages_are : (site : Site) (faces : List Face) → AreFaces site faces → Ar
 pages_are site faces are =
     pages_from site 1 faces (λ place face is. let at : place + 1 ≡ 1 + place = omega arith in subst (λ (p : ℕ). IsFaceOf site p face) at (are.each place face is))
 
-empty_pages : (site : Site) → FaceLaws → (panel count : ℕ) → ArePages site panel (map empty_face (range_with_len panel count))
-empty_pages site laws panel zero = tt
-empty_pages site laws panel (suc count) =
+empty_pages : (site : Site) → (panel count : ℕ) → ArePages site panel (map empty_face (range_with_len panel count))
+empty_pages site panel zero = tt
+empty_pages site panel (suc count) =
     let next : panel + 1 ≡ suc panel = omega arith in
-    (laws.forms.empty site panel, subst (λ (p : ℕ). ArePages site (suc panel) (map empty_face (range_with_len p count))) (sym next) (empty_pages site laws (suc panel) count))
+    (keeps_form.empty site panel, subst (λ (p : ℕ). ArePages site (suc panel) (map empty_face (range_with_len p count))) (sym next) (empty_pages site (suc panel) count))
 
 range_size : (first count : ℕ) → length (range_with_len first count) ≡ count
 range_size first zero = refl
 range_size first (suc count) = ap suc (range_size (first + 1) count)
 
-pub empty_faces_are : (site : Site) → FaceLaws → AreFaces site (empty_faces site)
-empty_faces_are site laws = faces_are site (empty_faces site) (empty_pages site laws 1 site.panels) (length-map (range_with_len 1 site.panels) empty_face ∙ range_size 1 site.panels)
+pub empty_faces_are : (site : Site) → AreFaces site (empty_faces site)
+empty_faces_are site = faces_are site (empty_faces site) (empty_pages site 1 site.panels) (length-map (range_with_len 1 site.panels) empty_face ∙ range_size 1 site.panels)
 
 pub empty_faces_more : (place : ℕ) (faces more : List Face) (face : Face) → faces ≡ map empty_face (range_with_len 1 place) → face ≡ empty_face (place + 1) → more ≡ faces ++ face ∷ [] →
     more ≡ map empty_face (range_with_len 1 (place + 1))
@@ -114,10 +114,10 @@ pub untold_block : (site : Site) (faces : List Face) → AreFaces site faces →
 untold_block site faces are =
     record { pages = untold_pages site 1 faces (pages_are site faces are); count = are.count; answered = nothing_answered site; content = λ some. absurd (omega (arith, some)) }
 
-pub nothing_is_told : (site : Site) → FaceLaws → IsToldForm site (nothing_told site)
-nothing_is_told site laws =
+pub nothing_is_told : (site : Site) → IsToldForm site (nothing_told site)
+nothing_is_told site =
     record {
-      block = untold_block site (empty_faces site) (empty_faces_are site laws);
+      block = untold_block site (empty_faces site) (empty_faces_are site);
       small = omega arith;
       unanswered = λ e. no_answers_text site;
       no_steps = λ e. refl;

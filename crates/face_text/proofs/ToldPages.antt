@@ -5,6 +5,7 @@ use Rattle.std.specs.List.{flat_map}
 use Rattle.std.proofs.lemmas.List.{append-nil, length-set}
 use Rattle.std.proofs.lemmas.Bool.{eq-eqb}
 use Rattle.site_types.specs.declared.site.Site.{Site}
+use Rattle.site_types.specs.Valid.{IsValid}
 use Rattle.face_text.specs.declared.change.Change.{Change}
 use Rattle.face_text.specs.declared.change.Change.TheVariants.{Thing as ThingChange, Delays as DelaysChange, Buzzer as BuzzerChange, Counter as CounterChange}
 use Rattle.face_text.specs.declared.face.Face.{Face}
@@ -17,9 +18,13 @@ use Rattle.face_text.specs.Slots.{HasPlace, Slot, last_of, line_of, slots, value
 use Rattle.face_text.specs.Telling.{IsSameBehind, face_told}
 use Rattle.face_text.specs.Timelines.{IsFaceOf, faces_text}
 use Rattle.face_text.specs.FaceTelling.{AddsItsLine, change_line}
-use Rattle.face_text.proofs.NeededLaws.{FaceLaws}
+use Rattle.face_text.proofs.FaceForm.{keeps_form}
+use Rattle.face_text.proofs.OneMoreLine.{adds_one_line}
 
 -- ---- ranks
+
+pub few_panels : (site : Site) → IsValid site → site.panels ≤ 8
+few_panels site valid = omega (arith, valid.forms.panels.1)
 
 group_is_small : (group : Group) → HasPlace group → group_rank group ≤ 35
 group_is_small (Zones panel) place = omega (arith, place.1)
@@ -138,39 +143,39 @@ place_on_page : (panel rank slot : ℕ) → 0 < slot → rank < panel * 100000 +
 place_on_page panel rank slot from less = omega arith
 
 page_told :
-    (site : Site) → FaceLaws → (panel rank : ℕ) (before after : Face) (change : Change) → IsPageTold site panel rank before after → IsChange site panel change
+    (site : Site) → (panel rank : ℕ) (before after : Face) (change : Change) → IsPageTold site panel rank before after → IsChange site panel change
     → rank < panel * 100000 + slot_rank (slot_of change) → value_in after (slot_of change) ≢ value_of change
     → IsPageTold site panel (panel * 100000 + slot_rank (slot_of change)) before (face_told after change)
-page_told site laws panel rank before after change told is less news =
+page_told site panel rank before after change told is less news =
     let from : 0 < slot_rank (slot_of change) = (rank_is_small site panel change is).0 in
-    let next = laws.adds site panel (rank - panel * 100000) before after change told.form told.same is (place_on_page panel rank (slot_rank (slot_of change)) from less) news in
+    let next = adds_one_line site panel (rank - panel * 100000) before after change told.form told.same is (place_on_page panel rank (slot_rank (slot_of change)) from less) news in
     record {
-      form = laws.forms.told site panel after change told.form is;
+      form = keeps_form.told site panel after change told.form is;
       same = λ slot of behind. next.behind slot of (omega (arith, behind));
       untold = λ low. absurd (omega (arith, low, from));
     }
 
 -- the faces with one more change told, and their text
 pub change_told :
-    (site : Site) → FaceLaws → (rank first place : ℕ) (befores afters : List Face) (change : Change) (d : Face)
+    (site : Site) → (rank first place : ℕ) (befores afters : List Face) (change : Change) (d : Face)
     → ArePagesTold site rank first befores afters → place < length afters → IsChange site (first + place) change
     → rank < (first + place) * 100000 + slot_rank (slot_of change)
     → value_in (get_or afters place d) (slot_of change) ≢ value_of change
     → ArePagesTold site ((first + place) * 100000 + slot_rank (slot_of change)) first befores (set afters place (face_told (get_or afters place d) change))
     × (faces_text site befores (set afters place (face_told (get_or afters place d) change)) ≡ faces_text site befores afters ++ change_line site (first + place) change)
-change_told site laws rank first place befores [] change d told within is less news = absurd (omega (arith, within))
-change_told site laws rank first place [] (after ∷ afters) change d told within is less news = absurd told
-change_told site laws rank first zero (before ∷ befores) (after ∷ afters) change d told within is less news =
+change_told site rank first place befores [] change d told within is less news = absurd (omega (arith, within))
+change_told site rank first place [] (after ∷ afters) change d told within is less news = absurd told
+change_told site rank first zero (before ∷ befores) (after ∷ afters) change d told within is less news =
     let at : first + zero ≡ first = omega arith in
     let here : IsChange site first change = subst (λ (p : ℕ). IsChange site p change) at is in
     let low : rank < first * 100000 + slot_rank (slot_of change) = subst (λ (p : ℕ). rank < p * 100000 + slot_rank (slot_of change)) at less in
     let small = rank_is_small site first change here in
     let rest : befores ≡ afters = all_untold site rank (suc first) befores afters (omega (arith, low, small.1)) told.1 in
     let silent : faces_text site befores afters ≡ [] = ap (λ faces. faces_text site faces afters) rest ∙ same_faces_no_text site afters in
-    let added : AddsItsLine site first before after change = laws.adds site first (rank - first * 100000) before after change told.0.form told.0.same here (place_on_page first rank (slot_rank (slot_of change)) small.0 low) news in
+    let added : AddsItsLine site first before after change = adds_one_line site first (rank - first * 100000) before after change told.0.form told.0.same here (place_on_page first rank (slot_rank (slot_of change)) small.0 low) news in
     let line = added.text in
     let pages : ArePagesTold site (first * 100000 + slot_rank (slot_of change)) first (before ∷ befores) (face_told after change ∷ afters) =
-      (page_told site laws first rank before after change told.0 here low news, later_pages site rank (first * 100000 + slot_rank (slot_of change)) (suc first) befores afters (omega (arith, low)) told.1) in
+      (page_told site first rank before after change told.0 here low news, later_pages site rank (first * 100000 + slot_rank (slot_of change)) (suc first) befores afters (omega (arith, low)) told.1) in
     let text : changes_text site before (face_told after change) ++ faces_text site befores afters ≡ (changes_text site before after ++ faces_text site befores afters) ++ change_line site first change =
       rw (line, silent) (append-nil _ ∙ ap (λ t. t ++ change_line site first change) (sym (append-nil (changes_text site before after)))) in
     subst
@@ -178,10 +183,10 @@ change_told site laws rank first zero (before ∷ befores) (after ∷ afters) ch
       ArePagesTold site (p * 100000 + slot_rank (slot_of change)) first (before ∷ befores) (face_told after change ∷ afters)
       × (changes_text site before (face_told after change) ++ faces_text site befores afters ≡ (changes_text site before after ++ faces_text site befores afters) ++ change_line site p change))
       (sym at) (pages, text)
-change_told site laws rank first (suc place) (before ∷ befores) (after ∷ afters) change d told within is less news =
+change_told site rank first (suc place) (before ∷ befores) (after ∷ afters) change d told within is less news =
     let at : suc first + place ≡ first + suc place = omega arith in
     let ih =
-      change_told site laws rank (suc first) place befores afters change d told.1 (omega (arith, within)) (subst (λ (p : ℕ). IsChange site p change) (sym at) is)
+      change_told site rank (suc first) place befores afters change d told.1 (omega (arith, within)) (subst (λ (p : ℕ). IsChange site p change) (sym at) is)
       (subst (λ (p : ℕ). rank < p * 100000 + slot_rank (slot_of change)) (sym at) less) news in
     let afters_told = set afters place (face_told (get_or afters place d) change) in
     let more =
