@@ -1,8 +1,8 @@
 -- What lines have told stays in form with each line that may stand there, and a text that goes so far may go on.
-use Rattle.std.proofs.Common.{◌≡◌, ◌≢◌, ◌∙◌, ◌⊎◌, ◌<◌, ◌≤◌, ◌+◌, ◌-◌, ◌^◌, ◌++◌, ◌==◌, ◌&&◌, ◌||◌, ℕ, zero, suc, Bool, true, false, not, List, [], ◌∷◌, Option, Some, None, length, refl, sym, ap, subst, inl, inr, append_assoc, arith, set, if◌then◌else◌}
-use Rattle.std.specs.Prelude.{nat_le, nat_lt, slice_set}
+use Rattle.std.proofs.Common.{◌≡◌, ◌≢◌, ◌∙◌, ◌⊎◌, ◌<◌, ◌-◌, ◌^◌, ◌++◌, ◌==◌, ◌&&◌, ◌||◌, ℕ, zero, suc, Bool, true, false, List, [], ◌∷◌, Option, Some, None, length, refl, sym, ap, subst, inl, inr, append_assoc, arith, set, if◌then◌else◌}
+use Rattle.std.specs.Prelude.{nat_le, nat_lt}
 use Rattle.std.specs.Option.{option_and_then}
-use Rattle.std.proofs.lemmas.Bool.{and_parts, eq-eqb, eqb-false, leb-true, lt-ltb, ltb-true, ne_eqb, not-true, or_cases}
+use Rattle.std.proofs.lemmas.Bool.{and_parts, eq-eqb, eqb-false, leb-true, lt-ltb, ltb-true, ne_eqb, not-true}
 use Rattle.std.proofs.lemmas.List.{append-nil}
 use Rattle.site_types.specs.declared.site.Site.{Site}
 use Rattle.tick_units.specs.declared.tick.Tick.{Tick}
@@ -15,14 +15,13 @@ use Rattle.face_text.specs.declared.op_answer.OpAnswer.{OpAnswer}
 use Rattle.face_text.specs.declared.timeline.Timeline.{Timeline}
 use Rattle.face_text.specs.Answers.{answers_text}
 use Rattle.face_text.specs.Entries.{IsEntry, entry_line, rank_of, slot_of, value_of}
-use Rattle.face_text.specs.Reading.{IsRead, MayGoOn, Told, comes_next, entries_text, face_at, faces_behind, is_in_tick, is_news, may_close, no_answers, nothing_told, opened_by, steps_by, timeline_told, told_after, told_next, told_text}
+use Rattle.face_text.specs.Reading.{IsRead, MayGoOn, Told, comes_next, entries_text, face_at, is_in_tick, is_news, may_close, no_answers, opened_by, steps_by, timeline_told, told_after, told_next, told_text}
 use Rattle.face_text.specs.ReadSoFar.{AreEntries}
 use Rattle.face_text.specs.Slots.{value_in}
 use Rattle.face_text.specs.Telling.{face_told}
-use Rattle.face_text.specs.Timelines.{IsInForm, empty_faces, end_line, faces_text, opening_line, steps_text, text_of, tick_line}
-use Rattle.face_text.proofs.ToldAnswers.{nothing_answered, nothing_answered_text}
+use Rattle.face_text.specs.Timelines.{empty_faces, end_line, faces_text, opening_line, steps_text, tick_line}
 use Rattle.face_text.proofs.ToldBlocks.{IsBlock, IsNextBlock, answer_block, block_text, busy_block, change_block, failed_block}
-use Rattle.face_text.proofs.ToldForms.{IsClosed, IsToldForm, befores_of, closed, head_text, no_answers_text, nothing_is_told, nothing_told_text, told_faces_are, told_text_is, untold_block}
+use Rattle.face_text.proofs.ToldForms.{IsToldForm, befores_of, closed, head_text, no_answers_text, told_faces_are, told_text_is, untold_block}
 use Rattle.face_text.proofs.ToldPages.{same_faces_no_text}
 use Rattle.site_types.specs.Valid.{IsValid}
 
@@ -47,8 +46,8 @@ grown_told site told faces answers rank line form next unanswered =
     record {
       form = is;
       text =
-        told_text_is site after is ∙ ap (λ t. head_text site told ++ t) next.text
-        ∙ sym (append_assoc (head_text site told) (block_text site (befores_of site told) told.faces told.answers) line) ∙ ap (λ t. t ++ line) (sym (told_text_is site told form));
+          told_text_is site after is ∙ ap (λ t. head_text site told ++ t) next.text
+          ∙ sym (append_assoc (head_text site told) (block_text site (befores_of site told) told.faces told.answers) line) ∙ ap (λ t. t ++ line) (sym (told_text_is site told form));
     }
 
 change_next :
@@ -117,19 +116,19 @@ tick_next site told next tick form is taken =
     let after : Told = record { opened = opened_by told; steps = steps_by told; tick = tick; faces = told.faces; answers = no_answers; rank = 0 } in
     let before : befores_of site after ≡ told.faces = rw e shut.behind in
     let in_form : IsToldForm site after =
-      record {
-        block = subst (λ (faces : List Face). IsBlock site 0 faces told.faces no_answers) (sym before) (untold_block site told.faces (told_faces_are site told form));
-        small = is;
-        unanswered = λ z. no_answers_text site;
-        no_steps = λ z. absurd (omega (arith, z, less));
-        opened = λ some. shut.opened;
-        steps = λ some. shut.steps;
-      } in
+    record {
+      block = subst (λ (faces : List Face). IsBlock site 0 faces told.faces no_answers) (sym before) (untold_block site told.faces (told_faces_are site told form));
+      small = is;
+      unanswered = λ z. no_answers_text site;
+      no_steps = λ z. absurd (omega (arith, z, less));
+      opened = λ some. shut.opened;
+      steps = λ some. shut.steps;
+    } in
     let silent : block_text site (befores_of site after) told.faces no_answers ≡ [] = rw before (rw (same_faces_no_text site told.faces, no_answers_text site) refl) in
     let head : head_text site after ≡ told_text site told ++ tick_line tick.0 =
-      rw e
-      (regroup (opening_line site) (faces_text site (empty_faces site) (opened_by told)) (steps_text site (opened_by told) (steps_by told)) (tick_line tick.0)
-      ∙ ap (λ t. t ++ tick_line tick.0) shut.text) in
+    rw e
+    (regroup (opening_line site) (faces_text site (empty_faces site) (opened_by told)) (steps_text site (opened_by told) (steps_by told)) (tick_line tick.0)
+    ∙ ap (λ t. t ++ tick_line tick.0) shut.text) in
     subst (λ (t : Told). IsNextTold site told t (entry_line site (TickEntry tick))) p.1
     (record { form = in_form; text = told_text_is site after in_form ∙ ap (λ t. head_text site after ++ t) silent ∙ append-nil (head_text site after) ∙ head })
   where
@@ -213,7 +212,7 @@ or_first a b e = rw e refl
 failure_goes_on : (site : Site) → IsValid site → (told : Told) → IsToldForm site told → 0 < told.tick.0 → told.rank ≡ 0 → MayGoOn site (told_text site told)
 failure_goes_on site valid told form some unranked =
     let after : Told =
-      record { opened = told.opened; steps = told.steps; tick = told.tick; faces = told.faces; answers = record told.answers { failed = true }; rank = rank_of StoreFailed } in
+    record { opened = told.opened; steps = told.steps; tick = told.tick; faces = told.faces; answers = record told.answers { failed = true }; rank = rank_of StoreFailed } in
     let ticking : nat_lt 0 told.tick.0 ≡ true = lt-ltb 0 told.tick.0 some in
     let first : nat_lt told.rank (rank_of StoreFailed) ≡ true = lt-ltb told.rank (rank_of StoreFailed) (omega (arith, unranked)) in
     let taken : told_next told StoreFailed ≡ Some after = rw (ticking, first) refl in
@@ -226,8 +225,8 @@ goes_on site valid told form =
     elim (zero_or_more told.tick.0) [
       | inl none ↦ closed_goes_on site told form (or_first (told.tick.0 == 0) (nat_lt 0 told.rank) (eq-eqb told.tick.0 0 none))
       | inr some ↦
-        elim (zero_or_more told.rank) [
-          | inl unranked ↦ failure_goes_on site valid told form some unranked
-          | inr ranked ↦ closed_goes_on site told form (or_second (told.tick.0 == 0) (nat_lt 0 told.rank) (lt-ltb 0 told.rank ranked))
-        ]
+          elim (zero_or_more told.rank) [
+            | inl unranked ↦ failure_goes_on site valid told form some unranked
+            | inr ranked ↦ closed_goes_on site told form (or_second (told.tick.0 == 0) (nat_lt 0 told.rank) (lt-ltb 0 told.rank ranked))
+          ]
     ]

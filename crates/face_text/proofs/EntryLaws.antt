@@ -1,7 +1,7 @@
 -- An entry's line has one line end, at its end, and determines the entry.
-use Rattle.std.proofs.Common.{◌≡◌, ◌∙◌, ◌<◌, ◌^◌, ◌++◌, ◌&&◌, ℕ, suc, true, List, [], ◌∷◌, Some, length, refl, sym, ap, append_assoc, arith}
+use Rattle.std.proofs.Common.{◌≡◌, ◌∙◌, ◌<◌, ◌^◌, ◌++◌, ◌&&◌, ℕ, true, List, [], ◌∷◌, Some, refl, sym, ap, append_assoc, arith}
 use Rattle.std.specs.Prelude.{codes, decimal}
-use Rattle.std.specs.List.{AllByRecursion, list_all}
+use Rattle.std.specs.List.{list_all}
 use Rattle.std.proofs.lemmas.Bool.{and_from}
 use Rattle.std.proofs.lemmas.List.{append-nil, append_cancel_right}
 use Rattle.std.proofs.lemmas.Option.{same_Some}
@@ -10,11 +10,9 @@ use Rattle.site_types.specs.Valid.{IsValid}
 use Rattle.face_text.specs.declared.entry.Entry.{Entry}
 use Rattle.face_text.specs.Entries.{IsEntry, entry_line}
 use Rattle.face_text.specs.EntryLines.{IsLineOf, IsOneLine}
-use Rattle.face_text.specs.Reading.{entries_text, first_lines, line_ends}
 use Rattle.face_text.specs.Spelled.{entry_spelled}
 use Rattle.face_text.specs.Timelines.{opening_line}
 use Rattle.face_text.proofs.Joined.{ends_joined, joined}
-use Rattle.face_text.proofs.LineEnds.{first_lines-line, line_ends-line, same_line}
 use Rattle.face_text.proofs.Plain.{are_plain, decimal_plain, is_plain, name_plain}
 use Rattle.face_text.proofs.SpelledEntries.{entry_is}
 

@@ -1,6 +1,5 @@
 -- Where reading stops, the first bad line of the text stands.
-use Rattle.std.proofs.Common.{◌≡◌, ◌≢◌, ◌∙◌, ◌⊎◌, ◌<◌, ◌≤◌, ◌+◌, ◌-◌, ◌++◌, ◌==◌, ℕ, zero, suc, List, [], ◌∷◌, Option, Some, None, length, refl, sym, ap, subst, inl, inr, append_assoc, arith, if◌then◌else◌}
-use Rattle.std.specs.Option.{option_and_then}
+use Rattle.std.proofs.Common.{◌≡◌, ◌≢◌, ◌∙◌, ◌⊎◌, ◌+◌, ◌-◌, ◌++◌, ℕ, suc, List, [], ◌∷◌, Option, Some, None, length, refl, sym, ap, subst, inl, inr, append_assoc, arith}
 use Rattle.std.proofs.lemmas.List.{append-nil, append_cancel_left, length-append, same_from_push}
 use Rattle.site_types.specs.declared.site.Site.{Site}
 use Rattle.tick_units.specs.declared.tick.Tick.{Tick}
@@ -8,15 +7,15 @@ use Rattle.face_text.specs.declared.entry.Entry.{Entry}
 use Rattle.face_text.specs.declared.entry.Entry.TheVariants.{End as EndEntry}
 use Rattle.face_text.specs.declared.timeline.Timeline.{Timeline}
 use Rattle.face_text.specs.Entries.{IsEntry, entry_line}
-use Rattle.face_text.specs.EntryLines.{IsLineOf, IsOneLine, IsParted}
+use Rattle.face_text.specs.EntryLines.{IsLineOf, IsOneLine}
 use Rattle.face_text.specs.Reading.{IsBadLine, IsRead, MayGoOn, Told, entries_text, first_lines, line_ends, nothing_told, timeline_told, told_after, told_next, told_text}
 use Rattle.face_text.specs.ReadSoFar.{AreEntries, IsReadSoFar, IsRefused}
 use Rattle.face_text.specs.Timelines.{IsInForm, empty_faces, end_line, faces_text, opening_line, steps_text, text_of}
 use Rattle.face_text.proofs.Accepted.{after_more, all_told, ended_told, goes_on, goes_on_before}
-use Rattle.face_text.proofs.LineEnds.{first_lines-line, line_ends-append, line_ends-line, same_line}
+use Rattle.face_text.proofs.LineEnds.{first_lines-line, line_ends-line}
 use Rattle.face_text.proofs.RunLines.{entries_join, leads_on}
 use Rattle.face_text.proofs.Runs.{IsTold, is_told}
-use Rattle.face_text.proofs.SameTexts.{GoesOn, all_entries, all_entries_are, entries_front, no_lines, same_front, told_text_of}
+use Rattle.face_text.proofs.SameTexts.{all_entries, all_entries_are, entries_front, same_front, told_text_of}
 use Rattle.face_text.proofs.ToldForms.{IsToldForm, nothing_is_told, nothing_told_text}
 use Rattle.face_text.proofs.EntryLaws.{entry_line-determines, entry_line-one, opening_line-one}
 use Rattle.site_types.specs.Valid.{IsValid}
@@ -82,8 +81,8 @@ pub has_next : (site : Site) → IsValid site → (timeline : Timeline) → IsIn
 has_next site valid timeline form entries told more each leads text =
     let by = is_told site valid timeline form in
     let same =
-      append_cancel_left (opening_line site) (entries_text site entries ++ more) (entries_text site (all_entries by.entries timeline.last))
-      (sym (append_assoc (opening_line site) (entries_text site entries) more) ∙ sym text ∙ told_text_of site timeline by) in
+    append_cancel_left (opening_line site) (entries_text site entries ++ more) (entries_text site (all_entries by.entries timeline.last))
+    (sym (append_assoc (opening_line site) (entries_text site entries) more) ∙ sym text ∙ told_text_of site timeline by) in
     let on = entries_front site valid entries (all_entries by.entries timeline.last) more each (all_entries_are site by.entries timeline.last by.by_them.each form.last) same in
     next_of site timeline by entries on.rest told more leads on.others_are on.each on.more_is
 
@@ -99,22 +98,22 @@ one_line_of : (line : List ℕ) → IsOneLine line → IsLinesOf 1 line
 one_line_of line one =
     let front = λ (rest : List ℕ). ap (λ t. t ++ rest) one.bytes_is ∙ append_assoc one.body (10 ∷ []) rest in (
       λ k rest.
-        let count : 1 + k ≡ suc k = omega arith in
-        ap (λ (n : ℕ). first_lines n (line ++ rest)) count ∙ ap (first_lines (suc k)) (front rest) ∙ first_lines-line k one.body rest one.no_end
-        ∙ sym (ap (λ t. t ++ first_lines k rest) one.bytes_is ∙ append_assoc one.body (10 ∷ []) (first_lines k rest)),
+          let count : 1 + k ≡ suc k = omega arith in
+          ap (λ (n : ℕ). first_lines n (line ++ rest)) count ∙ ap (first_lines (suc k)) (front rest) ∙ first_lines-line k one.body rest one.no_end
+          ∙ sym (ap (λ t. t ++ first_lines k rest) one.bytes_is ∙ append_assoc one.body (10 ∷ []) (first_lines k rest)),
       λ rest. let count : suc (line_ends rest) ≡ 1 + line_ends rest = omega arith in ap line_ends (front rest) ∙ line_ends-line one.body rest one.no_end ∙ count,
     )
 
 lines_join : (n m : ℕ) (front more : List ℕ) → IsLinesOf n front → IsLinesOf m more → IsLinesOf (n + m) (front ++ more)
 lines_join n m front more one other = (
-      λ k rest.
-        let count : n + m + k ≡ n + (m + k) = omega arith in
-        ap (λ (c : ℕ). first_lines c ((front ++ more) ++ rest)) count ∙ ap (first_lines (n + (m + k))) (append_assoc front more rest) ∙ one.0 (m + k) (more ++ rest)
-        ∙ ap (λ t. front ++ t) (other.0 k rest) ∙ sym (append_assoc front more (first_lines k rest)),
-      λ rest.
-        let count : n + (m + line_ends rest) ≡ n + m + line_ends rest = omega arith in
-        ap line_ends (append_assoc front more rest) ∙ one.1 (more ++ rest) ∙ ap (λ (c : ℕ). n + c) (other.1 rest) ∙ count,
-    )
+  λ k rest.
+      let count : n + m + k ≡ n + (m + k) = omega arith in
+      ap (λ (c : ℕ). first_lines c ((front ++ more) ++ rest)) count ∙ ap (first_lines (n + (m + k))) (append_assoc front more rest) ∙ one.0 (m + k) (more ++ rest)
+      ∙ ap (λ t. front ++ t) (other.0 k rest) ∙ sym (append_assoc front more (first_lines k rest)),
+  λ rest.
+      let count : n + (m + line_ends rest) ≡ n + m + line_ends rest = omega arith in
+      ap line_ends (append_assoc front more rest) ∙ one.1 (more ++ rest) ∙ ap (λ (c : ℕ). n + c) (other.1 rest) ∙ count,
+)
 
 lines_of_entries : (site : Site) → IsValid site → (entries : List Entry) → AreEntries site entries → IsLinesOf (length entries) (entries_text site entries)
 lines_of_entries site valid [] each = (λ k rest. ap (λ (n : ℕ). first_lines n rest) (plain k), λ rest. sym (plain (line_ends rest)))
@@ -169,7 +168,7 @@ read_on site text rest line more told next count later entry read rest_is is tak
       leads = leads_on (nothing_told site) told next read.entries (entry ∷ []) read.leads (rw taken refl);
       count_is = omega (arith, later_is, read.count_is, length-append read.entries (entry ∷ []));
       text_is = read.text_is ∙ ap (λ t. (opening_line site ++ entries_text site read.entries) ++ t) (rest_is ∙ front is.line_is) ∙ regroup (opening_line site) (entries_text site read.entries) (entry_line site entry) more
-        ∙ ap (λ t. (opening_line site ++ t) ++ more) (sym (entries_push site read.entries entry));
+          ∙ ap (λ t. (opening_line site ++ t) ++ more) (sym (entries_push site read.entries entry));
     }
   where
     front : entry_line site entry ≡ line ++ 10 ∷ [] → line ++ 10 ∷ more ≡ entry_line site entry ++ more
@@ -188,7 +187,7 @@ pub read_to_end : (site : Site) → IsValid site → (text rest line : List ℕ)
 read_to_end site valid text rest line told count last timeline read rest_is is taken =
     let ended = ended_told site told last timeline (told_form site valid text rest told count read) is.form taken in
     let same : told_text site told ++ end_line last.0 ≡ text =
-      ap (λ t. t ++ end_line last.0) (front_is site valid text rest told count read) ∙ ap (λ t. (opening_line site ++ entries_text site read.entries) ++ t) (is.line_is ∙ sym rest_is) ∙ sym read.text_is in
+    ap (λ t. t ++ end_line last.0) (front_is site valid text rest told count read) ∙ ap (λ t. (opening_line site ++ entries_text site read.entries) ++ t) (is.line_is ∙ sym rest_is) ∙ sym read.text_is in
     record { form = ended.form; text_is = ended.text_is ∙ same }
 
 -- ---- where reading stops
@@ -209,10 +208,10 @@ bad_at site text front rest count number of text_is may none stops is =
       ended = omega (arith, ends, is);
       before = subst (MayGoOn site) (sym first) may;
       bad =
-        elim stops [
-          | inl unended ↦ inl (omega (arith, ends, is, unended))
-          | inr never ↦ inr (λ (goes : MayGoOn site (first_lines number text)). never goes.timeline goes.rest goes.form (goes.text ∙ ap (λ t. t ++ goes.rest) longer))
-        ];
+          elim stops [
+            | inl unended ↦ inl (omega (arith, ends, is, unended))
+            | inr never ↦ inr (λ (goes : MayGoOn site (first_lines number text)). never goes.timeline goes.rest goes.form (goes.text ∙ ap (λ t. t ++ goes.rest) longer))
+          ];
     }
 
 no_lines_yet : IsLinesOf 0 []
@@ -234,9 +233,9 @@ pub bad_first_unended : (site : Site) → IsValid site → (text : List ℕ) →
 bad_first_unended site valid text unended =
     bad_at site text [] text 0 1 no_lines_yet refl (begins site valid)
     (λ timeline form text_is.
-      let opens = opens_so site timeline in
-      let one = one_line_of (opening_line site) (opening_line-one site valid) in
-      absurd (omega (arith, unended, ap line_ends (sym text_is ∙ opens.1), one.1 opens.0)))
+    let opens = opens_so site timeline in
+    let one = one_line_of (opening_line site) (opening_line-one site valid) in
+    absurd (omega (arith, unended, ap line_ends (sym text_is ∙ opens.1), one.1 opens.0)))
     (inl unended) refl
 
 not_opening : (site : Site) → IsValid site → (line : List ℕ) → line_ends line ≡ 0 → (opening_line site ≡ line ++ 10 ∷ [] → ⊥) → (timeline : Timeline) (more : List ℕ) →
@@ -252,8 +251,8 @@ pub bad_first : (site : Site) → IsValid site → (text line rest : List ℕ) �
 bad_first site valid text line rest no_end text_is other =
     bad_at site text [] text 0 1 no_lines_yet refl (begins site valid) (λ timeline form is. not_opening site valid line no_end other timeline rest (is ∙ text_is))
     (inr (λ timeline more form is.
-      not_opening site valid line no_end other timeline more
-      (is ∙ ap (λ t. t ++ more) (ap (first_lines 1) text_is ∙ first_lines-line 0 line rest no_end) ∙ append_assoc line (10 ∷ []) more)))
+    not_opening site valid line no_end other timeline more
+    (is ∙ ap (λ t. t ++ more) (ap (first_lines 1) text_is ∙ first_lines-line 0 line rest no_end) ∙ append_assoc line (10 ∷ []) more)))
     refl
 
 -- no line is ended any more
@@ -263,9 +262,9 @@ bad_unended site valid text rest told count number read unended is =
     bad_at site text (opening_line site ++ entries_text site read.entries) rest (suc (length read.entries)) number (lines_of_front site valid read.entries read.each) read.text_is
     (front_goes_on site valid text rest told count read)
     (λ timeline form text_is.
-      let next = has_next site valid timeline form read.entries told rest read.each read.leads text_is in
-      let one = one_line_of (entry_line site next.entry) (entry_line-one site valid next.entry next.form) in
-      absurd (omega (arith, unended, ap line_ends next.more_is, one.1 next.after)))
+    let next = has_next site valid timeline form read.entries told rest read.each read.leads text_is in
+    let one = one_line_of (entry_line site next.entry) (entry_line-one site valid next.entry next.form) in
+    absurd (omega (arith, unended, ap line_ends next.more_is, one.1 next.after)))
     (inl unended) (is ∙ ap (λ (n : ℕ). n + 1) read.count_is)
 
 clash : {A : Type 0} (o : Option A) (x : A) → o ≡ None → o ≡ Some x → ⊥
@@ -294,8 +293,8 @@ bad_refused site valid text rest line more told count number read rest_is no_end
     (front_goes_on site valid text rest told count read)
     (λ timeline form text_is. refuted site valid read.entries told line more read.each read.leads no_end refused timeline form (text_is ∙ ap (λ t. front ++ t) rest_is))
     (inr (λ timeline behind form text_is.
-      refuted site valid read.entries told line behind read.each read.leads no_end refused timeline form
-      (text_is ∙ ap (λ t. (front ++ t) ++ behind) first ∙ append_assoc front (line ++ 10 ∷ []) behind ∙ ap (λ t. front ++ t) (append_assoc line (10 ∷ []) behind))))
+    refuted site valid read.entries told line behind read.each read.leads no_end refused timeline form
+    (text_is ∙ ap (λ t. (front ++ t) ++ behind) first ∙ append_assoc front (line ++ 10 ∷ []) behind ∙ ap (λ t. front ++ t) (append_assoc line (10 ∷ []) behind))))
     (is ∙ ap (λ (n : ℕ). n + 1) read.count_is)
 
 nothing_behind_end : (site : Site) → IsValid site → (entries : List Entry) (told : Told) (last : Tick) (more : List ℕ) → AreEntries site entries →
@@ -303,7 +302,7 @@ nothing_behind_end : (site : Site) → IsValid site → (entries : List Entry) (
     text_of site timeline ≡ ((opening_line site ++ entries_text site entries) ++ end_line last.0) ++ more → ⊥
 nothing_behind_end site valid entries told last more each leads small some timeline form text_is =
     let next =
-      has_next site valid timeline form entries told (end_line last.0 ++ more) each leads (text_is ∙ append_assoc (opening_line site ++ entries_text site entries) (end_line last.0) more) in
+    has_next site valid timeline form entries told (end_line last.0 ++ more) each leads (text_is ∙ append_assoc (opening_line site ++ entries_text site entries) (end_line last.0) more) in
     let both = same_front (end_line last.0) more (entry_line site next.entry) next.after (entry_line-one site valid (EndEntry last) small) (entry_line-one site valid next.entry next.form) next.more_is in
     let same : EndEntry last ≡ next.entry = entry_line-determines site valid (EndEntry last) next.entry small next.form both.0 in
     elim next.stands [
@@ -322,20 +321,20 @@ bad_behind_end site valid text rest line more told count number last timeline re
     let front : List ℕ = opening_line site ++ entries_text site read.entries in
     let ended = ended_told site told last timeline (told_form site valid text rest told count read) is.form taken in
     let text_is : text ≡ (front ++ end_line last.0) ++ more =
-      read.text_is ∙ ap (λ t. front ++ t) (rest_is ∙ sym (ap (λ t. t ++ more) is.line_is ∙ append_assoc line (10 ∷ []) more)) ∙ sym (append_assoc front (end_line last.0) more) in
+    read.text_is ∙ ap (λ t. front ++ t) (rest_is ∙ sym (ap (λ t. t ++ more) is.line_is ∙ append_assoc line (10 ∷ []) more)) ∙ sym (append_assoc front (end_line last.0) more) in
     let may : MayGoOn site (front ++ end_line last.0) =
-      record {
-        timeline = timeline;
-        form = ended.form;
-        rest = [];
-        text = ended.text_is ∙ ap (λ t. t ++ end_line last.0) (front_is site valid text rest told count read) ∙ sym (append-nil (front ++ end_line last.0));
-      } in
+    record {
+      timeline = timeline;
+      form = ended.form;
+      rest = [];
+      text = ended.text_is ∙ ap (λ t. t ++ end_line last.0) (front_is site valid text rest told count read) ∙ sym (append-nil (front ++ end_line last.0));
+    } in
     bad_at site text (front ++ end_line last.0) more (suc (length read.entries) + 1) number
     (lines_join (suc (length read.entries)) 1 front (end_line last.0) (lines_of_front site valid read.entries read.each) (one_line_of (end_line last.0) (entry_line-one site valid (EndEntry last) is.form))) text_is may
     (λ other form same. nothing_behind_end site valid read.entries told last more read.each read.leads is.form some other form same)
     (inr (λ other behind form same.
-      nothing_behind_end site valid read.entries told last (first_lines 1 more ++ behind) read.each read.leads is.form (λ e. some_first more some (front_none (first_lines 1 more) behind e)) other form
-      (same ∙ append_assoc (front ++ end_line last.0) (first_lines 1 more) behind)))
+    nothing_behind_end site valid read.entries told last (first_lines 1 more ++ behind) read.each read.leads is.form (λ e. some_first more some (front_none (first_lines 1 more) behind e)) other form
+    (same ∙ append_assoc (front ++ end_line last.0) (first_lines 1 more) behind)))
     (omega (arith, number_is, read.count_is))
   where
     front_none : (xs ys : List ℕ) → xs ++ ys ≡ [] → xs ≡ []

@@ -1,6 +1,6 @@
 -- Each step of reading a text, from what its calls say.
 use mathlib.Core.Logic.{◌↔◌}
-use Rattle.std.proofs.Common.{◌≡◌, ◌≢◌, ◌∙◌, ◌⊎◌, ◌<◌, ◌≤◌, ◌+◌, ◌++◌, ℕ, zero, suc, Bool, true, false, List, [], ◌∷◌, Option, Some, None, Result, Ok, Err, length, refl, sym, ap, subst, inl, inr, arith}
+use Rattle.std.proofs.Common.{◌≡◌, ◌∙◌, ◌<◌, ◌≤◌, ◌+◌, ◌++◌, ℕ, Bool, true, false, List, [], ◌∷◌, Some, None, Result, Ok, Err, length, refl, sym, ap, subst, inl, inr, arith}
 use Rattle.std.specs.Prelude.{IfErr, IfOk, IsTrue}
 use Rattle.std.proofs.lemmas.Bool.{both_ways}
 use Rattle.std.proofs.lemmas.List.{length-append}
@@ -16,7 +16,7 @@ use Rattle.face_text.specs.declared.timeline.Timeline.{Timeline}
 use Rattle.face_text.specs.Entries.{IsEntry}
 use Rattle.face_text.specs.EntryLines.{IsLineOf, IsParted, ReadsEntry}
 use Rattle.face_text.specs.Reading.{IsBadLine, IsRead, IsRefusal, Told, line_ends, nothing_told, timeline_told, told_next}
-use Rattle.face_text.specs.ReadSoFar.{HasPlaceOf, IsEndOf, IsReadSoFar, IsRefused, TextsAreTheirOwn, Turns}
+use Rattle.face_text.specs.ReadSoFar.{HasPlaceOf, IsEndOf, IsReadSoFar, TextsAreTheirOwn, Turns}
 use Rattle.face_text.specs.Timelines.{opening_line}
 use Rattle.face_text.proofs.FirstBad.{bad_behind_end, bad_first, bad_first_unended, bad_refused, bad_unended, begun_reading, read_on, read_to_end, told_form}
 use Rattle.face_text.proofs.SameTexts.{texts_of_their_own}

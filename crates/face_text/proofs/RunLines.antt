@@ -1,8 +1,7 @@
 -- The lines of a block one after another: the changes of all faces, then what is answered.
-use Rattle.std.proofs.Common.{◌≡◌, ◌≢◌, ◌∙◌, ◌⊎◌, ◌<◌, ◌≤◌, ◌+◌, ◌-◌, ◌*◌, ◌^◌, ◌++◌, ◌==◌, ◌&&◌, ℕ, zero, suc, Bool, true, false, not, List, [], ◌∷◌, Option, Some, None, length, map, refl, sym, ap, subst, inl, inr, append_assoc, arith, get_or, replicate, set, if◌then◌else◌}
-use Rattle.std.specs.Prelude.{nat_lt, slice_set}
+use Rattle.std.proofs.Common.{◌≡◌, ◌≢◌, ◌∙◌, ◌⊎◌, ◌<◌, ◌≤◌, ◌+◌, ◌-◌, ◌*◌, ◌^◌, ◌++◌, ◌==◌, ℕ, suc, Bool, true, false, List, [], ◌∷◌, Some, length, refl, sym, ap, subst, inl, inr, append_assoc, arith, get_or, replicate, if◌then◌else◌}
+use Rattle.std.specs.Prelude.{nat_lt}
 use Rattle.std.specs.List.{AllByRecursion}
-use Rattle.std.specs.Option.{option_and_then}
 use Rattle.std.proofs.lemmas.Bool.{cases_eq, cases_lt, eq-eqb, lt-ltb, ne_eqb}
 use Rattle.std.proofs.lemmas.List.{append-nil, get_or_at, length-append, set_at}
 use Rattle.site_types.specs.declared.site.Site.{Site}
@@ -12,7 +11,7 @@ use Rattle.face_text.specs.declared.entry.Entry.{Entry}
 use Rattle.face_text.specs.declared.entry.Entry.TheVariants.{Change as ChangeEntry, Answer as AnswerEntry, Busy as BusyEntry, StoreFailed}
 use Rattle.face_text.specs.declared.face.Face.{Face}
 use Rattle.face_text.specs.declared.op_answer.OpAnswer.{OpAnswer}
-use Rattle.face_text.specs.Entries.{IsChange, IsEntry, rank_of, slot_of, slot_rank, value_of}
+use Rattle.face_text.specs.Entries.{IsChange, slot_of, slot_rank, value_of}
 use Rattle.face_text.specs.Faces.{empty_face}
 use Rattle.face_text.specs.FaceTelling.{AreNews, changes_of, face_after}
 use Rattle.face_text.specs.Reading.{Told, face_at, told_after, told_next}
@@ -116,18 +115,18 @@ faces_lead site told front (before ∷ befores) (after ∷ afters) panel rank si
     let changes = changes_of site before after in
     let middle : ℕ = last_place panel rank changes in
     let first : told_after (shown told (front ++ before ∷ befores) rank) (change_entries panel changes) ≡ Some (shown told (front ++ after ∷ befores) middle) =
-      changes_lead told front befores before panel rank 0 changes size (omega (arith, low)) there.news
-      ∙ ap (λ (face : Face). Some (shown told (front ++ face ∷ befores) middle)) there.there in
+    changes_lead told front befores before panel rank 0 changes size (omega (arith, low)) there.news
+    ∙ ap (λ (face : Face). Some (shown told (front ++ face ∷ befores) middle)) there.there in
     let rest =
-      faces_lead site told (front ++ after ∷ []) befores afters (suc panel) middle (omega (arith, length-append front (after ∷ []), size))
-      (last_is_low site panel rank changes there.each (omega (arith, low))) (omega (arith, same)) befores_are.1 afters_are.1 in
+    faces_lead site told (front ++ after ∷ []) befores afters (suc panel) middle (omega (arith, length-append front (after ∷ []), size))
+    (last_is_low site panel rank changes there.each (omega (arith, low))) (omega (arith, same)) befores_are.1 afters_are.1 in
     record {
       end = rest.end;
       low = omega (arith, rest.low);
       leads =
-        leads_on (shown told (front ++ before ∷ befores) rank) (shown told (front ++ after ∷ befores) middle) (shown told (front ++ after ∷ afters) rest.end)
-        (change_entries panel changes) (face_entries site (suc panel) befores afters) first
-        (joined told front after befores afters middle rest.end (face_entries site (suc panel) befores afters) rest.leads);
+          leads_on (shown told (front ++ before ∷ befores) rank) (shown told (front ++ after ∷ befores) middle) (shown told (front ++ after ∷ afters) rest.end)
+          (change_entries panel changes) (face_entries site (suc panel) befores afters) first
+          (joined told front after befores afters middle rest.end (face_entries site (suc panel) befores afters) rest.leads);
     }
   where
     joined : (told : Told) (front : List Face) (after : Face) (befores afters : List Face) (rank end : ℕ) (entries : List Entry) →
@@ -176,15 +175,15 @@ ops_lead told done [] busy failed bound rank ticking are small less few =
     }
 ops_lead told done (answer ∷ answers) busy failed bound rank ticking are small less few =
     let rest =
-      ops_lead told (done ++ answer ∷ []) answers busy failed (suc answer.number) (1000000 + answer.number) ticking are.3 (omega (arith, are.1)) (omega arith)
-      (omega (arith, few, length-append done (answer ∷ []))) in
+    ops_lead told (done ++ answer ∷ []) answers busy failed (suc answer.number) (1000000 + answer.number) ticking are.3 (omega (arith, are.1)) (omega arith)
+    (omega (arith, few, length-append done (answer ∷ []))) in
     record {
       end = rest.end;
       low = rest.low;
       leads =
-        leads_first (answering told done busy failed rank) (answering told (done ++ answer ∷ []) busy failed (1000000 + answer.number)) (answering told (done ++ answer ∷ answers) busy failed rest.end)
-        (AnswerEntry answer) (op_entries answers) (op_leads told done busy failed rank answer ticking (omega (arith, less, are.0)) (omega (arith, few)))
-        (rest.leads ∙ ap (λ (all : List OpAnswer). Some (answering told all busy failed rest.end)) (append_assoc done (answer ∷ []) answers));
+          leads_first (answering told done busy failed rank) (answering told (done ++ answer ∷ []) busy failed (1000000 + answer.number)) (answering told (done ++ answer ∷ answers) busy failed rest.end)
+          (AnswerEntry answer) (op_entries answers) (op_leads told done busy failed rank answer ticking (omega (arith, less, are.0)) (omega (arith, few)))
+          (rest.leads ∙ ap (λ (all : List OpAnswer). Some (answering told all busy failed rest.end)) (append_assoc done (answer ∷ []) answers));
     }
 
 abbrev pub busy_entries : ℕ → List ℕ → List Entry
@@ -225,9 +224,9 @@ one_busy_leads told ops front count counts failed panel rank ticking size less (
       end = rest.end;
       low = omega (arith, rest.low);
       leads =
-        rw e
-        (subst (λ (c : ℕ). told_after (answering told ops (front ++ c ∷ zeros) failed rank) (busy_entries (suc panel) counts) ≡ Some (answering told ops (front ++ count ∷ counts) failed rest.end)) none
-        (busy_joined told ops front count zeros counts failed rank rest.end (busy_entries (suc panel) counts) rest.leads));
+          rw e
+          (subst (λ (c : ℕ). told_after (answering told ops (front ++ c ∷ zeros) failed rank) (busy_entries (suc panel) counts) ≡ Some (answering told ops (front ++ count ∷ counts) failed rest.end)) none
+          (busy_joined told ops front count zeros counts failed rank rest.end (busy_entries (suc panel) counts) rest.leads));
     }
 one_busy_leads told ops front count counts failed panel rank ticking size less (inr some) behind =
     let rest = behind (1000000 + 2 ^ 64 + panel) (omega arith) in
@@ -237,10 +236,10 @@ one_busy_leads told ops front count counts failed panel rank ticking size less (
       end = rest.end;
       low = omega (arith, rest.low);
       leads =
-        rw e
-        (leads_first (answering told ops (front ++ 0 ∷ zeros) failed rank) (answering told ops (front ++ count ∷ zeros) failed (1000000 + 2 ^ 64 + panel)) (answering told ops (front ++ count ∷ counts) failed rest.end)
-        (BusyEntry panel count) (busy_entries (suc panel) counts) (busy_leads told ops front zeros failed panel rank count ticking size less)
-        (busy_joined told ops front count zeros counts failed (1000000 + 2 ^ 64 + panel) rest.end (busy_entries (suc panel) counts) rest.leads));
+          rw e
+          (leads_first (answering told ops (front ++ 0 ∷ zeros) failed rank) (answering told ops (front ++ count ∷ zeros) failed (1000000 + 2 ^ 64 + panel)) (answering told ops (front ++ count ∷ counts) failed rest.end)
+          (BusyEntry panel count) (busy_entries (suc panel) counts) (busy_leads told ops front zeros failed panel rank count ticking size less)
+          (busy_joined told ops front count zeros counts failed (1000000 + 2 ^ 64 + panel) rest.end (busy_entries (suc panel) counts) rest.leads));
     }
 
 pub all_busy_lead : (told : Told) (ops : List OpAnswer) (front counts : List ℕ) (failed : Bool) (panel rank : ℕ) → 0 < told.tick.0 → length front + 1 ≡ panel → rank < 1000000 + 2 ^ 64 + panel →
@@ -298,15 +297,15 @@ answers_lead site told answers rank ticking are low =
     let zeros : List ℕ = replicate 8 0 in
     let first = ops_lead told [] answers.ops zeros false 0 rank ticking are.ops (omega arith) (omega (arith, low)) (omega (arith, few)) in
     let second : LeadsToAnswers told answers.ops answers.ops zeros answers.busy false false first.end (1000000 + 2 ^ 64 + 1 + length answers.busy) (busy_entries 1 answers.busy) =
-      subst (λ (n : ℕ). LeadsToAnswers told answers.ops answers.ops (replicate n 0) answers.busy false false first.end (1000000 + 2 ^ 64 + 1 + length answers.busy) (busy_entries 1 answers.busy)) size
-      (all_busy_lead told answers.ops [] answers.busy false 1 first.end ticking refl (omega (arith, first.low))) in
+    subst (λ (n : ℕ). LeadsToAnswers told answers.ops answers.ops (replicate n 0) answers.busy false false first.end (1000000 + 2 ^ 64 + 1 + length answers.busy) (busy_entries 1 answers.busy)) size
+    (all_busy_lead told answers.ops [] answers.busy false 1 first.end ticking refl (omega (arith, first.low))) in
     let third = failure_leads told answers.ops answers.busy answers.failed second.end ticking (omega (arith, second.low, size)) in
     record {
       end = third.end;
       low = third.low;
       leads =
-        leads_on (answering told [] zeros false rank) (answering told answers.ops zeros false first.end) (answering told answers.ops answers.busy answers.failed third.end) (op_entries answers.ops)
-        (busy_entries 1 answers.busy ++ failure_entries answers.failed) first.leads
-        (leads_on (answering told answers.ops zeros false first.end) (answering told answers.ops answers.busy false second.end) (answering told answers.ops answers.busy answers.failed third.end)
-        (busy_entries 1 answers.busy) (failure_entries answers.failed) second.leads third.leads);
+          leads_on (answering told [] zeros false rank) (answering told answers.ops zeros false first.end) (answering told answers.ops answers.busy answers.failed third.end) (op_entries answers.ops)
+          (busy_entries 1 answers.busy ++ failure_entries answers.failed) first.leads
+          (leads_on (answering told answers.ops zeros false first.end) (answering told answers.ops answers.busy false second.end) (answering told answers.ops answers.busy answers.failed third.end)
+          (busy_entries 1 answers.busy) (failure_entries answers.failed) second.leads third.leads);
     }

@@ -1,21 +1,20 @@
 -- The lines of each timeline in form may stand one behind another, and tell it.
-use Rattle.std.proofs.Common.{◌≡◌, ◌≢◌, ◌∙◌, ◌⊎◌, ◌<◌, ◌≤◌, ◌+◌, ◌-◌, ◌*◌, ◌^◌, ◌++◌, ◌==◌, ◌&&◌, ◌||◌, ℕ, zero, suc, Bool, true, false, List, [], ◌∷◌, Some, None, length, refl, sym, ap, subst, inl, inr, append_assoc, arith, replicate}
+use Rattle.std.proofs.Common.{◌≡◌, ◌≢◌, ◌∙◌, ◌⊎◌, ◌<◌, ◌≤◌, ◌-◌, ◌^◌, ◌++◌, ◌==◌, ℕ, Bool, true, false, List, [], ◌∷◌, Some, length, refl, sym, ap, subst, inl, inr, append_assoc, arith}
 use Rattle.std.specs.Prelude.{nat_le, nat_lt}
-use Rattle.std.proofs.lemmas.Bool.{eq-eqb, le-leb, lt-ltb, ne_eqb, true≢false}
+use Rattle.std.proofs.lemmas.Bool.{le-leb, lt-ltb, ne_eqb, true≢false}
 use Rattle.std.proofs.lemmas.List.{append-nil}
 use Rattle.site_types.specs.declared.site.Site.{Site}
-use Rattle.tick_units.specs.declared.tick.Tick.{Tick}
 use Rattle.face_text.specs.declared.answers.Answers.{Answers}
 use Rattle.face_text.specs.declared.entry.Entry.{Entry}
 use Rattle.face_text.specs.declared.entry.Entry.TheVariants.{Tick as TickEntry}
 use Rattle.face_text.specs.declared.face.Face.{Face}
 use Rattle.face_text.specs.declared.step.Step.{Step}
 use Rattle.face_text.specs.declared.timeline.Timeline.{Timeline}
-use Rattle.face_text.specs.Reading.{Told, entries_text, faces_behind, may_close, no_answers, nothing_told, opened_by, steps_by, timeline_told, told_after, told_next, told_text}
+use Rattle.face_text.specs.Reading.{Told, entries_text, may_close, no_answers, nothing_told, opened_by, steps_by, timeline_told, told_after, told_next}
 use Rattle.face_text.specs.ReadSoFar.{AreEntries}
 use Rattle.face_text.specs.Timelines.{AreAnswers, AreFaces, AreSteps, HasAnswer, IsInForm, empty_faces, end_line, opening_line, text_of}
-use Rattle.face_text.proofs.Accepted.{all_told, ended_told, or_first, or_second, zero_or_more}
-use Rattle.face_text.proofs.RunLines.{answer_entries, answer_entries_are, answering, answers_lead, entries_join, face_entries, face_entries_are, faces_lead, leads_first, leads_on, shown}
+use Rattle.face_text.proofs.Accepted.{all_told, ended_told, or_second, zero_or_more}
+use Rattle.face_text.proofs.RunLines.{answer_entries, answer_entries_are, answers_lead, entries_join, face_entries, face_entries_are, faces_lead, leads_first, leads_on, shown}
 use Rattle.face_text.proofs.ToldAnswers.{AreAnswersTold, no_ops_below}
 use Rattle.face_text.proofs.ToldBlocks.{IsBlock}
 use Rattle.face_text.proofs.ToldForms.{IsToldForm, befores_of, closed, empty_faces_are, nothing_is_told, nothing_told_text, pages_are, told_faces_are}
@@ -37,7 +36,7 @@ step_entries_are site before step before_are small faces answers =
     let count : length step.faces ≡ site.panels = faces.count in (
       small,
       entries_join site (face_entries site 1 before step.faces) (answer_entries step.answers)
-      (face_entries_are site 1 before step.faces (omega arith) (omega (arith, count)) (pages_are site before before_are) (pages_are site step.faces faces)) (answer_entries_are site step.answers answers),
+          (face_entries_are site 1 before step.faces (omega arith) (omega (arith, count)) (pages_are site before before_are) (pages_are site step.faces faces)) (answer_entries_are site step.answers answers),
     )
 
 step_leads : (site : Site) → IsValid site → (told : Told) (step : Step) → may_close told ≡ true → told.tick.0 < step.tick.0 → AreFaces site told.faces → AreFaces site step.faces →
@@ -49,11 +48,10 @@ step_leads site valid told step may less before faces answers =
     let count : length step.faces ≡ site.panels = faces.count in
     let changes = faces_lead site begun [] told.faces step.faces 1 0 refl (omega arith) (before.count ∙ sym faces.count) (pages_are site told.faces before) (pages_are site step.faces faces) in
     let changed : Told = shown begun step.faces changes.end in
-    let replies = answers_lead site changed step.answers changes.end (omega (arith, less)) answers (omega (arith, changes.low, count, few_panels site valid)) in
-    (
+    let replies = answers_lead site changed step.answers changes.end (omega (arith, less)) answers (omega (arith, changes.low, count, few_panels site valid)) in (
       replies.end,
       leads_first told begun (with_step told step replies.end) (TickEntry step.tick) (face_entries site 1 told.faces step.faces ++ answer_entries step.answers) opens
-      (leads_on begun changed (with_step told step replies.end) (face_entries site 1 told.faces step.faces) (answer_entries step.answers) changes.leads replies.leads),
+          (leads_on begun changed (with_step told step replies.end) (face_entries site 1 told.faces step.faces) (answer_entries step.answers) changes.leads replies.leads),
     )
 
 -- ---- a step in form has a line
@@ -120,7 +118,7 @@ steps_lead site valid told (step ∷ steps) last form may small are =
       entries = step_entries site told.faces step ++ rest.entries;
       next = rest.next;
       each =
-        entries_join site (step_entries site told.faces step) rest.entries (step_entries_are site told.faces step (told_faces_are site told form) (omega (arith, end, small)) are.1 are.2) rest.each;
+          entries_join site (step_entries site told.faces step) rest.entries (step_entries_are site told.faces step (told_faces_are site told form) (omega (arith, end, small)) are.1 are.2) rest.each;
       leads = leads_on told (with_step told step one.0) rest.next (step_entries site told.faces step) rest.entries one.1 rest.leads;
       opened = rest.opened ∙ opened;
       steps_are = rest.steps_are ∙ ap (λ (all : List Step). all ++ steps) stepped ∙ append_assoc (steps_by told) (step ∷ []) steps;
@@ -152,8 +150,8 @@ is_told site valid timeline form =
     let nothing : Told = nothing_told site in
     let count : length timeline.opened ≡ site.panels = form.opened.count in
     let first =
-      faces_lead site nothing [] (empty_faces site) timeline.opened 1 0 refl (omega arith) (empties.count ∙ sym form.opened.count) (pages_are site (empty_faces site) empties)
-      (pages_are site timeline.opened form.opened) in
+    faces_lead site nothing [] (empty_faces site) timeline.opened 1 0 refl (omega arith) (empties.count ∙ sym form.opened.count) (pages_are site (empty_faces site) empties)
+    (pages_are site timeline.opened form.opened) in
     let entries : List Entry = face_entries site 1 (empty_faces site) timeline.opened in
     let each = face_entries_are site 1 (empty_faces site) timeline.opened (omega arith) (omega (arith, count)) (pages_are site (empty_faces site) empties) (pages_are site timeline.opened form.opened) in
     let opened : Told = shown nothing timeline.opened first.end in
@@ -163,17 +161,17 @@ is_told site valid timeline form =
     let leads : told_after nothing (entries ++ rest.entries) ≡ Some rest.next = leads_on nothing opened rest.next entries rest.entries first.leads rest.leads in
     let low : nat_le rest.next.tick.0 timeline.last.0 ≡ true = le-leb rest.next.tick.0 timeline.last.0 rest.low in
     let ends : timeline_told rest.next timeline.last ≡ Some timeline =
-      rw (rest.may, low) (ap (λ (t : Timeline). Some t) (timeline_with timeline (opened_by rest.next) (steps_by rest.next) rest.opened rest.steps_are)) in
+    rw (rest.may, low) (ap (λ (t : Timeline). Some t) (timeline_with timeline (opened_by rest.next) (steps_by rest.next) rest.opened rest.steps_are)) in
     let whole = all_told site valid nothing rest.next (entries ++ rest.entries) (nothing_is_told site) all leads in
     let read = ended_told site rest.next timeline.last timeline whole.form form.last ends in
     record {
       entries = entries ++ rest.entries;
       told = rest.next;
       by_them =
-        record {
-          each = all;
-          leads = leads;
-          ends = ends;
-          text = read.text_is ∙ ap (λ t. t ++ end_line timeline.last.0) (whole.text ∙ ap (λ t. t ++ entries_text site (entries ++ rest.entries)) (nothing_told_text site));
-        };
+          record {
+            each = all;
+            leads = leads;
+            ends = ends;
+            text = read.text_is ∙ ap (λ t. t ++ end_line timeline.last.0) (whole.text ∙ ap (λ t. t ++ entries_text site (entries ++ rest.entries)) (nothing_told_text site));
+          };
     }

@@ -1,6 +1,5 @@
 -- One text has one list of lines, and no two timelines in form have one text.
-use Rattle.std.proofs.Common.{◌≡◌, ◌≢◌, ◌∙◌, ◌⊎◌, ◌<◌, ◌≤◌, ◌+◌, ◌++◌, ℕ, zero, suc, List, [], ◌∷◌, Option, Some, None, length, refl, sym, ap, subst, inl, inr, append_assoc, arith}
-use Rattle.std.specs.Option.{option_and_then}
+use Rattle.std.proofs.Common.{◌≡◌, ◌∙◌, ◌+◌, ◌++◌, ℕ, List, [], ◌∷◌, Some, length, refl, sym, ap, append_assoc, arith}
 use Rattle.std.proofs.lemmas.List.{append-nil, append_cancel_left, length-append, same_from_push}
 use Rattle.std.proofs.lemmas.List.Concat.{flat_map-append}
 use Rattle.site_types.specs.declared.site.Site.{Site}
@@ -10,10 +9,9 @@ use Rattle.face_text.specs.declared.entry.Entry.TheVariants.{End as EndEntry}
 use Rattle.face_text.specs.declared.timeline.Timeline.{Timeline}
 use Rattle.face_text.specs.Entries.{IsEntry, entry_line}
 use Rattle.face_text.specs.EntryLines.{IsOneLine}
-use Rattle.face_text.specs.Reading.{Told, entries_text, nothing_told, timeline_told, told_after, told_next}
+use Rattle.face_text.specs.Reading.{Told, entries_text, nothing_told, timeline_told, told_after}
 use Rattle.face_text.specs.ReadSoFar.{AreEntries, HaveTextsOfTheirOwn}
 use Rattle.face_text.specs.Timelines.{IsInForm, end_line, opening_line, text_of}
-use Rattle.face_text.proofs.Accepted.{after_more}
 use Rattle.face_text.proofs.LineEnds.{same_line}
 use Rattle.face_text.proofs.RunLines.{entries_join}
 use Rattle.face_text.proofs.Runs.{IsTold, is_told}
@@ -52,8 +50,8 @@ entries_front site valid (entry ∷ entries) [] more are others_are same =
     absurd (no_lines (entry_line site entry) (entries_text site entries ++ more) (entry_line-one site valid entry are.0) (sym (append_assoc (entry_line site entry) (entries_text site entries) more) ∙ same))
 entries_front site valid (entry ∷ entries) (other ∷ others) more are others_are same =
     let front =
-      same_front (entry_line site entry) (entries_text site entries ++ more) (entry_line site other) (entries_text site others) (entry_line-one site valid entry are.0) (entry_line-one site valid other others_are.0)
-      (sym (append_assoc (entry_line site entry) (entries_text site entries) more) ∙ same) in
+    same_front (entry_line site entry) (entries_text site entries ++ more) (entry_line site other) (entries_text site others) (entry_line-one site valid entry are.0) (entry_line-one site valid other others_are.0)
+    (sym (append_assoc (entry_line site entry) (entries_text site entries) more) ∙ same) in
     let first : entry ≡ other = entry_line-determines site valid entry other are.0 others_are.0 front.0 in
     let ih = entries_front site valid entries others more are.1 others_are.1 front.1 in
     record {
@@ -93,17 +91,17 @@ alike : (site : Site) → IsValid site → (one other : Timeline) → IsInForm s
 alike site valid one other one_form other_form told another same =
     let texts = append_cancel_left (opening_line site) _ _ (sym (told_text_of site one told) ∙ same ∙ told_text_of site other another) in
     let on =
-      entries_front site valid (all_entries told.entries one.last) (all_entries another.entries other.last) [] (all_entries_are site told.entries one.last told.by_them.each one_form.last)
-      (all_entries_are site another.entries other.last another.by_them.each other_form.last) (append-nil _ ∙ texts) in
+    entries_front site valid (all_entries told.entries one.last) (all_entries another.entries other.last) [] (all_entries_are site told.entries one.last told.by_them.each one_form.last)
+    (all_entries_are site another.entries other.last another.by_them.each other_form.last) (append-nil _ ∙ texts) in
     let none : on.rest ≡ [] = no_entries site valid on.rest on.each on.more_is in
     let lists : all_entries another.entries other.last ≡ all_entries told.entries one.last =
-      on.others_are ∙ ap (λ (rest : List Entry). all_entries told.entries one.last ++ rest) none ∙ append-nil (all_entries told.entries one.last) in
+    on.others_are ∙ ap (λ (rest : List Entry). all_entries told.entries one.last ++ rest) none ∙ append-nil (all_entries told.entries one.last) in
     let both = same_from_push another.entries told.entries (EndEntry other.last) (EndEntry one.last) lists in
     let last : other.last ≡ one.last = end_is other.last one.last both.1 in
     let ends : Some another.told ≡ Some told.told = sym another.by_them.leads ∙ ap (told_after (nothing_told site)) both.0 ∙ told.by_them.leads in
     let tolds : another.told ≡ told.told = cc in
     let timelines : Some other ≡ Some one =
-      sym another.by_them.ends ∙ ap (λ (t : Told). timeline_told t other.last) tolds ∙ ap (timeline_told told.told) last ∙ told.by_them.ends in
+    sym another.by_them.ends ∙ ap (λ (t : Told). timeline_told t other.last) tolds ∙ ap (timeline_told told.told) last ∙ told.by_them.ends in
     cc
 
 pub texts_of_their_own : (site : Site) → IsValid site → HaveTextsOfTheirOwn site

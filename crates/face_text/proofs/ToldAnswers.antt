@@ -1,9 +1,9 @@
 -- What is answered in a tick, line by line: operations by number, busy panels, the store.
-use Rattle.std.proofs.Common.{◌≡◌, ◌≢◌, ◌∙◌, ◌⊎◌, ◌<◌, ◌≤◌, ◌+◌, ◌-◌, ◌*◌, ◌^◌, ◌++◌, ◌==◌, ℕ, zero, suc, List, [], ◌∷◌, Bool, true, false, length, refl, sym, ap, subst, inl, inr, append_assoc, arith, get_or, set, cond, if◌then◌else◌, replicate}
-use Rattle.std.specs.Prelude.{slice_index, slice_set}
-use Rattle.std.specs.List.{flat_map, range_with_len}
-use Rattle.std.proofs.lemmas.Bool.{cases_eq, cases_lt, eq-eqb, ne_eqb}
-use Rattle.std.proofs.lemmas.List.{append-nil, get_or-set_other, get_or-set_same, get_or_past, length-append, length-set}
+use Rattle.std.proofs.Common.{◌≡◌, ◌≢◌, ◌∙◌, ◌⊎◌, ◌<◌, ◌≤◌, ◌+◌, ◌-◌, ◌^◌, ◌++◌, ℕ, zero, suc, List, [], ◌∷◌, Bool, true, false, length, refl, sym, ap, subst, inl, inr, append_assoc, arith, get_or, set, replicate}
+use Rattle.std.specs.Prelude.{slice_index}
+use Rattle.std.specs.List.{flat_map}
+use Rattle.std.proofs.lemmas.Bool.{cases_eq, ne_eqb}
+use Rattle.std.proofs.lemmas.List.{append-nil, get_or-set_other, get_or-set_same, length-append, length-set}
 use Rattle.std.proofs.lemmas.List.Concat.{flat_map-append}
 use Rattle.site_types.specs.declared.site.Site.{Site}
 use Rattle.face_text.specs.declared.answers.Answers.{Answers}
@@ -186,8 +186,8 @@ answer_told site rank answers answer told less small reply room =
         not_failed = λ low. told.not_failed (omega (arith, less, low));
       },
       rw (busy, failed, flat_map-append answer_line answers.ops (answer ∷ []))
-      (append-nil _ ∙ append-nil _ ∙ ap (λ t. flat_map answer_line answers.ops ++ t) (append-nil (answer_line answer))
-      ∙ ap (λ t. t ++ answer_line answer) (sym (append-nil (flat_map answer_line answers.ops ++ []) ∙ append-nil (flat_map answer_line answers.ops)))),
+          (append-nil _ ∙ append-nil _ ∙ ap (λ t. flat_map answer_line answers.ops ++ t) (append-nil (answer_line answer))
+          ∙ ap (λ t. t ++ answer_line answer) (sym (append-nil (flat_map answer_line answers.ops ++ []) ∙ append-nil (flat_map answer_line answers.ops)))),
     )
 
 one_busy : (busy : List ℕ) (at place count : ℕ) (P : ℕ → Type 0) → (at ≡ place → P count) → ((at ≡ place → ⊥) → P (get_or busy place 0)) → at < length busy → P (get_or (set busy at count) place 0)
@@ -219,8 +219,8 @@ busy_told site rank panel count answers told eight from to some small less =
         not_failed = λ low. told.not_failed (omega (arith, less, to, eight));
       },
       rw (failed, text)
-      (append-nil _ ∙ sym (append_assoc (flat_map answer_line answers.ops) (busy_text answers.busy) (counted_line panel count))
-      ∙ ap (λ t. t ++ counted_line panel count) (sym (append-nil (flat_map answer_line answers.ops ++ busy_text answers.busy)))),
+          (append-nil _ ∙ sym (append_assoc (flat_map answer_line answers.ops) (busy_text answers.busy) (counted_line panel count))
+          ∙ ap (λ t. t ++ counted_line panel count) (sym (append-nil (flat_map answer_line answers.ops ++ busy_text answers.busy)))),
     )
 
 -- Keep's turn failed
@@ -269,10 +269,10 @@ answered_or_not answers size =
     elim (ops_or_none answers.ops) [
       | inl some ↦ inl (inl some)
       | inr none ↦
-        elim (some_count answers.busy) [
-          | inl some ↦ inl (inr (inl some))
-          | inr free ↦ by_store answers.failed refl none free
-        ]
+          elim (some_count answers.busy) [
+            | inl some ↦ inl (inr (inl some))
+            | inr free ↦ by_store answers.failed refl none free
+          ]
     ]
   where
     by_store : (failed : Bool) → answers.failed ≡ failed → answers.ops ≡ [] → ((place : ℕ) → get_or answers.busy place 0 ≡ 0) → HasAnswer answers ⊎ (answers_text answers ≡ [])

@@ -1,6 +1,5 @@
 -- The block of lines that is being told: the changes of all faces, and answers behind them.
-use Rattle.std.proofs.Common.{◌≡◌, ◌≢◌, ◌∙◌, ◌<◌, ◌≤◌, ◌+◌, ◌-◌, ◌*◌, ◌^◌, ◌++◌, ℕ, zero, suc, List, [], ◌∷◌, true, length, refl, sym, ap, subst, append_assoc, arith, set}
-use Rattle.std.specs.Prelude.{slice_index_or, slice_set}
+use Rattle.std.proofs.Common.{◌≡◌, ◌≢◌, ◌∙◌, ◌<◌, ◌+◌, ◌-◌, ◌*◌, ◌^◌, ◌++◌, ℕ, List, [], ◌∷◌, true, length, sym, ap, subst, append_assoc, arith, set}
 use Rattle.std.proofs.lemmas.List.{append-nil, length-append, length-set}
 use Rattle.site_types.specs.declared.site.Site.{Site}
 use Rattle.face_text.specs.declared.answers.Answers.{Answers}
@@ -9,7 +8,7 @@ use Rattle.face_text.specs.declared.entry.Entry.TheVariants.{Change as ChangeEnt
 use Rattle.face_text.specs.declared.face.Face.{Face}
 use Rattle.face_text.specs.declared.op_answer.OpAnswer.{OpAnswer}
 use Rattle.face_text.specs.Answers.{answer_line, answers_text, failed_text}
-use Rattle.face_text.specs.Entries.{IsChange, IsEntry, counted_line, entry_line, rank_of, slot_of, slot_rank, value_of}
+use Rattle.face_text.specs.Entries.{IsChange, IsEntry, counted_line, rank_of, slot_of, slot_rank, value_of}
 use Rattle.face_text.specs.EntryLines.{IsOneLine}
 use Rattle.face_text.specs.FaceTelling.{change_line}
 use Rattle.face_text.specs.Reading.{face_at}
@@ -55,25 +54,25 @@ change_block site valid rank befores faces answers panel change block is less ne
     let small = rank_is_small site panel change is.2 in
     let low : panel * 100000 + slot_rank (slot_of change) < 1000000 = omega (arith, small.1, is.1, few_panels site valid) in
     let told =
-      subst
-      (λ (p : ℕ).
-      ArePagesTold site (p * 100000 + slot_rank (slot_of change)) 1 befores (set faces (panel - 1) (face_told (face_at faces panel) change))
-      × (faces_text site befores (set faces (panel - 1) (face_told (face_at faces panel) change)) ≡ faces_text site befores faces ++ change_line site p change))
-      at
-      (change_told site rank 1 (panel - 1) befores faces change (empty_face panel) block.pages (omega (arith, size, is.0, is.1))
-      (subst (λ (p : ℕ). IsChange site p change) (sym at) is.2) (subst (λ (p : ℕ). rank < p * 100000 + slot_rank (slot_of change)) (sym at) less) news) in
+    subst
+    (λ (p : ℕ).
+    ArePagesTold site (p * 100000 + slot_rank (slot_of change)) 1 befores (set faces (panel - 1) (face_told (face_at faces panel) change))
+    × (faces_text site befores (set faces (panel - 1) (face_told (face_at faces panel) change)) ≡ faces_text site befores faces ++ change_line site p change))
+    at
+    (change_told site rank 1 (panel - 1) befores faces change (empty_face panel) block.pages (omega (arith, size, is.0, is.1))
+    (subst (λ (p : ℕ). IsChange site p change) (sym at) is.2) (subst (λ (p : ℕ). rank < p * 100000 + slot_rank (slot_of change)) (sym at) less) news) in
     let silent : answers_text answers ≡ [] = nothing_answered_text site rank answers block.answered (omega (arith, less, low)) in
     let afters = set faces (panel - 1) (face_told (face_at faces panel) change) in
     let text : faces_text site befores afters ++ answers_text answers ≡ (faces_text site befores faces ++ answers_text answers) ++ change_line site panel change =
-      rw silent (append-nil _ ∙ told.1 ∙ ap (λ t. t ++ change_line site panel change) (sym (append-nil (faces_text site befores faces)))) in
+    rw silent (append-nil _ ∙ told.1 ∙ ap (λ t. t ++ change_line site panel change) (sym (append-nil (faces_text site befores faces)))) in
     record {
       block =
-        record {
-          pages = told.0;
-          count = length-set faces (panel - 1) (face_told (face_at faces panel) change) ∙ size;
-          answered = later_answers site rank (panel * 100000 + slot_rank (slot_of change)) answers (omega (arith, less)) block.answered;
-          content = λ some. some_text (block_text site befores faces answers) (block_text site befores afters answers) (change_line site panel change) text (entry_line-one site valid (ChangeEntry panel change) is);
-        };
+          record {
+            pages = told.0;
+            count = length-set faces (panel - 1) (face_told (face_at faces panel) change) ∙ size;
+            answered = later_answers site rank (panel * 100000 + slot_rank (slot_of change)) answers (omega (arith, less)) block.answered;
+            content = λ some. some_text (block_text site befores faces answers) (block_text site befores afters answers) (change_line site panel change) text (entry_line-one site valid (ChangeEntry panel change) is);
+          };
       text = text;
     }
 
@@ -83,15 +82,15 @@ answered_block :
     → AreAnswersTold site later replies → answers_text replies ≡ answers_text answers ++ line → IsOneLine line → IsNextBlock site later befores faces faces answers replies line
 answered_block site rank later befores faces answers replies line block less told is one =
     let text : faces_text site befores faces ++ answers_text replies ≡ (faces_text site befores faces ++ answers_text answers) ++ line =
-      ap (λ t. faces_text site befores faces ++ t) is ∙ sym (append_assoc (faces_text site befores faces) (answers_text answers) line) in
+    ap (λ t. faces_text site befores faces ++ t) is ∙ sym (append_assoc (faces_text site befores faces) (answers_text answers) line) in
     record {
       block =
-        record {
-          pages = later_pages site rank later 1 befores faces (omega (arith, less)) block.pages;
-          count = block.count;
-          answered = told;
-          content = λ some. some_text (block_text site befores faces answers) (block_text site befores faces replies) line text one;
-        };
+          record {
+            pages = later_pages site rank later 1 befores faces (omega (arith, less)) block.pages;
+            count = block.count;
+            answered = told;
+            content = λ some. some_text (block_text site befores faces answers) (block_text site befores faces replies) line text one;
+          };
       text = text;
     }
 

@@ -1,27 +1,20 @@
 -- What the lines of a text tell is in form, and its text is that of the lines.
-use Rattle.std.proofs.Common.{◌≡◌, ◌≢◌, ◌∙◌, ◌⊎◌, ◌<◌, ◌≤◌, ◌+◌, ◌-◌, ◌^◌, ◌++◌, ◌==◌, ◌&&◌, ◌||◌, ℕ, zero, suc, Bool, true, false, not, List, [], ◌∷◌, Option, Some, None, length, map, refl, sym, ap, subst, inl, inr, append_assoc, arith, set, if◌then◌else◌}
-use Rattle.std.specs.Prelude.{nat_le, nat_lt, slice_get, slice_set}
+use Rattle.std.proofs.Common.{◌≡◌, ◌≢◌, ◌∙◌, ◌⊎◌, ◌<◌, ◌≤◌, ◌+◌, ◌-◌, ◌^◌, ◌++◌, ◌==◌, ℕ, zero, suc, Bool, true, false, List, [], ◌∷◌, Some, length, map, refl, sym, ap, subst, inl, inr, append_assoc, arith, if◌then◌else◌}
+use Rattle.std.specs.Prelude.{nat_lt, slice_get}
 use Rattle.std.specs.List.{range_with_len}
-use Rattle.std.proofs.lemmas.Bool.{and_parts, eq-eqb, eqb-false, eqb-true, leb-true, ltb-true, ne_eqb, not-true, or_cases}
+use Rattle.std.proofs.lemmas.Bool.{eq-eqb, eqb-true, ltb-true, ne_eqb, or_cases}
 use Rattle.std.proofs.lemmas.List.{append-nil, length-map}
 use Rattle.std.proofs.lemmas.List.FromFn.{map-range_with_len_more}
 use Rattle.site_types.specs.declared.site.Site.{Site}
-use Rattle.tick_units.specs.declared.tick.Tick.{Tick}
 use Rattle.face_text.specs.declared.answers.Answers.{Answers}
-use Rattle.face_text.specs.declared.entry.Entry.{Entry}
-use Rattle.face_text.specs.declared.entry.Entry.TheVariants.{Change as ChangeEntry, Answer as AnswerEntry, Busy as BusyEntry, StoreFailed, Tick as TickEntry, End as EndEntry}
 use Rattle.face_text.specs.declared.face.Face.{Face}
 use Rattle.face_text.specs.declared.step.Step.{Step}
-use Rattle.face_text.specs.declared.timeline.Timeline.{Timeline}
-use Rattle.face_text.specs.Answers.{answers_text, busy_text}
-use Rattle.face_text.specs.Entries.{IsEntry, entry_line, rank_of, slot_of, value_of}
+use Rattle.face_text.specs.Answers.{answers_text}
 use Rattle.face_text.specs.Faces.{empty_face}
-use Rattle.face_text.specs.Reading.{MayGoOn, Told, block_of, comes_next, face_at, faces_behind, is_in_tick, is_news, may_close, no_answers, nothing_told, opened_by, steps_by, timeline_told, told_next, told_text}
-use Rattle.face_text.specs.Slots.{value_in}
-use Rattle.face_text.specs.Telling.{face_told}
-use Rattle.face_text.specs.Timelines.{AreAnswers, AreFaces, AreSteps, HasAnswer, IsFaceOf, IsInForm, empty_faces, end_line, faces_text, opening_line, step_text, steps_text, text_of, tick_line}
+use Rattle.face_text.specs.Reading.{Told, block_of, faces_behind, may_close, no_answers, nothing_told, opened_by, steps_by, told_text}
+use Rattle.face_text.specs.Timelines.{AreAnswers, AreFaces, AreSteps, HasAnswer, IsFaceOf, empty_faces, faces_text, opening_line, step_text, steps_text, tick_line}
 use Rattle.face_text.proofs.ToldAnswers.{answered_or_not, answers_are, nothing_answered, nothing_answered_text}
-use Rattle.face_text.proofs.ToldBlocks.{IsBlock, IsNextBlock, answer_block, block_text, busy_block, change_block, failed_block}
+use Rattle.face_text.proofs.ToldBlocks.{IsBlock, block_text}
 use Rattle.face_text.proofs.ToldPages.{ArePages, pages_after, same_faces_no_text, untold_pages}
 use Rattle.face_text.proofs.FaceForm.{keeps_form}
 
@@ -186,12 +179,12 @@ closed_tick site told last form some ranked less =
     record {
       opened = rw e (form.opened some);
       steps =
-        rw e
-        (steps_more site 0 last told.opened told.steps (block_of told) (form.steps some) some (told_faces_are site told form) (answers_are site told.rank told.answers form.block.answered) content less);
+          rw e
+          (steps_more site 0 last told.opened told.steps (block_of told) (form.steps some) some (told_faces_are site told form) (answers_are site told.rank told.answers form.block.answered) content less);
       text =
-        rw e
-        (ap (λ t. (opening_line site ++ faces_text site (empty_faces site) told.opened) ++ t) (steps_text_more site told.opened told.steps (block_of told))
-        ∙ regroup (opening_line site) (faces_text site (empty_faces site) told.opened) (steps_text site told.opened told.steps) (step_text site (faces_behind told.opened told.steps) (block_of told)));
+          rw e
+          (ap (λ t. (opening_line site ++ faces_text site (empty_faces site) told.opened) ++ t) (steps_text_more site told.opened told.steps (block_of told))
+          ∙ regroup (opening_line site) (faces_text site (empty_faces site) told.opened) (steps_text site told.opened told.steps) (step_text site (faces_behind told.opened told.steps) (block_of told)));
       behind = rw e (faces_behind_more told.opened told.steps (block_of told));
     }
   where
@@ -203,10 +196,10 @@ closed site told last form may less =
     elim (or_cases (told.tick.0 == 0) (nat_lt 0 told.rank) may) [
       | inl e ↦ closed_opening site told last form (eqb-true told.tick.0 0 e)
       | inr e ↦
-        elim (tick_cases told.tick.0) [
-          | inl z ↦ closed_opening site told last form z
-          | inr some ↦ closed_tick site told last form some (ltb-true 0 told.rank e) less
-        ]
+          elim (tick_cases told.tick.0) [
+            | inl z ↦ closed_opening site told last form z
+            | inr some ↦ closed_tick site told last form some (ltb-true 0 told.rank e) less
+          ]
     ]
   where
     tick_cases : (n : ℕ) → (n ≡ 0) ⊎ (0 < n)

@@ -1,8 +1,7 @@
 -- The faces of all panels while changes are told: each differs from what it was in no slot behind the last line's place.
-use Rattle.std.proofs.Common.{◌≡◌, ◌≢◌, ◌∙◌, ◌<◌, ◌≤◌, ◌+◌, ◌-◌, ◌*◌, ◌++◌, ◌==◌, ℕ, zero, suc, List, [], ◌∷◌, Some, Bool, true, false, length, refl, sym, ap, subst, inl, inr, append_assoc, add-suc, arith, get_or, set, cond, if◌then◌else◌}
-use Rattle.std.specs.Prelude.{slice_get, slice_index_or, slice_set}
+use Rattle.std.proofs.Common.{◌≡◌, ◌≢◌, ◌∙◌, ◌<◌, ◌≤◌, ◌+◌, ◌-◌, ◌*◌, ◌++◌, ◌==◌, ℕ, zero, suc, List, [], ◌∷◌, true, length, refl, sym, ap, subst, append_assoc, arith, get_or, set}
 use Rattle.std.specs.List.{flat_map}
-use Rattle.std.proofs.lemmas.List.{append-nil, length-set}
+use Rattle.std.proofs.lemmas.List.{append-nil}
 use Rattle.std.proofs.lemmas.Bool.{eq-eqb}
 use Rattle.site_types.specs.declared.site.Site.{Site}
 use Rattle.site_types.specs.Valid.{IsValid}
@@ -13,8 +12,7 @@ use Rattle.face_text.specs.declared.group.Group.{Group}
 use Rattle.face_text.specs.declared.group.Group.TheVariants.{Zones, Firsts, Missing, Broken, Shorted, Supplies, Silent, Links, Unconfirmed, Outputs, Confirmed, PointsOff, ZonesOff, OutputsOff, Tests}
 use Rattle.face_text.specs.Changes.{change_of, changes_text}
 use Rattle.face_text.specs.Entries.{IsChange, group_rank, slot_of, slot_rank, value_of}
-use Rattle.face_text.specs.Faces.{empty_face}
-use Rattle.face_text.specs.Slots.{HasPlace, Slot, last_of, line_of, slots, value_in}
+use Rattle.face_text.specs.Slots.{HasPlace, Slot, last_of, slots, value_in}
 use Rattle.face_text.specs.Telling.{IsSameBehind, face_told}
 use Rattle.face_text.specs.Timelines.{IsFaceOf, faces_text}
 use Rattle.face_text.specs.FaceTelling.{AddsItsLine, change_line}
@@ -175,27 +173,26 @@ change_told site rank first zero (before ∷ befores) (after ∷ afters) change 
     let added : AddsItsLine site first before after change = adds_one_line site first (rank - first * 100000) before after change told.0.form told.0.same here (place_on_page first rank (slot_rank (slot_of change)) small.0 low) news in
     let line = added.text in
     let pages : ArePagesTold site (first * 100000 + slot_rank (slot_of change)) first (before ∷ befores) (face_told after change ∷ afters) =
-      (page_told site first rank before after change told.0 here low news, later_pages site rank (first * 100000 + slot_rank (slot_of change)) (suc first) befores afters (omega (arith, low)) told.1) in
+    (page_told site first rank before after change told.0 here low news, later_pages site rank (first * 100000 + slot_rank (slot_of change)) (suc first) befores afters (omega (arith, low)) told.1) in
     let text : changes_text site before (face_told after change) ++ faces_text site befores afters ≡ (changes_text site before after ++ faces_text site befores afters) ++ change_line site first change =
-      rw (line, silent) (append-nil _ ∙ ap (λ t. t ++ change_line site first change) (sym (append-nil (changes_text site before after)))) in
+    rw (line, silent) (append-nil _ ∙ ap (λ t. t ++ change_line site first change) (sym (append-nil (changes_text site before after)))) in
     subst
-      (λ (p : ℕ).
-      ArePagesTold site (p * 100000 + slot_rank (slot_of change)) first (before ∷ befores) (face_told after change ∷ afters)
-      × (changes_text site before (face_told after change) ++ faces_text site befores afters ≡ (changes_text site before after ++ faces_text site befores afters) ++ change_line site p change))
-      (sym at) (pages, text)
+    (λ (p : ℕ).
+    ArePagesTold site (p * 100000 + slot_rank (slot_of change)) first (before ∷ befores) (face_told after change ∷ afters)
+    × (changes_text site before (face_told after change) ++ faces_text site befores afters ≡ (changes_text site before after ++ faces_text site befores afters) ++ change_line site p change))
+    (sym at) (pages, text)
 change_told site rank first (suc place) (before ∷ befores) (after ∷ afters) change d told within is less news =
     let at : suc first + place ≡ first + suc place = omega arith in
     let ih =
-      change_told site rank (suc first) place befores afters change d told.1 (omega (arith, within)) (subst (λ (p : ℕ). IsChange site p change) (sym at) is)
-      (subst (λ (p : ℕ). rank < p * 100000 + slot_rank (slot_of change)) (sym at) less) news in
+    change_told site rank (suc first) place befores afters change d told.1 (omega (arith, within)) (subst (λ (p : ℕ). IsChange site p change) (sym at) is)
+    (subst (λ (p : ℕ). rank < p * 100000 + slot_rank (slot_of change)) (sym at) less) news in
     let afters_told = set afters place (face_told (get_or afters place d) change) in
     let more =
-      subst
-      (λ (p : ℕ).
-      ArePagesTold site (p * 100000 + slot_rank (slot_of change)) (suc first) befores afters_told
-      × (faces_text site befores afters_told ≡ faces_text site befores afters ++ change_line site p change))
-      at ih in
-    (
+    subst
+    (λ (p : ℕ).
+    ArePagesTold site (p * 100000 + slot_rank (slot_of change)) (suc first) befores afters_told
+    × (faces_text site befores afters_told ≡ faces_text site befores afters ++ change_line site p change))
+    at ih in (
       (later_page site first rank ((first + suc place) * 100000 + slot_rank (slot_of change)) before after (omega (arith, less)) told.0, more.0),
       ap (λ t. changes_text site before after ++ t) more.1 ∙ sym (append_assoc (changes_text site before after) (faces_text site befores afters) (change_line site (first + suc place) change)),
     )

@@ -1,6 +1,5 @@
 -- The lines of a text behind the first, one by one: what each tells, how it is written, and where in a tick it may stand.
-use Rattle.std.specs.Prelude.{◌≤◌, ◌<◌, ◌+◌, ◌*◌, ◌^◌, ℕ, Bool, List, ◌++◌, codes, decimal, IsTrue, if◌then◌else◌}
-use Rattle.site_types.specs.declared.buzzer.Buzzer.{Buzzer}
+use Rattle.std.specs.Prelude.{◌≤◌, ◌<◌, ◌+◌, ◌*◌, ◌^◌, ℕ, List, ◌++◌, codes, decimal, IsTrue}
 use Rattle.site_types.specs.declared.site.Site.{Site}
 use Rattle.site_types.specs.Limits.{greatest_count}
 use Rattle.face_text.specs.declared.change.Change.{Change}

@@ -46,11 +46,11 @@ mod rank;
 mod reading;
 mod reply;
 mod step;
-mod thing_reading;
 mod telling;
 #[cfg(test)]
 mod tests;
 mod text_refusal;
+mod thing_reading;
 mod timeline;
 mod told;
 mod words;

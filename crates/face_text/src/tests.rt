@@ -38,7 +38,12 @@ fn bare_site(alloc: Global) -> Site
 }
 
 // How faces changed, panel by panel.
-fn write_faces(site: &Site, before: &[Face], after: &[Face], out: &mut MemorySink) -> Result<(), Fail> {
+fn write_faces(
+    site: &Site,
+    before: &[Face],
+    after: &[Face],
+    out: &mut MemorySink,
+) -> Result<(), Fail> {
     for (was, is) in before.iter().zip(after) {
         match write_changes(site, was, is, out) {
             Ok(()) => {}
@@ -136,15 +141,27 @@ fn the_first_bad_line_is_told(rt: HostRuntime) -> Result<(), Fail> {
         ("site a panels 2\ntick 0\nstore failed\nend 0\n", 2),
         ("site a panels 2\ntick 1\nend 1\n", 3),
         ("site a panels 2\ntick 1\ntick 2\nstore failed\nend 2\n", 3),
-        ("site a panels 2\ntick 1\nstore failed\ntick 1\nstore failed\nend 1\n", 4),
+        (
+            "site a panels 2\ntick 1\nstore failed\ntick 1\nstore failed\nend 1\n",
+            4,
+        ),
         ("site a panels 2\ntick 2\nstore failed\nend 1\n", 4),
-        ("site a panels 2\ntick 1\nstore failed\nstore failed\nend 1\n", 4),
+        (
+            "site a panels 2\ntick 1\nstore failed\nstore failed\nend 1\n",
+            4,
+        ),
         ("site a panels 2\ntick 1\nop 2 done\nop 1 done\nend 1\n", 4),
         ("site a panels 2\ntick 1\nop 1 done\nop 1 done\nend 1\n", 4),
-        ("site a panels 2\ntick 1\nop 1 denied needs 2 has 2\nend 1\n", 3),
+        (
+            "site a panels 2\ntick 1\nop 1 denied needs 2 has 2\nend 1\n",
+            3,
+        ),
         ("site a panels 2\ntick 1\n1 busy 0\nend 1\n", 3),
         ("site a panels 2\ntick 1\n2 busy 1\n1 busy 1\nend 1\n", 4),
-        ("site a panels 2\ntick 1\nop 1 done\n1 buzzer fire\nend 1\n", 4),
+        (
+            "site a panels 2\ntick 1\nop 1 done\n1 buzzer fire\nend 1\n",
+            4,
+        ),
         ("site a panels 2\ntick 1\n1 buzzer fire\n", 4),
     ];
     for (text, line) in table {

@@ -11,8 +11,8 @@ returns-then-not-is_opening-clause-bad c =
 pub loop-line-init : goal.loop-line-init
 loop-line-init c =
     let p =
-      first_is_opening c.args.site.now c.args.text.now c.in-Some.line.now c.in-Some.rest.now c.in_ok-told.told c.is_opening.result c.in-Some.ensures.parted c.is_opening.ensures c.if-not-is_opening.false
-      c.in_ok-told.ensures in
+    first_is_opening c.args.site.now c.args.text.now c.in-Some.line.now c.in-Some.rest.now c.in_ok-told.told c.is_opening.result c.in-Some.ensures.parted c.is_opening.ensures c.if-not-is_opening.false
+    c.in_ok-told.ensures in
     record { read = p.0; room = p.1 }
 
 pub returns-in_default-read_entry-clause-bad : goal.returns-in_default-read_entry-clause-bad
@@ -40,16 +40,16 @@ returns-then-not-branch c =
     record {
       ok = tt;
       bad =
-        not_taken c.args.site.now c.requires c.args.text.now c.loop-line.rest.now c.in-Some-split_line.line.now c.in-Some-split_line.behind.now c.loop-line.told c.take.new.self c.loop-line.count
-        c.in-Some-read_entry.entry c.in_ok-take.field-0 c.loop-line.invariant.read c.in-Some-split_line.ensures.parted c.in-Some-read_entry.ensures c.in_default-entry.not-End c.in_ok-take.ensures
-        c.if-not-branch.true;
+          not_taken c.args.site.now c.requires c.args.text.now c.loop-line.rest.now c.in-Some-split_line.line.now c.in-Some-split_line.behind.now c.loop-line.told c.take.new.self c.loop-line.count
+          c.in-Some-read_entry.entry c.in_ok-take.field-0 c.loop-line.invariant.read c.in-Some-split_line.ensures.parted c.in-Some-read_entry.ensures c.in_default-entry.not-End c.in_ok-take.ensures
+          c.if-not-branch.true;
     }
 
 pub loop-line-preserved : goal.loop-line-preserved
 loop-line-preserved c =
     let p =
-      one_more c.args.site.now c.args.text.now c.loop-line.rest.now c.in-Some-split_line.line.now c.in-Some-split_line.behind.now c.loop-line.told c.take.new.self c.loop-line.count c.in-Some-read_entry.entry
-      c.in_ok-take.field-0 c.loop-line.invariant.read c.loop-line.invariant.room c.in-Some-split_line.ensures.parted c.in-Some-read_entry.ensures c.in_ok-take.ensures c.if-not-branch.false in
+    one_more c.args.site.now c.args.text.now c.loop-line.rest.now c.in-Some-split_line.line.now c.in-Some-split_line.behind.now c.loop-line.told c.take.new.self c.loop-line.count c.in-Some-read_entry.entry
+    c.in_ok-take.field-0 c.loop-line.invariant.read c.loop-line.invariant.room c.in-Some-split_line.ensures.parted c.in-Some-read_entry.ensures c.in_ok-take.ensures c.if-not-branch.false in
     record { read = p.0; room = p.1 }
 
 pub returns-clause-bad : goal.returns-clause-bad

@@ -1,7 +1,6 @@
 -- A site with nothing at its panels is valid.
-use Rattle.std.proofs.Common.{◌≡◌, ◌∙◌, ◌≤◌, ◌<◌, ℕ, zero, suc, List, [], ◌∷◌, ◌++◌, length, Some, None, true, refl, sym, ap, subst, arith, get_or}
-use Rattle.std.specs.Prelude.{All, IsTrue, slice_get}
-use Rattle.site_types.specs.Names.{is_name}
+use Rattle.std.proofs.Common.{◌≡◌, ◌∙◌, ◌≤◌, ◌<◌, ℕ, zero, suc, List, [], ◌∷◌, ◌++◌, length, Some, None, refl, sym, ap, subst, arith, get_or}
+use Rattle.std.specs.Prelude.{All, slice_get}
 use Rattle.site_types.specs.Limits.{most_codes}
 use Rattle.site_types.specs.Things.{name_at}
 use Rattle.site_types.specs.Valid.{AreWaits, IsUniqueBy, IsValid}
@@ -54,43 +53,43 @@ bare_is_valid site bare =
     let panels : site.panels ≡ 2 = bare.panels in
     record {
       forms =
-        record {
-          format = (omega (arith, format), omega (arith, format));
-          name = rw bare.name refl;
-          panels = (omega (arith, panels), omega (arith, panels));
-          waits = subst (λ (f : ℕ). AreWaits f site.waits) (sym bare.format) bare.waits;
-          codes = few_codes site.codes bare.codes;
-          loops = λ k d less. nothing_at site.loops k bare.loops less;
-          zones = λ k d less. nothing_at site.zones k bare.zones less;
-          points = λ k d less. nothing_at site.points k bare.points less;
-          outputs = λ k d less. nothing_at site.outputs k bare.outputs less;
-          markers = λ k d less. nothing_at site.markers k bare.markers less;
-          few_markers = rw bare.markers (omega arith);
-        };
+          record {
+            format = (omega (arith, format), omega (arith, format));
+            name = rw bare.name refl;
+            panels = (omega (arith, panels), omega (arith, panels));
+            waits = subst (λ (f : ℕ). AreWaits f site.waits) (sym bare.format) bare.waits;
+            codes = few_codes site.codes bare.codes;
+            loops = λ k d less. nothing_at site.loops k bare.loops less;
+            zones = λ k d less. nothing_at site.zones k bare.zones less;
+            points = λ k d less. nothing_at site.points k bare.points less;
+            outputs = λ k d less. nothing_at site.outputs k bare.outputs less;
+            markers = λ k d less. nothing_at site.markers k bare.markers less;
+            few_markers = rw bare.markers (omega arith);
+          };
       twins =
-        record {
-          names = λ s t name one other. no_name site bare s name one;
-          loops = unique_of_none _ site.loops bare.loops;
-          zones = unique_of_none _ site.zones bare.zones;
-          points = unique_of_none _ site.points bare.points;
-          outputs = unique_of_none _ site.outputs bare.outputs;
-        };
+          record {
+            names = λ s t name one other. no_name site bare s name one;
+            loops = unique_of_none _ site.loops bare.loops;
+            zones = unique_of_none _ site.zones bare.zones;
+            points = unique_of_none _ site.points bare.points;
+            outputs = unique_of_none _ site.outputs bare.outputs;
+          };
       references =
-        record {
-          zone_of_point = λ k d less. nothing_at site.points k bare.points less;
-          loop_of_point = λ k d less. nothing_at site.points k bare.points less;
-          partner_of_zone = λ k d less. nothing_at site.zones k bare.zones less;
-          marker_of_output = λ k d less. nothing_at site.outputs k bare.outputs less;
-          terms = λ k d less. nothing_at site.markers k bare.markers less;
-        };
+          record {
+            zone_of_point = λ k d less. nothing_at site.points k bare.points less;
+            loop_of_point = λ k d less. nothing_at site.points k bare.points less;
+            partner_of_zone = λ k d less. nothing_at site.zones k bare.zones less;
+            marker_of_output = λ k d less. nothing_at site.outputs k bare.outputs less;
+            terms = λ k d less. nothing_at site.markers k bare.markers less;
+          };
       sections = λ k d less. nothing_at site.loops k bare.loops less;
       partners = λ place other zone partner is of there. none_there site.zones place zone bare.zones is;
       names =
-        record {
-          rising = λ j k a b less one other. none_there site.names j a bare.names one;
-          right = λ k d less. nothing_at site.names k bare.names less;
-          whole = λ thing name is. no_name site bare thing name is;
-        };
+          record {
+            rising = λ j k a b less one other. none_there site.names j a bare.names one;
+            right = λ k d less. nothing_at site.names k bare.names less;
+            whole = λ thing name is. no_name site bare thing name is;
+          };
     }
 
 three : (a b d : List (List ℕ)) → a ≡ [] → b ≡ [] → d ≡ [] → a ∷ b ∷ d ∷ [] ≡ [] ∷ [] ∷ [] ∷ []
