@@ -18,9 +18,12 @@ pub mod Spaces
 pub mod ToldBlocks
 pub mod ToldForms
 pub mod Accepted
-pub mod RunLines
+pub mod RunChanges
+pub mod RunAnswers
 pub mod Runs
 pub mod SameTexts
+pub mod NextLine
+pub mod CountedLines
 pub mod FirstBad
 pub mod SpelledEntries
 pub mod SpelledLines

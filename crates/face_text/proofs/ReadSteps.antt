@@ -16,16 +16,11 @@ use Rattle.face_text.specs.declared.timeline.Timeline.{Timeline}
 use Rattle.face_text.specs.Entries.{IsEntry}
 use Rattle.face_text.specs.EntryLines.{IsLineOf, IsParted, ReadsEntry}
 use Rattle.face_text.specs.Reading.{IsBadLine, IsRead, IsRefusal, Told, line_ends, nothing_told, timeline_told, told_next}
-use Rattle.face_text.specs.ReadSoFar.{HasPlaceOf, IsEndOf, IsReadSoFar, TextsAreTheirOwn, Turns}
+use Rattle.face_text.specs.ReadSoFar.{HasPlaceOf, IsEndOf, IsReadSoFar, Turns}
 use Rattle.face_text.specs.Timelines.{opening_line}
 use Rattle.face_text.proofs.FirstBad.{bad_behind_end, bad_first, bad_first_unended, bad_refused, bad_unended, begun_reading, read_on, read_to_end, told_form}
-use Rattle.face_text.proofs.SameTexts.{texts_of_their_own}
 use Rattle.face_text.proofs.ToldPages.{few_panels}
 use Rattle.face_text.proofs.ToldValues.{change_placed}
-
--- no two timelines in form have one text
-pub texts_are_their_own : TextsAreTheirOwn
-texts_are_their_own site valid = texts_of_their_own site valid
 
 -- ---- the first line
 

@@ -14,7 +14,8 @@ use Rattle.face_text.specs.Reading.{Told, entries_text, may_close, no_answers, n
 use Rattle.face_text.specs.ReadSoFar.{AreEntries}
 use Rattle.face_text.specs.Timelines.{AreAnswers, AreFaces, AreSteps, HasAnswer, IsInForm, empty_faces, end_line, opening_line, text_of}
 use Rattle.face_text.proofs.Accepted.{all_told, ended_told, or_second, zero_or_more}
-use Rattle.face_text.proofs.RunLines.{answer_entries, answer_entries_are, answers_lead, entries_join, face_entries, face_entries_are, faces_lead, leads_first, leads_on, shown}
+use Rattle.face_text.proofs.RunAnswers.{answer_entries, answer_entries_are, answers_lead}
+use Rattle.face_text.proofs.RunChanges.{entries_join, face_entries, face_entries_are, faces_lead, leads_first, leads_on, shown}
 use Rattle.face_text.proofs.ToldAnswers.{AreAnswersTold, no_ops_below}
 use Rattle.face_text.proofs.ToldBlocks.{IsBlock}
 use Rattle.face_text.proofs.ToldForms.{IsToldForm, befores_of, closed, empty_faces_are, nothing_is_told, nothing_told_text, pages_are, told_faces_are}

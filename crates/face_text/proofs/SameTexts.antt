@@ -10,10 +10,11 @@ use Rattle.face_text.specs.declared.timeline.Timeline.{Timeline}
 use Rattle.face_text.specs.Entries.{IsEntry, entry_line}
 use Rattle.face_text.specs.EntryLines.{IsOneLine}
 use Rattle.face_text.specs.Reading.{Told, entries_text, nothing_told, timeline_told, told_after}
-use Rattle.face_text.specs.ReadSoFar.{AreEntries, HaveTextsOfTheirOwn}
+use Rattle.face_text.specs.ReadSoFar.{AreEntries}
+use Rattle.face_text.specs.ReadingLaws.{TextsAreTheirOwn}
 use Rattle.face_text.specs.Timelines.{IsInForm, end_line, opening_line, text_of}
 use Rattle.face_text.proofs.LineEnds.{same_line}
-use Rattle.face_text.proofs.RunLines.{entries_join}
+use Rattle.face_text.proofs.RunChanges.{entries_join}
 use Rattle.face_text.proofs.Runs.{IsTold, is_told}
 use Rattle.face_text.proofs.EntryLaws.{entry_line-determines, entry_line-one}
 use Rattle.site_types.specs.Valid.{IsValid}
@@ -104,6 +105,6 @@ alike site valid one other one_form other_form told another same =
     sym another.by_them.ends ∙ ap (λ (t : Told). timeline_told t other.last) tolds ∙ ap (timeline_told told.told) last ∙ told.by_them.ends in
     cc
 
-pub texts_of_their_own : (site : Site) → IsValid site → HaveTextsOfTheirOwn site
-texts_of_their_own site valid one other one_form other_form same =
+pub texts_are_their_own : TextsAreTheirOwn
+texts_are_their_own site valid one other one_form other_form same =
     alike site valid one other one_form other_form (is_told site valid one one_form) (is_told site valid other other_form) same

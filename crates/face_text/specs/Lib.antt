@@ -8,6 +8,7 @@ pub mod Fields
 pub mod Holding
 pub mod Lists
 pub mod ReadSoFar
+pub mod ReadingLaws
 pub mod Reading
 pub mod Slots
 pub mod Spelled

@@ -1,7 +1,7 @@
 -- How far a text is read, and that its first bad line stands there.
-use Rattle.std.specs.Prelude.{◌≡◌, ◌≢◌, ◌⊎◌, ◌≤◌, ◌+◌, ℕ, suc, Bool, List, [], ◌∷◌, ◌++◌, Some, None, Result, Ok, Err, length, if◌then◌else◌}
+use Rattle.std.specs.Prelude.{◌≡◌, ◌≢◌, ◌⊎◌, ◌≤◌, ◌+◌, ℕ, suc, Bool, List, [], ◌++◌, Some, None, Result, Ok, Err, length, if◌then◌else◌}
+use Rattle.std.specs.List.{AllByRecursion}
 use Rattle.site_types.specs.declared.site.Site.{Site}
-use Rattle.site_types.specs.Valid.{IsValid}
 use Rattle.tick_units.specs.declared.tick.Tick.{Tick as TickOf}
 use Rattle.face_text.specs.declared.entry.Entry.{Entry}
 use Rattle.face_text.specs.declared.entry.Entry.TheVariants.{Change, Answer, Busy, StoreFailed, Tick, End}
@@ -13,12 +13,11 @@ use Rattle.face_text.specs.Entries.{IsEntry, slot_of}
 use Rattle.face_text.specs.EntryLines.{IsLineOf}
 use Rattle.face_text.specs.Reading.{Told, entries_text, nothing_told, timeline_told, told_after, told_next}
 use Rattle.face_text.specs.Telling.{IsPlaced}
-use Rattle.face_text.specs.Timelines.{IsInForm, opening_line, text_of}
+use Rattle.face_text.specs.Timelines.{opening_line}
 
 -- entries that texts of the site may have
 abbrev pub AreEntries : Site → List Entry → Type 0
-AreEntries site [] = Unit {0}
-AreEntries site (entry ∷ entries) = IsEntry site entry × AreEntries site entries
+AreEntries site entries = AllByRecursion (IsEntry site) entries
 
 -- so many lines of a text are read, and this is told; the rest is yet to be read
 pub record IsReadSoFar (site : Site) (text rest : List ℕ) (told : Told) (count : ℕ) : Type 0 where
@@ -54,12 +53,3 @@ IsEndOf told last behind number (Ok timeline) = (timeline_told told last ≡ Som
 IsEndOf told last behind number (Err (BadLine line)) =
     ((timeline_told told last ≡ None) × (line ≡ number)) ⊎ (((timeline : Timeline) × (timeline_told told last ≡ Some timeline)) × (behind ≢ []) × (line ≡ number + 1))
 IsEndOf told last behind number (Err NoMemory) = Unit {0}
-
--- ---- the law
-
--- no two timelines in form have one text
-abbrev pub HaveTextsOfTheirOwn : Site → Type 0
-HaveTextsOfTheirOwn site = (one other : Timeline) → IsInForm site one → IsInForm site other → text_of site one ≡ text_of site other → one ≡ other
-
-abbrev pub TextsAreTheirOwn : Type 0
-TextsAreTheirOwn = (site : Site) → IsValid site → HaveTextsOfTheirOwn site

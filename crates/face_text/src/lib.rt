@@ -12,7 +12,11 @@
 //!
 //! [`push_list`] puts a list of a face in JSON from the same slots.
 //!
-//! No call takes memory. Where two faces are equal, writing their changes compares a fixed number of machine words and looks at nothing of the
+//! [`read_faces`] reads a text back: to the timeline whose text it is, or to its first bad line. It is read line by line (`specs/Reading`): each
+//! line tells one [`Entry`], and what the lines before it told says whether it may stand there. That no two timelines have one text is
+//! [`texts_are_their_own`].
+//!
+//! No call but `read_faces` takes memory. Where two faces are equal, writing their changes compares a fixed number of machine words and looks at nothing of the
 //! site. Else a group of lines is looked at only where its mask differs, and what is told is named by a walk over the site's list of such
 //! things. Lines are held back in a room of 1,024 bytes, so that a text goes out in as few writes as that room allows. Where a tick has more
 //! to tell than one face, [`push_changes`] and [`push_answers`] put it behind what a [`Held`] holds already, and one [`Held::flush`] writes it.
