@@ -142,8 +142,20 @@ pub record IsTold (site : Site) (timeline : Timeline) : Type 0 where
   pub by_them : IsToldBy site timeline entries told
 
 timeline_with : (timeline : Timeline) (opened : List Face) (steps : List Step) → opened ≡ timeline.opened → steps ≡ timeline.steps →
-    ◌≡◌ {A = Timeline} (record { opened = opened; steps = steps; last = timeline.last }) timeline
+    Some (record { opened = opened; steps = steps; last = timeline.last }) ≡ Some timeline
 timeline_with timeline opened steps same others = rw (same, others) refl
+
+told_by : (site : Site) → IsValid site → (timeline : Timeline) (entries : List Entry) (told : Told) → IsInForm site timeline → AreEntries site entries → told_after (nothing_told site) entries ≡ Some told →
+    timeline_told told timeline.last ≡ Some timeline → IsToldBy site timeline entries told
+told_by site valid timeline entries told form each leads ends =
+    let whole = all_told site valid (nothing_told site) told entries (nothing_is_told site) each leads in
+    let read = ended_told site told timeline.last timeline whole.form form.last ends in
+    record {
+      each = each;
+      leads = leads;
+      ends = ends;
+      text = read.text_is ∙ ap (λ t. t ++ end_line timeline.last.0) (whole.text ∙ ap (λ t. t ++ entries_text site entries) (nothing_told_text site));
+    }
 
 pub is_told : (site : Site) → IsValid site → (timeline : Timeline) → IsInForm site timeline → IsTold site timeline
 is_told site valid timeline form =
@@ -162,17 +174,5 @@ is_told site valid timeline form =
     let leads : told_after nothing (entries ++ rest.entries) ≡ Some rest.next = leads_on nothing opened rest.next entries rest.entries first.leads rest.leads in
     let low : nat_le rest.next.tick.0 timeline.last.0 ≡ true = le-leb rest.next.tick.0 timeline.last.0 rest.low in
     let ends : timeline_told rest.next timeline.last ≡ Some timeline =
-    rw (rest.may, low) (ap (λ (t : Timeline). Some t) (timeline_with timeline (opened_by rest.next) (steps_by rest.next) rest.opened rest.steps_are)) in
-    let whole = all_told site valid nothing rest.next (entries ++ rest.entries) (nothing_is_told site) all leads in
-    let read = ended_told site rest.next timeline.last timeline whole.form form.last ends in
-    record {
-      entries = entries ++ rest.entries;
-      told = rest.next;
-      by_them =
-          record {
-            each = all;
-            leads = leads;
-            ends = ends;
-            text = read.text_is ∙ ap (λ t. t ++ end_line timeline.last.0) (whole.text ∙ ap (λ t. t ++ entries_text site (entries ++ rest.entries)) (nothing_told_text site));
-          };
-    }
+    rw (rest.may, low) (timeline_with timeline (opened_by rest.next) (steps_by rest.next) rest.opened rest.steps_are) in
+    record { entries = entries ++ rest.entries; told = rest.next; by_them = told_by site valid timeline (entries ++ rest.entries) rest.next form all leads ends }

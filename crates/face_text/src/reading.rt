@@ -15,7 +15,7 @@ use site_types::Site;
 use std::alloc::Global;
 use tick_units::Tick;
 
-/// The timeline whose text this is.
+/// The timeline whose text this is. Each line is looked at once, by what the lines before it told; a step takes memory for its faces.
 ///
 /// # Errors
 ///
