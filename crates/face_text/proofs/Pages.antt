@@ -13,7 +13,7 @@ one_of [] k d all within = absurd (omega (arith, within))
 one_of (group ∷ groups) zero d all within = all.0
 one_of (group ∷ groups) (suc k) d all within = one_of groups k d all.1 (omega (arith, within))
 
-all_have : AllByRecursion HasPlace page
+pub all_have : AllByRecursion HasPlace page
 unfolding page
 all_have = search rules
 

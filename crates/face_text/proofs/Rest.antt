@@ -2,6 +2,7 @@
 use denote.Enum.Bare.{sameb}
 use mathlib.Core.Bool.{beq}
 use Rattle.std.proofs.Common.{inl, inr, ◌≡◌, ◌≢◌, ◌==◌, ℕ, Bool, true, false, List, [], refl, sym, if◌then◌else◌}
+use Rattle.std.specs.Prelude.{not}
 use Rattle.std.proofs.lemmas.Bool.Decides.{eqb_tells}
 use Rattle.site_types.specs.contracts.buzzer.Buzzer.{the_type}
 use Rattle.site_types.specs.declared.buzzer.Buzzer.{Buzzer}
@@ -9,7 +10,7 @@ use Rattle.site_types.specs.declared.buzzer.Buzzer.TheVariants.{Off, Fault, Fire
 use Rattle.site_types.specs.declared.site.Site.{Site}
 use Rattle.face_text.specs.declared.face.Face.{Face}
 use Rattle.face_text.specs.Changes.{change_of}
-use Rattle.face_text.specs.Slots.{Delays, Sounding, Count, buzzer_line, counter_line, delays_line, number_of_buzzer, value_in}
+use Rattle.face_text.specs.Slots.{Delays, Sounding, Count, buzzer_line, counter_line, delays_line, number_of_buzzer, number_of_truth, value_in}
 
 other_delays : (u v : Bool) (line : List ℕ) → beq u v ≡ false → (if (if u then 0 else 1) == (if v then 0 else 1) then [] else line) ≡ line
 other_delays true true line e = cc
@@ -19,6 +20,11 @@ other_delays false true line e = refl
 
 pub delays_other : (site : Site) (before after : Face) → beq before.delays_off after.delays_off ≡ false → delays_line after.panel (value_in after Delays) ≡ change_of site before after Delays
 delays_other site before after e = sym (other_delays before.delays_off after.delays_off _ e)
+
+-- what delays that are off are worth as a slot's value
+pub delays_value : (off : Bool) → number_of_truth (not off) ≡ (if off then 0 else 1)
+delays_value true = refl
+delays_value false = refl
 
 other_buzzer : (u v : Buzzer) (line : List ℕ) → sameb the_type u v ≡ false → (if number_of_buzzer u == number_of_buzzer v then [] else line) ≡ line
 other_buzzer Off Off line e = cc

@@ -1,7 +1,16 @@
 pub mod Answers
 pub mod Changes
+pub mod Entries
+pub mod FaceTelling
+pub mod EntryLines
 pub mod Faces
+pub mod Fields
 pub mod Holding
 pub mod Lists
+pub mod ReadSoFar
+pub mod ReadingLaws
+pub mod Reading
 pub mod Slots
+pub mod Spelled
+pub mod Telling
 pub mod Timelines

@@ -5,6 +5,7 @@ ghost use Rattle.std.specs.List.{flat_map};
 ghost use Rattle.panel_edges.specs.Contents.{Grows, GrowsByFront};
 ghost use Rattle.panel_edges.specs.Faults.{HasCause};
 ghost use Rattle.face_text.specs.Answers.{answer_line as line_of_answer, answers_text, busy_line as line_of_busy, busy_text, failed_text, reply_words};
+ghost use Rattle.face_text.specs.Entries.{counted_line as line_of_count};
 ghost use Rattle.face_text.specs.Holding.{Puts};
 
 use crate::answers::Answers;
@@ -87,7 +88,8 @@ fn push_failed<K: Sink>(failed: bool, held: &mut Held, out: &mut K) -> Result<()
     }
 }
 
-fn answer_line(answer: &OpAnswer) -> ArrayString<64>
+/// The line of an answer.
+pub fn answer_line(answer: &OpAnswer) -> ArrayString<64>
     ensures text { result.bytes ≡ line_of_answer answer.now }
     ensures short { length result.bytes ≤ 64 }
 {
@@ -131,13 +133,23 @@ fn busy_line(panel: u8, count: u64) -> ArrayString<64>
     ensures text { result.bytes ≡ line_of_busy panel count }
     ensures short { length result.bytes ≤ 64 }
 {
-    let mut line = ArrayString::new();
-    if count != 0 {
-        let mut digits = Buffer::new();
-        line.push_str(digits.format(panel));
-        line.push_str(" busy ");
-        line.push_str(digits.format(count));
-        line.push_str("\n");
+    if count == 0 {
+        ArrayString::new()
+    } else {
+        counted_line(panel, count)
     }
+}
+
+/// The line of a panel that so many operations found busy.
+pub fn counted_line(panel: u8, count: u64) -> ArrayString<64>
+    ensures text { result.bytes ≡ line_of_count panel count }
+    ensures short { length result.bytes ≤ 64 }
+{
+    let mut digits = Buffer::new();
+    let mut line = ArrayString::new();
+    line.push_str(digits.format(panel));
+    line.push_str(" busy ");
+    line.push_str(digits.format(count));
+    line.push_str("\n");
     line
 }

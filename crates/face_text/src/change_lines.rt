@@ -7,7 +7,7 @@ ghost use Rattle.std.specs.List.{flat_map};
 ghost use Rattle.site_types.specs.declared.site.Site.{Site as SiteOf};
 ghost use Rattle.face_text.specs.Changes.{change_of, changes_text, group_text, groups_text, numbers_text};
 ghost use Rattle.face_text.specs.Holding.{Puts};
-ghost use Rattle.face_text.specs.Slots.{Thing, Delays, Sounding, Count, HasPlace, buzzer_line as line_of_buzzer, counter_line as line_of_counter, delays_line as line_of_delays, last_of, line_of, line_of_thing, number_of_truth, page as page_of_panel, value_in};
+ghost use Rattle.face_text.specs.Slots.{Thing, Delays, Sounding, Count, HasPlace, buzzer_line as line_of_buzzer, counter_line as line_of_counter, delays_line as line_of_delays, last_of, line_of, line_of_thing, number_of_buzzer, number_of_truth, page as page_of_panel};
 
 use crate::face::Face;
 use crate::group::Group;
@@ -19,7 +19,7 @@ use crate::words::{buzzer_word, group_word, kind_word, on_word};
 use arrayvec::ArrayString;
 use itoa::Buffer;
 use panel_edges::{Failed, Sink};
-use site_types::{Label, Site};
+use site_types::{Buzzer, Label, Site};
 
 /// Writes the lines of all that a panel shows otherwise than before, in the order of the page.
 ///
@@ -191,7 +191,7 @@ fn push_delays<K: Sink>(
     if before.delays_off == after.delays_off {
         return Ok(());
     }
-    let line = delays_line(after);
+    let line = delays_line(after.panel, !after.delays_off);
     held.push(line.as_str().as_bytes(), out)
 }
 
@@ -209,7 +209,7 @@ fn push_buzzer<K: Sink>(
     if before.buzzer == after.buzzer {
         return Ok(());
     }
-    let line = buzzer_line(after);
+    let line = buzzer_line(after.panel, after.buzzer);
     held.push(line.as_str().as_bytes(), out)
 }
 
@@ -227,11 +227,12 @@ fn push_counter<K: Sink>(
     if before.counter == after.counter {
         return Ok(());
     }
-    let line = counter_line(after);
+    let line = counter_line(after.panel, after.counter);
     held.push(line.as_str().as_bytes(), out)
 }
 
-fn thing_line(site: &Site, panel: u8, group: Group, number: u8, on: bool) -> ArrayString<64>
+/// The line of a thing of a panel's page; nothing where the site has none.
+pub fn thing_line(site: &Site, panel: u8, group: Group, number: u8, on: bool) -> ArrayString<64>
     ensures text { result.bytes ≡ line_of site.now panel (Thing group number) (number_of_truth on) }
     ensures short { length result.bytes ≤ 64 }
 {
@@ -256,39 +257,42 @@ fn named_line(panel: u8, group: Group, name: &Option<Label>, on: bool) -> ArrayS
     line
 }
 
-fn delays_line(face: &Face) -> ArrayString<64>
-    ensures text { result.bytes ≡ line_of_delays face.now.panel (value_in face.now Delays) }
+/// The line that tells whether the delays of a panel are on.
+pub fn delays_line(panel: u8, on: bool) -> ArrayString<64>
+    ensures text { result.bytes ≡ line_of_delays panel (number_of_truth on) }
     ensures short { length result.bytes ≤ 64 }
 {
     let mut digits = Buffer::new();
     let mut line = ArrayString::new();
-    line.push_str(digits.format(face.panel));
+    line.push_str(digits.format(panel));
     line.push_str(" delays");
-    line.push_str(on_word(!face.delays_off));
+    line.push_str(on_word(on));
     line
 }
 
-fn buzzer_line(face: &Face) -> ArrayString<64>
-    ensures text { result.bytes ≡ line_of_buzzer face.now.panel (value_in face.now Sounding) }
+/// The line that tells what the buzzer of a panel sounds.
+pub fn buzzer_line(panel: u8, buzzer: Buzzer) -> ArrayString<64>
+    ensures text { result.bytes ≡ line_of_buzzer panel (number_of_buzzer buzzer) }
     ensures short { length result.bytes ≤ 64 }
 {
     let mut digits = Buffer::new();
     let mut line = ArrayString::new();
-    line.push_str(digits.format(face.panel));
+    line.push_str(digits.format(panel));
     line.push_str(" buzzer ");
-    line.push_str(buzzer_word(face.buzzer));
+    line.push_str(buzzer_word(buzzer));
     line
 }
 
-fn counter_line(face: &Face) -> ArrayString<64>
-    ensures text { result.bytes ≡ line_of_counter face.now.panel (value_in face.now Count) }
+/// The line of the counter of a panel.
+pub fn counter_line(panel: u8, counter: u32) -> ArrayString<64>
+    ensures text { result.bytes ≡ line_of_counter panel counter }
     ensures short { length result.bytes ≤ 64 }
 {
     let mut digits = Buffer::new();
     let mut line = ArrayString::new();
-    line.push_str(digits.format(face.panel));
+    line.push_str(digits.format(panel));
     line.push_str(" counter ");
-    line.push_str(digits.format(face.counter));
+    line.push_str(digits.format(counter));
     line.push_str("\n");
     line
 }

@@ -7,9 +7,16 @@
 //! is the lines of the slots whose values differ, in the order of the page. The text of a whole run is a function of its timeline
 //! (`specs/Timelines`), as is which timelines a run can have.
 //!
+//! A line of such a text is read alone: its fields spell one entry at most (`specs/Spelled`), and the line is that entry's if the entry's own line,
+//! put together again, is the same. `proofs/EntryLaws` shows that the line of an entry determines it.
+//!
 //! [`push_list`] puts a list of a face in JSON from the same slots.
 //!
-//! No call takes memory. Where two faces are equal, writing their changes compares a fixed number of machine words and looks at nothing of the
+//! [`read_faces`] reads a text back: to the timeline whose text it is, or to its first bad line. It is read line by line (`specs/Reading`): each
+//! line tells one [`Entry`], and what the lines before it told says whether it may stand there. That no two timelines have one text is
+//! [`texts_are_their_own`].
+//!
+//! No call but `read_faces` takes memory. Where two faces are equal, writing their changes compares a fixed number of machine words and looks at nothing of the
 //! site. Else a group of lines is looked at only where its mask differs, and what is told is named by a walk over the site's list of such
 //! things. Lines are held back in a room of 1,024 bytes, so that a text goes out in as few writes as that room allows. Where a tick has more
 //! to tell than one face, [`push_changes`] and [`push_answers`] put it behind what a [`Held`] holds already, and one [`Held::flush`] writes it.
@@ -17,34 +24,57 @@
 
 mod answer_lines;
 mod answers;
+mod candidates;
+mod change;
 mod change_lines;
 mod conditions;
+mod entry;
+mod entry_forms;
+mod entry_lines;
+mod entry_reading;
 mod face;
 mod face_list;
+mod fields;
 mod group;
 mod held;
+mod laws;
+mod lines;
 mod lists;
 mod masks;
 mod naming;
+mod numbered;
 mod op_answer;
 mod op_answers;
 mod page;
+mod rank;
+mod reading;
 mod reply;
 mod step;
+mod telling;
+#[cfg(test)]
+mod tests;
+mod text_refusal;
+mod thing_reading;
 mod timeline;
+mod told;
 mod words;
 
 pub use answer_lines::{push_answers, write_answers};
 pub use answers::Answers;
+pub use change::Change;
 pub use change_lines::{push_changes, write_changes};
 pub use conditions::Conditions;
+pub use entry::Entry;
 pub use face::Face;
 pub use face_list::FaceList;
 pub use group::Group;
 pub use held::Held;
+pub use laws::texts_are_their_own;
 pub use lists::push_list;
 pub use op_answer::OpAnswer;
 pub use op_answers::{MOST_ANSWERS, OpAnswers};
+pub use reading::read_faces;
 pub use reply::Reply;
 pub use step::Step;
+pub use text_refusal::TextRefusal;
 pub use timeline::Timeline;

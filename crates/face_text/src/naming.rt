@@ -75,7 +75,8 @@ fn has_loop(site: &Site, panel: u8, line: u8) -> bool
         .any(|plan| plan.panel == panel && plan.line == line)
 }
 
-fn is_panel(site: &Site, panel: u8) -> bool
+/// Whether a site has a panel.
+pub fn is_panel(site: &Site, panel: u8) -> bool
     ensures { result ≡ site_has_panel site.now panel }
 {
     1 <= panel && panel <= site.panels
