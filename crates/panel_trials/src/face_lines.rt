@@ -11,10 +11,10 @@ use std::test::Fail;
 use trial_base::{SCHOOL, site_of};
 
 // What a panel may show, in the order of its page, without the panel's number in front and the state behind.
-const PAGE_1: &str =
+pub(crate) const PAGE_1: &str =
     "zone hall|zone gym|zone kitchen|zone office|zone lab|zone store|zone aula|zone cellar|first hall|first gym|first kitchen|first office|first lab|first store|first aula|first cellar|fault missing h-mcp|fault missing h-1|fault missing g-1|fault missing g-2|fault missing k-1|fault missing k-2|fault missing o-mcp|fault broken 1|fault shorted 1|fault mains|fault standby|fault voltage|fault charger|fault silent 1|fault silent 2|fault link 1|fault link 2|fault unconfirmed bells-1|fault unconfirmed brigade|output bells-1|output brigade|confirmed bells-1|confirmed brigade|disabled point h-mcp|disabled point h-1|disabled point g-1|disabled point g-2|disabled point k-1|disabled point k-2|disabled point o-mcp|disabled zone hall|disabled zone gym|disabled zone kitchen|disabled zone office|disabled output bells-1|disabled output brigade|test hall|test gym|test kitchen|test office";
 
-const PAGE_2: &str =
+pub(crate) const PAGE_2: &str =
     "zone hall|zone gym|zone kitchen|zone office|zone lab|zone store|zone aula|zone cellar|first hall|first gym|first kitchen|first office|first lab|first store|first aula|first cellar|fault missing l-1|fault missing l-2|fault missing s-1|fault missing a-1|fault missing a-mcp|fault missing c-1|fault broken 1|fault shorted 1|fault mains|fault standby|fault voltage|fault charger|fault silent 1|fault silent 2|fault link 1|fault link 2|fault unconfirmed bells-2|fault unconfirmed doors|output bells-2|output doors|confirmed bells-2|confirmed doors|disabled point l-1|disabled point l-2|disabled point s-1|disabled point a-1|disabled point a-mcp|disabled point c-1|disabled zone lab|disabled zone store|disabled zone aula|disabled zone cellar|disabled output bells-2|disabled output doors|test lab|test store|test aula|test cellar";
 
 // A face in which every bit is set, also those of things that the site hasn't.

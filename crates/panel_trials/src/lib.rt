@@ -14,6 +14,12 @@ mod face_lists;
 #[cfg(test)]
 mod lane_counts;
 #[cfg(test)]
+mod plain_reader;
+#[cfg(test)]
+mod reading_back;
+#[cfg(test)]
 mod system_rows;
 #[cfg(test)]
 mod system_ticks;
+#[cfg(test)]
+mod timeline_text;
