@@ -5,7 +5,14 @@
 #![tactic(auto)]
 
 mod done;
+mod latest;
+mod mark;
 mod moment;
+mod retained;
+mod setting;
 
 pub use done::Done;
+pub use latest::{override_done_in, silence_before};
+pub use mark::{cancelled_before, floor_before, muted_before};
 pub use moment::Moment;
+pub use setting::{Setting, in_force, is_blocked};
