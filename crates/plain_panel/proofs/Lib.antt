@@ -1,3 +1,4 @@
 pub mod Histories
 pub mod Unset
 pub mod Later
+pub mod Silent

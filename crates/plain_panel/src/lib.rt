@@ -5,6 +5,7 @@
 #![tactic(auto)]
 
 mod alarm;
+mod answered;
 mod confirmed;
 mod counted;
 mod done;
@@ -16,8 +17,10 @@ mod pairs;
 mod places;
 mod retained;
 mod setting;
+mod sign;
 
 pub use alarm::{is_by_hand, is_first, is_in_alarm, is_released};
+pub use answered::{answered_faults, answered_word};
 pub use done::Done;
 pub use latest::{override_done_in, silence_before};
 pub use mark::{cancelled_before, floor_before, muted_before};
