@@ -2,3 +2,4 @@ pub mod Histories
 pub mod Unset
 pub mod Later
 pub mod Silent
+pub mod Masked

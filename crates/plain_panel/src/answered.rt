@@ -116,6 +116,7 @@ fn zone_shows(
 }
 
 // The points of the panel that are shown as missing.
+#[tactic(auto, unfolding(panel_conditions::specs::Points::points_where))]
 fn missing_points(
     site: &Site,
     kept: &Retained,
@@ -165,10 +166,9 @@ fn missing_on(
 fn point_at(site: &Site, panel: u8, line: u8, address: u8) -> Option<usize>
     ensures { result ≡ addressed site.now panel line address }
 {
-    site.points
-        .as_slice()
-        .iter()
-        .position(|point| point.panel == panel && point.line == line && point.address == address)
+    site.points.as_slice().iter().position(|point| point.panel == panel
+        && point.line == line
+        && point.address == address)
 }
 
 // Whether there is a point, and it is shown as missing.
@@ -207,6 +207,12 @@ fn zone_is_off(
 {
     match point {
         None => false,
-        Some(point) => in_force(site, kept, Setting::ZoneOff(point.zone as usize), tick, done),
+        Some(point) => in_force(
+            site,
+            kept,
+            Setting::ZoneOff(point.zone as usize),
+            tick,
+            done,
+        ),
     }
 }
