@@ -1,3 +1,4 @@
 pub mod Histories
 pub mod Settings
 pub mod Signs
+pub mod Askings
