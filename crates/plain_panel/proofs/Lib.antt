@@ -3,3 +3,5 @@ pub mod Unset
 pub mod Later
 pub mod Silent
 pub mod Masked
+pub mod Reports
+pub mod Asked
