@@ -5,3 +5,4 @@ pub mod Silent
 pub mod Masked
 pub mod Reports
 pub mod Asked
+pub mod Outputs

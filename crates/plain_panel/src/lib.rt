@@ -18,6 +18,7 @@ mod pairs;
 mod places;
 mod retained;
 mod setting;
+mod settings_shown;
 mod sign;
 
 pub use alarm::{is_by_hand, is_first, is_in_alarm, is_released};
@@ -29,3 +30,4 @@ pub use mark::{cancelled_before, floor_before, muted_before};
 pub use missing::is_missing;
 pub use moment::Moment;
 pub use setting::{Setting, in_force, is_blocked};
+pub use settings_shown::{outputs_off, outputs_that, points_off, zones_in_test, zones_off};
