@@ -4,8 +4,22 @@
 //! through all moments anew and keeps only tables of what it has found.
 #![tactic(auto)]
 
+mod answered;
+mod desk;
 mod done;
+mod latest;
+mod mark;
 mod moment;
+mod outcomes;
+mod reply;
+mod request;
+mod retained;
+mod setting;
 
+pub use answered::Answered;
+pub use desk::Desk;
 pub use done::Done;
 pub use moment::Moment;
+pub use outcomes::Outcomes;
+pub use reply::Reply;
+pub use request::Request;
