@@ -1,7 +1,8 @@
-ghost use Rattle.std.specs.Prelude.{◌≡◌, IfOk, OnOk, false, option_map};
+ghost use Rattle.std.specs.Prelude.{◌≡◌, ◌&&◌, [], ◌∷◌, IfOk, OnOk, false, nat_le, option_map};
 ghost use Rattle.site_types.specs.Done.{value_set as value_given};
-ghost use Rattle.site_types.specs.Done.{is_setting};
-ghost use Rattle.panel_rules.specs.Operations.{after_desk, after_keep, after_reply, answer_all as answers_to_all, desk_reply, do_all as all_are_done, done_in as done_at, is_unsettled as waits_for, no_operations, requests_in, setting_asked, setting_reply as reply_on_setting, stands_so as stands_already};
+ghost use Rattle.std.specs.List.{list_any};
+ghost use Rattle.site_types.specs.Done.{is_on as is_on_setting, is_setting};
+ghost use Rattle.panel_rules.specs.Operations.{after_desk, after_keep, after_reply, and_done as done_where_told, answer_all as answers_to_all, desk_reply, do_all as all_are_done, done_in as done_at, is_unsettled as waits_for, keep_reply as answer_of_keep, no_operations, requests_in, setting_asked, setting_reply as reply_on_setting, stands_so as stands_already};
 ghost use Rattle.plain_panel.specs.Desks.{all_answered, all_requests, outcomes_of, reply_of, request_of};
 ghost use Rattle.plain_panel.specs.Histories.{all_done, done_of};
 ghost use Rattle.plain_panel.specs.Settings.{setting_from};
@@ -50,12 +51,8 @@ impl Outcomes {
     {
         let mut changed = false;
         for request in requests {
-            if request.panel == panel && request.tick == tick {
-                let reply = self.reply(site, kept, request);
-                if self.answer(request, reply)? {
-                    changed = true;
-                }
-            }
+            let done = self.take(site, kept, request, panel, tick)?;
+            changed = changed || done;
         }
         Ok(changed)
     }
@@ -71,6 +68,26 @@ impl Outcomes {
         }
         self.waiting.clear();
         Ok(!failed)
+    }
+
+    // Takes an operation, where it is one of the panel and of the tick. Tells whether it was done.
+    fn take(
+        &mut self,
+        site: &Site,
+        kept: &Retained,
+        request: &Request,
+        panel: u8,
+        tick: Tick,
+    ) -> Result<bool, NoMemory>
+        ensures became { OnOk result (outcomes_of self.new ≡ after_desk site.now kept.now (requests_in panel tick.0 (request_of request.now ∷ [])) (outcomes_of self.old)) }
+        ensures same { IfOk result (λ changed. changed ≡ false → self.new.done.items ≡ self.old.done.items) }
+    {
+        if request.panel == panel && request.tick.0 == tick.0 {
+            let reply = self.reply(site, kept, request);
+            self.answer(request, reply)
+        } else {
+            Ok(false)
+        }
     }
 
     // The answer at Desk's turn; none where the operation is accepted for Keep.
@@ -115,11 +132,7 @@ impl Outcomes {
     fn is_unsettled(&self, setting: Setting, tick: Tick) -> bool
         ensures { result ≡ waits_for (setting_from setting) tick.0 (outcomes_of self.now) }
     {
-        self.waiting.iter().any(|request| is_of(request, setting))
-            || self
-                .done
-                .iter()
-                .any(|done| is_on(setting, done) && tick <= done.tick)
+        any_waits(&self.waiting, setting) || any_is_fresh(&self.done, setting, tick)
     }
 
     // Whether the setting has the value already that an operation sets.
@@ -146,15 +159,23 @@ impl Outcomes {
             tick: request.tick,
             reply,
         })?;
-        match reply {
-            Reply::WasDone => {
-                self.done.push(done_in(request.tick, request))?;
-                Ok(true)
-            }
-            Reply::Busy | Reply::Denied { .. } | Reply::Waiting | Reply::Already | Reply::Store =>
-                Ok(false),
-        }
+        and_done(&mut self.done, request, reply)
     }
+}
+
+// Whether one of some operations that wait is on a setting.
+fn any_waits(waiting: &[Request], setting: Setting) -> bool
+    ensures { result ≡ list_any (λ r. is_setting (setting_from setting) (setting_asked (request_of r))) waiting.now }
+{
+    waiting.iter().any(|request| is_of(request, setting))
+}
+
+// Whether one of some operations done is on a setting and isn't in force yet.
+fn any_is_fresh(done: &[Done], setting: Setting, tick: Tick) -> bool
+    ensures { result ≡ list_any (λ d. is_on_setting (setting_from setting) (done_of d) && nat_le tick.0 d.tick.0) done.now }
+{
+    done.iter()
+        .any(|one| is_on(setting, one) && tick.0 <= one.tick.0)
 }
 
 // Whether an operation that is asked for is on a setting.
@@ -178,6 +199,30 @@ fn done_in(tick: Tick, request: &Request) -> Done
     }
 }
 
+// Does an operation whose answer says so. Tells whether it was done.
+fn and_done(done: &mut Vec<Done>, request: &Request, reply: Reply) -> Result<bool, NoMemory>
+    ensures became { OnOk result (all_done done.new.items ≡ done_where_told (request_of request.now) (reply_of reply) (all_done done.old.items)) }
+    ensures same { IfOk result (λ changed. changed ≡ false → done.new.items ≡ done.old.items) }
+{
+    if let Reply::WasDone = reply {
+        done.push(done_in(request.tick, request))?;
+        Ok(true)
+    } else {
+        Ok(false)
+    }
+}
+
+// The answer of a turn of Keep.
+fn keep_reply(failed: bool) -> Reply
+    ensures { reply_of result ≡ answer_of_keep failed }
+{
+    if failed {
+        Reply::Store
+    } else {
+        Reply::WasDone
+    }
+}
+
 // Answers all that wait at a turn of Keep.
 fn answer_all(
     answers: &mut Vec<Answered>,
@@ -187,7 +232,7 @@ fn answer_all(
 ) -> Result<(), NoMemory>
     ensures { OnOk result (all_answered answers.new.items ≡ answers_to_all tick.0 failed (all_requests waiting.now) (all_answered answers.old.items)) }
 {
-    let reply = if failed { Reply::Store } else { Reply::WasDone };
+    let reply = keep_reply(failed);
     for request in waiting {
         answers.push(Answered {
             request: *request,
