@@ -1,15 +1,16 @@
 -- The lists of a desk as the definitions have them, with one element more, and what its turns make of them.
-use Rattle.std.proofs.Common.{◌≡◌, ◌∙◌, ◌+◌, ◌<◌, ◌==◌, ◌&&◌, ◌||◌, nat_le, ℕ, Bool, true, false, List, [], ◌∷◌, ◌++◌, length, get_or, take, map, filter, Option, Some, None, ap, refl, sym}
-use Rattle.std.specs.Prelude.{option_map}
-use Rattle.std.specs.List.{fold, list_any}
-use Rattle.std.proofs.lemmas.List.{map-append, take_more}
+use Rattle.std.proofs.Common.{◌≡◌, ◌∙◌, ◌+◌, ◌<◌, ◌==◌, ◌&&◌, ◌||◌, nat_le, ℕ, Bool, true, false, List, [], ◌∷◌, ◌++◌, cond, length, get_or, take, map, filter, Option, Some, None, Result, Ok, Err, ap, refl, sym}
+use Rattle.std.specs.Prelude.{option_map, OnOk}
+use Rattle.std.specs.List.{count_by, fold, list_any}
+use Rattle.std.proofs.lemmas.List.{length-map, map-append, take_more}
 use Rattle.std.proofs.lemmas.List.Elements.{filter-append}
-use Rattle.std.proofs.lemmas.List.Sums.{fold-append}
+use Rattle.std.proofs.lemmas.List.Sums.{fold-append, length-filter}
 use Rattle.tick_units.specs.declared.tick.Tick.{Tick}
+use Rattle.site_types.specs.declared.operation.Operation.{Operation}
 use Rattle.site_types.specs.declared.retained.Retained.{Retained}
 use Rattle.site_types.specs.declared.site.Site.{Site}
 use Rattle.site_types.specs.Done.{Done as DoneOf, Setting, is_on, is_setting}
-use Rattle.panel_rules.specs.Operations.{Request as RequestOf, Answered as AnsweredOf, Operations, Reply as ReplyOf, after_desk, after_reply, after_request, and_done as done_where_told, answer_all, do_all, done_in, is_unsettled, keep_reply, requests_in, setting_asked}
+use Rattle.panel_rules.specs.Operations.{Request as RequestOf, Answered as AnsweredOf, Operations, Reply as ReplyOf, after_desk, after_reply, after_request, and_done as done_where_told, answer_all, do_all, done_in, is_unsettled, keep_reply, request_of as asked, requests_in, setting_asked}
 use Rattle.plain_panel.specs.declared.done.Done.{Done}
 use Rattle.plain_panel.specs.declared.request.Request.{Request}
 use Rattle.plain_panel.specs.declared.answered.Answered.{Answered}
@@ -66,20 +67,20 @@ or_second b c true y is fails then = cc
 or_second b c false y is fails then = then
 
 -- an operation on a setting waits
-pub unsettled_by_waiting : (setting : Setting) (tick : ℕ) (waiting : List Request) (answers : List AnsweredOf) (done : List Done) (b : Bool) →
-    b ≡ list_any (λ r. is_setting setting (setting_asked (request_of r))) waiting → b ≡ true →
+pub unsettled_by_waiting : (setting : Setting) (tick : ℕ) (waiting shown : List Request) (answers : List AnsweredOf) (done : List Done) (b : Bool) → shown ≡ waiting →
+    b ≡ list_any (λ r. is_setting setting (setting_asked (request_of r))) shown → b ≡ true →
     b ≡ is_unsettled setting tick (record { waiting = all_requests waiting; answers = answers; done = all_done done })
-unsettled_by_waiting setting tick waiting answers done b is holds =
-    or_first b _ _ (is ∙ sym (any_request (λ r. is_setting setting (setting_asked r)) waiting)) holds
+unsettled_by_waiting setting tick waiting shown answers done b same is holds =
+    or_first b _ _ (is ∙ ap (list_any (λ r. is_setting setting (setting_asked (request_of r)))) same ∙ sym (any_request (λ r. is_setting setting (setting_asked r)) waiting)) holds
 
 -- none waits, and whether one was done that isn't in force yet
-pub unsettled_by_done : (setting : Setting) (tick : ℕ) (waiting : List Request) (answers : List AnsweredOf) (done : List Done) (b c : Bool) →
-    b ≡ list_any (λ r. is_setting setting (setting_asked (request_of r))) waiting → b ≡ false →
-    c ≡ list_any (λ d. is_on setting (done_of d) && nat_le tick d.tick.0) done →
+pub unsettled_by_done : (setting : Setting) (tick : ℕ) (waiting shown : List Request) (answers : List AnsweredOf) (done done_shown : List Done) (b c : Bool) → shown ≡ waiting →
+    done_shown ≡ done → b ≡ list_any (λ r. is_setting setting (setting_asked (request_of r))) shown → b ≡ false →
+    c ≡ list_any (λ d. is_on setting (done_of d) && nat_le tick d.tick.0) done_shown →
     c ≡ is_unsettled setting tick (record { waiting = all_requests waiting; answers = answers; done = all_done done })
-unsettled_by_done setting tick waiting answers done b c is fails fresh =
-    or_second b c _ _ (is ∙ sym (any_request (λ r. is_setting setting (setting_asked r)) waiting)) fails
-    (fresh ∙ sym (or_none _) ∙ sym (any_done (λ d. is_on setting d && nat_le tick d.tick) done []))
+unsettled_by_done setting tick waiting shown answers done done_shown b c same same_done is fails fresh =
+    or_second b c _ _ (is ∙ ap (list_any (λ r. is_setting setting (setting_asked (request_of r)))) same ∙ sym (any_request (λ r. is_setting setting (setting_asked r)) waiting)) fails
+    (fresh ∙ ap (list_any (λ d. is_on setting (done_of d) && nat_le tick d.tick.0)) same_done ∙ sym (or_none _) ∙ sym (any_done (λ d. is_on setting d && nat_le tick d.tick) done []))
 
 pub not_done : (request : RequestOf) (reply : Reply) (done : List DoneOf) → (reply ≡ WasDone → ⊥) → done ≡ done_where_told request (reply_of reply) done
 not_done request Busy done other = refl
@@ -150,3 +151,38 @@ desk_more site kept panel tick requests k first d small =
     ap (λ rs. after_desk site kept (requests_in panel tick rs) first) (ap all_requests (take_more requests k d small) ∙ all_requests_more (take k requests) (get_or requests k d))
     ∙ ap (λ rs. after_desk site kept rs first) (filter-append is_asked taken (one ∷ []))
     ∙ fold-append (after_request site kept) first (requests_in panel tick taken) (requests_in panel tick (one ∷ []))
+
+-- the same where the operation was done if memory allowed
+pub answered_ok : {T E : Type 0} (result : Result T E) (waiting : List RequestOf) (before now : List Answered) (done after : List DoneOf) (request : Request) (reply : Reply) (given : Option Reply) →
+    given ≡ Some reply → now ≡ before ++ (record { request = request; tick = request.tick; reply = reply }) ∷ [] → OnOk result (after ≡ done_where_told (request_of request) (reply_of reply) done) →
+    OnOk result ((record { waiting = waiting; answers = all_answered now; done = after }) ≡ after_reply (request_of request) (record { waiting = waiting; answers = all_answered before; done = done }) (option_map reply_of given))
+answered_ok (Ok value) waiting before now done after request reply given is more so = answered waiting before now done after request reply given is more so
+answered_ok (Err error) waiting before now done after request reply given is more so = tt
+
+-- ---- what is asked for
+
+kept_view : (b : Bool) (x : Request) (xs : List Request) (rest : List RequestOf) → rest ≡ all_requests xs → cond b (request_of x ∷ rest) rest ≡ all_requests (cond b (x ∷ xs) xs)
+kept_view true x xs rest same = ap (λ ys. request_of x ∷ ys) same
+kept_view false x xs rest same = same
+
+filtered : (panel tick : ℕ) (xs : List Request) → requests_in panel tick (all_requests xs) ≡ all_requests (filter (λ (r : Request). (r.panel == panel) && (r.tick.0 == tick)) xs)
+filtered panel tick [] = refl
+filtered panel tick (x ∷ xs) = kept_view ((x.panel == panel) && (x.tick.0 == tick)) x (filter (λ (r : Request). (r.panel == panel) && (r.tick.0 == tick)) xs) _ (filtered panel tick xs)
+
+counted : (panel tick : ℕ) (xs : List Request) → count_by (λ (r : Request). (r.panel == panel) && (r.tick.0 == tick)) xs ≡ length (requests_in panel tick (all_requests xs))
+counted panel tick xs =
+    let is_in : Request → Bool = λ r. (r.panel == panel) && (r.tick.0 == tick) in
+    sym (length-filter is_in xs) ∙ sym (length-map (filter is_in xs) request_of) ∙ sym (ap length (filtered panel tick xs))
+
+-- an operation is asked for behind those that came before it
+pub request_more : (tick : Tick) (panel level : ℕ) (operation : Operation) (before shown now : List Request) (number earlier opened : ℕ) → shown ≡ before →
+    earlier ≡ count_by (λ (r : Request). (r.panel == panel) && (r.tick.0 == tick.0)) shown → number ≡ length before + 1 → level ≡ opened →
+    now ≡ before ++ (record { number = number; tick = tick; panel = panel; earlier = earlier; level = level; operation = operation }) ∷ [] →
+    all_requests now ≡ all_requests before ++ asked tick.0 panel opened operation (all_requests before) ∷ []
+request_more tick panel level operation before shown now number earlier opened same few next opens more =
+    let built : ℕ → ℕ → ℕ → RequestOf = λ n e l. record { number = n; tick = tick.0; panel = panel; earlier = e; level = l; operation = operation } in
+    let behind : RequestOf → List RequestOf = λ r. all_requests before ++ r ∷ [] in
+    ap all_requests more ∙ all_requests_more before _
+    ∙ ap (λ n. behind (built n earlier level)) (next ∙ ap (λ n. n + 1) (sym (length-map before request_of)))
+    ∙ ap (λ e. behind (built (length (all_requests before) + 1) e level)) (few ∙ counted panel tick.0 shown ∙ ap (λ xs. length (requests_in panel tick.0 (all_requests xs))) same)
+    ∙ ap (λ l. behind (built (length (all_requests before) + 1) (length (requests_in panel tick.0 (all_requests before))) l)) opens

@@ -1,4 +1,5 @@
-ghost use Rattle.std.specs.Prelude.{◌≡◌, ◌++◌, List, [], ◌∷◌, IfOk, OnOk, Bool, false};
+ghost use Rattle.std.specs.Prelude.{◌≡◌, ◌==◌, ◌&&◌, List, [], ◌∷◌, IfOk, OnOk, count_by, false, option_map};
+ghost use Rattle.access_levels.specs.Levels.{level_of as level_opened};
 ghost use Rattle.site_types.specs.declared.retained.Retained.{Retained as RetainedOf};
 ghost use Rattle.site_types.specs.declared.site.Site.{Site as SiteOf};
 ghost use Rattle.panel_rules.specs.Moments.{Moment as MomentOf, tick_of};
@@ -10,7 +11,7 @@ use crate::moment::Moment;
 use crate::outcomes::Outcomes;
 use crate::request::Request;
 use access_levels::level_of;
-use site_types::{Event, Retained, Site};
+use site_types::{Event, Label, Retained, Site};
 use std::alloc::Global;
 use tick_units::{NoMemory, Task, Tick};
 
@@ -83,12 +84,8 @@ impl Desk {
             operation,
         } = event
         {
-            let level = level_of(code.as_ref().map(|label| label.as_str()), site);
-            let earlier = self
-                .requests
-                .iter()
-                .filter(|request| request.panel == *panel && request.tick == tick)
-                .count();
+            let level = level_by(code, site);
+            let earlier = count_in(&self.requests, *panel, tick);
             let number = self.requests.len() as u64 + 1;
             self.requests.push(Request {
                 number,
@@ -101,4 +98,24 @@ impl Desk {
         }
         Ok(())
     }
+}
+
+// The level that a code opens, or none.
+fn level_by(code: &Option<Label>, site: &Site) -> u8
+    ensures { result ≡ level_opened site.now (option_map (λ label. label.bytes) code.now) }
+{
+    match code {
+        None => level_of(None, site),
+        Some(label) => level_of(Some(label.as_str()), site),
+    }
+}
+
+// How many of some operations are those of a panel in a tick.
+fn count_in(requests: &[Request], panel: u8, tick: Tick) -> usize
+    ensures { result ≡ count_by (λ r. (r.panel == panel) && (r.tick.0 == tick.0)) requests.now }
+{
+    requests
+        .iter()
+        .filter(|request| request.panel == panel && request.tick.0 == tick.0)
+        .count()
 }

@@ -216,11 +216,7 @@ fn and_done(done: &mut Vec<Done>, request: &Request, reply: Reply) -> Result<boo
 fn keep_reply(failed: bool) -> Reply
     ensures { reply_of result ≡ answer_of_keep failed }
 {
-    if failed {
-        Reply::Store
-    } else {
-        Reply::WasDone
-    }
+    if failed { Reply::Store } else { Reply::WasDone }
 }
 
 // Answers all that wait at a turn of Keep.
