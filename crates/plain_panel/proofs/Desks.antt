@@ -13,7 +13,7 @@ use Rattle.site_types.specs.Done.{Done as DoneOf, Setting, is_on, is_setting}
 use Rattle.panel_rules.specs.Operations.{Request as RequestOf, Answered as AnsweredOf, Operations, Reply as ReplyOf, after_desk, after_reply, after_request, and_done as done_where_told, answer_all, do_all, done_in, is_unsettled, keep_reply, request_of as asked, requests_in, setting_asked}
 use Rattle.plain_panel.specs.declared.done.Done.{Done}
 use Rattle.plain_panel.specs.declared.request.Request.{Request}
-use Rattle.plain_panel.specs.declared.answered.Answered.{Answered}
+use Rattle.plain_panel.specs.declared.op_answered.OpAnswered.{OpAnswered as Answered}
 use Rattle.plain_panel.specs.declared.reply.Reply.{Reply}
 use Rattle.plain_panel.specs.declared.reply.Reply.TheVariants.{Busy, Denied, Waiting, Already, Store, WasDone}
 use Rattle.plain_panel.specs.Desks.{all_answered, all_requests, and_answered, answered_of, reply_of, request_of}

@@ -1,2 +1,5 @@
 pub mod Desks
 pub mod Histories
+pub mod Unset
+pub mod Later
+pub mod Silent

@@ -5,7 +5,7 @@ use Rattle.site_types.specs.declared.site.Site.{Site}
 use Rattle.panel_rules.specs.Moments.{Moment as MomentOf}
 use Rattle.panel_rules.specs.Operations.{Request as RequestOf, Answered as AnsweredOf, Operations, Reply as ReplyOf, Busy as BusyOf, Denied as DeniedOf, Waiting as WaitingOf, Already as AlreadyOf, Store as StoreOf, WasDone as WasDoneOf, operations, requests}
 use Rattle.plain_panel.specs.declared.request.Request.{Request}
-use Rattle.plain_panel.specs.declared.answered.Answered.{Answered}
+use Rattle.plain_panel.specs.declared.op_answered.OpAnswered.{OpAnswered as Answered}
 use Rattle.plain_panel.specs.declared.reply.Reply.{Reply}
 use Rattle.plain_panel.specs.declared.reply.Reply.TheVariants.{Busy, Denied, Waiting, Already, Store, WasDone}
 use Rattle.plain_panel.specs.declared.outcomes.Outcomes.{Outcomes}

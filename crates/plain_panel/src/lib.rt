@@ -4,24 +4,35 @@
 //! through all moments anew and keeps only tables of what it has found.
 #![tactic(auto)]
 
+mod alarm;
 mod answered;
+mod confirmed;
+mod counted;
 mod desk;
 mod done;
 mod latest;
 mod mark;
+mod missing;
 mod moment;
+mod op_answered;
 mod outcomes;
+mod pairs;
+mod places;
 mod reply;
 mod request;
 mod retained;
 mod setting;
+mod sign;
 
-pub use answered::Answered;
+pub use alarm::{is_by_hand, is_first, is_in_alarm, is_released};
+pub use answered::{answered_faults, answered_word};
 pub use desk::Desk;
 pub use done::Done;
 pub use latest::{override_done_in, silence_before};
 pub use mark::{cancelled_before, floor_before, muted_before};
+pub use missing::is_missing;
 pub use moment::Moment;
+pub use op_answered::OpAnswered;
 pub use outcomes::Outcomes;
 pub use reply::Reply;
 pub use request::Request;

@@ -7,8 +7,8 @@ ghost use Rattle.plain_panel.specs.Desks.{all_answered, all_requests, outcomes_o
 ghost use Rattle.plain_panel.specs.Histories.{all_done, done_of};
 ghost use Rattle.plain_panel.specs.Settings.{setting_from};
 
-use crate::answered::Answered;
 use crate::done::Done;
+use crate::op_answered::OpAnswered;
 use crate::reply::Reply;
 use crate::request::Request;
 use crate::setting::{Setting, in_force, is_on, is_same, setting_of, value_set};
@@ -21,7 +21,7 @@ use tick_units::{NoMemory, Tick};
 #[derive(Drop)]
 pub struct Outcomes {
     pub waiting: Vec<Request>,
-    pub answers: Vec<Answered>,
+    pub answers: Vec<OpAnswered>,
     pub done: Vec<Done>,
 }
 
@@ -154,7 +154,7 @@ impl Outcomes {
             self.waiting.push(*request)?;
             return Ok(false);
         };
-        self.answers.push(Answered {
+        self.answers.push(OpAnswered {
             request: *request,
             tick: request.tick,
             reply,
@@ -221,7 +221,7 @@ fn keep_reply(failed: bool) -> Reply
 
 // Answers all that wait at a turn of Keep.
 fn answer_all(
-    answers: &mut Vec<Answered>,
+    answers: &mut Vec<OpAnswered>,
     waiting: &[Request],
     tick: Tick,
     failed: bool,
@@ -230,7 +230,7 @@ fn answer_all(
 {
     let reply = keep_reply(failed);
     for request in waiting {
-        answers.push(Answered {
+        answers.push(OpAnswered {
             request: *request,
             tick,
             reply,

@@ -25,9 +25,7 @@ pub fn in_force(site: &Site, kept: &Retained, setting: Setting, tick: Tick, done
 {
     let mut value = at_opening(site, kept, setting);
     for one in done {
-        if is_on(setting, one) && one.tick.0 < tick.0 {
-            value = value_set(one.operation);
-        }
+        value = value_after(setting, tick, one, value);
     }
     value
 }
@@ -40,7 +38,7 @@ pub fn is_blocked(site: &Site, kept: &Retained, done: &[Done], point: usize, tic
         || is_zone_blocked(site, kept, done, site.points.get(point), tick)
 }
 
-ghost use Rattle.std.specs.Prelude.{option_copied, option_map};
+ghost use Rattle.std.specs.Prelude.{◌&&◌, if◌then◌else◌, nat_lt, option_copied, option_map};
 ghost use Rattle.site_types.specs.Done.{is_on as is_on_setting, is_setting, is_zone_blocked as is_zone_blocked_at, item_off as setting_of_item, operation_setting as setting_of_operation, same_setting as is_same_setting, value_set as value_given};
 ghost use Rattle.plain_panel.specs.Histories.{done_of};
 
@@ -61,6 +59,17 @@ fn is_zone_blocked(
             in_force(site, kept, Setting::ZoneOff(zone), tick, done)
                 || in_force(site, kept, Setting::InTest(zone), tick, done)
         }
+    }
+}
+
+// The value of a setting after one more operation, of those that were done before a tick.
+fn value_after(setting: Setting, tick: Tick, done: &Done, before: bool) -> bool
+    ensures { result ≡ (if is_on_setting (setting_from setting) (done_of done.now) && nat_lt done.now.tick.0 tick.0 then value_given done.now.operation else before) }
+{
+    if is_on(setting, done) && done.tick.0 < tick.0 {
+        value_set(done.operation)
+    } else {
+        before
     }
 }
 
