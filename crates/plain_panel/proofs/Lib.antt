@@ -1,5 +1,9 @@
+pub mod Asked
 pub mod Desks
+pub mod Enterings
 pub mod Histories
-pub mod Unset
 pub mod Later
+pub mod Masked
+pub mod Reports
 pub mod Silent
+pub mod Unset

@@ -116,6 +116,7 @@ fn zone_shows(
 }
 
 // The points of the panel that are shown as missing.
+#[tactic(auto, unfolding(panel_conditions::specs::Points::points_where))]
 fn missing_points(
     site: &Site,
     kept: &Retained,

@@ -6,10 +6,12 @@
 
 mod alarm;
 mod answered;
+mod asking;
 mod confirmed;
 mod counted;
 mod desk;
 mod done;
+mod entering;
 mod latest;
 mod mark;
 mod missing;
@@ -26,8 +28,10 @@ mod sign;
 
 pub use alarm::{is_by_hand, is_first, is_in_alarm, is_released};
 pub use answered::{answered_faults, answered_word};
+pub use asking::Asking;
 pub use desk::Desk;
 pub use done::Done;
+pub use entering::Entering;
 pub use latest::{override_done_in, silence_before};
 pub use mark::{cancelled_before, floor_before, muted_before};
 pub use missing::is_missing;
