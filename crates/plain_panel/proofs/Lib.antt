@@ -1,8 +1,10 @@
-pub mod Histories
-pub mod Unset
-pub mod Later
-pub mod Silent
-pub mod Masked
-pub mod Reports
 pub mod Asked
+pub mod Desks
+pub mod Enterings
+pub mod Histories
+pub mod Later
+pub mod Masked
 pub mod Outputs
+pub mod Reports
+pub mod Silent
+pub mod Unset
