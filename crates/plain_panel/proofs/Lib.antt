@@ -8,3 +8,4 @@ pub mod Outputs
 pub mod Reports
 pub mod Silent
 pub mod Unset
+pub mod Tellings

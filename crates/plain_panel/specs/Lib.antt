@@ -4,3 +4,4 @@ pub mod Enterings
 pub mod Histories
 pub mod Settings
 pub mod Signs
+pub mod Tellings

@@ -6,6 +6,7 @@
 
 mod alarm;
 mod answered;
+mod answers_told;
 mod asking;
 mod confirmed;
 mod counted;
@@ -29,6 +30,7 @@ mod sign;
 
 pub use alarm::{is_by_hand, is_first, is_in_alarm, is_released};
 pub use answered::{answered_faults, answered_word};
+pub use answers_told::{answers_now, told};
 pub use asking::Asking;
 pub use desk::Desk;
 pub use done::Done;
