@@ -6,6 +6,10 @@
 
 mod done;
 mod moment;
+mod network;
+mod own;
 
 pub use done::Done;
 pub use moment::Moment;
+pub use network::Network;
+pub use own::Own;
