@@ -4,12 +4,14 @@
 //! through all moments anew and keeps only tables of what it has found.
 #![tactic(auto)]
 
+mod bad_run;
+mod cables;
 mod done;
 mod moment;
-mod network;
 mod own;
+mod supplies;
+mod watched;
 
 pub use done::Done;
 pub use moment::Moment;
-pub use network::Network;
 pub use own::Own;
