@@ -1,3 +1,6 @@
 pub mod Histories
 pub mod Reports
 pub mod BadRuns
+pub mod Unset
+pub mod Later
+pub mod TakenMoments

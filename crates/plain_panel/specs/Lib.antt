@@ -1,2 +1,4 @@
 pub mod Histories
 pub mod BadRuns
+pub mod Settings
+pub mod Network

@@ -6,12 +6,27 @@
 
 mod bad_run;
 mod cables;
+mod alarm;
+mod confirmed;
+mod counted;
 mod done;
+mod latest;
+mod mark;
+mod missing;
 mod moment;
 mod own;
 mod supplies;
 mod watched;
+mod pairs;
+mod places;
+mod retained;
+mod setting;
 
+pub use alarm::{is_by_hand, is_first, is_in_alarm, is_released};
 pub use done::Done;
+pub use latest::{override_done_in, silence_before};
+pub use mark::{cancelled_before, floor_before, muted_before};
+pub use missing::is_missing;
 pub use moment::Moment;
 pub use own::Own;
+pub use setting::{Setting, in_force, is_blocked};

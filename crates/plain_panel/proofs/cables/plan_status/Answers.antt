@@ -1,6 +1,6 @@
 use Rattle.isolators.specs.Stands.{StandsFor as CableStands}
 use Rattle.panel_rules.specs.States.{piece_of}
-use Rattle.plain_panel.proofs.Histories.{history_all, history_next}
+use Rattle.plain_panel.proofs.TakenMoments.{history_all, history_next}
 use Rattle.plain_panel.proofs.cables.plan_status.Goals as goal
 
 pub loop-moment-preserved : goal.loop-moment-preserved

@@ -1,6 +1,6 @@
 use Rattle.std.proofs.Common.{◌∙◌, ap, arith}
 use Rattle.plain_panel.specs.BadRuns.{Watches, shows}
-use Rattle.plain_panel.proofs.Histories.{history_all, history_next}
+use Rattle.plain_panel.proofs.TakenMoments.{history_all, history_next}
 use Rattle.plain_panel.proofs.BadRuns.{lasts_by}
 use Rattle.plain_panel.proofs.supplies.is_shown.Goals as goal
 
