@@ -4,3 +4,6 @@ pub mod BadRuns
 pub mod Unset
 pub mod Later
 pub mod TakenMoments
+pub mod RingsTold
+pub mod HoldsShown
+pub mod NoFaults

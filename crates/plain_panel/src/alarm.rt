@@ -42,9 +42,7 @@ pub fn is_by_hand(
     ensures { result ≡ is_by_hand_by site.now kept.now (all_done done.now) answers.now zone tick.0 }
 {
     let floor = floor_before(site, zone, tick, done);
-    answers
-        .iter()
-        .any(|answer| floor.0 < answer.stamp.0 && calls(site, kept, done, zone, answer))
+    answers.iter().any(|answer| floor.0 < answer.stamp.0 && calls(site, kept, done, zone, answer))
 }
 
 /// Whether a zone is released at a tick: outputs may act for it, by an answer after its floor.
@@ -98,9 +96,7 @@ fn has_told(
 ) -> bool
     ensures { result ≡ list_any (tells_first_by site.now kept.now (all_done done.now) within zone tick.0) answers.now }
 {
-    answers
-        .iter()
-        .any(|answer| tells_first(site, kept, done, within, zone, tick, answer))
+    answers.iter().any(|answer| tells_first(site, kept, done, within, zone, tick, answer))
 }
 
 fn tells_first(

@@ -141,7 +141,5 @@ fn has_near(
 ) -> bool
     ensures { result ≡ list_any (is_near_by site.now kept.now (all_done done.now) within zone answer.now) answers.now }
 {
-    answers
-        .iter()
-        .any(|other| is_near(site, kept, done, within, zone, answer, other))
+    answers.iter().any(|other| is_near(site, kept, done, within, zone, answer, other))
 }

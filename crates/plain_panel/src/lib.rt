@@ -4,9 +4,9 @@
 //! through all moments anew and keeps only tables of what it has found.
 #![tactic(auto)]
 
+mod alarm;
 mod bad_run;
 mod cables;
-mod alarm;
 mod confirmed;
 mod counted;
 mod done;
@@ -14,13 +14,15 @@ mod latest;
 mod mark;
 mod missing;
 mod moment;
+mod network;
+mod news;
 mod own;
-mod supplies;
-mod watched;
 mod pairs;
 mod places;
 mod retained;
 mod setting;
+mod supplies;
+mod watched;
 
 pub use alarm::{is_by_hand, is_first, is_in_alarm, is_released};
 pub use done::Done;
@@ -28,5 +30,6 @@ pub use latest::{override_done_in, silence_before};
 pub use mark::{cancelled_before, floor_before, muted_before};
 pub use missing::is_missing;
 pub use moment::Moment;
+pub use network::Network;
 pub use own::Own;
 pub use setting::{Setting, in_force, is_blocked};

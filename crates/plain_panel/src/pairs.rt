@@ -79,9 +79,7 @@ fn has_uncancelled(
 ) -> bool
     ensures { result ≡ list_any (is_uncancelled_by site.now kept.now (all_done done.now) within zone answer.now) answers.now }
 {
-    answers
-        .iter()
-        .any(|other| is_uncancelled(site, kept, done, within, zone, answer, other))
+    answers.iter().any(|other| is_uncancelled(site, kept, done, within, zone, answer, other))
 }
 
 fn has_other(
