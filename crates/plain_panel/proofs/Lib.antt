@@ -7,3 +7,5 @@ pub mod TakenMoments
 pub mod RingsTold
 pub mod HoldsShown
 pub mod NoFaults
+pub mod Silent
+pub mod Masked

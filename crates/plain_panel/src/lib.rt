@@ -7,6 +7,8 @@
 mod alarm;
 mod bad_run;
 mod cables;
+mod answered;
+mod asking;
 mod confirmed;
 mod counted;
 mod done;
@@ -23,8 +25,11 @@ mod retained;
 mod setting;
 mod supplies;
 mod watched;
+mod sign;
 
 pub use alarm::{is_by_hand, is_first, is_in_alarm, is_released};
+pub use answered::{answered_faults, answered_word};
+pub use asking::Asking;
 pub use done::Done;
 pub use latest::{override_done_in, silence_before};
 pub use mark::{cancelled_before, floor_before, muted_before};

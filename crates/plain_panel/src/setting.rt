@@ -74,7 +74,7 @@ fn value_after(setting: Setting, tick: Tick, done: &Done, before: bool) -> bool
 }
 
 // Whether an operation was on the setting.
-fn is_on(setting: Setting, done: &Done) -> bool
+pub(crate) fn is_on(setting: Setting, done: &Done) -> bool
     ensures { result ≡ is_on_setting (setting_from setting) (done_of done.now) }
 {
     match setting_of(done.panel, done.operation) {
@@ -83,7 +83,7 @@ fn is_on(setting: Setting, done: &Done) -> bool
     }
 }
 
-fn is_same(setting: Setting, other: Setting) -> bool
+pub(crate) fn is_same(setting: Setting, other: Setting) -> bool
     ensures { result ≡ is_same_setting (setting_from setting) (setting_from other) }
 {
     match (setting, other) {
@@ -98,7 +98,7 @@ fn is_same(setting: Setting, other: Setting) -> bool
 }
 
 // The setting that an operation at a panel is on.
-fn setting_of(panel: u8, operation: Operation) -> Option<Setting>
+pub(crate) fn setting_of(panel: u8, operation: Operation) -> Option<Setting>
     ensures { option_map setting_from result ≡ setting_of_operation panel operation }
 {
     match operation {
@@ -121,7 +121,7 @@ fn item_off(item: Item) -> Setting
 }
 
 // What an operation makes of its setting.
-fn value_set(operation: Operation) -> bool
+pub(crate) fn value_set(operation: Operation) -> bool
     ensures { result ≡ value_given operation }
 {
     match operation {
