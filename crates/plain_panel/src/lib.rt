@@ -5,7 +5,11 @@
 #![tactic(auto)]
 
 mod done;
+mod driving;
 mod moment;
+mod seen;
 
 pub use done::Done;
+pub use driving::Driving;
 pub use moment::Moment;
+pub use seen::Seen;
