@@ -6,10 +6,17 @@
 
 mod done;
 mod driving;
+mod latest;
+mod mark;
 mod moment;
+mod retained;
 mod seen;
+mod setting;
 
 pub use done::Done;
 pub use driving::Driving;
+pub use latest::{override_done_in, silence_before};
+pub use mark::{cancelled_before, floor_before, muted_before};
 pub use moment::Moment;
 pub use seen::Seen;
+pub use setting::{Setting, in_force, is_blocked};
