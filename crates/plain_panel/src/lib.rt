@@ -4,14 +4,20 @@
 //! through all moments anew and keeps only tables of what it has found.
 #![tactic(auto)]
 
+mod acting;
 mod done;
 mod driving;
 mod latest;
 mod mark;
 mod moment;
+mod on;
+mod quiet;
+mod requests;
 mod retained;
 mod seen;
 mod setting;
+mod solved;
+mod turns;
 
 pub use done::Done;
 pub use driving::Driving;

@@ -6,7 +6,9 @@ ghost use Rattle.site_types.specs.Done.{at_opening as value_at_opening, kept_out
 ghost use Rattle.plain_panel.specs.Settings.{setting_from};
 
 use crate::setting::Setting;
-use site_types::{Output, Point, PointSet, Retained, Site, Zone, has_bit_8, has_bit_32, has_bit_128};
+use site_types::{
+    Output, Point, PointSet, Retained, Site, Zone, has_bit_8, has_bit_32, has_bit_128,
+};
 
 /// The value that a setting has by what is kept.
 pub(crate) fn at_opening(site: &Site, kept: &Retained, setting: Setting) -> bool
