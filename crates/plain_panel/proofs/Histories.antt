@@ -1,5 +1,7 @@
 -- A history of one moment more.
-use Rattle.std.proofs.Common.{◌≡◌, ◌∙◌, List, [], ◌∷◌, ◌++◌, refl}
+use Rattle.std.proofs.Common.{◌≡◌, ◌∙◌, ◌<◌, ◌+◌, ℕ, List, [], ◌∷◌, ◌++◌, add-one, ap, arith, get_or, length, take, refl}
+use Rattle.std.proofs.Math.Seq.{take-suc}
+use Rattle.std.proofs.lemmas.List.{take_all}
 use Rattle.site_types.specs.Done.{Done as DoneOf}
 use Rattle.panel_rules.specs.Moments.{Moment as MomentOf}
 use Rattle.plain_panel.specs.declared.done.Done.{Done}
@@ -19,3 +21,10 @@ and_done-append (done ∷ later) back before = and_done-append later back (done_
 
 pub all_done_more : (done : List Done) (last : Done) → all_done (done ++ last ∷ []) ≡ done_of last ∷ all_done done
 all_done_more done last = and_done-append done (last ∷ []) []
+
+-- the operations done up to one place more
+pub all_done_upto : (done : List Done) (place : ℕ) (d : Done) → place < length done → all_done (take (place + 1) done) ≡ done_of (get_or done place d) ∷ all_done (take place done)
+all_done_upto done place d within = rw (add-one, take-suc done place d within) (all_done_more (take place done) (get_or done place d))
+
+pub all_done_all : (done : List Done) → all_done (take (length done) done) ≡ all_done done
+all_done_all done = ap all_done (take_all (length done) done (omega arith))

@@ -1,6 +1,10 @@
 pub mod Histories
+pub mod Later
 pub mod Looking
+pub mod Masked
 pub mod Requesting
 pub mod Running
 pub mod Silencing
+pub mod Silent
 pub mod Solving
+pub mod Unset

@@ -2,7 +2,7 @@
 
 ghost use Rattle.std.specs.Prelude.{◌≡◌, option_map};
 ghost use Rattle.tick_units.specs.declared.tick.Tick.{Tick as TickOf};
-ghost use Rattle.site_types.specs.Done.{is_override as is_overriding, override_done_in as override_in, silence_before as last_silence, silence_then as silence_after};
+ghost use Rattle.site_types.specs.Done.{is_override as is_overriding, override_done_in as override_in, silence_before as last_silence, silence_then as silence_by};
 ghost use Rattle.plain_panel.specs.Histories.{all_done};
 
 use crate::done::Done;
@@ -15,12 +15,26 @@ pub fn override_done_in(panel: u8, first: Tick, tick: Tick, done: &[Done]) -> bo
 {
     let mut found = false;
     for one in done {
-        let is_override = one.panel == panel && is_override(one.operation);
-        if is_override && first.0 <= one.tick.0 && one.tick.0 < tick.0 {
-            found = true;
-        }
+        found = found_after(panel, first, tick, one, found);
     }
     found
+}
+
+ghost use Rattle.std.specs.Prelude.{◌&&◌, ◌==◌, ◌||◌, if◌then◌else◌, nat_le, nat_lt};
+
+fn found_after(panel: u8, first: Tick, tick: Tick, done: &Done, before: bool) -> bool
+    ensures { result ≡ (((done.now.panel == panel) && is_overriding done.now.operation && nat_le first.0 done.now.tick.0 && nat_lt done.now.tick.0 tick.0) || before) }
+{
+    is_override_in(panel, first, tick, done) || before
+}
+
+fn is_override_in(panel: u8, first: Tick, tick: Tick, done: &Done) -> bool
+    ensures { result ≡ ((done.now.panel == panel) && is_overriding done.now.operation && nat_le first.0 done.now.tick.0 && nat_lt done.now.tick.0 tick.0) }
+{
+    done.panel == panel
+        && is_override(done.operation)
+        && first.0 <= done.tick.0
+        && done.tick.0 < tick.0
 }
 
 fn is_override(operation: Operation) -> bool
@@ -35,16 +49,25 @@ pub fn silence_before(panel: u8, tick: Tick, done: &[Done]) -> Option<Tick>
 {
     let mut silence = None;
     for one in done {
-        if one.panel == panel && one.tick.0 < tick.0 {
-            silence = silence_then(one.operation, one.tick, silence);
-        }
+        silence = silence_after(panel, tick, one, silence);
     }
     silence
 }
 
+// The silence after one more operation.
+fn silence_after(panel: u8, tick: Tick, done: &Done, before: Option<Tick>) -> Option<Tick>
+    ensures { option_map (λ (at : TickOf). at.0) result ≡ (if (done.now.panel == panel) && nat_lt done.now.tick.0 tick.0 then silence_by done.now.operation done.now.tick.0 (option_map (λ (at : TickOf). at.0) before) else option_map (λ (at : TickOf). at.0) before) }
+{
+    if done.panel == panel && done.tick.0 < tick.0 {
+        silence_then(done.operation, done.tick, before)
+    } else {
+        before
+    }
+}
+
 // For a silence its tick, for a resound none, for others what was.
 fn silence_then(operation: Operation, tick: Tick, before: Option<Tick>) -> Option<Tick>
-    ensures { option_map (λ (at : TickOf). at.0) result ≡ silence_after operation tick.0 (option_map (λ (at : TickOf). at.0) before) }
+    ensures { option_map (λ (at : TickOf). at.0) result ≡ silence_by operation tick.0 (option_map (λ (at : TickOf). at.0) before) }
 {
     match operation {
         Operation::Silence => Some(tick),

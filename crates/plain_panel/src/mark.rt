@@ -47,16 +47,25 @@ fn latest_before(site: &Site, mark: Mark, tick: Tick, done: &[Done]) -> Tick
 {
     let mut latest = 0;
     for one in done {
-        if leaves(site, mark, one) && one.tick.0 < tick.0 {
-            latest = one.tick.0.max(latest);
-        }
+        latest = latest_after(site, mark, tick, one, latest);
     }
     Tick(latest)
 }
 
-ghost use Rattle.std.specs.Prelude.{option_copied};
+ghost use Rattle.std.specs.Prelude.{◌&&◌, if◌then◌else◌, max, nat_lt, option_copied};
 ghost use Rattle.site_types.specs.Done.{is_cancel as is_cancelling, is_floor as is_floor_of, is_mute as is_muting, is_of_panel as lies_at};
 ghost use Rattle.plain_panel.specs.Histories.{done_of};
+
+// The latest tick after one more operation.
+fn latest_after(site: &Site, mark: Mark, tick: Tick, done: &Done, before: u64) -> u64
+    ensures { result ≡ (if leaves_mark site.now mark (done_of done.now) && nat_lt done.now.tick.0 tick.0 then max done.now.tick.0 before else before) }
+{
+    if leaves(site, mark, done) && done.tick.0 < tick.0 {
+        done.tick.0.max(before)
+    } else {
+        before
+    }
+}
 
 fn leaves(site: &Site, mark: Mark, done: &Done) -> bool
     ensures { result ≡ leaves_mark site.now mark (done_of done.now) }

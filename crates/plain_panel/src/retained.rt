@@ -19,10 +19,7 @@ pub(crate) fn at_opening(site: &Site, kept: &Retained, setting: Setting) -> bool
         Setting::ZoneOff(zone) => kept_zone(kept, site.zones.get(zone)),
         Setting::OutputOff(output) => kept_output(kept, site.outputs.get(output)),
         Setting::InTest(zone) => kept_test(kept, site.zones.get(zone)),
-        Setting::DelaysOff(panel) => {
-            let bit = panel.saturating_sub(1);
-            bit < 8 && has_bit_8(kept.delays_off, bit)
-        }
+        Setting::DelaysOff(panel) => has_number_8(kept.delays_off, panel),
         Setting::Counter(_) => false,
     }
 }
@@ -77,11 +74,24 @@ fn place_of(number: u8) -> usize
 fn has_number(masks: &[u32; 8], panel: u8, number: u8) -> bool
     ensures { result ≡ has_bit (slice_index masks.now (panel - 1)) (number - 1) }
 {
-    let bit = number.saturating_sub(1);
     match masks.get(place_of(panel)) {
         None => false,
-        Some(mask) => bit < 32 && has_bit_32(*mask, bit),
+        Some(mask) => has_number_32(*mask, number),
     }
+}
+
+fn has_number_8(mask: u8, number: u8) -> bool
+    ensures { result ≡ has_bit mask (number - 1) }
+{
+    let bit = number.saturating_sub(1);
+    bit < 8 && has_bit_8(mask, bit)
+}
+
+fn has_number_32(mask: u32, number: u8) -> bool
+    ensures { result ≡ has_bit mask (number - 1) }
+{
+    let bit = number.saturating_sub(1);
+    bit < 32 && has_bit_32(mask, bit)
 }
 
 // Whether a set of points has the point of a line and an address, whatever they are.

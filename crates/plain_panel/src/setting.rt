@@ -25,9 +25,7 @@ pub fn in_force(site: &Site, kept: &Retained, setting: Setting, tick: Tick, done
 {
     let mut value = at_opening(site, kept, setting);
     for one in done {
-        if is_on(setting, one) && one.tick.0 < tick.0 {
-            value = value_set(one.operation);
-        }
+        value = value_after(setting, tick, one, value);
     }
     value
 }
@@ -40,7 +38,7 @@ pub fn is_blocked(site: &Site, kept: &Retained, done: &[Done], point: usize, tic
         || is_zone_blocked(site, kept, done, site.points.get(point), tick)
 }
 
-ghost use Rattle.std.specs.Prelude.{option_copied, option_map};
+ghost use Rattle.std.specs.Prelude.{◌&&◌, if◌then◌else◌, nat_lt, option_copied, option_map};
 ghost use Rattle.site_types.specs.Done.{is_on as is_on_setting, is_setting, is_zone_blocked as is_zone_blocked_at, item_off as setting_of_item, operation_setting as setting_of_operation, same_setting as is_same_setting, value_set as value_given};
 ghost use Rattle.plain_panel.specs.Histories.{done_of};
 
@@ -64,8 +62,19 @@ fn is_zone_blocked(
     }
 }
 
+// The value of a setting after one more operation, of those that were done before a tick.
+fn value_after(setting: Setting, tick: Tick, done: &Done, before: bool) -> bool
+    ensures { result ≡ (if is_on_setting (setting_from setting) (done_of done.now) && nat_lt done.now.tick.0 tick.0 then value_given done.now.operation else before) }
+{
+    if is_on(setting, done) && done.tick.0 < tick.0 {
+        value_set(done.operation)
+    } else {
+        before
+    }
+}
+
 // Whether an operation was on the setting.
-fn is_on(setting: Setting, done: &Done) -> bool
+pub(crate) fn is_on(setting: Setting, done: &Done) -> bool
     ensures { result ≡ is_on_setting (setting_from setting) (done_of done.now) }
 {
     match setting_of(done.panel, done.operation) {
@@ -74,7 +83,7 @@ fn is_on(setting: Setting, done: &Done) -> bool
     }
 }
 
-fn is_same(setting: Setting, other: Setting) -> bool
+pub(crate) fn is_same(setting: Setting, other: Setting) -> bool
     ensures { result ≡ is_same_setting (setting_from setting) (setting_from other) }
 {
     match (setting, other) {
@@ -89,7 +98,7 @@ fn is_same(setting: Setting, other: Setting) -> bool
 }
 
 // The setting that an operation at a panel is on.
-fn setting_of(panel: u8, operation: Operation) -> Option<Setting>
+pub(crate) fn setting_of(panel: u8, operation: Operation) -> Option<Setting>
     ensures { option_map setting_from result ≡ setting_of_operation panel operation }
 {
     match operation {
@@ -112,7 +121,7 @@ fn item_off(item: Item) -> Setting
 }
 
 // What an operation makes of its setting.
-fn value_set(operation: Operation) -> bool
+pub(crate) fn value_set(operation: Operation) -> bool
     ensures { result ≡ value_given operation }
 {
     match operation {
