@@ -8,4 +8,9 @@ pub mod RingsTold
 pub mod HoldsShown
 pub mod NoFaults
 pub mod Silent
+pub mod Looking
 pub mod Masked
+pub mod Requesting
+pub mod Running
+pub mod Silencing
+pub mod Solving

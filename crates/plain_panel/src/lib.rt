@@ -4,6 +4,7 @@
 //! through all moments anew and keeps only tables of what it has found.
 #![tactic(auto)]
 
+mod acting;
 mod alarm;
 mod bad_run;
 mod cables;
@@ -12,6 +13,7 @@ mod asking;
 mod confirmed;
 mod counted;
 mod done;
+mod driving;
 mod latest;
 mod mark;
 mod missing;
@@ -19,22 +21,30 @@ mod moment;
 mod network;
 mod news;
 mod own;
+mod on;
 mod pairs;
 mod places;
+mod quiet;
+mod requests;
 mod retained;
+mod seen;
 mod setting;
 mod supplies;
 mod watched;
 mod sign;
+mod solved;
+mod turns;
 
 pub use alarm::{is_by_hand, is_first, is_in_alarm, is_released};
 pub use answered::{answered_faults, answered_word};
 pub use asking::Asking;
 pub use done::Done;
+pub use driving::Driving;
 pub use latest::{override_done_in, silence_before};
 pub use mark::{cancelled_before, floor_before, muted_before};
 pub use missing::is_missing;
 pub use moment::Moment;
 pub use network::Network;
 pub use own::Own;
+pub use seen::Seen;
 pub use setting::{Setting, in_force, is_blocked};
