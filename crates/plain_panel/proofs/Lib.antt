@@ -14,3 +14,4 @@ pub mod Requesting
 pub mod Running
 pub mod Silencing
 pub mod Solving
+pub mod FactsKept

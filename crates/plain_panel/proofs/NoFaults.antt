@@ -1,5 +1,5 @@
 -- Before the first tick no faults are shown.
-use Rattle.std.proofs.Common.{◌≡◌, ℕ, ◌+◌, ◌≤◌, ◌<◌, ◌&&◌, not, List, [], ◌∷◌, Option, Some, None, slice_get, Bool, true, false, refl, sym, ◌∙◌, ap, arith}
+use Rattle.std.proofs.Common.{◌≡◌, ℕ, ◌+◌, ◌&&◌, not, List, [], ◌∷◌, Option, Some, None, slice_get, Bool, true, false, refl, sym, ◌∙◌, arith}
 use Rattle.std.specs.Prelude.{nat_lt}
 use Rattle.std.specs.List.{list_any, range_with_len}
 use Rattle.site_types.specs.declared.loop_plan.LoopPlan.{LoopPlan}
@@ -15,7 +15,7 @@ use Rattle.site_types.specs.Events.{is_confirming}
 use Rattle.site_types.specs.Profile.{silent_of}
 use Rattle.site_types.proofs.Done.{lt_false}
 use Rattle.site_types.proofs.Masks.{has_bit-mask, mask_below, mask_empty}
-use Rattle.isolators.specs.Reach.{is_open, is_short, status_of}
+use Rattle.isolators.specs.Reach.{is_open, is_short}
 use Rattle.loop_poller.specs.Asked.{loop_at, status_on}
 use Rattle.supply_monitor.specs.Supply.{is_shown, kind_at, shown_mask}
 use Rattle.coincidence_rules.specs.Missing.{is_missing}
@@ -24,9 +24,9 @@ use Rattle.panel_conditions.specs.Points.{addressed, addresses_where, on_point, 
 use Rattle.panel_conditions.specs.Words.{no_faults}
 use Rattle.panel_links.specs.Stands.{is_link_of}
 use Rattle.panel_rules.specs.Kept.{heard}
-use Rattle.panel_rules.specs.States.{is_up, piece_of}
+use Rattle.panel_rules.specs.States.{is_up}
 use Rattle.panel_rules.specs.Outputs.{on_output, on_place, output_numbered, outputs_where}
-use Rattle.panel_rules.specs.Faults.{broken_loops, is_unconfirmed, links_down, shorted_loops, silent_panels, supply_calls}
+use Rattle.panel_rules.specs.Faults.{broken_loops, is_unconfirmed, links_down, shorted_loops, silent_panels}
 use Rattle.panel_rules.specs.Run.{facts_with, faults_of, tells_fault}
 
 mask_none : (n : ℕ) (test : ℕ → Bool) → ((k : ℕ) → test k ≡ false) → mask_of n test ≡ 0

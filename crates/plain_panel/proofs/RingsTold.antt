@@ -1,6 +1,6 @@
 -- What the ring tells of the words that are kept.
-use Rattle.std.proofs.Common.{◌≡◌, ℕ, ◌+◌, ◌-◌, ◌≤◌, ◌<◌, ◌==◌, ◌&&◌, not, List, [], ◌∷◌, inl, inr, Bool, true, false, if◌then◌else◌, refl, sym, ◌∙◌, ap, subst, arith}
-use Rattle.std.specs.Prelude.{nat_le, nat_lt}
+use Rattle.std.proofs.Common.{◌≡◌, ℕ, ◌+◌, ◌-◌, ◌≤◌, ◌==◌, ◌&&◌, not, List, [], ◌∷◌, inl, inr, Bool, if◌then◌else◌, refl, sym, ◌∙◌, ap, subst, arith}
+use Rattle.std.specs.Prelude.{nat_lt}
 use Rattle.std.proofs.lemmas.Bool.Decides.{leb_tells}
 use Rattle.tick_units.specs.declared.task.Task.TheVariants.{Hold, Link as LinkTask}
 use Rattle.site_types.specs.declared.event.Event.TheVariants.{Op, Point, Cable, Supply, Link, Confirmed}
@@ -20,7 +20,7 @@ use Rattle.panel_links.specs.Stands.{StandsFor as RingStandsFor, is_down_at, is_
 use Rattle.panel_rules.specs.Moments.{Moment, Began, Happened, Turned, Kept, tick_of, latest_turn, IsPanel}
 use Rattle.panel_rules.specs.States.{is_up}
 use Rattle.panel_rules.specs.Kept.{heard, kept_at, made_at}
-use Rattle.panel_rules.specs.Words.{kept_word_of, latest_word, ring_calls, word_made}
+use Rattle.panel_rules.specs.Words.{latest_word, ring_calls, word_made}
 use Rattle.panel_rules.specs.Faults.{links_down, silent_panels}
 use Rattle.panel_rules.proofs.KeptWords.{made_tick}
 use Rattle.panel_rules.proofs.RingWords.{kept_by_ring}

@@ -17,8 +17,9 @@ use Rattle.panel_rules.specs.Moments.{Moment as MomentOf, IsPanel, tick_of}
 use Rattle.panel_rules.specs.States.{is_up}
 use Rattle.panel_rules.specs.Kept.{heard}
 use Rattle.panel_rules.specs.Words.{latest_word, ring_calls}
-use Rattle.panel_rules.specs.Faults.{broken_loops, links_down, shorted_loops, silent_panels, supply_calls}
-use Rattle.panel_rules.specs.Run.{faults_of, tells_fault}
+use Rattle.panel_rules.specs.Outputs.{outputs_where}
+use Rattle.panel_rules.specs.Faults.{broken_loops, is_unconfirmed, links_down, shorted_loops, silent_panels, supply_calls}
+use Rattle.panel_rules.specs.Run.{facts_of, faults_of, tells_fault}
 use Rattle.panel_rules.specs.Faces.{last_news}
 use Rattle.plain_panel.specs.declared.moment.Moment.{Moment}
 use Rattle.plain_panel.specs.declared.moment.Moment.TheVariants.{Turned}
@@ -51,6 +52,10 @@ outside_told site panel moments unconfirmed =
       links = links_down site panel (λ link. is_up link moments);
       unconfirmed = unconfirmed;
     }
+
+-- the outputs of a panel without confirmation
+abbrev pub unconfirmed_at : Site → Retained → List Done → ℕ → List MomentOf → ℕ
+unconfirmed_at site kept done panel moments = outputs_where site panel (λ output. is_unconfirmed site (facts_of site kept done) kept done output moments)
 
 -- a task that isn't Hold
 abbrev pub IsOtherTask : Task → Type 0

@@ -6,10 +6,10 @@
 
 mod acting;
 mod alarm;
-mod bad_run;
-mod cables;
 mod answered;
 mod asking;
+mod bad_run;
+mod cables;
 mod confirmed;
 mod counted;
 mod done;
@@ -20,8 +20,8 @@ mod missing;
 mod moment;
 mod network;
 mod news;
-mod own;
 mod on;
+mod own;
 mod pairs;
 mod places;
 mod quiet;
@@ -29,11 +29,11 @@ mod requests;
 mod retained;
 mod seen;
 mod setting;
-mod supplies;
-mod watched;
 mod sign;
 mod solved;
+mod supplies;
 mod turns;
+mod watched;
 
 pub use alarm::{is_by_hand, is_first, is_in_alarm, is_released};
 pub use answered::{answered_faults, answered_word};

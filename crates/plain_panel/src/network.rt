@@ -7,20 +7,24 @@ ghost use Rattle.site_types.specs.Done.{Done as DoneOf};
 ghost use Rattle.site_types.specs.Valid.{IsValid};
 ghost use Rattle.panel_rules.specs.Moments.{Happened as HappenedOf, Moment as MomentOf, Turned as TurnedOf, tick_of};
 ghost use Rattle.panel_rules.specs.Faces.{buzzer_of, last_news, shown_word};
-ghost use Rattle.panel_rules.specs.Run.{faults_of, faults_with, tells_fault};
+ghost use Rattle.panel_rules.specs.Run.{facts_of, faults_of, faults_with, tells_fault};
 ghost use Rattle.panel_rules.specs.Words.{kept_word_of, latest_word, word_made};
+ghost use Rattle.panel_rules.specs.Zones.{held_answers};
+ghost use Rattle.plain_panel.specs.Drives.{AreFacts};
 ghost use Rattle.plain_panel.specs.Histories.{all_done, history, moment_of};
 
+use crate::answered::{answered_faults, answered_word};
 use crate::cables::{broken_loops, shorted_loops};
 use crate::done::Done;
 use crate::mark::muted_before;
 use crate::moment::Moment;
-use crate::news::sounds;
+use crate::news::{has_fault, sounds};
 use crate::own::Own;
 use crate::supplies::shown_supplies;
+use marker_table::Facts;
 use panel_conditions::Outside;
 use panel_links::Ring;
-use site_types::{Buzzer, Event, FaultSet, Site, Word};
+use site_types::{Answer, Buzzer, Event, FaultSet, Retained, Site, Word, mask_from_8};
 use tick_units::{Task, Tick};
 
 /// What each panel of a site shows of its own and keeps of the others.
@@ -35,7 +39,7 @@ pub struct Network {
 }
 
 impl Network {
-    ghost use Rattle.plain_panel.specs.Network.{HasPanel, IsNotHold, IsOtherTask, StandsFor, outside_told, own_in};
+    ghost use Rattle.plain_panel.specs.Network.{HasPanel, IsNotHold, IsOtherTask, StandsFor, outside_told, own_in, unconfirmed_at};
 
     /// The panels of a site before its first tick.
     pub fn new(site: &Site) -> Network
@@ -47,6 +51,34 @@ impl Network {
             panels: site.panels,
             ring: Ring::new(site.panels),
             own: [Own::nothing(); 8],
+        }
+    }
+
+    /// Hold of a panel has its turn, after these moments and the tick that began last. The answers that it has taken after the turn are given, and
+    /// its outputs without confirmation then, by bit `number - 1`.
+    pub fn hold(
+        &mut self,
+        site: &Site,
+        kept: &Retained,
+        done: &[Done],
+        before: &[Moment],
+        now: Tick,
+        panel: u8,
+        answers: &[Answer],
+        unconfirmed: u32,
+    )
+        ensures stands { StandsFor site.now kept.now (all_done done.now) (history before.now) self.old → now.0 ≡ tick_of (history before.now)
+            → answers.now ≡ held_answers site.now panel (TurnedOf panel HoldTask ∷ history before.now)
+            → unconfirmed ≡ unconfirmed_at site.now kept.now (all_done done.now) panel (TurnedOf panel HoldTask ∷ history before.now)
+            → StandsFor site.now kept.now (all_done done.now) (TurnedOf panel HoldTask ∷ history before.now) self.new }
+        ensures panels { self.new.panels ≡ self.old.panels }
+    {
+        if panel >= 1 && panel <= self.panels {
+            let outside = self.outside(site, before, now, panel, unconfirmed);
+            let faults = answered_faults(site, kept, panel, done, answers, now, &outside);
+            let fault = has_fault(&faults);
+            let word = answered_word(site, kept, panel, done, answers, now, fault);
+            self.show(now, panel, word, faults);
         }
     }
 
@@ -206,5 +238,26 @@ impl Network {
         let own = self.own(panel);
         let muted = muted_before(site, panel, own.word.stamp, done);
         sounds(&own.word, muted.0 < own.news.0)
+    }
+
+    /// The facts of an Effect turn of a panel made now: what the words that it keeps say of zones, and which tell a fault.
+    pub fn facts(&self, panel: u8) -> Facts
+        requires { HasPanel self.now panel }
+        ensures { (site : SiteOf) (kept : RetainedOf) (done : List DoneOf) (before : List MomentOf) → IsValid site → StandsFor site kept done before self.now → AreFacts site (facts_of site kept done panel before) result }
+    {
+        let mut zones = [0; 8];
+        let mut manual = [0; 8];
+        let mut faulty = [false; 8];
+        for source in 1..self.panels + 1 {
+            let word = self.ring.word(panel, source);
+            zones[source as usize - 1] = word.released;
+            manual[source as usize - 1] = word.manual;
+            faulty[source as usize - 1] = word.fault;
+        }
+        Facts {
+            zones,
+            manual,
+            faults: mask_from_8(&faulty),
+        }
     }
 }
