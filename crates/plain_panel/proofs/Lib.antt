@@ -1,3 +1,6 @@
+pub mod Asked
+pub mod Desks
+pub mod Enterings
 pub mod Histories
 pub mod Reports
 pub mod BadRuns
@@ -15,3 +18,4 @@ pub mod Running
 pub mod Silencing
 pub mod Solving
 pub mod FactsKept
+pub mod CableReports

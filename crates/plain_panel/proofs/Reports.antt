@@ -1,67 +1,112 @@
--- What a report does to the cable of a loop.
-use Rattle.std.proofs.Common.{◌≡◌, ◌≢◌, ◌⊎◌, inl, inr, ℕ, ◌==◌, ◌&&◌, List, ◌∷◌, Bool, true, false, refl, sym, subst, if◌then◌else◌}
-use Rattle.std.proofs.Math.Path.{fun_ext}
-use Rattle.std.proofs.lemmas.Bool.Decides.{eqb_tells}
-use Rattle.site_types.specs.declared.loop_plan.LoopPlan.{LoopPlan}
+-- What a panel's poller is told is what befell: its answers are those of the history.
+use mathlib.Core.Path.{fun_ext}
+use Rattle.std.proofs.Common.{◌≡◌, ℕ, zero, suc, ◌+◌, ◌<◌, ◌≤◌, ◌==◌, ◌&&◌, List, [], ◌∷◌, Option, Some, None, slice_get, option_map, nat_le, inl, inr, Bool, true, false, if◌then◌else◌, arith, refl, sym, ◌∙◌, ap}
+use Rattle.std.specs.List.{cons_option, filter_map, range_with_len}
+use Rattle.std.proofs.lemmas.Bool.Decides.{eqb_tells, nat_tests}
+use Rattle.site_types.specs.declared.event.Event.{Event}
+use Rattle.site_types.specs.declared.event.Event.TheVariants.{Point, Cable}
+use Rattle.site_types.specs.declared.point_state.PointState.{PointState}
 use Rattle.site_types.specs.declared.piece_state.PieceState.{PieceState}
-use Rattle.site_types.specs.declared.event.Event.TheVariants.{Cable as CableTold}
-use Rattle.isolators.specs.declared.loop_line.LoopLine.{LoopLine}
-use Rattle.isolators.specs.Reach.{with_piece}
-use Rattle.isolators.specs.Stands.{StandsFor}
-use Rattle.panel_rules.specs.Moments.{Moment as MomentOf}
-use Rattle.panel_rules.specs.States.{piece_of}
-use Rattle.panel_rules.proofs.OpenRequests.{eq_swap}
-use Rattle.panel_rules.proofs.Told.{eq_true}
-use Rattle.plain_panel.specs.declared.moment.Moment.{Moment}
-use Rattle.plain_panel.specs.declared.moment.Moment.TheVariants.{Happened}
-use Rattle.plain_panel.specs.Histories.{moment_of}
+use Rattle.site_types.specs.declared.site.Site.{Site}
+use Rattle.loop_poller.specs.Asked.{asked_in, answer_of, point_at}
+use Rattle.loop_poller.specs.Places.{answer_at, line_at, address_at, places}
+use Rattle.loop_poller.specs.Calls.{Call, Reported, Cabled, told_point, told_cable}
+use Rattle.isolators.specs.Reach.{Cable as CableOf}
+use Rattle.panel_rules.specs.Moments.{Moment, Began, Happened, Turned, Kept, tick_of}
+use Rattle.panel_rules.specs.States.{told_point as point_after, told_piece, state_of, piece_of}
+use Rattle.panel_rules.specs.Answers.{asked}
+use Rattle.loop_poller.proofs.Places.{asked_in_places}
+use Rattle.panel_rules.proofs.Told.{eq_true, placed}
+use Rattle.plain_panel.specs.Askings.{is_at, is_own_loop, and_report, reports}
 
-module _ (plan : LoopPlan) (panel line : ℕ) (before : List MomentOf) (cable : LoopLine) where
-  -- a moment is what it is
-  pub moment_is : (m n : Moment) → m ≡ n → StandsFor plan (λ piece. piece_of panel line piece (moment_of n ∷ before)) cable → StandsFor plan (λ piece. piece_of panel line piece (moment_of m ∷ before)) cable
-  moment_is m n e h = subst (λ x. StandsFor plan (λ piece. piece_of panel line piece (moment_of x ∷ before)) cable) (sym e) h
-
-  here : (was : ℕ → PieceState) (of_panel of_line piece : ℕ) (state : PieceState) → of_panel ≡ panel → of_line ≡ line
-      → with_piece was piece state ≡ (λ other. if (of_panel == panel) && ((of_line == line) && (piece == other)) then state else was other)
-  here was of_panel of_line piece state p l = fun_ext (λ other. rw (eq_true of_panel panel p, eq_true of_line line l, eq_swap piece other) refl)
-
-  -- a report on the loop
-  pub told_here : (of_panel of_line piece : ℕ) (state : PieceState) → of_panel ≡ panel → of_line ≡ line → StandsFor plan (with_piece (λ k. piece_of panel line k before) piece state) cable
-      → StandsFor plan (λ k. piece_of panel line k (moment_of (Happened (CableTold of_panel of_line piece state)) ∷ before)) cable
-  told_here of_panel of_line piece state p l h = subst (λ c. StandsFor plan c cable) (here (λ k. piece_of panel line k before) of_panel of_line piece state p l) h
-
-  elsewhere : (was : ℕ → PieceState) (of_panel of_line piece : ℕ) (state : PieceState) → ((of_panel == panel) && (of_line == line)) ≡ false
-      → was ≡ (λ other. if (of_panel == panel) && ((of_line == line) && (piece == other)) then state else was other)
-  elsewhere was of_panel of_line piece state n = fun_ext (λ other. go (of_panel == panel) (of_line == line) (piece == other) (was other) n)
-    where
-      go : (a b c : Bool) (x : PieceState) → (a && b) ≡ false → x ≡ (if a && (b && c) then state else x)
-      go true true c x e = absurd (let t : true ≡ false = e in cc)
-      go true false c x e = refl
-      go false b c x e = refl
-
-  -- a report on another one
-  pub told_elsewhere : (of_panel of_line piece : ℕ) (state : PieceState) → ((of_panel == panel) && (of_line == line)) ≡ false → StandsFor plan (λ k. piece_of panel line k before) cable
-      → StandsFor plan (λ k. piece_of panel line k (moment_of (Happened (CableTold of_panel of_line piece state)) ∷ before)) cable
-  told_elsewhere of_panel of_line piece state n h = subst (λ c. StandsFor plan c cable) (elsewhere (λ k. piece_of panel line k before) of_panel of_line piece state n) h
-
-pub line_not : (a b c d : ℕ) → b ≢ d → ((a == c) && (b == d)) ≡ false
-line_not a b c d n = elim (eqb_tells b d) [ inl e ↦ absurd (n e.1) | inr e ↦ rw e.0 (and_false (a == c)) ]
+-- of a point of the panel
+event_told : (site : Site) (panel point : ℕ) (event : Event) (calls : List Call) (was : PointState) → is_at panel (slice_get site.points point) ≡ true → told_point calls point ≡ was → told_point (and_report site panel event calls) point ≡ point_after point event was
+event_told site panel point (Point other state) calls was at e =
+    elim (eqb_tells other point) [
+      | inl h ↦
+          (let there : is_at panel (slice_get site.points other) ≡ true = ap (λ p. is_at panel (slice_get site.points p)) h.1 ∙ at in
+          rw (there, h.0) refl)
+      | inr h ↦ other_point (is_at panel (slice_get site.points other)) h.0
+    ]
   where
-    and_false : (x : Bool) → (x && false) ≡ false
-    and_false true = refl
-    and_false false = refl
+    other_point : (b : Bool) → (other == point) ≡ false → told_point (if b then Reported other state ∷ calls else calls) point ≡ (if other == point then state else was)
+    other_point true h = rw h e
+    other_point false h = rw h e
+event_told site panel point (Cable other line piece state) calls was at e =
+    elim (is_own_loop panel other line) as (λ b. told_point (if b then Cabled line piece state ∷ calls else calls) point ≡ was) [ true ↦ e | false ↦ e ]
+event_told site panel point event calls was at e = e
 
-pub panel_not : (a b c d : ℕ) → a ≢ c → ((a == c) && (b == d)) ≡ false
-panel_not a b c d n = elim (eqb_tells a c) [ inl e ↦ absurd (n e.1) | inr e ↦ rw e.0 refl ]
+state_told : (site : Site) (panel point : ℕ) (before : List Moment) → is_at panel (slice_get site.points point) ≡ true → told_point (reports site panel before) point ≡ state_of point before
+state_told site panel point [] at = refl
+state_told site panel point (Began ∷ before) at = state_told site panel point before at
+state_told site panel point (Happened event ∷ before) at = event_told site panel point event (reports site panel before) (state_of point before) at (state_told site panel point before at)
+state_told site panel point (Turned other task ∷ before) at = state_told site panel point before at
+state_told site panel point (Kept failed ∷ before) at = state_told site panel point before at
 
-pub by_five : {A B C D E G : Type 0} → (A → G) → (B → G) → (C → G) → (D → G) → (E → G) → A ⊎ (B ⊎ (C ⊎ (D ⊎ E))) → G
-by_five a b c d e (inl x) = a x
-by_five a b c d e (inr (inl x)) = b x
-by_five a b c d e (inr (inr (inl x))) = c x
-by_five a b c d e (inr (inr (inr (inl x)))) = d x
-by_five a b c d e (inr (inr (inr (inr x)))) = e x
+-- a loop that a panel may have
+pub is_line : (line : ℕ) → 1 ≤ line → line ≤ 4 → (nat_le 1 line && nat_le line 4) ≡ true
+is_line line low high = grind (arith, nat_tests)
 
-pub by_three : {A B C G : Type 0} → (A → G) → (B → G) → (C → G) → A ⊎ (B ⊎ C) → G
-by_three a b c (inl x) = a x
-by_three a b c (inr (inl x)) = b x
-by_three a b c (inr (inr x)) = c x
+-- of a piece of its cables
+event_cabled : (site : Site) (panel line piece : ℕ) (event : Event) (calls : List Call) (was : PieceState) → (nat_le 1 line && nat_le line 4) ≡ true → told_cable calls line piece ≡ was → told_cable (and_report site panel event calls) line piece ≡ told_piece panel line piece event was
+event_cabled site panel line piece (Point other state) calls was on e =
+    elim (is_at panel (slice_get site.points other)) as (λ b. told_cable (if b then Reported other state ∷ calls else calls) line piece ≡ was) [ true ↦ e | false ↦ e ]
+event_cabled site panel line piece (Cable other other_line other_piece state) calls was on e =
+    elim (eqb_tells other panel) [
+      | inl p ↦
+          elim (eqb_tells other_line line) [
+            | inl l ↦
+                (let there : (nat_le 1 other_line && nat_le other_line 4) ≡ true = ap (λ n. nat_le 1 n && nat_le n 4) l.1 ∙ on in
+                elim (eqb_tells other_piece piece) [
+                  | inl k ↦ (let back : (piece == other_piece) ≡ true = eq_true piece other_piece (sym k.1) in rw (p.0, there, l.0, k.0, back) refl)
+                  | inr k ↦ (let back : (piece == other_piece) ≡ false = not_same piece other_piece (λ q. k.1 (sym q)) in rw (p.0, there, l.0, k.0, back) e)
+                ])
+            | inr l ↦ rw (p.0, l.0) (elsewhere (nat_le 1 other_line && nat_le other_line 4) l.0)
+          ]
+      | inr p ↦ rw p.0 e
+    ]
+  where
+    not_same : (a b : ℕ) → (a ≡ b → ⊥) → (a == b) ≡ false
+    not_same a b n = elim (eqb_tells a b) [ inl h ↦ absurd (n h.1) | inr h ↦ h.0 ]
+
+    elsewhere : (b : Bool) → (other_line == line) ≡ false → told_cable (if b then Cabled other_line other_piece state ∷ calls else calls) line piece ≡ was
+    elsewhere true h = rw h e
+    elsewhere false h = e
+event_cabled site panel line piece event calls was on e = e
+
+cable_told : (site : Site) (panel line piece : ℕ) (before : List Moment) → (nat_le 1 line && nat_le line 4) ≡ true → told_cable (reports site panel before) line piece ≡ piece_of panel line piece before
+cable_told site panel line piece [] on = refl
+cable_told site panel line piece (Began ∷ before) on = cable_told site panel line piece before on
+cable_told site panel line piece (Happened event ∷ before) on = event_cabled site panel line piece event (reports site panel before) (piece_of panel line piece before) on (cable_told site panel line piece before on)
+cable_told site panel line piece (Turned other task ∷ before) on = cable_told site panel line piece before on
+cable_told site panel line piece (Kept failed ∷ before) on = cable_told site panel line piece before on
+
+-- what a panel is asked depends on its own points and loops alone
+same_answers : {X : Type 0} (f g : ℕ → Option X) (first n : ℕ) → ((x : ℕ) → x < first + n → f x ≡ g x) → filter_map f (range_with_len first n) ≡ filter_map g (range_with_len first n)
+same_answers f g first zero same = refl
+same_answers f g first (suc n) same =
+    let here : f first ≡ g first = same first (omega arith) in
+    rw here (ap (cons_option (g first)) (same_answers f g (first + 1) n (λ x within. same x (omega arith))))
+
+answer_same : (site : Site) (panel : ℕ) (points others : ℕ → PointState) (cables others_cables : ℕ → CableOf) (tick line address : ℕ) (o : Option ℕ) → ((point : ℕ) → is_at panel (slice_get site.points point) ≡ true → points point ≡ others point) → cables line ≡ others_cables line → point_at site panel line address ≡ o → option_map (answer_of site panel points cables tick line address) o ≡ option_map (answer_of site panel others others_cables tick line address) o
+answer_same site panel points others cables others_cables tick line address None same cable e = refl
+answer_same site panel points others cables others_cables tick line address (Some point) same cable e =
+    let p = placed site panel line address point e in
+    let at : is_at panel (slice_get site.points point) ≡ true = ap (is_at panel) p.is ∙ eq_true p.plan.panel panel p.panel_is in
+    ap (λ state. Some (answer_of site panel (λ _. state) cables tick line address point)) (same point at)
+    ∙ ap (λ own. Some (answer_of site panel others (λ _. own) tick line address point)) cable
+
+own_things : (site : Site) (panel : ℕ) (points others : ℕ → PointState) (cables others_cables : ℕ → CableOf) (tick : ℕ) → 1 ≤ site.format → ((point : ℕ) → is_at panel (slice_get site.points point) ≡ true → points point ≡ others point) → ((line : ℕ) → 1 ≤ line → line ≤ 4 → cables line ≡ others_cables line) → asked_in site panel points cables tick ≡ asked_in site panel others others_cables tick
+unfolding places
+own_things site panel points others cables others_cables tick known same cable =
+    asked_in_places site panel points cables tick known
+    ∙ same_answers (answer_at site panel points cables tick) (answer_at site panel others others_cables tick) 0 32
+    (λ place within. answer_same site panel points others cables others_cables tick (line_at place) (address_at site.format tick place) (point_at site panel (line_at place) (address_at site.format tick place)) same (cable (line_at place) (omega arith) (omega arith)) refl)
+    ∙ sym (asked_in_places site panel others others_cables tick known)
+
+-- a poller that was told of its panel puts the panel's answers
+pub asked_told : (site : Site) (panel : ℕ) (before : List Moment) → 1 ≤ site.format → asked_in site panel (told_point (reports site panel before)) (told_cable (reports site panel before)) (tick_of before) ≡ asked site panel before
+asked_told site panel before known =
+    own_things site panel (told_point (reports site panel before)) (λ point. state_of point before) (told_cable (reports site panel before)) (λ line piece. piece_of panel line piece before) (tick_of before) known
+    (λ point at. state_told site panel point before at)
+    (λ line low high. fun_ext (λ piece. cable_told site panel line piece before (is_line line low high)))

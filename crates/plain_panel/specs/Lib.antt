@@ -4,4 +4,6 @@ pub mod Histories
 pub mod BadRuns
 pub mod Settings
 pub mod Network
+pub mod Desks
+pub mod Enterings
 pub mod Signs

@@ -1,7 +1,7 @@
 use Rattle.std.proofs.Common.{ap, ◌∙◌}
 use Rattle.plain_panel.specs.declared.moment.Moment.TheVariants.{Began, Happened, Turned, Kept}
 use Rattle.site_types.specs.declared.event.Event.TheVariants.{Op, Point, Supply, Link, Confirmed}
-use Rattle.plain_panel.proofs.Reports.{by_five, by_three, line_not, moment_is, panel_not, told_elsewhere, told_here}
+use Rattle.plain_panel.proofs.CableReports.{by_five, by_three, line_not, moment_is, panel_not, told_elsewhere, told_here}
 use Rattle.plain_panel.proofs.cables.report.Goals as goal
 use Rattle.plain_panel.proofs.cables.report.Goals.{else-of_panel-panel-via-then-of_panel-panel+else-of_line-line, else-of_panel-panel-via-else-of_panel-panel}
 
