@@ -1,7 +1,10 @@
 pub mod Askings
+pub mod BadRuns
 pub mod Desks
+pub mod Drives
 pub mod Enterings
 pub mod Histories
+pub mod Network
 pub mod Settings
 pub mod Signs
 pub mod Tellings
