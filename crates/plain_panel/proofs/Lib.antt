@@ -1,5 +1,6 @@
 pub mod Asked
 pub mod Desks
+pub mod EnteringPanels
 pub mod Enterings
 pub mod Histories
 pub mod Later

@@ -12,6 +12,7 @@ mod counted;
 mod desk;
 mod done;
 mod entering;
+mod entering_panels;
 mod latest;
 mod mark;
 mod missing;
