@@ -1,3 +1,4 @@
+pub mod Joining
 pub mod Histories
 pub mod Later
 pub mod Looking
