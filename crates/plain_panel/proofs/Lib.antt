@@ -7,6 +7,7 @@ pub mod Enterings
 pub mod FactsKept
 pub mod Histories
 pub mod HoldsShown
+pub mod Joining
 pub mod Later
 pub mod Looking
 pub mod Masked
