@@ -2,10 +2,12 @@ pub mod Asked
 pub mod BadRuns
 pub mod CableReports
 pub mod Desks
+pub mod EnteringPanels
 pub mod Enterings
 pub mod FactsKept
 pub mod Histories
 pub mod HoldsShown
+pub mod Joining
 pub mod Later
 pub mod Looking
 pub mod Masked

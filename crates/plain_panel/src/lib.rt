@@ -17,6 +17,7 @@ mod desk;
 mod done;
 mod driving;
 mod entering;
+mod entering_panels;
 mod latest;
 mod mark;
 mod missing;
