@@ -23,3 +23,4 @@ pub mod Solving
 pub mod TakenMoments
 pub mod Tellings
 pub mod Unset
+pub mod Elsewhere
