@@ -20,3 +20,5 @@ pub mod Silencing
 pub mod Solving
 pub mod FactsKept
 pub mod CableReports
+pub mod ChangesMade
+pub mod FlagsTold

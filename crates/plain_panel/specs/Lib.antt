@@ -7,3 +7,4 @@ pub mod Network
 pub mod Desks
 pub mod Enterings
 pub mod Signs
+pub mod Storing
