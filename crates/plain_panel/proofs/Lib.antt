@@ -1,10 +1,13 @@
 pub mod Asked
 pub mod BadRuns
 pub mod CableReports
+pub mod ChangesMade
 pub mod Desks
+pub mod Elsewhere
 pub mod EnteringPanels
 pub mod Enterings
 pub mod FactsKept
+pub mod FlagsTold
 pub mod Histories
 pub mod HoldsShown
 pub mod Joining
@@ -23,4 +26,3 @@ pub mod Solving
 pub mod TakenMoments
 pub mod Tellings
 pub mod Unset
-pub mod Elsewhere

@@ -7,4 +7,5 @@ pub mod Histories
 pub mod Network
 pub mod Settings
 pub mod Signs
+pub mod Storing
 pub mod Tellings
