@@ -1,10 +1,10 @@
 pub mod Joining
+pub mod Confirming
 pub mod Histories
 pub mod Later
 pub mod Looking
 pub mod Masked
 pub mod Requesting
-pub mod Running
 pub mod Silencing
 pub mod Silent
 pub mod Solving

@@ -1,5 +1,5 @@
 -- What is kept of moments to tell what drives outputs, for a history of them.
-use Rattle.std.specs.Prelude.{◌≡◌, ℕ, ◌-◌, ◌<◌, ◌==◌, max, Bool, false, List, [], ◌∷◌, length, take, reverse, slice_get, Option, Some, None}
+use Rattle.std.specs.Prelude.{◌≡◌, ℕ, ◌-◌, ◌<◌, ◌==◌, max, Bool, true, false, List, [], ◌∷◌, length, take, reverse, slice_get, Option, Some, None}
 use Rattle.tick_units.specs.declared.task.Task.{Task}
 use Rattle.tick_units.specs.declared.task.Task.TheVariants.{Effect}
 use Rattle.site_types.specs.declared.event.Event.{Event}
@@ -22,6 +22,17 @@ is_turn_of panel task BeganOf = false
 is_turn_of panel task (HappenedOf event) = false
 is_turn_of panel task (TurnedOf other_panel other) = is_turn panel task other_panel other
 is_turn_of panel task (KeptOf failed) = false
+
+-- a moment is a turn of Effect
+abbrev pub is_effect_task : Task → Bool
+is_effect_task Effect = true
+is_effect_task _ = false
+
+abbrev pub is_effect : MomentOf → Bool
+is_effect BeganOf = false
+is_effect (HappenedOf event) = false
+is_effect (TurnedOf panel task) = is_effect_task task
+is_effect (KeptOf failed) = false
 
 -- what had befallen before the latest turn of a panel's task, if it had one
 abbrev pub before_latest : ℕ → Task → List MomentOf → Option (List MomentOf)

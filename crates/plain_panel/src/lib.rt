@@ -27,6 +27,7 @@ mod setting;
 mod sign;
 mod solved;
 mod turns;
+mod unconfirmed;
 
 pub use alarm::{is_by_hand, is_first, is_in_alarm, is_released};
 pub use answered::{answered_faults, answered_word};
