@@ -1,5 +1,5 @@
 -- Confirmations of a run, and how long it has lasted.
-use Rattle.std.proofs.Common.{◌≡◌, ◌<◌, ◌≤◌, ◌+◌, ◌||◌, max, ℕ, Bool, true, false, List, [], ◌∷◌, Option, Some, None, inl, inr, refl, sym, ◌∙◌, ap, arith, add-one}
+use Rattle.std.proofs.Common.{◌≡◌, ◌<◌, ◌≤◌, ◌+◌, ◌||◌, max, ℕ, Bool, true, false, List, [], ◌∷◌, Some, None, inl, inr, refl, ◌∙◌, ap, arith, add-one}
 use Rattle.std.specs.Prelude.{nat_le, nat_lt}
 use Rattle.std.specs.List.{list_any}
 use Rattle.site_types.proofs.Done.{lt_tells}

@@ -1,6 +1,5 @@
 -- What one more operation done changes.
-use Rattle.std.proofs.Common.{◌≡◌, ◌+◌, ◌<◌, ◌==◌, ◌&&◌, ◌||◌, ℕ, Bool, List, Option, get_or, if◌then◌else◌, length, max, nat_le, nat_lt, option_map, take}
-use Rattle.tick_units.specs.declared.tick.Tick.{Tick}
+use Rattle.std.proofs.Common.{◌≡◌, ◌+◌, ◌<◌, ◌==◌, ◌&&◌, ◌||◌, ℕ, Bool, List, Option, get_or, if◌then◌else◌, length, max, nat_le, nat_lt, take}
 use Rattle.site_types.specs.declared.retained.Retained.{Retained}
 use Rattle.site_types.specs.declared.site.Site.{Site}
 use Rattle.site_types.specs.Done.{Done as DoneOf, Setting, in_force, is_on, is_override, latest_before, override_done_in, silence_before, silence_then, value_set}

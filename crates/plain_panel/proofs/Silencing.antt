@@ -1,20 +1,17 @@
 -- Sets of zones, the end of a tick, and what holds of the turns of Drive since.
-use Rattle.std.proofs.Common.{◌≡◌, ◌<◌, ◌≤◌, ◌+◌, ◌-◌, ◌==◌, ◌&&◌, ◌||◌, not, ℕ, zero, suc, Bool, true, false, List, [], ◌∷◌, ◌++◌, length, get_or, take, Option, Some, None, if◌then◌else◌, inl, inr, refl, sym, ◌∙◌, ap, subst, arith}
-use Rattle.std.specs.Prelude.{nat_le, nat_lt, slice_get}
+use Rattle.std.proofs.Common.{◌≡◌, ◌<◌, ◌≤◌, ◌+◌, ◌&&◌, not, ℕ, zero, suc, Bool, true, false, List, [], ◌∷◌, ◌++◌, length, take, if◌then◌else◌, refl, sym, ◌∙◌, ap, subst, arith}
+use Rattle.std.specs.Prelude.{nat_le, slice_get}
 use Rattle.std.specs.List.{list_any, range_with_len}
 use Rattle.std.proofs.Math.Seq.{take-length}
-use Rattle.tick_units.specs.declared.task.Task.{Task}
-use Rattle.tick_units.specs.declared.task.Task.TheVariants.{Poll, Decide, Supply, Desk, Hold, Link, Effect, Drive, Keep}
 use Rattle.site_types.specs.declared.site.Site.{Site}
-use Rattle.site_types.proofs.Done.{lt_tells}
 use Rattle.marker_table.specs.Equations.{zone_bit}
 use Rattle.panel_rules.specs.Markers.{Facts}
-use Rattle.panel_rules.specs.Moments.{Moment as MomentOf, Began as BeganOf, Happened as HappenedOf, Turned as TurnedOf, Kept as KeptOf, tick_of, up_to}
-use Rattle.panel_rules.specs.Outputs.{is_within, released_at_effect, some_zone, stays_within}
+use Rattle.panel_rules.specs.Moments.{Moment as MomentOf, tick_of, up_to}
+use Rattle.panel_rules.specs.Outputs.{is_within, some_zone}
 use Rattle.plain_panel.specs.declared.seen.Seen.{Seen}
-use Rattle.plain_panel.specs.Drives.{AreSeen, AreZones, is_turn_of}
+use Rattle.plain_panel.specs.Drives.{AreSeen, AreZones}
 use Rattle.plain_panel.specs.Histories.{moment_of}
-use Rattle.plain_panel.proofs.Looking.{ends_with, last_of}
+use Rattle.plain_panel.proofs.Looking.{last_of}
 
 -- tests that agree on the numbers from one on find the same
 any_range : (f g : ℕ → Bool) (from count : ℕ) → ((k : ℕ) → from ≤ k → k < from + count → f k ≡ g k) → list_any f (range_with_len from count) ≡ list_any g (range_with_len from count)

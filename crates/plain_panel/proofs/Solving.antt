@@ -1,12 +1,12 @@
 -- The equations of markers over masks and over facts that these are.
-use Rattle.std.proofs.Common.{◌≡◌, ◌<◌, ◌≤◌, ◌+◌, ◌-◌, ℕ, zero, suc, Bool, false, List, [], ◌∷◌, length, set, replicate, get_or, inl, inr, arith, below_more, get_or-set_other, get_or-set_same, Option, Some, None, refl, sym, ◌∙◌, ap}
+use Rattle.std.proofs.Common.{◌≡◌, ◌<◌, ◌≤◌, ◌+◌, ◌-◌, ℕ, zero, suc, Bool, false, List, length, set, replicate, get_or, inl, inr, arith, below_more, get_or-set_other, get_or-set_same, Option, Some, None, refl, sym, ◌∙◌, ap}
 use Rattle.std.specs.Prelude.{slice_get, All}
 use Rattle.site_types.specs.declared.marker.Marker.{Marker as MarkerPlan}
 use Rattle.site_types.specs.declared.site.Site.{Site}
 use Rattle.site_types.specs.declared.term.Term.{Term}
 use Rattle.site_types.specs.declared.term.Term.TheVariants.{Zone, Manual, Fault, Marker}
 use Rattle.site_types.specs.Bits.{has_bit}
-use Rattle.site_types.specs.Valid.{IsPanel, IsTerm, IsValid}
+use Rattle.site_types.specs.Valid.{IsTerm, IsValid}
 use Rattle.std.proofs.lemmas.Option.{slice_get_past, slice_get_read}
 use Rattle.site_types.proofs.Done.{lt_tells}
 use Rattle.site_types.proofs.Masks.{has_bit-zero}

@@ -69,9 +69,9 @@ pub record AreFacts (site : Site) (facts : Facts) (masks : Masks) : Type 0 where
   pub faulty : (panel : ℕ) → IsPanel site panel → has_bit masks.faults (panel - 1) ≡ facts.faulty panel
 
 module _ (site : Site) (facts : ℕ → List MomentOf → Facts) where
-  -- where a moment after a history is a turn of Effect, masks are the facts of that turn
+  -- where a moment after a history is a turn of Effect of a panel of the site, masks are the facts of that turn
   abbrev pub AreFactsOfTurn : List MomentOf → MomentOf → Masks → Type 0
-  AreFactsOfTurn before moment masks = (panel : ℕ) → moment ≡ TurnedOf panel Effect → AreFacts site (facts panel before) masks
+  AreFactsOfTurn before moment masks = (panel : ℕ) → IsPanel site panel → moment ≡ TurnedOf panel Effect → AreFacts site (facts panel before) masks
 
   -- what an Effect turn solved, from its facts
   pub record IsSolved (facts_then : Facts) (seen : Seen) : Type 0 where
@@ -79,11 +79,11 @@ module _ (site : Site) (facts : ℕ → List MomentOf → Facts) where
     pub values : (marker : ℕ) → values_of seen.values marker ≡ solution site facts_then marker
     pub by_hand : (marker : ℕ) → values_of seen.by_hand marker ≡ solution site (hand_facts facts_then) marker
 
-  -- what is kept of a moment: itself, the tick that had begun before it, and of an Effect turn what it solved
+  -- what is kept of a moment: itself, the tick that had begun before it, and of an Effect turn of a panel of the site what it solved
   pub record IsSeen (moment : MomentOf) (before : List MomentOf) (seen : Seen) : Type 0 where
     pub is : moment_of seen.moment ≡ moment
     pub tick : seen.tick.0 ≡ tick_of before
-    pub solved : (panel : ℕ) → moment ≡ TurnedOf panel Effect → IsSolved (facts panel before) seen
+    pub solved : (panel : ℕ) → IsPanel site panel → moment ≡ TurnedOf panel Effect → IsSolved (facts panel before) seen
 
   -- what is kept of each moment of a history, the newest first
   abbrev pub AreSeenBack : List Seen → List MomentOf → Type 0

@@ -1,4 +1,4 @@
-use Rattle.std.proofs.Common.{◌≡◌, ◌∙◌, sym}
+use Rattle.std.proofs.Common.{◌∙◌, sym}
 use Rattle.plain_panel.proofs.Looking.{ends_with}
 use Rattle.plain_panel.proofs.Silencing.{whole_by}
 use Rattle.plain_panel.proofs.quiet.+up_to.Goals as goal
