@@ -2,6 +2,7 @@ pub mod Asked
 pub mod BadRuns
 pub mod CableReports
 pub mod ChangesMade
+pub mod Confirming
 pub mod Desks
 pub mod Elsewhere
 pub mod EnteringPanels
@@ -19,7 +20,6 @@ pub mod Outputs
 pub mod Reports
 pub mod Requesting
 pub mod RingsTold
-pub mod Running
 pub mod Silencing
 pub mod Silent
 pub mod Solving
