@@ -45,11 +45,8 @@ mod solved;
 mod storing;
 mod supplies;
 mod turns;
-<<<<<<< HEAD
 mod watched;
-=======
 mod unconfirmed;
->>>>>>> 80b1b122ef8e2530772f052fb4f18923dddb8662
 
 pub use alarm::{is_by_hand, is_first, is_in_alarm, is_released};
 pub use answered::{answered_faults, answered_word};
