@@ -20,5 +20,6 @@ pub mod Running
 pub mod Silencing
 pub mod Silent
 pub mod Solving
+pub mod Standings
 pub mod TakenMoments
 pub mod Unset

@@ -7,3 +7,4 @@ pub mod Histories
 pub mod Network
 pub mod Settings
 pub mod Signs
+pub mod Standings
