@@ -1,10 +1,12 @@
 pub mod Asked
 pub mod BadRuns
 pub mod CableReports
+pub mod ChangesMade
 pub mod Desks
 pub mod EnteringPanels
 pub mod Enterings
 pub mod FactsKept
+pub mod FlagsTold
 pub mod Histories
 pub mod HoldsShown
 pub mod Joining

@@ -8,3 +8,4 @@ pub mod Network
 pub mod Settings
 pub mod Signs
 pub mod Standings
+pub mod Storing
