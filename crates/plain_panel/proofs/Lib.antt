@@ -2,6 +2,7 @@ pub mod Asked
 pub mod BadRuns
 pub mod CableReports
 pub mod ChangesMade
+pub mod Confirming
 pub mod Desks
 pub mod EnteringPanels
 pub mod Enterings

@@ -59,6 +59,7 @@ fn may_act(
     before: &[Seen],
     turn: &[Seen],
 ) -> bool
+    requires { IsValid site.now }
     ensures { (facts : ℕ → List MomentOf → FactsOf) (history : List MomentOf) → AreSeen site.now facts before.now history → AreSeen site.now facts turn.now (TurnedOf (panel_in site.now output) Drive ∷ history) → tick.0 ≡ tick_of history → result ≡ may_act_in site.now facts kept.now (all_done done.now) output history }
 {
     let by_hand = is_requested_by_hand(site, output, before);
@@ -70,6 +71,7 @@ fn may_act(
 
 // Whether from some tick of the run of turns that asked for an output its delay has passed, or an override was done.
 fn is_over(site: &Site, done: &[Done], output: u16, tick: Tick, seen: &[Seen]) -> bool
+    requires { IsValid site.now }
     ensures { (facts : ℕ → List MomentOf → FactsOf) (history : List MomentOf) → AreSeen site.now facts seen.now history → result ≡ list_any (λ first. nat_le (first + delay_in site.now output) tick.0 || override_in (panel_in site.now output) first tick.0 (all_done done.now)) (asked_run site.now facts output history) }
 {
     match seen {

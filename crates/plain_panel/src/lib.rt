@@ -45,6 +45,7 @@ mod storing;
 mod supplies;
 mod ticking;
 mod turns;
+mod unconfirmed;
 mod watched;
 
 pub use alarm::{is_by_hand, is_first, is_in_alarm, is_released};
