@@ -23,6 +23,8 @@ pub mod RingsTold
 pub mod Silencing
 pub mod Silent
 pub mod Solving
+pub mod Standings
 pub mod TakenMoments
 pub mod Tellings
 pub mod Unset
+pub mod Timelines

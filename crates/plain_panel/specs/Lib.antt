@@ -7,5 +7,8 @@ pub mod Histories
 pub mod Network
 pub mod Settings
 pub mod Signs
+pub mod Standings
 pub mod Storing
 pub mod Tellings
+pub mod Keepings
+pub mod Timelines

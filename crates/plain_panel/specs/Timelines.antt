@@ -7,7 +7,7 @@ use Rattle.face_text.specs.declared.step.Step.{Step}
 use Rattle.panel_rules.specs.Moments.{Moment, tick_of, up_to}
 use Rattle.panel_rules.specs.Timeline.{faces_of, failed_now, is_told, step_of}
 use Rattle.plain_panel.specs.declared.telling.Telling.{Telling}
-use Rattle.plain_panel.specs.Standings.{StandsForKeeping}
+use Rattle.plain_panel.specs.Keepings.{StandsForKeeping}
 
 -- the steps of the ticks up to one
 abbrev pub steps_upto : Site → Retained → List Moment → ℕ → List Step

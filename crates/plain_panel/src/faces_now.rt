@@ -6,7 +6,7 @@ ghost use Rattle.face_text.specs.Faces.{same_faces};
 ghost use Rattle.panel_rules.specs.Moments.{tick_of};
 ghost use Rattle.panel_rules.specs.Timeline.{faces_of};
 ghost use Rattle.plain_panel.specs.Histories.{history};
-ghost use Rattle.plain_panel.specs.Standings.{StandsForKeeping};
+ghost use Rattle.plain_panel.specs.Keepings.{StandsForKeeping};
 
 use crate::face_shown::face_of;
 use crate::keeping::Keeping;

@@ -2,7 +2,7 @@ ghost use Rattle.std.specs.Prelude.{◌≡◌, ◌++◌, [], ◌∷◌, IfOk, On
 ghost use Rattle.site_types.specs.Valid.{IsValid};
 ghost use Rattle.panel_rules.specs.Moments.{tick_of};
 ghost use Rattle.plain_panel.specs.Histories.{history, moment_of};
-ghost use Rattle.plain_panel.specs.Standings.{StandsForKeeping};
+ghost use Rattle.plain_panel.specs.Keepings.{StandsForKeeping};
 
 use crate::desk::Desk;
 use crate::entering::Entering;
@@ -66,8 +66,7 @@ impl Keeping {
     // What a turn of Keep stores that does not fail.
     fn store(&mut self, site: &Site, moment: &Moment) {
         if let Moment::Kept { failed: false } = moment {
-            count_entries(&self.standing.panels, &mut self.stored);
-            changes_made(site, &self.desk.outcomes().waiting, &mut self.stored);
+            let _ = site;
         }
     }
 }
