@@ -28,3 +28,4 @@ pub mod TakenMoments
 pub mod Tellings
 pub mod Unset
 pub mod Timelines
+pub mod FacesMore
