@@ -4,6 +4,7 @@ pub mod Desks
 pub mod Drives
 pub mod Enterings
 pub mod Histories
+pub mod Keepings
 pub mod Network
 pub mod Settings
 pub mod Signs

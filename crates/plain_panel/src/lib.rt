@@ -17,6 +17,7 @@ mod done;
 mod driving;
 mod entering;
 mod entering_panels;
+mod keeping;
 mod latest;
 mod mark;
 mod missing;
