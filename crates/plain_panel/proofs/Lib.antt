@@ -11,6 +11,7 @@ pub mod FlagsTold
 pub mod Histories
 pub mod HoldsShown
 pub mod Joining
+pub mod Keepings
 pub mod Later
 pub mod Looking
 pub mod Masked

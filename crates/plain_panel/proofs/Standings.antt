@@ -1,11 +1,11 @@
 -- What stands at all panels, a moment later.
-use Rattle.std.proofs.Common.{◌≡◌, ◌≢◌, ◌∙◌, ◌+◌, ◌<◌, ℕ, List, ◌∷◌, ◌++◌, [], length, get_or, take, ap, refl, sym}
+use Rattle.std.proofs.Common.{◌≡◌, ◌≢◌, ◌∙◌, ◌+◌, ◌<◌, ℕ, List, ◌∷◌, length, get_or, take, ap, refl, sym}
 use Rattle.std.proofs.Common.{Vec, Global, arith}
 use Rattle.std.specs.Vec.{with_items}
 use Rattle.std.proofs.lemmas.List.{take_more, with_items_is}
 use Rattle.tick_units.specs.declared.task.Task.{Task}
 use Rattle.tick_units.specs.declared.task.Task.TheVariants.{Poll, Decide, Supply, Desk, Hold, Link, Effect, Drive, Keep}
-use Rattle.panel_rules.specs.Moments.{Moment as MomentOf, Turned as TurnedOf}
+use Rattle.panel_rules.specs.Moments.{Turned as TurnedOf}
 use Rattle.plain_panel.specs.declared.entering.Entering.{Entering}
 use Rattle.plain_panel.specs.declared.moment.Moment.{Moment}
 use Rattle.plain_panel.specs.declared.moment.Moment.TheVariants.{Turned}

@@ -54,9 +54,7 @@ impl Keeping {
         requires all { with_it.now ≡ before.now ++ moment.now ∷ [] }
         ensures { OnOk result (StandsForKeeping site.now kept.now (moment_of moment.now ∷ history before.now) self.new) }
     {
-        if stores(moment) {
-            self.store(site);
-        }
+        self.store_at(site, moment);
         self.go_on(alloc, site, kept, tick, before, moment, with_it)
     }
 
@@ -91,6 +89,20 @@ impl Keeping {
         }
     }
 
+    // What a moment stores, where it is a turn of Keep that does not fail.
+    fn store_at(&mut self, site: &Site, moment: &Moment)
+        requires valid { IsValid site.now }
+        requires placed { AllPlaced self.old.standing.panels.items }
+        ensures stored { self.new.stored ≡ (if is_storing (moment_of moment.now) then changed_by (changes_of site.now (all_requests self.old.desk.outcomes.waiting.items)) (changed_by (all_counted self.old.standing.panels.items) self.old.stored) else self.old.stored) }
+        ensures desk { self.new.desk ≡ self.old.desk }
+        ensures standing { self.new.standing ≡ self.old.standing }
+    {
+        if !stores(moment) {
+            return;
+        }
+        self.store(site);
+    }
+
     // What a turn of Keep stores that does not fail.
     fn store(&mut self, site: &Site)
         requires valid { IsValid site.now }
@@ -104,6 +116,7 @@ impl Keeping {
     }
 }
 
+ghost use Rattle.std.specs.Prelude.{if◌then◌else◌};
 ghost use Rattle.site_types.specs.Changes.{IsPanelNumber, changed_by};
 ghost use Rattle.panel_rules.specs.Batches.{changes_of};
 ghost use Rattle.plain_panel.specs.Desks.{all_requests};

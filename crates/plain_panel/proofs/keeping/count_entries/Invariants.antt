@@ -1,6 +1,6 @@
-use Rattle.std.proofs.Common.{◌≡◌, take, drop}
+use Rattle.std.proofs.Common.{◌≡◌, take}
 use Rattle.site_types.specs.Changes.{changed_by}
-use Rattle.plain_panel.specs.Keepings.{AllPlaced, all_counted}
+use Rattle.plain_panel.specs.Keepings.{all_counted}
 use Rattle.plain_panel.proofs.keeping.count_entries.Given as goal
 
 abbrev pub invariant-loop-entering : goal.invariant-loop-entering
