@@ -7,11 +7,13 @@ pub mod Desks
 pub mod Elsewhere
 pub mod EnteringPanels
 pub mod Enterings
+pub mod FacesMore
 pub mod FactsKept
 pub mod FlagsTold
 pub mod Histories
 pub mod HoldsShown
 pub mod Joining
+pub mod Keepings
 pub mod Later
 pub mod Looking
 pub mod Masked
@@ -26,6 +28,5 @@ pub mod Solving
 pub mod Standings
 pub mod TakenMoments
 pub mod Tellings
-pub mod Unset
 pub mod Timelines
-pub mod FacesMore
+pub mod Unset

@@ -1,9 +1,12 @@
 -- What stands at all panels, a moment later.
-use Rattle.std.proofs.Common.{◌≡◌, ◌≢◌, ◌∙◌, ◌+◌, ◌<◌, ℕ, List, ◌∷◌, ◌++◌, [], length, get_or, take, ap, refl, sym}
-use Rattle.std.proofs.lemmas.List.{take_more}
+use Rattle.std.proofs.Common.{◌≡◌, ◌≢◌, ◌∙◌, ◌+◌, ◌<◌, ℕ, List, ◌∷◌, length, get_or, take, ap, refl, sym}
+use Rattle.std.proofs.Common.{Vec, Global, arith}
+use Rattle.std.specs.Vec.{with_items}
+use Rattle.std.proofs.lemmas.List.{take_more, with_items_is}
 use Rattle.tick_units.specs.declared.task.Task.{Task}
 use Rattle.tick_units.specs.declared.task.Task.TheVariants.{Poll, Decide, Supply, Desk, Hold, Link, Effect, Drive, Keep}
-use Rattle.panel_rules.specs.Moments.{Moment as MomentOf, Turned as TurnedOf}
+use Rattle.panel_rules.specs.Moments.{Turned as TurnedOf}
+use Rattle.plain_panel.specs.declared.entering.Entering.{Entering}
 use Rattle.plain_panel.specs.declared.moment.Moment.{Moment}
 use Rattle.plain_panel.specs.declared.moment.Moment.TheVariants.{Turned}
 use Rattle.plain_panel.specs.Histories.{history, moment_of}
@@ -29,3 +32,7 @@ same_panel moment panel other task other_task is told =
 -- the first moments, one more of them
 pub history_at : (moments : List Moment) (k : ℕ) (d : Moment) → k < length moments → history (take (k + 1) moments) ≡ moment_of (get_or moments k d) ∷ history (take k moments)
 history_at moments k d small = ap history (take_more moments k d small) ∙ history_more (take k moments) (get_or moments k d)
+
+-- panels that were written in place
+pub items_written : (panels : Vec Entering Global) (written : List Entering) → length written ≡ length panels.items → (with_items panels written).items ≡ written
+items_written panels written same = let as_long : length written ≡ panels.len = omega (arith, same, panels.ok) in with_items_is panels written as_long

@@ -4,7 +4,7 @@ ghost use Rattle.site_types.specs.declared.event.Event.TheVariants.{Link as Link
 ghost use Rattle.site_types.specs.declared.retained.Retained.{Retained as RetainedOf};
 ghost use Rattle.site_types.specs.declared.site.Site.{Site as SiteOf};
 ghost use Rattle.site_types.specs.Done.{Done as DoneOf};
-ghost use Rattle.site_types.specs.Valid.{IsValid};
+ghost use Rattle.site_types.specs.Valid.{IsPanel, IsValid};
 ghost use Rattle.panel_rules.specs.Moments.{Happened as HappenedOf, Moment as MomentOf, Turned as TurnedOf, tick_of};
 ghost use Rattle.panel_rules.specs.Faces.{buzzer_of, last_news, shown_word};
 ghost use Rattle.panel_rules.specs.Run.{facts_of, faults_of, faults_with, tells_fault};
@@ -68,8 +68,8 @@ impl Network {
         unconfirmed: u32,
     )
         ensures stands { StandsFor site.now kept.now (all_done done.now) (history before.now) self.old → now.0 ≡ tick_of (history before.now)
-            → answers.now ≡ held_answers site.now panel (TurnedOf panel HoldTask ∷ history before.now)
-            → unconfirmed ≡ unconfirmed_at site.now kept.now (all_done done.now) panel (TurnedOf panel HoldTask ∷ history before.now)
+            → (IsPanel site.now panel → answers.now ≡ held_answers site.now panel (TurnedOf panel HoldTask ∷ history before.now))
+            → (IsPanel site.now panel → unconfirmed ≡ unconfirmed_at site.now kept.now (all_done done.now) panel (TurnedOf panel HoldTask ∷ history before.now))
             → StandsFor site.now kept.now (all_done done.now) (TurnedOf panel HoldTask ∷ history before.now) self.new }
         ensures panels { self.new.panels ≡ self.old.panels }
     {

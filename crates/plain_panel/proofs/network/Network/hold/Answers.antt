@@ -1,4 +1,4 @@
-use Rattle.std.proofs.Common.{◌∙◌, ◌∷◌, List, ℕ, ap, sym}
+use Rattle.std.proofs.Common.{◌∙◌, ◌≤◌, ◌∷◌, List, ℕ, ap, arith, sym}
 use Rattle.tick_units.specs.declared.task.Task.TheVariants.{Hold}
 use Rattle.site_types.specs.declared.answer.Answer.{Answer}
 use Rattle.panel_conditions.specs.declared.outside.Outside.{Outside}
@@ -12,12 +12,16 @@ use Rattle.plain_panel.specs.Network.{outside_told}
 use Rattle.plain_panel.proofs.network.Network.hold.Goals as goal
 
 pub returns-then-panel-self-clause-stands : goal.returns-then-panel-self-clause-stands
-returns-then-panel-self-clause-stands c stands tick answers unconfirmed =
+returns-then-panel-self-clause-stands c stands tick answers_there unconfirmed_there =
     let site = c.args.site.now in
     let kept = c.args.kept.now in
     let done = all_done c.args.done.now in
     let before = history c.args.before.now in
     let panel = c.args.panel in
+    let first : 1 ≤ panel = omega arith in
+    let last : panel ≤ site.panels = omega (arith, stands.size) in
+    let answers = answers_there (first, last) in
+    let unconfirmed = unconfirmed_there (first, last) in
     let held = held_answers site panel (Turned panel Hold ∷ before) in
     let outside = c.outside-outside.ensures kept done stands tick ∙ ap (outside_told site panel before) unconfirmed in
     let faults =
