@@ -1,5 +1,5 @@
 -- What is told of a run, one moment further.
-use Rattle.std.proofs.Common.{◌≡◌, ◌∙◌, ◌+◌, ◌-◌, ◌<◌, ◌≤◌, ℕ, Bool, true, false, List, [], ◌∷◌, ◌++◌, Result, Ok, Err, add-one, ap, arith, get_or, length, map, sym, take}
+use Rattle.std.proofs.Common.{◌≡◌, ◌∙◌, ◌+◌, ◌-◌, ◌<◌, ◌≤◌, ℕ, Bool, true, false, List, [], ◌∷◌, ◌++◌, Result, Ok, Err, add-one, ap, arith, get_or, length, map, subst, sym, take}
 use Rattle.std.specs.Prelude.{OnOk}
 use Rattle.std.specs.List.{filter_map}
 use Rattle.std.proofs.Math.Seq.{take-suc}
@@ -58,16 +58,18 @@ module _ (site : Site) (kept : Retained) where
 
   -- the answers of the tick that began last, by the desk
   pub answers_are : (moments : List MomentOf) (desk : Desk) (tick : ℕ) (requests : List Request) (answers : List Answered) (now : List AnsweredOf) → StandsForDesk site kept moments desk → tick_of moments ≡ tick → requests ≡ desk.requests.items → answers ≡ desk.outcomes.answers.items → now ≡ filter_map (answer_in site kept tick (all_answered answers)) (all_requests requests) → now ≡ answers_now site kept moments
-  answers_are moments desk tick requests answers now s at requests_are answers_are is =
+  answers_are moments desk tick requests answers now s at asked given is =
       is
-      ∙ ap (λ xs. filter_map (answer_in site kept tick (all_answered answers)) (all_requests xs)) requests_are
+      ∙ ap (λ xs. filter_map (answer_in site kept tick (all_answered answers)) (all_requests xs)) asked
       ∙ ap (filter_map (answer_in site kept tick (all_answered answers))) s.requested
-      ∙ ap (λ xs. filter_map (answer_in site kept tick (all_answered xs)) (asked_for moments)) answers_are
+      ∙ ap (λ xs. filter_map (answer_in site kept tick (all_answered xs)) (asked_for moments)) given
       ∙ ap (λ xs. filter_map (answer_in site kept tick xs) (asked_for moments)) (ap (λ (o : Operations). o.answers) s.became)
       ∙ ap (λ t. filter_map (answer_in site kept t (told_so_far moments)) (asked_for moments)) (sym at)
 
-  pub next_told : (moments : List Moment) (place : ℕ) (d : Moment) (after : Telling) → place < length moments → StandsForTelling site kept (moment_of (get_or moments place d) ∷ history (take place moments)) after → StandsForTelling site kept (history (take (place + 1) moments)) after
-  next_told moments place d after within s =
-      let upto : history (take (place + 1) moments) ≡ moment_of (get_or moments place d) ∷ history (take place moments) =
-      rw (add-one, take-suc moments place d within) (history_more (take place moments) (get_or moments place d)) in
-      rw upto s
+  pub next_told : (moments : List Moment) (place : ℕ) (moment : Moment) (after : Telling) → place < length moments → moment ≡ get_or moments place moment → StandsForTelling site kept (moment_of moment ∷ history (take place moments)) after → StandsForTelling site kept (history (take (place + 1) moments)) after
+  next_told moments place moment after within is s =
+      let upto : history (take (place + 1) moments) ≡ moment_of (get_or moments place moment) ∷ history (take place moments) =
+      rw (add-one, take-suc moments place moment within) (history_more (take place moments) (get_or moments place moment)) in
+      let here : moment_of moment ∷ history (take place moments) ≡ history (take (place + 1) moments) =
+      ap (λ m. moment_of m ∷ history (take place moments)) is ∙ sym upto in
+      subst (λ h. StandsForTelling site kept h after) here s

@@ -27,3 +27,15 @@ returns-in-Turned c =
     (c.advance-in-Turned.ensures.failed ∙ c.requires.stands.failed ∙ sym (ap (λ m. failed_now c.args.site.now c.args.kept.now (m ∷ history c.args.before.now)) is))
     (ap (λ v. v.items) c.advance-in-Turned.ensures.steps)
     (ap (λ v. v.items) c.advance-in-Turned.ensures.faces)
+
+pub returns-in-Kept : goal.returns-in-Kept
+returns-in-Kept c =
+    let is = ap moment_of c.in-Kept.is in
+    other_told c.args.site.now c.args.kept.now (moment_of c.args.moment.now) (history c.args.before.now) c.args.self.now c.advance-in-Kept.new.self c.advance-in-Kept.result c.requires.stands (ap (λ m. tick_of (m ∷ history c.args.before.now)) is) c.advance-in-Kept.ensures.stands c.advance-in-Kept.ensures.ticks
+    (c.advance-in-Kept.ensures.failed
+    ∙ c.either-self.ensures
+    ∙ ap (λ b. c.in-Kept.failed || b) c.requires.stands.failed
+    ∙ sym (failed_kept c.args.site.now c.args.kept.now c.in-Kept.failed (history c.args.before.now))
+    ∙ sym (ap (λ m. failed_now c.args.site.now c.args.kept.now (m ∷ history c.args.before.now)) is))
+    (ap (λ v. v.items) c.advance-in-Kept.ensures.steps)
+    (ap (λ v. v.items) c.advance-in-Kept.ensures.faces)

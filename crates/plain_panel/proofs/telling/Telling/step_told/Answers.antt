@@ -17,7 +17,7 @@ returns-then-is_told c =
     let now : map answered_of c.in_ok-now.now.items ≡ answers_now site kept moments =
     answers_are site kept moments c.args.self.now.keeping.desk c.args.self.now.tick.0 c.requests-requests.result.now c.as_slice-answers.result.now (map answered_of c.in_ok-now.now.items) s.keeping.desk s.tick c.requests-requests.ensures
     (c.as_slice-answers.ensures.value ∙ ap (λ o. o.answers.items) c.outcomes.ensures) (c.in_ok-now.ensures site kept) in
-    let count : length c.as_slice-now.result.now ≡ length (answers_now site kept moments) = ap length c.as_slice-now.ensures.value ∙ sym (length-map answered_of c.in_ok-now.now.items) ∙ ap length now in
+    let count : length c.as_slice-now.result.now ≡ length (answers_now site kept moments) = ap length c.as_slice-now.ensures.value ∙ sym (length-map c.in_ok-now.now.items answered_of) ∙ ap length now in
     let told : c.is_told.result ≡ (nat_le 1 (tick_of moments) && is_told site kept moments (tick_of moments)) =
     c.is_told.ensures
     ∙ told_is site kept moments c.args.self.now.tick.0 c.args.faces.now c.as_slice.result.now (length c.as_slice-now.result.now) c.args.self.now.failed s.tick c.requires.faces (λ begun. c.as_slice.ensures.value ∙ s.faces begun) count s.failed in
@@ -35,7 +35,7 @@ returns c =
     let now : map answered_of c.in_ok-now.now.items ≡ answers_now site kept moments =
     answers_are site kept moments c.args.self.now.keeping.desk c.args.self.now.tick.0 c.requests-requests.result.now c.as_slice-answers.result.now (map answered_of c.in_ok-now.now.items) s.keeping.desk s.tick c.requests-requests.ensures
     (c.as_slice-answers.ensures.value ∙ ap (λ o. o.answers.items) c.outcomes.ensures) (c.in_ok-now.ensures site kept) in
-    let count : length c.as_slice-now.result.now ≡ length (answers_now site kept moments) = ap length c.as_slice-now.ensures.value ∙ sym (length-map answered_of c.in_ok-now.now.items) ∙ ap length now in
+    let count : length c.as_slice-now.result.now ≡ length (answers_now site kept moments) = ap length c.as_slice-now.ensures.value ∙ sym (length-map c.in_ok-now.now.items answered_of) ∙ ap length now in
     let told : c.is_told.result ≡ (nat_le 1 (tick_of moments) && is_told site kept moments (tick_of moments)) =
     c.is_told.ensures
     ∙ told_is site kept moments c.args.self.now.tick.0 c.args.faces.now c.as_slice.result.now (length c.as_slice-now.result.now) c.args.self.now.failed s.tick c.requires.faces (λ begun. c.as_slice.ensures.value ∙ s.faces begun) count s.failed in
