@@ -1,4 +1,4 @@
-ghost use Rattle.std.specs.Prelude.{◌≡◌, ◌≤◌, ℕ, List, length};
+ghost use Rattle.std.specs.Prelude.{◌≡◌, ℕ, List};
 ghost use Rattle.site_types.specs.Valid.{IsValid};
 ghost use Rattle.site_types.specs.declared.site.Site.{Site as SiteOf};
 ghost use Rattle.panel_rules.specs.Markers.{Facts as FactsOf};
@@ -64,18 +64,21 @@ fn is_effect(moment: &Moment) -> bool
     )
 }
 
-/// How many ticks have begun.
-pub(crate) fn ticks(seen: &[Seen]) -> usize
-    ensures few { result ≤ length seen.now }
-    ensures tick { (site : SiteOf) (facts : ℕ → List MomentOf → FactsOf) (history : List MomentOf) → AreSeen site facts seen.now history → result ≡ tick_of history }
+/// How many ticks have begun, at most as many as moments.
+pub(crate) fn ticks(seen: &[Seen]) -> u64
+    ensures { (site : SiteOf) (facts : ℕ → List MomentOf → FactsOf) (history : List MomentOf) → AreSeen site facts seen.now history → result ≡ tick_of history }
 {
-    let mut ticks = 0;
-    for one in seen {
-        if is_beginning(&one.moment) {
-            ticks += 1;
+    let most = seen.len() as u64;
+    match seen {
+        [] => 0,
+        [.., last] => {
+            if is_beginning(&last.moment) && last.tick.0 < most {
+                last.tick.0 + 1
+            } else {
+                last.tick.0
+            }
         }
     }
-    ticks
 }
 
 fn is_beginning(moment: &Moment) -> bool
