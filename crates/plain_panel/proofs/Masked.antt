@@ -28,3 +28,7 @@ module _ (site : Site) (kept : Retained) (panel : ℕ) (done : List Done) (answe
 
   pub point_told : (line past k : ℕ) (point : Option ℕ) (told value : Bool) → point ≡ addressed site panel line (past + k + 1) → told ≡ on_point (λ place. is_missing answers place && not (is_off site kept done place tick)) point → told ≡ value → point_test site kept panel done answers tick line past k ≡ value
   point_told line past k point told value place is so = rw (← place) (sym is ∙ so)
+
+-- what was told of what was found, of which that is the place
+pub told_at : (on : Option ℕ → Bool) (found place : Option ℕ) (told value : Bool) → found ≡ place → told ≡ on found → told ≡ value → on place ≡ value
+told_at on found place told value is told_is so = rw (← is) (sym told_is ∙ so)

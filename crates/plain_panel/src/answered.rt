@@ -88,7 +88,7 @@ fn zones_that_show(
 }
 
 // The place of the zone of a panel that has a number.
-fn zone_at(site: &Site, panel: u8, number: u8) -> Option<usize>
+pub(crate) fn zone_at(site: &Site, panel: u8, number: u8) -> Option<usize>
     ensures { result ≡ numbered site.now panel number }
 {
     site.zones
@@ -163,7 +163,7 @@ fn missing_on(
 }
 
 // The place of the point of a panel that has a line and an address.
-fn point_at(site: &Site, panel: u8, line: u8, address: u8) -> Option<usize>
+pub(crate) fn point_at(site: &Site, panel: u8, line: u8, address: u8) -> Option<usize>
     ensures { result ≡ addressed site.now panel line address }
 {
     site.points.as_slice().iter().position(|point| point.panel == panel
