@@ -4,6 +4,7 @@ pub mod CableReports
 pub mod ChangesMade
 pub mod Confirming
 pub mod Desks
+pub mod Elsewhere
 pub mod EnteringPanels
 pub mod Enterings
 pub mod FactsKept
@@ -20,10 +21,11 @@ pub mod Outputs
 pub mod Reports
 pub mod Requesting
 pub mod RingsTold
-pub mod Running
 pub mod Silencing
 pub mod Silent
 pub mod Solving
 pub mod Standings
 pub mod TakenMoments
+pub mod Tellings
+pub mod Timelines
 pub mod Unset
