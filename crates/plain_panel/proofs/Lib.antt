@@ -7,6 +7,7 @@ pub mod Desks
 pub mod Elsewhere
 pub mod EnteringPanels
 pub mod Enterings
+pub mod FacesMore
 pub mod FactsKept
 pub mod FlagsTold
 pub mod Histories

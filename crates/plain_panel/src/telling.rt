@@ -8,6 +8,7 @@ use crate::answers_told::{answers_now, told};
 use crate::faces_now::{are_same, faces_now};
 use crate::keeping::Keeping;
 use crate::moment::Moment;
+use crate::op_answered::OpAnswered;
 use crate::ticking::tick_after;
 use face_text::{Face, Step, Timeline};
 use site_types::{Retained, Site};
@@ -103,11 +104,37 @@ impl Telling {
             Moment::Began => {
                 self.close(alloc, site, kept, before)?;
                 self.failed = false;
+                self.advance(alloc, site, kept, before, moment, with_it)
             }
-            Moment::Kept { failed } => self.failed = failed || self.failed,
-            Moment::Happened(_) => {}
-            Moment::Turned { .. } => {}
+            Moment::Kept { failed } => {
+                self.failed = failed || self.failed;
+                self.advance(alloc, site, kept, before, moment, with_it)
+            }
+            Moment::Happened(_) => self.advance(alloc, site, kept, before, moment, with_it),
+            Moment::Turned { .. } => self.advance(alloc, site, kept, before, moment, with_it),
         }
+    }
+
+    // What is kept takes the moment, and the tick is counted.
+    fn advance(
+        &mut self,
+        alloc: Global,
+        site: &Site,
+        kept: &Retained,
+        before: &[Moment],
+        moment: &Moment,
+        with_it: &[Moment],
+    ) -> Result<(), NoMemory>
+        requires valid { IsValid site.now }
+        requires stands { StandsForKeeping site.now kept.now (history before.now) self.old.keeping }
+        requires ticks { tick_of (history before.now) ≡ self.old.tick.0 }
+        requires all { with_it.now ≡ before.now ++ moment.now ∷ [] }
+        ensures stands { OnOk result (StandsForKeeping site.now kept.now (moment_of moment.now ∷ history before.now) self.new.keeping) }
+        ensures ticks { OnOk result (tick_of (moment_of moment.now ∷ history before.now) ≡ self.new.tick.0) }
+        ensures failed { self.new.failed ≡ self.old.failed }
+        ensures faces { self.new.faces ≡ self.old.faces }
+        ensures steps { self.new.steps ≡ self.old.steps }
+    {
         self.keeping
             .step(alloc, site, kept, self.tick, before, moment, with_it)?;
         self.tick = tick_after(self.tick, moment)?;
@@ -131,22 +158,81 @@ impl Telling {
         ensures failed { self.new.failed ≡ self.old.failed }
     {
         let faces = faces_now(alloc, &self.keeping, site, kept, self.tick, before)?;
-        if self.tick.0 >= 1 {
-            let requests = self.keeping.desk.requests();
-            let answers = self.keeping.desk.outcomes().answers.as_slice();
-            let now = answers_now(alloc, requests, answers, self.tick)?;
-            let is_same = are_same(&faces, &self.faces);
-            if !is_same || !now.is_empty() || self.failed {
-                let answers = told(&now, self.failed)?;
-                let faces = Items::from_vec(Vec::from_slice(alloc, &faces)?);
-                self.steps.push(Step {
-                    tick: self.tick,
-                    faces,
-                    answers,
-                })?;
-            }
-        }
+        let step = self.step_told(alloc, site, kept, before, &faces)?;
+        push_some(&mut self.steps, step)?;
         self.faces = faces;
         Ok(())
+    }
+
+    // The step of the tick that began last, if it is told, with the faces after it.
+    fn step_told(
+        &self,
+        alloc: Global,
+        site: &Site,
+        kept: &Retained,
+        before: &[Moment],
+        faces: &[Face],
+    ) -> Result<Option<Step>, NoMemory>
+        requires stands { StandsForTelling site.now kept.now (history before.now) self.now }
+        requires faces { faces.now ≡ faces_of site.now kept.now (history before.now) }
+        ensures { IfOk result (λ step. step ≡ step_closed site.now kept.now (history before.now)) }
+    {
+        let requests = self.keeping.desk.requests();
+        let answers = self.keeping.desk.outcomes().answers.as_slice();
+        let now = answers_now(alloc, requests, answers, self.tick)?;
+        let now = now.as_slice();
+        if is_told(self.tick, faces, self.faces.as_slice(), now, self.failed) {
+            let step = made(alloc, self.tick, faces, now, self.failed)?;
+            Ok(Some(step))
+        } else {
+            Ok(None)
+        }
+    }
+}
+
+ghost use Rattle.std.specs.Prelude.{◌==◌, ◌&&◌, ◌||◌, length, map, nat_le, not};
+ghost use Rattle.std.specs.List.{cons_option};
+ghost use Rattle.face_text.specs.Faces.{same_faces};
+ghost use Rattle.panel_rules.specs.Timeline.{told as told_by};
+ghost use Rattle.plain_panel.specs.Desks.{answered_of};
+ghost use Rattle.plain_panel.specs.Keepings.{StandsForKeeping};
+ghost use Rattle.plain_panel.specs.Timelines.{step_closed};
+
+// Whether a tick is told: it was counted, and a face is not as it was or something was answered.
+fn is_told(tick: Tick, faces: &[Face], last: &[Face], now: &[OpAnswered], failed: bool) -> bool
+    ensures { result ≡ (nat_le 1 tick.0 && (not (same_faces faces.now last.now) || (not (length now.now == 0) || failed))) }
+{
+    tick.0 >= 1 && (!are_same(faces, last) || !now.is_empty() || failed)
+}
+
+// The step of a tick.
+fn made(
+    alloc: Global,
+    tick: Tick,
+    faces: &[Face],
+    now: &[OpAnswered],
+    failed: bool,
+) -> Result<Step, NoMemory>
+    ensures { IfOk result (λ step. step ≡ record { tick = tick; faces = faces.now; answers = told_by (map answered_of now.now) failed }) }
+{
+    let answers = told(now, failed)?;
+    let faces = Vec::from_slice(alloc, faces)?;
+    Ok(Step {
+        tick,
+        faces: Items::from_vec(faces),
+        answers,
+    })
+}
+
+// One step more, if there is one.
+fn push_some(steps: &mut Vec<Step>, step: Option<Step>) -> Result<(), NoMemory>
+    ensures { OnOk result (steps.new.items ≡ steps.old.items ++ cons_option step []) }
+{
+    match step {
+        None => Ok(()),
+        Some(step) => {
+            steps.push(step)?;
+            Ok(())
+        }
     }
 }
