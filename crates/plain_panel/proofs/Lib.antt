@@ -1,6 +1,8 @@
 pub mod Asked
 pub mod Desks
 pub mod Enterings
+pub mod Joining
+pub mod Confirming
 pub mod Histories
 pub mod Later
 pub mod Masked
@@ -15,7 +17,6 @@ pub mod NoFaults
 pub mod Silent
 pub mod Looking
 pub mod Requesting
-pub mod Running
 pub mod Silencing
 pub mod Solving
 pub mod FactsKept

@@ -1,20 +1,17 @@
 -- Sets of zones, the end of a tick, and what holds of the turns of Drive since.
-use Rattle.std.proofs.Common.{◌≡◌, ◌<◌, ◌≤◌, ◌+◌, ◌-◌, ◌==◌, ◌&&◌, ◌||◌, not, ℕ, zero, suc, Bool, true, false, List, [], ◌∷◌, ◌++◌, length, get_or, take, Option, Some, None, if◌then◌else◌, inl, inr, refl, sym, ◌∙◌, ap, subst, arith}
-use Rattle.std.specs.Prelude.{nat_le, nat_lt, slice_get}
+use Rattle.std.proofs.Common.{◌≡◌, ◌<◌, ◌≤◌, ◌+◌, ◌&&◌, not, ℕ, zero, suc, Bool, true, false, List, [], ◌∷◌, ◌++◌, length, take, if◌then◌else◌, refl, sym, ◌∙◌, ap, subst, arith}
+use Rattle.std.specs.Prelude.{nat_le, slice_get}
 use Rattle.std.specs.List.{list_any, range_with_len}
 use Rattle.std.proofs.Math.Seq.{take-length}
-use Rattle.tick_units.specs.declared.task.Task.{Task}
-use Rattle.tick_units.specs.declared.task.Task.TheVariants.{Poll, Decide, Supply, Desk, Hold, Link, Effect, Drive, Keep}
 use Rattle.site_types.specs.declared.site.Site.{Site}
-use Rattle.site_types.proofs.Done.{lt_tells}
 use Rattle.marker_table.specs.Equations.{zone_bit}
 use Rattle.panel_rules.specs.Markers.{Facts}
-use Rattle.panel_rules.specs.Moments.{Moment as MomentOf, Began as BeganOf, Happened as HappenedOf, Turned as TurnedOf, Kept as KeptOf, tick_of, up_to}
-use Rattle.panel_rules.specs.Outputs.{is_within, released_at_effect, some_zone, stays_within}
+use Rattle.panel_rules.specs.Moments.{Moment as MomentOf, tick_of, up_to}
+use Rattle.panel_rules.specs.Outputs.{is_within, some_zone}
 use Rattle.plain_panel.specs.declared.seen.Seen.{Seen}
-use Rattle.plain_panel.specs.Drives.{AreSeen, AreZones, is_turn_of}
+use Rattle.plain_panel.specs.Drives.{AreSeen, AreZones}
 use Rattle.plain_panel.specs.Histories.{moment_of}
-use Rattle.plain_panel.proofs.Looking.{ends_with, last_of}
+use Rattle.plain_panel.proofs.Looking.{last_of}
 
 -- tests that agree on the numbers from one on find the same
 any_range : (f g : ℕ → Bool) (from count : ℕ) → ((k : ℕ) → from ≤ k → k < from + count → f k ≡ g k) → list_any f (range_with_len from count) ≡ list_any g (range_with_len from count)
@@ -52,56 +49,3 @@ module _ (site : Site) (facts : ℕ → List MomentOf → Facts) where
       let came : true ≡ nat_le (tick_of (h.moment ∷ h.past)) tick = by h.past h.seen.tick ∙ ap (λ (m : MomentOf). nat_le (tick_of (m ∷ h.past)) tick) h.seen.is in
       let ends : up_to tick history ≡ history = ap (up_to tick) h.is ∙ ap (λ (b : Bool). if b then h.moment ∷ h.past else up_to tick h.past) (sym came) ∙ sym h.is in
       subst (λ (seen : List Seen). AreSeen site facts seen (up_to tick history)) (sym (take-length xs)) (subst (λ (m : List MomentOf). AreSeen site facts xs m) (sym ends) are)
-
-  pub part_by : (tick : ℕ) (xs earlier : List Seen) (last : Seen) → xs ≡ earlier ++ last ∷ [] → ((past : List MomentOf) → last.tick.0 ≡ tick_of past → false ≡ nat_le (tick_of (moment_of last.moment ∷ past)) tick) →
-      (part : List Seen) → ((past : List MomentOf) → AreSeen site facts earlier past → AreSeen site facts part (up_to tick past)) →
-      (history : List MomentOf) → AreSeen site facts xs history → AreSeen site facts part (up_to tick history)
-  part_by tick xs earlier last is by part more history are =
-      let h = last_of site facts xs earlier last is history are in
-      let came : false ≡ nat_le (tick_of (h.moment ∷ h.past)) tick = by h.past h.seen.tick ∙ ap (λ (m : MomentOf). nat_le (tick_of (m ∷ h.past)) tick) h.seen.is in
-      let ends : up_to tick history ≡ up_to tick h.past = ap (up_to tick) h.is ∙ ap (λ (b : Bool). if b then h.moment ∷ h.past else up_to tick h.past) (sym came) in
-      subst (λ (m : List MomentOf). AreSeen site facts part m) (sym ends) (more h.past h.before)
-
-  -- what holds since a tick, by whether the newest moment is a turn of Drive after it
-  stays_more : (panel since : ℕ) (test : ℕ → Bool) (moment : MomentOf) (past : List MomentOf) → stays_within site facts panel since test (moment ∷ past) ≡
-      (if is_turn_of panel Drive moment && nat_lt since (tick_of past) then is_within site (released_at_effect site facts panel past) test && stays_within site facts panel since test past else stays_within site facts panel since test past)
-  stays_more panel since test BeganOf past = refl
-  stays_more panel since test (HappenedOf event) past = refl
-  stays_more panel since test (TurnedOf other Poll) past = refl
-  stays_more panel since test (TurnedOf other Decide) past = refl
-  stays_more panel since test (TurnedOf other Supply) past = refl
-  stays_more panel since test (TurnedOf other Desk) past = refl
-  stays_more panel since test (TurnedOf other Hold) past = refl
-  stays_more panel since test (TurnedOf other Link) past = refl
-  stays_more panel since test (TurnedOf other Effect) past = refl
-  stays_more panel since test (TurnedOf other Drive) past = refl
-  stays_more panel since test (TurnedOf other Keep) past = refl
-  stays_more panel since test (KeptOf failed) past = refl
-
-  pub stays_now : (panel since : ℕ) (test : ℕ → Bool) (xs earlier : List Seen) (last : Seen) → xs ≡ earlier ++ last ∷ [] → is_turn_of panel Drive (moment_of last.moment) ≡ true → since < last.tick.0 →
-      (within stays : Bool) →
-      ((past : List MomentOf) → AreSeen site facts earlier past → within ≡ is_within site (released_at_effect site facts panel past) test) →
-      ((past : List MomentOf) → AreSeen site facts earlier past → stays ≡ stays_within site facts panel since test past) →
-      (history : List MomentOf) → AreSeen site facts xs history → (within && stays) ≡ stays_within site facts panel since test history
-  stays_now panel since test xs earlier last is turns after within stays in_set more history are =
-      let h = last_of site facts xs earlier last is history are in
-      let turn : is_turn_of panel Drive h.moment ≡ true = ap (is_turn_of panel Drive) (sym h.seen.is) ∙ turns in
-      let later : nat_lt since (tick_of h.past) ≡ true = ap (nat_lt since) (sym h.seen.tick) ∙ less since last.tick.0 after in
-      let both : (is_turn_of panel Drive h.moment && nat_lt since (tick_of h.past)) ≡ true = rw (turn, later) refl in
-      ap (λ (b : Bool). b && stays) (in_set h.past h.before) ∙ ap (λ (b : Bool). is_within site (released_at_effect site facts panel h.past) test && b) (more h.past h.before)
-      ∙ sym (ap (stays_within site facts panel since test) h.is ∙ stays_more panel since test h.moment h.past
-      ∙ ap (λ (b : Bool). if b then is_within site (released_at_effect site facts panel h.past) test && stays_within site facts panel since test h.past else stays_within site facts panel since test h.past) both)
-    where
-      less : (a b : ℕ) → a < b → nat_lt a b ≡ true
-      less a b h = elim (lt_tells a b) [ inl t ↦ t.0 | inr t ↦ absurd (omega (arith, h, t.1)) ]
-
-  pub stays_before : (panel since : ℕ) (test : ℕ → Bool) (xs earlier : List Seen) (last : Seen) → xs ≡ earlier ++ last ∷ [] → (is_turn_of panel Drive (moment_of last.moment) && nat_lt since last.tick.0) ≡ false →
-      (stays : Bool) → ((past : List MomentOf) → AreSeen site facts earlier past → stays ≡ stays_within site facts panel since test past) →
-      (history : List MomentOf) → AreSeen site facts xs history → stays ≡ stays_within site facts panel since test history
-  stays_before panel since test xs earlier last is turns stays more history are =
-      let h = last_of site facts xs earlier last is history are in
-      let turn : (is_turn_of panel Drive h.moment && nat_lt since (tick_of h.past)) ≡ false =
-      ap (λ (m : MomentOf). is_turn_of panel Drive m && nat_lt since (tick_of h.past)) (sym h.seen.is) ∙ ap (λ (t : ℕ). is_turn_of panel Drive (moment_of last.moment) && nat_lt since t) (sym h.seen.tick) ∙ turns in
-      more h.past h.before
-      ∙ sym (ap (stays_within site facts panel since test) h.is ∙ stays_more panel since test h.moment h.past
-      ∙ ap (λ (b : Bool). if b then is_within site (released_at_effect site facts panel h.past) test && stays_within site facts panel since test h.past else stays_within site facts panel since test h.past) turn)

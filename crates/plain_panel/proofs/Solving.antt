@@ -1,17 +1,18 @@
 -- The equations of markers over masks and over facts that these are.
-use Rattle.std.proofs.Common.{◌≡◌, ◌<◌, ◌≤◌, ◌+◌, ◌-◌, ℕ, zero, suc, Bool, false, List, [], ◌∷◌, length, set, replicate, get_or, inl, inr, arith, below_more, get_or-set_other, get_or-set_same, Option, Some, None, refl, sym, ◌∙◌, ap}
+use Rattle.std.proofs.Common.{◌≡◌, ◌<◌, ◌≤◌, ◌+◌, ◌-◌, ℕ, zero, suc, Bool, false, List, length, set, replicate, get_or, inl, inr, arith, below_more, get_or-set_other, get_or-set_same, Option, Some, None, refl, sym, ◌∙◌, ap}
 use Rattle.std.specs.Prelude.{slice_get, All}
 use Rattle.site_types.specs.declared.marker.Marker.{Marker as MarkerPlan}
 use Rattle.site_types.specs.declared.site.Site.{Site}
 use Rattle.site_types.specs.declared.term.Term.{Term}
 use Rattle.site_types.specs.declared.term.Term.TheVariants.{Zone, Manual, Fault, Marker}
-use Rattle.site_types.specs.Valid.{IsPanel, IsTerm, IsValid}
+use Rattle.site_types.specs.Bits.{has_bit}
+use Rattle.site_types.specs.Valid.{IsTerm, IsValid}
 use Rattle.std.proofs.lemmas.Option.{slice_get_past, slice_get_read}
 use Rattle.site_types.proofs.Done.{lt_tells}
 use Rattle.site_types.proofs.Masks.{has_bit-zero}
 use Rattle.site_types.proofs.Places.{all_at}
 use Rattle.marker_table.specs.declared.facts.Facts.{Facts as Masks}
-use Rattle.marker_table.specs.Equations.{equation as equation_over, holds as holds_over, is_met, makes_true}
+use Rattle.marker_table.specs.Equations.{equation as equation_over, holds as holds_over, is_met, makes_true, zone_bit}
 use Rattle.cause_effect.proofs.Truths.{met_same}
 use Rattle.panel_rules.specs.Markers.{Facts, equation, hand_facts, holds}
 use Rattle.plain_panel.specs.Drives.{AreFacts}
@@ -35,8 +36,12 @@ equation_same site valid rules masks are v w same m =
     makes_same site rules masks are v w same (slice_get site.markers m)
     (λ marker at. all_at (λ (marker : MarkerPlan). All (IsTerm site) marker.terms) site.markers m marker valid.references.terms at)
 
-pub hand_facts_are : (site : Site) (rules : Facts) (masks : Masks) → AreFacts site rules masks → AreFacts site (hand_facts rules) (record { zones = masks.manual; manual = masks.manual; faults = 0 })
-hand_facts_are site rules masks are = record { released = are.by_hand; by_hand = are.by_hand; faulty = λ panel is. has_bit-zero (panel - 1) }
+pub hand_facts_are : (site : Site) (rules : Facts) (masks hand : Masks) → hand.zones ≡ masks.manual → hand.manual ≡ masks.manual → hand.faults ≡ 0 → AreFacts site rules masks → AreFacts site (hand_facts rules) hand
+hand_facts_are site rules masks hand zones manual faults are = record {
+  released = λ zone within. ap (λ (xs : List ℕ). zone_bit xs (slice_get site.zones zone)) zones ∙ are.by_hand zone within;
+  by_hand = λ zone within. ap (λ (xs : List ℕ). zone_bit xs (slice_get site.zones zone)) manual ∙ are.by_hand zone within;
+  faulty = λ panel is. ap (λ (mask : ℕ). has_bit mask (panel - 1)) faults ∙ has_bit-zero (panel - 1);
+}
 
 -- ---- tables of flags
 

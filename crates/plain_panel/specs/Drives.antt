@@ -1,5 +1,5 @@
 -- What is kept of moments to tell what drives outputs, for a history of them.
-use Rattle.std.specs.Prelude.{◌≡◌, ℕ, ◌-◌, ◌<◌, ◌==◌, max, Bool, false, List, [], ◌∷◌, length, take, reverse, slice_get, Option, Some, None}
+use Rattle.std.specs.Prelude.{◌≡◌, ℕ, ◌-◌, ◌<◌, ◌==◌, max, Bool, true, false, List, [], ◌∷◌, length, take, reverse, slice_get, Option, Some, None}
 use Rattle.tick_units.specs.declared.task.Task.{Task}
 use Rattle.tick_units.specs.declared.task.Task.TheVariants.{Effect}
 use Rattle.site_types.specs.declared.event.Event.{Event}
@@ -22,6 +22,17 @@ is_turn_of panel task BeganOf = false
 is_turn_of panel task (HappenedOf event) = false
 is_turn_of panel task (TurnedOf other_panel other) = is_turn panel task other_panel other
 is_turn_of panel task (KeptOf failed) = false
+
+-- a moment is a turn of Effect
+abbrev pub is_effect_task : Task → Bool
+is_effect_task Effect = true
+is_effect_task _ = false
+
+abbrev pub is_effect : MomentOf → Bool
+is_effect BeganOf = false
+is_effect (HappenedOf event) = false
+is_effect (TurnedOf panel task) = is_effect_task task
+is_effect (KeptOf failed) = false
 
 -- what had befallen before the latest turn of a panel's task, if it had one
 abbrev pub before_latest : ℕ → Task → List MomentOf → Option (List MomentOf)
@@ -58,9 +69,9 @@ pub record AreFacts (site : Site) (facts : Facts) (masks : Masks) : Type 0 where
   pub faulty : (panel : ℕ) → IsPanel site panel → has_bit masks.faults (panel - 1) ≡ facts.faulty panel
 
 module _ (site : Site) (facts : ℕ → List MomentOf → Facts) where
-  -- where a moment after a history is a turn of Effect, masks are the facts of that turn
+  -- where a moment after a history is a turn of Effect of a panel of the site, masks are the facts of that turn
   abbrev pub AreFactsOfTurn : List MomentOf → MomentOf → Masks → Type 0
-  AreFactsOfTurn before moment masks = (panel : ℕ) → moment ≡ TurnedOf panel Effect → AreFacts site (facts panel before) masks
+  AreFactsOfTurn before moment masks = (panel : ℕ) → IsPanel site panel → moment ≡ TurnedOf panel Effect → AreFacts site (facts panel before) masks
 
   -- what an Effect turn solved, from its facts
   pub record IsSolved (facts_then : Facts) (seen : Seen) : Type 0 where
@@ -68,11 +79,11 @@ module _ (site : Site) (facts : ℕ → List MomentOf → Facts) where
     pub values : (marker : ℕ) → values_of seen.values marker ≡ solution site facts_then marker
     pub by_hand : (marker : ℕ) → values_of seen.by_hand marker ≡ solution site (hand_facts facts_then) marker
 
-  -- what is kept of a moment: itself, the tick that had begun before it, and of an Effect turn what it solved
+  -- what is kept of a moment: itself, the tick that had begun before it, and of an Effect turn of a panel of the site what it solved
   pub record IsSeen (moment : MomentOf) (before : List MomentOf) (seen : Seen) : Type 0 where
     pub is : moment_of seen.moment ≡ moment
     pub tick : seen.tick.0 ≡ tick_of before
-    pub solved : (panel : ℕ) → moment ≡ TurnedOf panel Effect → IsSolved (facts panel before) seen
+    pub solved : (panel : ℕ) → IsPanel site panel → moment ≡ TurnedOf panel Effect → IsSolved (facts panel before) seen
 
   -- what is kept of each moment of a history, the newest first
   abbrev pub AreSeenBack : List Seen → List MomentOf → Type 0

@@ -10,11 +10,13 @@ ghost use Rattle.plain_panel.specs.Histories.{all_done, moment_of};
 
 use crate::done::Done;
 use crate::moment::Moment;
-use crate::seen::Seen;
+use crate::on::is_on;
+use crate::seen::{Seen, ticks};
+use crate::unconfirmed::{is_confirmed, is_unconfirmed};
 use marker_table::Facts;
 use site_types::{Retained, Site};
 use std::alloc::Global;
-use tick_units::NoMemory;
+use tick_units::{NoMemory, Tick};
 
 /// The moments up to now with what turns of Effect solved: from them it tells which outputs are on and confirmed.
 #[derive(Drop)]
@@ -37,6 +39,8 @@ impl Driving {
         requires { IsValid site.now }
         ensures { IfOk result (λ _. (facts_of : ℕ → List MomentOf → FactsOf) (history : List MomentOf) → DrivesFor site.now facts_of history self.old → AreFactsOfTurn site.now facts_of history (moment_of moment.now) facts.now → DrivesFor site.now facts_of (moment_of moment.now ∷ history) self.new) }
     {
+        let tick = Tick(ticks(self.seen.as_slice()) as u64);
+        self.seen.push(Seen::of(site, moment, tick, facts))?;
         Ok(())
     }
 
@@ -45,7 +49,7 @@ impl Driving {
         requires { IsValid site.now }
         ensures { (facts : ℕ → List MomentOf → FactsOf) (history : List MomentOf) → DrivesFor site.now facts history self.now → result ≡ is_on_in site.now facts kept.now (all_done done.now) output history }
     {
-        false
+        is_on(site, kept, done, output, self.seen.as_slice())
     }
 
     /// Whether an output was confirmed while it was on, and has been on since.
@@ -53,7 +57,7 @@ impl Driving {
         requires { IsValid site.now }
         ensures { (facts : ℕ → List MomentOf → FactsOf) (history : List MomentOf) → DrivesFor site.now facts history self.now → result ≡ is_confirmed_out site.now facts kept.now (all_done done.now) output history }
     {
-        false
+        is_confirmed(site, kept, done, output, self.seen.as_slice())
     }
 
     /// Whether an output that asks for a confirmation has been on for too long without one.
@@ -61,6 +65,6 @@ impl Driving {
         requires { IsValid site.now }
         ensures { (facts : ℕ → List MomentOf → FactsOf) (history : List MomentOf) → DrivesFor site.now facts history self.now → result ≡ is_unconfirmed_in site.now facts kept.now (all_done done.now) output history }
     {
-        false
+        is_unconfirmed(site, kept, done, output, self.seen.as_slice())
     }
 }

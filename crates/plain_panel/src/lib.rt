@@ -43,6 +43,7 @@ mod storing;
 mod supplies;
 mod turns;
 mod watched;
+mod unconfirmed;
 
 pub use alarm::{is_by_hand, is_first, is_in_alarm, is_released};
 pub use answered::{answered_faults, answered_word};

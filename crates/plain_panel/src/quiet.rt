@@ -1,7 +1,7 @@
 //! Whether the sounders of a panel are quiet.
 
 ghost use Rattle.std.specs.Prelude.{◌≡◌, ◌<◌, ◌≤◌, ℕ, Bool, List, ◌∷◌, length, nat_le, not, ◌&&◌, slice_get, take};
-ghost use Rattle.site_types.specs.Valid.{IsValid};
+ghost use Rattle.site_types.specs.Valid.{IsPanel, IsValid};
 ghost use Rattle.site_types.specs.declared.site.Site.{Site as SiteOf};
 ghost use Rattle.site_types.specs.declared.retained.Retained.{Retained as RetainedOf};
 ghost use Rattle.marker_table.specs.Equations.{zone_bit};
@@ -23,7 +23,8 @@ use tick_units::{Task, Tick};
 
 /// Whether a silence keeps the sounders of a panel quiet: since its tick no zone was released but those that were then, and always one.
 pub(crate) fn is_quiet(site: &Site, done: &[Done], panel: u8, tick: Tick, seen: &[Seen]) -> bool
-    requires { IsValid site.now }
+    requires valid { IsValid site.now }
+    requires panel { IsPanel site.now panel }
     ensures { (facts : ℕ → List MomentOf → FactsOf) (kept : RetainedOf) (history : List MomentOf) → AreSeen site.now facts seen.now history → tick.0 ≡ tick_of history → result ≡ is_quiet_in site.now facts kept (all_done done.now) panel history }
 {
     match silence_before(panel, tick, done) {
@@ -38,7 +39,8 @@ pub(crate) fn is_quiet(site: &Site, done: &[Done], panel: u8, tick: Tick, seen: 
 
 // Whether at each turn of Drive after a tick the zones released had one, and were within a set.
 fn stays_within(site: &Site, panel: u8, since: Tick, zones: &[u32; 8], seen: &[Seen]) -> bool
-    requires { IsValid site.now }
+    requires valid { IsValid site.now }
+    requires panel { IsPanel site.now panel }
     ensures { (facts : ℕ → List MomentOf → FactsOf) (history : List MomentOf) (test : ℕ → Bool) → AreSeen site.now facts seen.now history → AreZones site.now test zones.now → result ≡ stays_within_in site.now facts panel since.0 test history }
 {
     match seen {

@@ -1,6 +1,7 @@
 //! What the latest turns of Effect ask for.
 
 ghost use Rattle.std.specs.Prelude.{◌≡◌, ℕ, List, slice_get};
+ghost use Rattle.site_types.specs.Valid.{IsPanel, IsValid};
 ghost use Rattle.marker_table.specs.Equations.{values_of};
 ghost use Rattle.panel_rules.specs.Markers.{Facts as FactsOf};
 ghost use Rattle.panel_rules.specs.Moments.{Moment as MomentOf};
@@ -35,6 +36,7 @@ fn is_true(site: &Site, output: u16, values: &Values) -> bool
 
 /// Whether the latest turn of Effect requests an output.
 pub(crate) fn is_requested(site: &Site, output: u16, seen: &[Seen]) -> bool
+    requires { IsValid site.now }
     ensures { (facts : ℕ → List MomentOf → FactsOf) (history : List MomentOf) → AreSeen site.now facts seen.now history → result ≡ is_requested_in site.now facts output history }
 {
     match before_latest(panel_of_output(site, output), Task::Effect, seen) {
@@ -45,6 +47,7 @@ pub(crate) fn is_requested(site: &Site, output: u16, seen: &[Seen]) -> bool
 
 /// Whether the latest turn of Effect requests an output by hand.
 pub(crate) fn is_requested_by_hand(site: &Site, output: u16, seen: &[Seen]) -> bool
+    requires { IsValid site.now }
     ensures { (facts : ℕ → List MomentOf → FactsOf) (history : List MomentOf) → AreSeen site.now facts seen.now history → result ≡ is_requested_by_hand_in site.now facts output history }
 {
     match before_latest(panel_of_output(site, output), Task::Effect, seen) {
@@ -55,6 +58,7 @@ pub(crate) fn is_requested_by_hand(site: &Site, output: u16, seen: &[Seen]) -> b
 
 /// The zones that were released for the latest turn of Effect of a panel, as masks by panel.
 pub(crate) fn released_at_effect(site: &Site, panel: u8, seen: &[Seen]) -> [u32; 8]
+    requires { IsPanel site.now panel }
     ensures { (facts : ℕ → List MomentOf → FactsOf) (history : List MomentOf) → AreSeen site.now facts seen.now history → AreZones site.now (released_at_effect_in site.now facts panel history) result }
 {
     match before_latest(panel, Task::Effect, seen) {
@@ -65,6 +69,7 @@ pub(crate) fn released_at_effect(site: &Site, panel: u8, seen: &[Seen]) -> [u32;
 
 /// The zones that were released for the latest turn of Effect before the latest one of Drive.
 pub(crate) fn released_at_drive(site: &Site, panel: u8, seen: &[Seen]) -> [u32; 8]
+    requires { IsPanel site.now panel }
     ensures { (facts : ℕ → List MomentOf → FactsOf) (history : List MomentOf) → AreSeen site.now facts seen.now history → AreZones site.now (released_at_drive_in site.now facts panel history) result }
 {
     match before_latest(panel, Task::Drive, seen) {

@@ -1,6 +1,16 @@
+ghost use Rattle.std.specs.Prelude.{◌≡◌, ◌≤◌, ℕ, List, length};
+ghost use Rattle.site_types.specs.Valid.{IsValid};
+ghost use Rattle.site_types.specs.declared.site.Site.{Site as SiteOf};
+ghost use Rattle.panel_rules.specs.Markers.{Facts as FactsOf};
+ghost use Rattle.panel_rules.specs.Moments.{Moment as MomentOf, tick_of};
+ghost use Rattle.plain_panel.specs.Drives.{AreFactsOfTurn, AreSeen, IsSeen, is_effect as is_effect_of};
+ghost use Rattle.plain_panel.specs.Histories.{moment_of};
+
 use crate::moment::Moment;
-use marker_table::Values;
-use tick_units::Tick;
+use crate::solved::{by_hand, solved};
+use marker_table::{Facts, Values};
+use site_types::Site;
+use tick_units::{Task, Tick};
 
 /// What is kept of a moment.
 #[derive(Clone, Copy)]
@@ -14,4 +24,59 @@ pub struct Seen {
     pub values: Values,
     /// The markers that it found true by hand.
     pub by_hand: Values,
+}
+
+impl Seen {
+    /// What is kept of a moment, with the tick that had begun before it. Of a turn of Effect the facts are those of that turn.
+    pub fn of(site: &Site, moment: &Moment, tick: Tick, facts: &Facts) -> Seen
+        requires { IsValid site.now }
+        ensures { (facts_of : ℕ → List MomentOf → FactsOf) (history : List MomentOf) → tick.0 ≡ tick_of history → AreFactsOfTurn site.now facts_of history (moment_of moment.now) facts.now → IsSeen site.now facts_of (moment_of moment.now) history result }
+    {
+        if is_effect(moment) {
+            Seen {
+                moment: *moment,
+                tick,
+                released: facts.zones,
+                values: solved(site, facts),
+                by_hand: solved(site, &by_hand(facts)),
+            }
+        } else {
+            Seen {
+                moment: *moment,
+                tick,
+                released: [0; 8],
+                values: Values::none(),
+                by_hand: Values::none(),
+            }
+        }
+    }
+}
+
+fn is_effect(moment: &Moment) -> bool
+    ensures { result ≡ is_effect_of (moment_of moment.now) }
+{
+    matches!(
+        *moment,
+        Moment::Turned {
+            task: Task::Effect,
+            ..
+        }
+    )
+}
+
+/// How many ticks have begun.
+pub(crate) fn ticks(seen: &[Seen]) -> usize
+    ensures few { result ≤ length seen.now }
+    ensures tick { (site : SiteOf) (facts : ℕ → List MomentOf → FactsOf) (history : List MomentOf) → AreSeen site facts seen.now history → result ≡ tick_of history }
+{
+    match seen {
+        [] => 0,
+        [before @ .., last] => {
+            let earlier = ticks(before);
+            match last.moment {
+                Moment::Began => earlier + 1,
+                _ => earlier,
+            }
+        }
+    }
 }

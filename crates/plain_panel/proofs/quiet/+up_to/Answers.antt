@@ -1,6 +1,6 @@
-use Rattle.std.proofs.Common.{◌≡◌, ◌∙◌, sym}
+use Rattle.std.proofs.Common.{◌∙◌, sym}
 use Rattle.plain_panel.proofs.Looking.{ends_with}
-use Rattle.plain_panel.proofs.Silencing.{part_by, whole_by}
+use Rattle.plain_panel.proofs.Silencing.{whole_by}
 use Rattle.plain_panel.proofs.quiet.+up_to.Goals as goal
 
 pub returns-then-came_by-clause-seen : goal.returns-then-came_by-clause-seen

@@ -6,4 +6,4 @@ returns-in-None c facts history are = none_at_effect c.args.site.now facts c.arg
 
 pub returns-in-Some : goal.returns-in-Some
 returns-in-Some c facts history are =
-    some_at_effect c.args.site.now facts c.args.panel c.args.seen.now history c.in-Some.place c.index-seen-place.result (c.in-Some.ensures.turn c.args.site.now facts history are)
+    some_at_effect c.args.site.now facts c.args.panel c.requires c.args.seen.now history c.in-Some.place c.index-seen-place.result (c.in-Some.ensures.turn c.args.site.now facts history are)

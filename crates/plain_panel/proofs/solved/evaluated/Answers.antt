@@ -1,4 +1,4 @@
-use Rattle.std.proofs.Common.{◌≡◌, ◌<◌, ◌≤◌, ◌∙◌, length, length-set, get_or, false, Bool, sym, ap, subst, arith, List, ℕ}
+use Rattle.std.proofs.Common.{◌≡◌, ◌<◌, ◌≤◌, ◌∙◌, length, length-set, get_or, false, Bool, ap, subst, arith, List}
 use Rattle.std.proofs.lemmas.List.{length-replicate}
 use Rattle.site_types.specs.declared.marker.Marker.{Marker}
 use Rattle.marker_table.specs.Equations.{equation, values_of}

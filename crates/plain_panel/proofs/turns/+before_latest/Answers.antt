@@ -1,4 +1,4 @@
-use Rattle.std.proofs.Common.{◌≡◌, ◌∙◌, sym, rules}
+use Rattle.std.proofs.Common.{◌∙◌, sym}
 use Rattle.plain_panel.proofs.Looking.{ends_with, turn_before, turn_now}
 use Rattle.plain_panel.proofs.turns.+before_latest.Goals as goal
 
