@@ -1,5 +1,5 @@
 -- The lists of a desk as the definitions have them, with one element more, and what its turns make of them.
-use Rattle.std.proofs.Common.{◌≡◌, ◌∙◌, ◌+◌, ◌<◌, ◌==◌, ◌&&◌, ◌||◌, nat_le, ℕ, Bool, true, false, List, [], ◌∷◌, ◌++◌, cond, length, get_or, take, map, filter, Option, Some, None, Result, Ok, Err, ap, refl, sym}
+use Rattle.std.proofs.Common.{◌≡◌, ◌∙◌, ◌+◌, ◌<◌, ◌==◌, ◌&&◌, ◌||◌, nat_le, ℕ, Bool, true, false, List, [], ◌∷◌, ◌++◌, cond, length, get_or, take, filter, Option, Some, None, Result, Ok, Err, ap, refl, sym}
 use Rattle.std.specs.Prelude.{option_map, OnOk}
 use Rattle.std.specs.List.{count_by, fold, list_any}
 use Rattle.std.proofs.lemmas.List.{length-map, map-append, take_more}

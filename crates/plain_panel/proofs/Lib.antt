@@ -22,4 +22,8 @@ pub mod Solving
 pub mod FactsKept
 pub mod CableReports
 pub mod ChangesMade
+pub mod Elsewhere
+pub mod EnteringPanels
 pub mod FlagsTold
+pub mod Running
+pub mod Tellings

@@ -1,10 +1,11 @@
 pub mod Askings
-pub mod Drives
-pub mod Histories
 pub mod BadRuns
-pub mod Settings
-pub mod Network
 pub mod Desks
+pub mod Drives
 pub mod Enterings
+pub mod Histories
+pub mod Network
+pub mod Settings
 pub mod Signs
 pub mod Storing
+pub mod Tellings

@@ -7,6 +7,7 @@
 mod acting;
 mod alarm;
 mod answered;
+mod answers_told;
 mod asking;
 mod bad_run;
 mod cables;
@@ -16,6 +17,7 @@ mod desk;
 mod done;
 mod driving;
 mod entering;
+mod entering_panels;
 mod latest;
 mod mark;
 mod missing;
@@ -47,6 +49,7 @@ mod unconfirmed;
 
 pub use alarm::{is_by_hand, is_first, is_in_alarm, is_released};
 pub use answered::{answered_faults, answered_word};
+pub use answers_told::{answers_now, told};
 pub use asking::Asking;
 pub use desk::Desk;
 pub use done::Done;

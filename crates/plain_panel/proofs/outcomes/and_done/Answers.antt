@@ -1,4 +1,4 @@
-use Rattle.plain_panel.proofs.Desks.{is_done, not_done}
+use Rattle.plain_panel.proofs.Desks.{is_done}
 use Rattle.plain_panel.proofs.outcomes.and_done.Goals as goal
 
 pub returns-in_ok-push-clause-became : goal.returns-in_ok-push-clause-became
