@@ -1,5 +1,5 @@
 -- The entries of all panels, a moment later.
-use Rattle.std.proofs.Common.{◌≡◌, ◌∙◌, ◌+◌, ◌<◌, ◌≤◌, ℕ, suc, List, [], ◌∷◌, ◌++◌, length, get_or, set, take, drop, ap, arith, length-append, subst, sym}
+use Rattle.std.proofs.Common.{◌≡◌, ◌∙◌, ◌+◌, ◌<◌, ◌≤◌, ℕ, zero, suc, List, [], ◌∷◌, ◌++◌, length, get_or, Some, slice_get, set, take, drop, ap, arith, length-append, subst, sym}
 use Rattle.std.proofs.lemmas.List.{drop-set-lt, length-take-le, take_all, take_more_set}
 use Rattle.std.proofs.Math.Seq.{drop-cons}
 use Rattle.site_types.specs.declared.retained.Retained.{Retained}
@@ -58,3 +58,14 @@ module _ (site : Site) (kept : Retained) (done : List Done) where
 
   pub stepped_all : (history : List Moment) (first k : ℕ) (xs : List Entering) → length xs ≤ k → AllEnter site kept done history first (take k xs) → AllEnter site kept done history first xs
   stepped_all history first k xs past all = subst (λ ys. AllEnter site kept done history first ys) (take_all k xs past) all
+
+  -- one of the panels
+  pub enter_at : (history : List Moment) (first k : ℕ) (xs : List Entering) (x : Entering) → slice_get xs k ≡ Some x → AllEnter site kept done history first xs → StandsForEntering site kept done (first + k) history x
+  enter_at history first k [] x at all = cc
+  enter_at history first zero (y ∷ xs) x at all =
+      let same : y ≡ x = cc in
+      let here : first ≡ first + 0 = omega arith in
+      subst (λ n. StandsForEntering site kept done n history x) here (subst (λ e. StandsForEntering site kept done first history e) same (all.0))
+  enter_at history first (suc k) (y ∷ xs) x at all =
+      let next : (first + 1) + k ≡ first + suc k = omega arith in
+      subst (λ n. StandsForEntering site kept done n history x) next (enter_at history (first + 1) k xs x at (all.1))

@@ -1,5 +1,5 @@
 -- The entries of a panel into the fire alarm condition that are not yet kept, after a history.
-use Rattle.std.specs.Prelude.{◌≡◌, ◌+◌, ℕ, List, [], ◌∷◌, length}
+use Rattle.std.specs.Prelude.{◌≡◌, ◌≤◌, ◌+◌, ℕ, List, [], ◌∷◌, length}
 use Rattle.tick_units.specs.declared.task.Task.TheVariants.{Hold}
 use Rattle.site_types.specs.declared.retained.Retained.{Retained}
 use Rattle.site_types.specs.declared.site.Site.{Site}
@@ -24,6 +24,10 @@ EntersSome site entering = AsksSome site entering.asking
 abbrev pub AllEnter : Site → Retained → List Done → List Moment → ℕ → List Entering → Type 0
 AllEnter site kept done history first [] = Unit {0}
 AllEnter site kept done history first (entering ∷ rest) = StandsForEntering site kept done first history entering × AllEnter site kept done history (first + 1) rest
+
+-- a panel with a place among some from 1 on
+abbrev pub IsAmong : List Entering → ℕ → Type 0
+IsAmong panels panel = (1 ≤ panel) × (panel ≤ length panels)
 
 -- each is of some panel after some history
 abbrev pub AllAsk : Site → List Entering → Type 0

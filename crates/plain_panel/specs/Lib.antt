@@ -7,5 +7,6 @@ pub mod Histories
 pub mod Network
 pub mod Settings
 pub mod Signs
+pub mod Standings
 pub mod Storing
 pub mod Tellings

@@ -1,15 +1,11 @@
--- What stands at all panels of a site after a history, where some operations were done; and what is kept with it.
-use Rattle.std.specs.Prelude.{◌≡◌, List}
+-- What stands at all panels of a site after a history, where some operations were done.
+use Rattle.std.specs.Prelude.{List}
 use Rattle.site_types.specs.declared.retained.Retained.{Retained}
 use Rattle.site_types.specs.declared.site.Site.{Site}
 use Rattle.site_types.specs.Done.{Done}
-use Rattle.panel_rules.specs.Batches.{kept_after}
 use Rattle.panel_rules.specs.Moments.{Moment}
-use Rattle.panel_rules.specs.Operations.{operations}
 use Rattle.panel_rules.specs.Run.{facts_of}
-use Rattle.plain_panel.specs.declared.keeping.Keeping.{Keeping}
 use Rattle.plain_panel.specs.declared.standing.Standing.{Standing}
-use Rattle.plain_panel.specs.Desks.{StandsForDesk}
 use Rattle.plain_panel.specs.Drives.{DrivesFor}
 use Rattle.plain_panel.specs.Enterings.{AreEntering}
 use Rattle.plain_panel.specs.Network.{StandsFor}
@@ -19,9 +15,3 @@ pub record StandsForStanding (site : Site) (kept : Retained) (done : List Done) 
   pub panels : AreEntering site kept done history standing.panels.items
   pub network : StandsFor site kept done history standing.network
   pub driving : DrivesFor site (facts_of site kept done) history standing.driving
-
--- the desk, what stands with the operations that it has done, and what is kept by then
-pub record StandsForKeeping (site : Site) (kept : Retained) (history : List Moment) (keeping : Keeping) : Type 0 where
-  pub desk : StandsForDesk site kept history keeping.desk
-  pub standing : StandsForStanding site kept (operations site kept history).done history keeping.standing
-  pub stored : keeping.stored ≡ kept_after site kept history

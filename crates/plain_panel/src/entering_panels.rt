@@ -9,7 +9,7 @@ ghost use Rattle.plain_panel.specs.Histories.{all_done, moment_of};
 use crate::done::Done;
 use crate::entering::Entering;
 use crate::moment::Moment;
-use site_types::{Retained, Site};
+use site_types::{Answer, Retained, Site};
 use std::alloc::Global;
 use tick_units::{NoMemory, Tick};
 
@@ -45,3 +45,17 @@ pub fn all_new(alloc: Global, site: &Site) -> Result<Vec<Entering>, NoMemory>
 }
 
 ghost use Rattle.plain_panel.specs.Enterings.{AreEntering};
+ghost use Rattle.std.specs.Prelude.{◌+◌};
+ghost use Rattle.panel_rules.specs.Zones.{held_answers};
+ghost use Rattle.site_types.specs.declared.site.Site.{Site as SiteOf};
+ghost use Rattle.plain_panel.specs.Enterings.{IsAmong};
+
+/// The answers whose findings the Hold of a panel has taken, of panels from 1 on; none where there is no such panel.
+pub fn held_at(panels: &[Entering], panel: u8) -> &[Answer]
+    ensures { (site : SiteOf) (kept : RetainedOf) (done : List DoneOf) (history : List MomentOf) → AllEnter site kept done history 1 panels.now → IsAmong panels.now panel → result.now ≡ held_answers site panel history }
+{
+    match panels.get(panel.saturating_sub(1) as usize) {
+        None => &[],
+        Some(entering) => entering.held(),
+    }
+}
