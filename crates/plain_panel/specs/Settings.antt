@@ -1,5 +1,5 @@
 -- Settings and the marks that operations leave, as the definitions have them.
-use Rattle.std.specs.Prelude.{Bool}
+use Rattle.std.specs.Prelude.{ℕ, Bool}
 use Rattle.site_types.specs.declared.site.Site.{Site}
 use Rattle.site_types.specs.Done.{Done as DoneOf, Setting as SettingOf, PointOff as PointOffOf, ZoneOff as ZoneOffOf, OutputOff as OutputOffOf, InTest as InTestOf, DelaysOff as DelaysOffOf, Counter as CounterOf, cancels, moves_floor, mutes}
 use Rattle.plain_panel.specs.declared.mark.Mark.{Mark}
