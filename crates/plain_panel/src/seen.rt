@@ -3,7 +3,7 @@ ghost use Rattle.site_types.specs.Valid.{IsValid};
 ghost use Rattle.site_types.specs.declared.site.Site.{Site as SiteOf};
 ghost use Rattle.panel_rules.specs.Markers.{Facts as FactsOf};
 ghost use Rattle.panel_rules.specs.Moments.{Moment as MomentOf, tick_of};
-ghost use Rattle.plain_panel.specs.Drives.{AreFactsOfTurn, AreSeen, IsSeen, is_effect as is_effect_of};
+ghost use Rattle.plain_panel.specs.Drives.{AreFactsOfTurn, AreSeen, IsSeen, is_beginning as is_beginning_of, is_effect as is_effect_of};
 ghost use Rattle.plain_panel.specs.Histories.{moment_of};
 
 use crate::moment::Moment;
@@ -69,14 +69,17 @@ pub(crate) fn ticks(seen: &[Seen]) -> usize
     ensures few { result ≤ length seen.now }
     ensures tick { (site : SiteOf) (facts : ℕ → List MomentOf → FactsOf) (history : List MomentOf) → AreSeen site facts seen.now history → result ≡ tick_of history }
 {
-    match seen {
-        [] => 0,
-        [before @ .., last] => {
-            let earlier = ticks(before);
-            match last.moment {
-                Moment::Began => earlier + 1,
-                _ => earlier,
-            }
+    let mut ticks = 0;
+    for one in seen {
+        if is_beginning(&one.moment) {
+            ticks += 1;
         }
     }
+    ticks
+}
+
+fn is_beginning(moment: &Moment) -> bool
+    ensures { result ≡ is_beginning_of (moment_of moment.now) }
+{
+    matches!(*moment, Moment::Began)
 }
