@@ -26,5 +26,4 @@ pub mod NoFaults
 pub mod Looking
 pub mod Elsewhere
 pub mod EnteringPanels
-pub mod Running
 pub mod Standings
