@@ -27,3 +27,4 @@ pub mod Looking
 pub mod Elsewhere
 pub mod EnteringPanels
 pub mod Standings
+pub mod Timelines

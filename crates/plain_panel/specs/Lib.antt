@@ -10,3 +10,5 @@ pub mod Signs
 pub mod Standings
 pub mod Storing
 pub mod Tellings
+pub mod Keepings
+pub mod Timelines

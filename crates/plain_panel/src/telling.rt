@@ -1,0 +1,152 @@
+ghost use Rattle.std.specs.Prelude.{◌≡◌, ◌++◌, ◌∷◌, [], IfOk, OnOk};
+ghost use Rattle.site_types.specs.Valid.{IsValid};
+ghost use Rattle.panel_rules.specs.Moments.{tick_of};
+ghost use Rattle.panel_rules.specs.Timeline.{faces_of, timeline_of};
+ghost use Rattle.plain_panel.specs.Histories.{history, moment_of};
+
+use crate::answers_told::{answers_now, told};
+use crate::faces_now::{are_same, faces_now};
+use crate::keeping::Keeping;
+use crate::moment::Moment;
+use crate::ticking::tick_after;
+use face_text::{Face, Step, Timeline};
+use site_types::{Retained, Site};
+use std::alloc::Global;
+use tick_units::{Items, NoMemory, Tick};
+
+/// The timeline of the moments of a run, the oldest of them first.
+pub fn timeline(
+    alloc: Global,
+    site: &Site,
+    kept: &Retained,
+    moments: &[Moment],
+) -> Result<Timeline, NoMemory>
+    requires { IsValid site.now }
+    ensures { IfOk result (λ timeline. timeline ≡ timeline_of site.now kept.now (history moments.now)) }
+{
+    let mut telling = Telling::new(alloc, site, kept)?;
+    let opened = telling.opened(alloc, site, kept)?;
+    for place in 0..moments.len() {
+        let moment = moments[place];
+        telling.step(
+            alloc,
+            site,
+            kept,
+            &moments[..place],
+            &moment,
+            &moments[..place + 1],
+        )?;
+    }
+    telling.close(alloc, site, kept, moments)?;
+    let Telling { tick, steps, .. } = telling;
+    Ok(Timeline {
+        opened: Items::from_vec(opened),
+        steps: Items::from_vec(steps),
+        last: tick,
+    })
+}
+
+/// What was told of a run so far, tick by tick.
+#[derive(Drop)]
+pub struct Telling {
+    keeping: Keeping,
+    /// The tick that began last.
+    tick: Tick,
+    /// Whether Keep's turn failed in it.
+    failed: bool,
+    /// The faces at the end of the tick before.
+    faces: Vec<Face>,
+    steps: Vec<Step>,
+}
+
+impl Telling {
+    ghost use Rattle.plain_panel.specs.Timelines.{StandsForTelling, steps_upto};
+
+    fn new(alloc: Global, site: &Site, kept: &Retained) -> Result<Telling, NoMemory>
+        requires { IsValid site.now }
+        ensures { IfOk result (λ telling. StandsForTelling site.now kept.now [] telling) }
+    {
+        Ok(Telling {
+            keeping: Keeping::new(alloc, site, kept)?,
+            tick: Tick(0),
+            failed: false,
+            faces: Vec::new(alloc),
+            steps: Vec::new(alloc),
+        })
+    }
+
+    // The faces before anything befell.
+    fn opened(&self, alloc: Global, site: &Site, kept: &Retained) -> Result<Vec<Face>, NoMemory>
+        requires valid { IsValid site.now }
+        requires stands { StandsForTelling site.now kept.now [] self.now }
+        ensures { IfOk result (λ faces. faces.items ≡ faces_of site.now kept.now []) }
+    {
+        faces_now(alloc, &self.keeping, site, kept, self.tick, &[])
+    }
+
+    // One moment more, with those before it and all with it.
+    fn step(
+        &mut self,
+        alloc: Global,
+        site: &Site,
+        kept: &Retained,
+        before: &[Moment],
+        moment: &Moment,
+        with_it: &[Moment],
+    ) -> Result<(), NoMemory>
+        requires valid { IsValid site.now }
+        requires stands { StandsForTelling site.now kept.now (history before.now) self.old }
+        requires all { with_it.now ≡ before.now ++ moment.now ∷ [] }
+        ensures { OnOk result (StandsForTelling site.now kept.now (moment_of moment.now ∷ history before.now) self.new) }
+    {
+        match *moment {
+            Moment::Began => {
+                self.close(alloc, site, kept, before)?;
+                self.failed = false;
+            }
+            Moment::Kept { failed } => self.failed = failed || self.failed,
+            Moment::Happened(_) => {}
+            Moment::Turned { .. } => {}
+        }
+        self.keeping
+            .step(alloc, site, kept, self.tick, before, moment, with_it)?;
+        self.tick = tick_after(self.tick, moment)?;
+        Ok(())
+    }
+
+    // The tick that began last ends: a step tells of it where a face changed or something was answered.
+    fn close(
+        &mut self,
+        alloc: Global,
+        site: &Site,
+        kept: &Retained,
+        before: &[Moment],
+    ) -> Result<(), NoMemory>
+        requires valid { IsValid site.now }
+        requires stands { StandsForTelling site.now kept.now (history before.now) self.old }
+        ensures steps { OnOk result (self.new.steps.items ≡ steps_upto site.now kept.now (history before.now) (tick_of (history before.now))) }
+        ensures faces { OnOk result (self.new.faces.items ≡ faces_of site.now kept.now (history before.now)) }
+        ensures keeping { self.new.keeping ≡ self.old.keeping }
+        ensures tick { self.new.tick ≡ self.old.tick }
+        ensures failed { self.new.failed ≡ self.old.failed }
+    {
+        let faces = faces_now(alloc, &self.keeping, site, kept, self.tick, before)?;
+        if self.tick.0 >= 1 {
+            let requests = self.keeping.desk.requests();
+            let answers = self.keeping.desk.outcomes().answers.as_slice();
+            let now = answers_now(alloc, requests, answers, self.tick)?;
+            let is_same = are_same(&faces, &self.faces);
+            if !is_same || !now.is_empty() || self.failed {
+                let answers = told(&now, self.failed)?;
+                let faces = Items::from_vec(Vec::from_slice(alloc, &faces)?);
+                self.steps.push(Step {
+                    tick: self.tick,
+                    faces,
+                    answers,
+                })?;
+            }
+        }
+        self.faces = faces;
+        Ok(())
+    }
+}
