@@ -1,8 +1,4 @@
 -- What the desk has done and what is kept, after a history.
-<<<<<<< HEAD
-<<<<<<< HEAD
-=======
->>>>>>> 12260b33c49fff7b5746ec8bfb67c5126cd0f5d5
 use Rattle.std.specs.Prelude.{◌≡◌, ◌==◌, Bool, false, not, List, [], ◌∷◌, if◌then◌else◌}
 use Rattle.std.specs.List.{AllByRecursion, flat_map}
 use Rattle.site_types.specs.declared.change.Change.{Change}
@@ -15,18 +11,6 @@ use Rattle.panel_rules.specs.Moments.{Moment, Began, Happened, Turned, Kept}
 use Rattle.panel_rules.specs.Operations.{operations}
 use Rattle.plain_panel.specs.declared.keeping.Keeping.{Keeping}
 use Rattle.plain_panel.specs.declared.entering.Entering.{Entering}
-<<<<<<< HEAD
-=======
-use Rattle.std.specs.Prelude.{◌≡◌, List}
-use Rattle.site_types.specs.declared.retained.Retained.{Retained}
-use Rattle.site_types.specs.declared.site.Site.{Site}
-use Rattle.panel_rules.specs.Batches.{kept_after}
-use Rattle.panel_rules.specs.Moments.{Moment}
-use Rattle.panel_rules.specs.Operations.{operations}
-use Rattle.plain_panel.specs.declared.keeping.Keeping.{Keeping}
->>>>>>> 33b2c1a47d525d656f90e53110a51c9df566c953
-=======
->>>>>>> 12260b33c49fff7b5746ec8bfb67c5126cd0f5d5
 use Rattle.plain_panel.specs.Desks.{StandsForDesk}
 use Rattle.plain_panel.specs.Standings.{StandsForStanding}
 
@@ -35,10 +19,6 @@ pub record StandsForKeeping (site : Site) (kept : Retained) (history : List Mome
   pub desk : StandsForDesk site kept history keeping.desk
   pub standing : StandsForStanding site kept (operations site kept history).done history keeping.standing
   pub stored : keeping.stored ≡ kept_after site kept history
-<<<<<<< HEAD
-<<<<<<< HEAD
-=======
->>>>>>> 12260b33c49fff7b5746ec8bfb67c5126cd0f5d5
 
 -- a turn of Keep that doesn't fail
 abbrev pub is_storing : Moment → Bool
@@ -57,8 +37,3 @@ all_counted panels = flat_map counted panels
 -- each is of a panel that has a place in what is kept
 abbrev pub AllPlaced : List Entering → Type 0
 AllPlaced panels = AllByRecursion (λ entering. IsPanelNumber entering.panel) panels
-<<<<<<< HEAD
-=======
->>>>>>> 33b2c1a47d525d656f90e53110a51c9df566c953
-=======
->>>>>>> 12260b33c49fff7b5746ec8bfb67c5126cd0f5d5

@@ -1,36 +1,17 @@
 ghost use Rattle.std.specs.Prelude.{◌≡◌, ◌++◌, [], ◌∷◌, IfOk, OnOk};
 ghost use Rattle.site_types.specs.Valid.{IsValid};
 ghost use Rattle.panel_rules.specs.Moments.{tick_of};
-<<<<<<< HEAD
-<<<<<<< HEAD
 ghost use Rattle.panel_rules.specs.Operations.{operations};
 ghost use Rattle.plain_panel.specs.Desks.{StandsForDesk};
 ghost use Rattle.plain_panel.specs.Standings.{StandsForStanding};
-=======
->>>>>>> 33b2c1a47d525d656f90e53110a51c9df566c953
-=======
-ghost use Rattle.panel_rules.specs.Operations.{operations};
-ghost use Rattle.plain_panel.specs.Desks.{StandsForDesk};
-ghost use Rattle.plain_panel.specs.Standings.{StandsForStanding};
->>>>>>> 12260b33c49fff7b5746ec8bfb67c5126cd0f5d5
 ghost use Rattle.plain_panel.specs.Histories.{history, moment_of};
 ghost use Rattle.plain_panel.specs.Keepings.{StandsForKeeping};
 
 use crate::desk::Desk;
 use crate::entering::Entering;
 use crate::moment::Moment;
-<<<<<<< HEAD
-<<<<<<< HEAD
 use crate::standing::Standing;
 use crate::storing::{make_change, make_changes};
-=======
-use crate::request::Request;
-use crate::standing::Standing;
->>>>>>> 33b2c1a47d525d656f90e53110a51c9df566c953
-=======
-use crate::standing::Standing;
-use crate::storing::{make_change, make_changes};
->>>>>>> 12260b33c49fff7b5746ec8bfb67c5126cd0f5d5
 use site_types::{Change, Retained, Site};
 use std::alloc::Global;
 use tick_units::{NoMemory, Tick};
@@ -73,10 +54,6 @@ impl Keeping {
         requires all { with_it.now ≡ before.now ++ moment.now ∷ [] }
         ensures { OnOk result (StandsForKeeping site.now kept.now (moment_of moment.now ∷ history before.now) self.new) }
     {
-<<<<<<< HEAD
-<<<<<<< HEAD
-=======
->>>>>>> 12260b33c49fff7b5746ec8bfb67c5126cd0f5d5
         self.store_at(site, moment);
         self.go_on(alloc, site, kept, tick, before, moment, with_it)
     }
@@ -101,20 +78,10 @@ impl Keeping {
         ensures standing { OnOk result (StandsForStanding site.now kept.now (operations site.now kept.now (moment_of moment.now ∷ history before.now)).done (moment_of moment.now ∷ history before.now) self.new.standing) }
         ensures stored { self.new.stored ≡ self.old.stored }
     {
-<<<<<<< HEAD
-=======
-        self.store(site, moment);
->>>>>>> 33b2c1a47d525d656f90e53110a51c9df566c953
-=======
->>>>>>> 12260b33c49fff7b5746ec8bfb67c5126cd0f5d5
         let changed = self.desk.step(site, kept, tick, moment)?;
         let done = self.desk.outcomes().done.as_slice();
         if changed {
             self.standing = Standing::over(alloc, site, kept, done, with_it)?;
-<<<<<<< HEAD
-<<<<<<< HEAD
-=======
->>>>>>> 12260b33c49fff7b5746ec8bfb67c5126cd0f5d5
             Ok(())
         } else {
             self.standing
@@ -186,22 +153,5 @@ fn count_panel(entering: &Entering, stored: &mut Retained)
     if entries != 0 {
         let panel = entering.panel();
         make_change(stored, &Change::Count { panel, entries });
-<<<<<<< HEAD
-=======
-        } else {
-            self.standing
-                .step(alloc, site, kept, done, tick, before, moment)?;
-        }
-        Ok(())
-    }
-
-    // What a turn of Keep stores that does not fail.
-    fn store(&mut self, site: &Site, moment: &Moment) {
-        if let Moment::Kept { failed: false } = moment {
-            let _ = site;
-        }
->>>>>>> 33b2c1a47d525d656f90e53110a51c9df566c953
-=======
->>>>>>> 12260b33c49fff7b5746ec8bfb67c5126cd0f5d5
     }
 }
