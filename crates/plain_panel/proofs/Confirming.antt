@@ -1,5 +1,5 @@
 -- Confirmations of a run, and how long it has lasted.
-use Rattle.std.proofs.Common.{◌≡◌, ◌<◌, ◌≤◌, ◌+◌, ◌||◌, max, ℕ, Bool, true, false, List, [], ◌∷◌, Some, None, inl, inr, refl, ◌∙◌, ap, arith, add-one}
+use Rattle.std.proofs.Common.{sym, ◌≡◌, ◌<◌, ◌≤◌, ◌+◌, ◌||◌, max, ℕ, Bool, true, false, List, [], ◌∷◌, Some, None, inl, inr, refl, ◌∙◌, ap, arith, add-one}
 use Rattle.std.specs.Prelude.{nat_le, nat_lt}
 use Rattle.std.specs.List.{list_any}
 use Rattle.site_types.proofs.Done.{lt_tells}
@@ -42,3 +42,16 @@ no_run_lasts limit (latest ∷ run) none = cc
 pub run_lasts : (limit latest : ℕ) (run : List ℕ) → newest run ≡ Some latest → list_any (λ first. nat_le (first + limit) latest) run ≡ has_lasted limit run
 run_lasts limit latest [] is = cc
 run_lasts limit latest (newer ∷ run) is = let same : latest ≡ newer = cc in ap (λ (tick : ℕ). list_any (λ first. nat_le (first + limit) tick) (newer ∷ run)) same
+
+none_before : (run : List ℕ) (last : ℕ) → last ≤ 0 → list_any (λ first. nat_le (first + 1) last) run ≡ false
+none_before [] last least = refl
+none_before (first ∷ run) last least =
+    let one : nat_le (first + 1) last ≡ false = rw add-one (not_less first last (omega (arith, least))) in
+    let rest = none_before run last least in
+    rw (one, rest) refl
+
+-- with no confirmation after tick 0 no run was confirmed
+pub never_confirmed : (run ticks : List ℕ) (last : ℕ) → last ≡ greatest ticks → last ≤ 0 → nat_lt 0 last ≡ is_confirmed_in run ticks
+never_confirmed run ticks last is least =
+    let last_least : greatest ticks ≤ 0 = omega (arith, is, least) in
+    not_less 0 last least ∙ sym (none_before run (greatest ticks) last_least) ∙ confirmed_by_last run ticks

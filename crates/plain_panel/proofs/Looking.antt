@@ -1,16 +1,16 @@
 -- What was seen of a history of one moment more.
-use Rattle.std.proofs.Common.{◌≡◌, ◌<◌, ◌≤◌, ◌-◌, ℕ, zero, suc, Bool, true, false, List, [], ◌∷◌, ◌++◌, length, get_or, take, reverse, Option, Some, None, if◌then◌else◌, inl, inr, refl, sym, ◌∙◌, ap, subst, arith}
+use Rattle.std.proofs.Common.{◌≡◌, ◌<◌, ◌≤◌, ◌+◌, ◌-◌, ℕ, zero, suc, Bool, true, false, List, [], ◌∷◌, ◌++◌, length, get_or, take, reverse, Option, Some, None, if◌then◌else◌, inl, inr, refl, sym, ◌∙◌, ap, subst, arith}
 use Rattle.std.specs.Prelude.{slice_get, IfSome}
 use Rattle.std.proofs.Math.Seq.{take-append_seam}
-use Rattle.std.proofs.lemmas.List.{reverse-append, take-append-le}
+use Rattle.std.proofs.lemmas.List.{length-reverse, reverse-append, take-append-le}
 use Rattle.tick_units.specs.declared.task.Task.{Task}
 use Rattle.site_types.specs.declared.site.Site.{Site}
 use Rattle.panel_rules.specs.Latest.{made_latest}
 use Rattle.panel_rules.specs.Markers.{Facts}
-use Rattle.panel_rules.specs.Moments.{Moment as MomentOf, Began as BeganOf, Happened as HappenedOf, Turned as TurnedOf, Kept as KeptOf}
+use Rattle.panel_rules.specs.Moments.{Moment as MomentOf, Began as BeganOf, Happened as HappenedOf, Turned as TurnedOf, Kept as KeptOf, tick_of}
 use Rattle.panel_rules.proofs.Turns.{turn_tells}
 use Rattle.plain_panel.specs.declared.seen.Seen.{Seen}
-use Rattle.plain_panel.specs.Drives.{AreSeen, AreSeenBack, IsLatest, IsLatestAt, IsSeen, before_latest, is_turn_of}
+use Rattle.plain_panel.specs.Drives.{AreSeen, AreSeenBack, IsLatest, IsLatestAt, IsSeen, before_latest, is_beginning, is_turn_of}
 use Rattle.plain_panel.specs.Histories.{moment_of}
 
 split_at : (xs : List Seen) (n : ℕ) (last : Seen) → length xs ≡ suc n → last ≡ get_or xs n last → xs ≡ take n xs ++ last ∷ []
@@ -140,3 +140,39 @@ module _ (site : Site) (facts : ℕ → List MomentOf → Facts) where
             found = ap (λ (seen : List Seen). slice_get seen place) is ∙ get_front earlier (last ∷ []) place was.turn was.found;
             is_seen = was.is_seen;
           }
+
+  few_back : (back : List Seen) (history : List MomentOf) → AreSeenBack site facts back history → tick_of history ≤ length back
+  few_back [] [] are = omega arith
+  few_back [] (moment ∷ past) are = absurd are
+  few_back (seen ∷ back) [] are = absurd are
+  few_back (seen ∷ back) (BeganOf ∷ past) are = let few = few_back back past are.1 in omega (arith, few)
+  few_back (seen ∷ back) (HappenedOf event ∷ past) are = let few = few_back back past are.1 in omega (arith, few)
+  few_back (seen ∷ back) (TurnedOf panel task ∷ past) are = let few = few_back back past are.1 in omega (arith, few)
+  few_back (seen ∷ back) (KeptOf failed ∷ past) are = let few = few_back back past are.1 in omega (arith, few)
+
+  -- no more ticks have begun than there are moments
+  pub few_ticks : (xs : List Seen) (history : List MomentOf) → AreSeen site facts xs history → tick_of history ≤ length xs
+  few_ticks xs history are = let few = few_back (reverse xs) history are in let same = length-reverse xs in omega (arith, few, same)
+
+  begun : (moment : MomentOf) (past : List MomentOf) → is_beginning moment ≡ true → tick_of (moment ∷ past) ≡ tick_of past + 1
+  begun BeganOf past h = refl
+  begun (HappenedOf event) past h = cc
+  begun (TurnedOf panel task) past h = cc
+  begun (KeptOf failed) past h = cc
+
+  not_begun : (moment : MomentOf) (past : List MomentOf) → is_beginning moment ≡ false → tick_of (moment ∷ past) ≡ tick_of past
+  not_begun BeganOf past h = cc
+  not_begun (HappenedOf event) past h = refl
+  not_begun (TurnedOf panel task) past h = refl
+  not_begun (KeptOf failed) past h = refl
+
+  -- the tick after a newest moment that begins one, and after another
+  pub tick_begun : (xs earlier : List Seen) (last : Seen) → xs ≡ earlier ++ last ∷ [] → is_beginning (moment_of last.moment) ≡ true → (history : List MomentOf) → AreSeen site facts xs history → last.tick.0 + 1 ≡ tick_of history
+  tick_begun xs earlier last is begins history are =
+      let h = last_of xs earlier last is history are in
+      ap (λ (tick : ℕ). tick + 1) h.seen.tick ∙ sym (ap tick_of h.is ∙ begun h.moment h.past (ap is_beginning (sym h.seen.is) ∙ begins))
+
+  pub tick_same : (xs earlier : List Seen) (last : Seen) → xs ≡ earlier ++ last ∷ [] → is_beginning (moment_of last.moment) ≡ false → (history : List MomentOf) → AreSeen site facts xs history → last.tick.0 ≡ tick_of history
+  tick_same xs earlier last is begins history are =
+      let h = last_of xs earlier last is history are in
+      h.seen.tick ∙ sym (ap tick_of h.is ∙ not_begun h.moment h.past (ap is_beginning (sym h.seen.is) ∙ begins))

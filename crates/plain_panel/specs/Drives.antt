@@ -23,6 +23,13 @@ is_turn_of panel task (HappenedOf event) = false
 is_turn_of panel task (TurnedOf other_panel other) = is_turn panel task other_panel other
 is_turn_of panel task (KeptOf failed) = false
 
+-- a moment begins a tick
+abbrev pub is_beginning : MomentOf → Bool
+is_beginning BeganOf = true
+is_beginning (HappenedOf event) = false
+is_beginning (TurnedOf panel task) = false
+is_beginning (KeptOf failed) = false
+
 -- a moment is a turn of Effect
 abbrev pub is_effect_task : Task → Bool
 is_effect_task Effect = true

@@ -62,11 +62,10 @@ fn may_act(
     requires { IsValid site.now }
     ensures { (facts : ℕ → List MomentOf → FactsOf) (history : List MomentOf) → AreSeen site.now facts before.now history → AreSeen site.now facts turn.now (TurnedOf (panel_in site.now output) Drive ∷ history) → tick.0 ≡ tick_of history → result ≡ may_act_in site.now facts kept.now (all_done done.now) output history }
 {
-    let by_hand = is_requested_by_hand(site, output, before);
     let panel = panel_of_output(site, output);
-    let delays_off = in_force(site, kept, Setting::DelaysOff(panel), tick, done);
-    let is_over = is_over(site, done, output, tick, turn);
-    (by_hand || delay_of(site, output) == 0) || (delays_off || is_over)
+    (is_requested_by_hand(site, output, before) || delay_of(site, output) == 0)
+        || (in_force(site, kept, Setting::DelaysOff(panel), tick, done)
+            || is_over(site, done, output, tick, turn))
 }
 
 // Whether from some tick of the run of turns that asked for an output its delay has passed, or an override was done.

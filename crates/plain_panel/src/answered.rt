@@ -65,8 +65,8 @@ ghost use Rattle.panel_conditions.specs.Missing.{is_off as is_off_at, zone_is_of
 ghost use Rattle.panel_conditions.specs.Points.{addressed, addresses_where, on_point, points_where};
 ghost use Rattle.plain_panel.specs.Signs.{shows as is_shown};
 
-// The mask of the panel's zones that show a sign.
-fn zones_that_show(
+/// The mask of the panel's zones that show a sign.
+pub(crate) fn zones_that_show(
     sign: Sign,
     site: &Site,
     kept: &Retained,

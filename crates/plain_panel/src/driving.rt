@@ -39,7 +39,7 @@ impl Driving {
         requires { IsValid site.now }
         ensures { IfOk result (λ _. (facts_of : ℕ → List MomentOf → FactsOf) (history : List MomentOf) → DrivesFor site.now facts_of history self.old → AreFactsOfTurn site.now facts_of history (moment_of moment.now) facts.now → DrivesFor site.now facts_of (moment_of moment.now ∷ history) self.new) }
     {
-        let tick = Tick(ticks(self.seen.as_slice()) as u64);
+        let tick = Tick(ticks(self.seen.as_slice()));
         self.seen.push(Seen::of(site, moment, tick, facts))?;
         Ok(())
     }

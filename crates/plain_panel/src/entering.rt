@@ -7,10 +7,11 @@ ghost use Rattle.site_types.specs.Valid.{IsValid};
 ghost use Rattle.panel_rules.specs.Moments.{Moment as MomentOf, tick_of};
 ghost use Rattle.plain_panel.specs.Histories.{all_done, moment_of};
 
-use crate::answered::answered_word;
+use crate::answered::zones_that_show;
 use crate::asking::Asking;
 use crate::done::Done;
 use crate::moment::Moment;
+use crate::sign::Sign;
 use site_types::{Answer, Retained, Site};
 use std::alloc::Global;
 use tick_units::{NoMemory, Task, Tick};
@@ -157,8 +158,7 @@ fn is_in_fire(
 ) -> bool
     ensures { result ≡ not (zones_where site.now panel (λ zone. is_in_alarm site.now kept.now (all_done done.now) answers.now zone tick.0) == 0) }
 {
-    let word = answered_word(site, kept, panel, done, answers, tick, false);
-    word.alarm != 0
+    zones_that_show(Sign::Alarm, site, kept, panel, done, answers, tick) != 0
 }
 
 // What was not so is so now.

@@ -95,17 +95,13 @@ pub(crate) fn was_on_for(
 pub(crate) fn last_confirmation(output: u16, seen: &[Seen]) -> Tick
     ensures { (site : SiteOf) (facts : ℕ → List MomentOf → FactsOf) (history : List MomentOf) → AreSeen site facts seen.now history → result.0 ≡ greatest (confirmations output history) }
 {
-    match seen {
-        [] => Tick(0),
-        [before @ .., last] => {
-            let earlier = last_confirmation(output, before);
-            if confirms(output, &last.moment) && earlier.0 < last.tick.0 {
-                last.tick
-            } else {
-                earlier
-            }
+    let mut last = Tick(0);
+    for one in seen {
+        if confirms(output, &one.moment) && last.0 < one.tick.0 {
+            last = one.tick;
         }
     }
+    last
 }
 
 // Whether a moment confirms an output.

@@ -1,9 +1,9 @@
-ghost use Rattle.std.specs.Prelude.{◌≡◌, ◌≤◌, ℕ, List, length};
+ghost use Rattle.std.specs.Prelude.{◌≡◌, ℕ, List};
 ghost use Rattle.site_types.specs.Valid.{IsValid};
 ghost use Rattle.site_types.specs.declared.site.Site.{Site as SiteOf};
 ghost use Rattle.panel_rules.specs.Markers.{Facts as FactsOf};
 ghost use Rattle.panel_rules.specs.Moments.{Moment as MomentOf, tick_of};
-ghost use Rattle.plain_panel.specs.Drives.{AreFactsOfTurn, AreSeen, IsSeen, is_effect as is_effect_of};
+ghost use Rattle.plain_panel.specs.Drives.{AreFactsOfTurn, AreSeen, IsSeen, is_beginning as is_beginning_of, is_effect as is_effect_of};
 ghost use Rattle.plain_panel.specs.Histories.{moment_of};
 
 use crate::moment::Moment;
@@ -64,19 +64,25 @@ fn is_effect(moment: &Moment) -> bool
     )
 }
 
-/// How many ticks have begun.
-pub(crate) fn ticks(seen: &[Seen]) -> usize
-    ensures few { result ≤ length seen.now }
-    ensures tick { (site : SiteOf) (facts : ℕ → List MomentOf → FactsOf) (history : List MomentOf) → AreSeen site facts seen.now history → result ≡ tick_of history }
+/// How many ticks have begun, at most as many as moments.
+pub(crate) fn ticks(seen: &[Seen]) -> u64
+    ensures { (site : SiteOf) (facts : ℕ → List MomentOf → FactsOf) (history : List MomentOf) → AreSeen site facts seen.now history → result ≡ tick_of history }
 {
+    let most = seen.len() as u64;
     match seen {
         [] => 0,
-        [before @ .., last] => {
-            let earlier = ticks(before);
-            match last.moment {
-                Moment::Began => earlier + 1,
-                _ => earlier,
+        [.., last] => {
+            if is_beginning(&last.moment) && last.tick.0 < most {
+                last.tick.0 + 1
+            } else {
+                last.tick.0
             }
         }
     }
+}
+
+fn is_beginning(moment: &Moment) -> bool
+    ensures { result ≡ is_beginning_of (moment_of moment.now) }
+{
+    matches!(*moment, Moment::Began)
 }

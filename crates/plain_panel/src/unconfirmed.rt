@@ -44,7 +44,7 @@ pub(crate) fn is_confirmed(
     ensures { (facts : ℕ → List MomentOf → FactsOf) (history : List MomentOf) → AreSeen site.now facts seen.now history → result ≡ is_confirmed_out site.now facts kept.now (all_done done.now) output history }
 {
     let confirmed = last_confirmation(output, seen);
-    was_on_for(site, kept, done, output, 1, confirmed, seen)
+    confirmed.0 > 0 && was_on_for(site, kept, done, output, 1, confirmed, seen)
 }
 
 // Whether an output has been on for as long as a confirmation may take.
