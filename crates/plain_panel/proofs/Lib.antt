@@ -27,7 +27,7 @@ pub mod Silent
 pub mod Solving
 pub mod Standings
 pub mod TakenMoments
+pub mod Tellers
 pub mod Tellings
 pub mod Timelines
 pub mod Unset
-pub mod Tellers
