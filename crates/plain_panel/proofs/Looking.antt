@@ -89,10 +89,6 @@ module _ (site : Site) (facts : ℕ → List MomentOf → Facts) where
   seen_more earlier last moment past seen before =
       subst (λ (xs : List Seen). AreSeenBack site facts xs (moment ∷ past)) (sym (reverse-append earlier (last ∷ []))) (seen, before)
 
-  pub none_seen : (history : List MomentOf) → AreSeen site facts [] history → history ≡ []
-  none_seen [] are = refl
-  none_seen (moment ∷ past) are = absurd are
-
   pub turn_now : (panel : ℕ) (task : Task) (xs earlier : List Seen) (last : Seen) → xs ≡ earlier ++ last ∷ [] → is_turn_of panel task (moment_of last.moment) ≡ true →
       (history : List MomentOf) → AreSeen site facts xs history → IsLatestAt site facts panel task xs history (length earlier)
   turn_now panel task xs earlier last is turns history are =
