@@ -111,6 +111,7 @@ module _ (site : Site) (kept : Retained) where
       chosen : (b : Bool) (step : Step) → (if b then step ∷ [] else []) ≡ cons_option (if b then Some step else None) []
       chosen true step = refl
       chosen false step = refl
+
       closed : (tick : ℕ) → tick_of moments ≡ tick → steps_upto site kept moments tick ≡ steps_upto site kept moments (tick - 1) ++ cons_option (if nat_le 1 tick && is_told site kept moments tick then Some (step_of site kept moments) else None) []
       closed zero at = refl
       closed (suc last) at =
