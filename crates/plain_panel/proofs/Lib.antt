@@ -30,3 +30,4 @@ pub mod TakenMoments
 pub mod Tellings
 pub mod Timelines
 pub mod Unset
+pub mod Tellers

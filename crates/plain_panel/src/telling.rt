@@ -107,7 +107,7 @@ impl Telling {
                 self.advance(alloc, site, kept, before, moment, with_it)
             }
             Moment::Kept { failed } => {
-                self.failed = failed || self.failed;
+                self.failed = either(failed, self.failed);
                 self.advance(alloc, site, kept, before, moment, with_it)
             }
             Moment::Happened(_) => self.advance(alloc, site, kept, before, moment, with_it),
@@ -203,6 +203,12 @@ fn is_told(tick: Tick, faces: &[Face], last: &[Face], now: &[OpAnswered], failed
     ensures { result ≡ (nat_le 1 tick.0 && (not (same_faces faces.now last.now) || (not (length now.now == 0) || failed))) }
 {
     tick.0 >= 1 && (!are_same(faces, last) || !now.is_empty() || failed)
+}
+
+fn either(one: bool, other: bool) -> bool
+    ensures { result ≡ (one || other) }
+{
+    one || other
 }
 
 // The step of a tick.
