@@ -14,6 +14,8 @@ mod face_lists;
 #[cfg(test)]
 mod lane_counts;
 #[cfg(test)]
+mod plain_runs;
+#[cfg(test)]
 mod system_rows;
 #[cfg(test)]
 mod system_ticks;
