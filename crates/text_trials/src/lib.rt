@@ -11,6 +11,8 @@ mod face_lists;
 #[cfg(test)]
 mod plain_reader;
 #[cfg(test)]
+mod plain_runs;
+#[cfg(test)]
 mod reading_back;
 #[cfg(test)]
 mod timeline_text;

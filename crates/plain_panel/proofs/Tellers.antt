@@ -1,0 +1,75 @@
+-- What is told of a run, one moment further.
+use Rattle.std.proofs.Common.{◌≡◌, ◌∙◌, ◌+◌, ◌-◌, ◌<◌, ◌≤◌, ℕ, Bool, true, false, List, [], ◌∷◌, ◌++◌, Result, Ok, Err, add-one, ap, arith, get_or, length, map, subst, sym, take}
+use Rattle.std.specs.Prelude.{OnOk}
+use Rattle.std.specs.List.{filter_map}
+use Rattle.std.proofs.Math.Seq.{take-suc}
+use Rattle.site_types.specs.declared.retained.Retained.{Retained}
+use Rattle.site_types.specs.declared.site.Site.{Site}
+use Rattle.panel_rules.specs.Moments.{Moment as MomentOf, Began, tick_of, up_to}
+use Rattle.panel_rules.specs.Operations.{Answered as AnsweredOf, Operations, Request as RequestOf, operations, requests as requests_of}
+use Rattle.panel_rules.specs.Timeline.{answer_in, answers_now, faces_of, failed_now}
+use Rattle.plain_panel.specs.declared.desk.Desk.{Desk}
+use Rattle.plain_panel.specs.declared.moment.Moment.{Moment}
+use Rattle.plain_panel.specs.declared.op_answered.OpAnswered.{OpAnswered as Answered}
+use Rattle.plain_panel.specs.declared.request.Request.{Request}
+use Rattle.plain_panel.specs.declared.telling.Telling.{Telling}
+use Rattle.plain_panel.specs.Desks.{StandsForDesk, all_answered, all_requests}
+use Rattle.plain_panel.specs.Histories.{history, moment_of}
+use Rattle.plain_panel.specs.Keepings.{StandsForKeeping}
+use Rattle.plain_panel.specs.Timelines.{StandsForTelling, steps_upto}
+use Rattle.plain_panel.proofs.Histories.{history_more}
+use Rattle.plain_panel.proofs.Timelines.{failed_began, faces_next, faces_stay, steps_next, steps_stay}
+
+module _ (site : Site) (kept : Retained) where
+  then_told : {A E : Type 0} (moments : List MomentOf) (after : Telling) (result : Result A E) → OnOk result (StandsForKeeping site kept moments after.keeping) → OnOk result (tick_of moments ≡ after.tick.0) → (StandsForKeeping site kept moments after.keeping → tick_of moments ≡ after.tick.0 → StandsForTelling site kept moments after) → OnOk result (StandsForTelling site kept moments after)
+  then_told moments after (Ok x) keeping tick make = make keeping tick
+  then_told moments after (Err e) keeping tick make = tt
+
+  pub began_told : {A E : Type 0} (moment : MomentOf) (before : List MomentOf) (after : Telling) (result : Result A E) → moment ≡ Began → OnOk result (StandsForKeeping site kept (moment ∷ before) after.keeping) → OnOk result (tick_of (moment ∷ before) ≡ after.tick.0) → after.failed ≡ false → after.steps.items ≡ steps_upto site kept before (tick_of before) → after.faces.items ≡ faces_of site kept before → OnOk result (StandsForTelling site kept (moment ∷ before) after)
+  began_told moment before after result is keeping tick failed steps faces =
+      then_told (moment ∷ before) after result keeping tick
+      (λ k t. record {
+        keeping = k;
+        tick = t;
+        failed = failed ∙ sym (failed_began site kept before) ∙ ap (λ m. failed_now site kept (m ∷ before)) (sym is);
+        steps = steps ∙ sym (steps_next site kept before) ∙ ap (λ m. steps_upto site kept (m ∷ before) (tick_of (m ∷ before) - 1)) (sym is);
+        faces = λ begun. faces ∙ sym (faces_next site kept before) ∙ ap (λ m. faces_of site kept (up_to (tick_of (m ∷ before) - 1) (m ∷ before))) (sym is);
+      })
+
+  pub other_told : {A E : Type 0} (moment : MomentOf) (before : List MomentOf) (old after : Telling) (result : Result A E) → StandsForTelling site kept before old → tick_of (moment ∷ before) ≡ tick_of before → OnOk result (StandsForKeeping site kept (moment ∷ before) after.keeping) → OnOk result (tick_of (moment ∷ before) ≡ after.tick.0) → after.failed ≡ failed_now site kept (moment ∷ before) → after.steps.items ≡ old.steps.items → after.faces.items ≡ old.faces.items → OnOk result (StandsForTelling site kept (moment ∷ before) after)
+  other_told moment before old after result s same keeping tick failed steps faces =
+      then_told (moment ∷ before) after result keeping tick
+      (λ k t. record {
+        keeping = k;
+        tick = t;
+        failed = failed;
+        steps = steps ∙ s.steps ∙ sym (steps_stay site kept moment before same);
+        faces = λ begun. faces ∙ s.faces (begun_before begun) ∙ sym (faces_stay site kept moment before same begun);
+      })
+    where
+      begun_before : 1 ≤ tick_of (moment ∷ before) → 1 ≤ tick_of before
+      begun_before begun = omega arith
+
+  abbrev asked_for : List MomentOf → List RequestOf
+  asked_for moments = requests_of site moments
+
+  abbrev told_so_far : List MomentOf → List AnsweredOf
+  told_so_far moments = (operations site kept moments).answers
+
+  -- the answers of the tick that began last, by the desk
+  pub answers_are : (moments : List MomentOf) (desk : Desk) (tick : ℕ) (requests : List Request) (answers : List Answered) (now : List AnsweredOf) → StandsForDesk site kept moments desk → tick_of moments ≡ tick → requests ≡ desk.requests.items → answers ≡ desk.outcomes.answers.items → now ≡ filter_map (answer_in site kept tick (all_answered answers)) (all_requests requests) → now ≡ answers_now site kept moments
+  answers_are moments desk tick requests answers now s at asked given is =
+      is
+      ∙ ap (λ xs. filter_map (answer_in site kept tick (all_answered answers)) (all_requests xs)) asked
+      ∙ ap (filter_map (answer_in site kept tick (all_answered answers))) s.requested
+      ∙ ap (λ xs. filter_map (answer_in site kept tick (all_answered xs)) (asked_for moments)) given
+      ∙ ap (λ xs. filter_map (answer_in site kept tick xs) (asked_for moments)) (ap (λ (o : Operations). o.answers) s.became)
+      ∙ ap (λ t. filter_map (answer_in site kept t (told_so_far moments)) (asked_for moments)) (sym at)
+
+  pub next_told : (moments : List Moment) (place : ℕ) (moment : Moment) (after : Telling) → place < length moments → moment ≡ get_or moments place moment → StandsForTelling site kept (moment_of moment ∷ history (take place moments)) after → StandsForTelling site kept (history (take (place + 1) moments)) after
+  next_told moments place moment after within is s =
+      let upto : history (take (place + 1) moments) ≡ moment_of (get_or moments place moment) ∷ history (take place moments) =
+      rw (add-one, take-suc moments place moment within) (history_more (take place moments) (get_or moments place moment)) in
+      let here : moment_of moment ∷ history (take place moments) ≡ history (take (place + 1) moments) =
+      ap (λ m. moment_of m ∷ history (take place moments)) is ∙ sym upto in
+      subst (λ h. StandsForTelling site kept h after) here s

@@ -1,0 +1,24 @@
+use Rattle.std.proofs.Common.{refl}
+use Rattle.panel_rules.specs.Run.{facts_of}
+use Rattle.plain_panel.specs.Histories.{all_done}
+use Rattle.plain_panel.proofs.face_shown.face_of.Goals as goal
+
+pub returns : goal.returns
+returns c before network drives at =
+    let done = all_done c.args.done.now in
+    let facts = facts_of c.args.site.now c.args.kept.now done in
+    rw (
+      c.alarms_shown.ensures c.args.kept.now done before network,
+      c.firsts_shown.ensures c.args.kept.now done before network,
+      c.faults.ensures c.args.site.now c.args.kept.now done before network,
+      c.outputs_on.ensures facts before drives,
+      c.outputs_confirmed.ensures facts before drives,
+      c.points_off.ensures,
+      c.zones_off.ensures,
+      c.outputs_off.ensures,
+      c.zones_in_test.ensures,
+      c.in_force.ensures,
+      c.buzzer.ensures c.args.kept.now before network,
+      at,
+    )
+    refl

@@ -1,0 +1,18 @@
+use Rattle.std.proofs.Common.{◌∙◌, ℕ, ap, arith, refl}
+use Rattle.panel_rules.specs.Moments.{IsPanel}
+use Rattle.plain_panel.specs.declared.own.Own.{Own}
+use Rattle.plain_panel.proofs.HoldsShown.{none_shown}
+use Rattle.plain_panel.proofs.NoFaults.{no_faults_yet}
+use Rattle.plain_panel.proofs.network.Network.new.Goals as goal
+
+pub returns-clause-stands : goal.returns-clause-stands
+returns-clause-stands c kept done =
+    let few = c.requires.forms.panels.1 in
+    let none = λ (panel : ℕ) (p : IsPanel c.args.site.now.panels panel). none_shown c.nothing.result panel c.nothing.ensures p.0 (omega (arith, p.1, few)) in
+    record {
+      size = refl;
+      ring = c.new.ensures.stands;
+      words = λ panel p. ap (λ (o : Own). o.word) (none panel p);
+      faults = λ panel p. ap (λ (o : Own). o.faults) (none panel p) ∙ no_faults_yet c.args.site.now kept done panel;
+      news = λ panel p. ap (λ (o : Own). o.news.0) (none panel p);
+    }

@@ -1,0 +1,14 @@
+pub mod Askings
+pub mod BadRuns
+pub mod Desks
+pub mod Drives
+pub mod Enterings
+pub mod Histories
+pub mod Keepings
+pub mod Network
+pub mod Settings
+pub mod Signs
+pub mod Standings
+pub mod Storing
+pub mod Tellings
+pub mod Timelines

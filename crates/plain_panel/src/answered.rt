@@ -1,0 +1,218 @@
+//! A panel's word and faults by its answers.
+
+ghost use Rattle.std.specs.Prelude.{◌≡◌};
+ghost use Rattle.panel_conditions.specs.Answered.{answered_faults as answered_faults_by, answered_word as answered_word_by};
+ghost use Rattle.plain_panel.specs.Histories.{all_done};
+
+use crate::done::Done;
+use crate::missing::is_missing;
+use crate::setting::{Setting, in_force};
+use crate::sign::{Sign, shows};
+use panel_conditions::Outside;
+use site_types::{Answer, FaultSet, Point, PointSet, Retained, Site, Word};
+use tick_units::Tick;
+
+/// The word of a panel at a tick, which tells a fault where it is so said.
+pub fn answered_word(
+    site: &Site,
+    kept: &Retained,
+    panel: u8,
+    done: &[Done],
+    answers: &[Answer],
+    tick: Tick,
+    fault: bool,
+) -> Word
+    ensures { result ≡ answered_word_by site.now kept.now panel (all_done done.now) answers.now tick.0 fault }
+{
+    let mask = |sign| zones_that_show(sign, site, kept, panel, done, answers, tick);
+    Word {
+        stamp: tick,
+        alarm: mask(Sign::Alarm),
+        manual: mask(Sign::Manual),
+        released: mask(Sign::Released),
+        first: mask(Sign::First),
+        fault,
+    }
+}
+
+/// The faults of a panel at a tick, of which all but the missing points are told from outside.
+pub fn answered_faults(
+    site: &Site,
+    kept: &Retained,
+    panel: u8,
+    done: &[Done],
+    answers: &[Answer],
+    tick: Tick,
+    outside: &Outside,
+) -> FaultSet
+    ensures { result ≡ answered_faults_by site.now kept.now panel (all_done done.now) answers.now tick.0 outside.now }
+{
+    FaultSet {
+        missing: missing_points(site, kept, panel, done, answers, tick),
+        broken: outside.broken,
+        shorted: outside.shorted,
+        supply: outside.supply,
+        silent: outside.silent,
+        links: outside.links,
+        unconfirmed: outside.unconfirmed,
+    }
+}
+
+ghost use Rattle.std.specs.Prelude.{◌+◌, ◌&&◌, ◌≤◌, ℕ, not, option_copied};
+ghost use Rattle.coincidence_rules.specs.Missing.{is_missing as is_missing_by};
+ghost use Rattle.coincidence_rules.specs.Places.{numbered, on_zone, zones_where};
+ghost use Rattle.panel_conditions.specs.Missing.{is_off as is_off_at, zone_is_off as zone_is_off_at};
+ghost use Rattle.panel_conditions.specs.Points.{addressed, addresses_where, on_point, points_where};
+ghost use Rattle.plain_panel.specs.Signs.{shows as is_shown};
+
+/// The mask of the panel's zones that show a sign.
+pub(crate) fn zones_that_show(
+    sign: Sign,
+    site: &Site,
+    kept: &Retained,
+    panel: u8,
+    done: &[Done],
+    answers: &[Answer],
+    tick: Tick,
+) -> u32
+    ensures { result ≡ zones_where site.now panel (λ (zone : ℕ). is_shown sign site.now kept.now (all_done done.now) answers.now zone tick.0) }
+{
+    let mut mask = 0;
+    for bit in 0..32u8 {
+        let zone = zone_at(site, panel, bit + 1);
+        if zone_shows(sign, site, kept, done, answers, zone, tick) {
+            mask += 1 << bit;
+        }
+    }
+    mask
+}
+
+// The place of the zone of a panel that has a number.
+pub(crate) fn zone_at(site: &Site, panel: u8, number: u8) -> Option<usize>
+    ensures { result ≡ numbered site.now panel number }
+{
+    site.zones
+        .as_slice()
+        .iter()
+        .position(|zone| zone.panel == panel && zone.number == number)
+}
+
+// Whether there is a zone, and it shows a sign.
+fn zone_shows(
+    sign: Sign,
+    site: &Site,
+    kept: &Retained,
+    done: &[Done],
+    answers: &[Answer],
+    zone: Option<usize>,
+    tick: Tick,
+) -> bool
+    ensures { result ≡ on_zone (λ (zone : ℕ). is_shown sign site.now kept.now (all_done done.now) answers.now zone tick.0) zone }
+{
+    match zone {
+        None => false,
+        Some(zone) => shows(sign, site, kept, done, answers, zone, tick),
+    }
+}
+
+// The points of the panel that are shown as missing.
+#[tactic(auto, unfolding(panel_conditions::specs::Points::points_where))]
+fn missing_points(
+    site: &Site,
+    kept: &Retained,
+    panel: u8,
+    done: &[Done],
+    answers: &[Answer],
+    tick: Tick,
+) -> PointSet
+    ensures { result ≡ points_where site.now panel (λ (place : ℕ). is_missing_by answers.now place && not (is_off_at site.now kept.now (all_done done.now) place tick.0)) }
+{
+    let half = |line, past| missing_on(site, kept, panel, done, answers, tick, line, past);
+    PointSet {
+        loops: [
+            [half(1, 0), half(1, 96)],
+            [half(2, 0), half(2, 96)],
+            [half(3, 0), half(3, 96)],
+            [half(4, 0), half(4, 96)],
+        ],
+    }
+}
+
+// The missing points among 96 addresses of a line that come after so many.
+fn missing_on(
+    site: &Site,
+    kept: &Retained,
+    panel: u8,
+    done: &[Done],
+    answers: &[Answer],
+    tick: Tick,
+    line: u8,
+    past: u8,
+) -> u128
+    requires { past ≤ 96 }
+    ensures { result ≡ addresses_where site.now panel (λ (place : ℕ). is_missing_by answers.now place && not (is_off_at site.now kept.now (all_done done.now) place tick.0)) line past }
+{
+    let mut mask = 0;
+    for bit in 0..96u8 {
+        let point = point_at(site, panel, line, past + bit + 1);
+        if point_is_missing(site, kept, done, answers, point, tick) {
+            mask += 1 << bit;
+        }
+    }
+    mask
+}
+
+// The place of the point of a panel that has a line and an address.
+pub(crate) fn point_at(site: &Site, panel: u8, line: u8, address: u8) -> Option<usize>
+    ensures { result ≡ addressed site.now panel line address }
+{
+    site.points.as_slice().iter().position(|point| point.panel == panel
+        && point.line == line
+        && point.address == address)
+}
+
+// Whether there is a point, and it is shown as missing.
+fn point_is_missing(
+    site: &Site,
+    kept: &Retained,
+    done: &[Done],
+    answers: &[Answer],
+    point: Option<usize>,
+    tick: Tick,
+) -> bool
+    ensures { result ≡ on_point (λ (place : ℕ). is_missing_by answers.now place && not (is_off_at site.now kept.now (all_done done.now) place tick.0)) point }
+{
+    match point {
+        None => false,
+        Some(place) => is_missing(answers, place) && !is_off(site, kept, done, place, tick),
+    }
+}
+
+// Whether a point or its zone is disabled at a tick.
+fn is_off(site: &Site, kept: &Retained, done: &[Done], place: usize, tick: Tick) -> bool
+    ensures { result ≡ is_off_at site.now kept.now (all_done done.now) place tick.0 }
+{
+    in_force(site, kept, Setting::PointOff(place), tick, done)
+        || zone_is_off(site, kept, done, site.points.get(place), tick)
+}
+
+fn zone_is_off(
+    site: &Site,
+    kept: &Retained,
+    done: &[Done],
+    point: Option<&Point>,
+    tick: Tick,
+) -> bool
+    ensures { result ≡ zone_is_off_at site.now kept.now (all_done done.now) (option_copied point.entry) tick.0 }
+{
+    match point {
+        None => false,
+        Some(point) => in_force(
+            site,
+            kept,
+            Setting::ZoneOff(point.zone as usize),
+            tick,
+            done,
+        ),
+    }
+}

@@ -1,0 +1,83 @@
+ghost use Rattle.std.specs.Prelude.{◌≡◌, ◌+◌, ◌∷◌, List, ℕ};
+ghost use Rattle.site_types.specs.declared.loop_plan.LoopPlan.{LoopPlan as PlanOf};
+ghost use Rattle.isolators.specs.Reach.{status_of as status_with};
+ghost use Rattle.isolators.specs.Stands.{StandsFor as CableStands};
+ghost use Rattle.loop_poller.specs.Asked.{loop_at, status_on};
+ghost use Rattle.panel_rules.specs.Faults.{broken_loops, shorted_loops};
+ghost use Rattle.panel_rules.specs.Moments.{Moment as MomentOf};
+ghost use Rattle.panel_rules.specs.States.{piece_of};
+ghost use Rattle.plain_panel.specs.Histories.{history, moment_of};
+
+use crate::moment::Moment;
+use isolators::{LineStatus, LoopLine};
+use site_types::{Event, LoopPlan, Site, mask_from_8};
+
+/// The loops of a panel with an open piece, by bit `line - 1`.
+pub(crate) fn broken_loops(site: &Site, panel: u8, moments: &[Moment]) -> u8
+    ensures { result ≡ broken_loops site.now panel (history moments.now) }
+{
+    mask_from_8(&[
+        line_status(site, panel, 1, moments).broken,
+        line_status(site, panel, 2, moments).broken,
+        line_status(site, panel, 3, moments).broken,
+        line_status(site, panel, 4, moments).broken,
+    ])
+}
+
+/// The loops of a panel with a short piece, by bit `line - 1`.
+pub(crate) fn shorted_loops(site: &Site, panel: u8, moments: &[Moment]) -> u8
+    ensures { result ≡ shorted_loops site.now panel (history moments.now) }
+{
+    mask_from_8(&[
+        line_status(site, panel, 1, moments).shorted,
+        line_status(site, panel, 2, moments).shorted,
+        line_status(site, panel, 3, moments).shorted,
+        line_status(site, panel, 4, moments).shorted,
+    ])
+}
+
+/// What is wrong with the cable of a loop of a panel; where there is no loop, nothing.
+fn line_status(site: &Site, panel: u8, line: u8, moments: &[Moment]) -> LineStatus
+    ensures { result ≡ status_on (loop_at site.now panel line) (λ piece. piece_of panel line piece (history moments.now)) }
+{
+    match site.loop_of(panel, line) {
+        Some(plan) => plan_status(plan, panel, line, moments),
+        None => LineStatus::default(),
+    }
+}
+
+fn plan_status(plan: &LoopPlan, panel: u8, line: u8, moments: &[Moment]) -> LineStatus
+    ensures { result ≡ status_with plan.now (λ piece. piece_of panel line piece (history moments.now)) }
+{
+    let mut cable = LoopLine::new(plan);
+    for moment in moments {
+        report(&mut cable, panel, line, moment);
+    }
+    cable.status()
+}
+
+// Tells the cable of a loop what befalls the site.
+fn report(cable: &mut LoopLine, panel: u8, line: u8, moment: &Moment)
+    ensures { (plan : PlanOf) (before : List MomentOf) → CableStands plan (λ piece. piece_of panel line piece before) cable.old → CableStands plan (λ piece. piece_of panel line piece (moment_of moment.now ∷ before)) cable.new }
+{
+    match *moment {
+        Moment::Happened(event) => match event {
+            Event::Cable {
+                panel: of_panel,
+                line: of_line,
+                piece,
+                state,
+            } => {
+                if of_panel == panel && of_line == line {
+                    cable.set_piece(piece, state);
+                }
+            }
+            Event::Point { .. }
+            | Event::Supply { .. }
+            | Event::Link { .. }
+            | Event::Confirmed { .. }
+            | Event::Op { .. } => {}
+        },
+        Moment::Began | Moment::Turned { .. } | Moment::Kept { .. } => {}
+    }
+}

@@ -1,0 +1,124 @@
+//! The face of a panel, with some operations done.
+
+ghost use Rattle.std.specs.Prelude.{◌≡◌, List};
+ghost use Rattle.site_types.specs.Valid.{IsPanel, IsValid};
+ghost use Rattle.panel_rules.specs.Faces.{face_with};
+ghost use Rattle.panel_rules.specs.Moments.{Moment as MomentOf, tick_of};
+ghost use Rattle.panel_rules.specs.Run.{facts_of};
+ghost use Rattle.plain_panel.specs.Drives.{DrivesFor};
+ghost use Rattle.plain_panel.specs.Histories.{all_done};
+ghost use Rattle.plain_panel.specs.Network.{StandsFor};
+
+use crate::done::Done;
+use crate::driving::Driving;
+use crate::network::Network;
+use crate::output_masks::{outputs_confirmed, outputs_on};
+use crate::setting::{Setting, in_force};
+use crate::settings_shown::{outputs_off, points_off, zones_in_test, zones_off};
+use face_text::Face;
+use site_types::{Retained, Site, Word};
+use tick_units::Tick;
+
+/// The face of a panel of a site at the tick that began last, with what is stored by then.
+pub fn face_of(
+    network: &Network,
+    driving: &Driving,
+    site: &Site,
+    kept: &Retained,
+    done: &[Done],
+    stored: &Retained,
+    panel: u8,
+    tick: Tick,
+) -> Face
+    requires valid { IsValid site.now }
+    requires size { network.now.panels ≡ site.now.panels }
+    requires panel { IsPanel site.now panel }
+    ensures { (before : List MomentOf) → StandsFor site.now kept.now (all_done done.now) before network.now → DrivesFor site.now (facts_of site.now kept.now (all_done done.now)) before driving.now → tick_of before ≡ tick.0 → result ≡ face_with site.now kept.now (all_done done.now) stored.now panel before }
+{
+    Face {
+        panel,
+        zones: alarms_shown(network, site, panel),
+        firsts: firsts_shown(network, site, panel),
+        faults: network.faults(panel),
+        outputs: outputs_on(driving, site, kept, done, panel),
+        confirmed: outputs_confirmed(driving, site, kept, done, panel),
+        points_off: points_off(site, kept, panel, done, tick),
+        zones_off: zones_off(site, kept, panel, done, tick),
+        outputs_off: outputs_off(site, kept, panel, done, tick),
+        test: zones_in_test(site, kept, panel, done, tick),
+        delays_off: in_force(site, kept, Setting::DelaysOff(panel), tick, done),
+        buzzer: network.buzzer(site, done, panel),
+        counter: stored.counters[panel as usize - 1],
+    }
+}
+
+ghost use Rattle.std.specs.Prelude.{◌≤◌, ℕ, map};
+ghost use Rattle.std.specs.List.{range_with_len};
+ghost use Rattle.site_types.specs.declared.retained.Retained.{Retained as RetainedOf};
+ghost use Rattle.site_types.specs.Done.{Done as DoneOf};
+ghost use Rattle.site_types.specs.Limits.{most_panels};
+ghost use Rattle.panel_links.specs.Words.{empty_word};
+ghost use Rattle.panel_rules.specs.Faces.{shown_word};
+
+// The zones in alarm that a panel shows, by panel.
+fn alarms_shown(network: &Network, site: &Site, panel: u8) -> [u32; 8]
+    requires size { network.now.panels ≡ site.now.panels }
+    requires panel { IsPanel site.now panel }
+    ensures { (kept : RetainedOf) (done : List DoneOf) (before : List MomentOf) → StandsFor site.now kept done before network.now → result ≡ map (λ (source : ℕ). (shown_word site.now kept done panel before source).alarm) (range_with_len 1 most_panels) }
+{
+    [
+        word_shown(network, site, panel, 1).alarm,
+        word_shown(network, site, panel, 2).alarm,
+        word_shown(network, site, panel, 3).alarm,
+        word_shown(network, site, panel, 4).alarm,
+        word_shown(network, site, panel, 5).alarm,
+        word_shown(network, site, panel, 6).alarm,
+        word_shown(network, site, panel, 7).alarm,
+        word_shown(network, site, panel, 8).alarm,
+    ]
+}
+
+// The zones in first state that a panel shows, by panel.
+fn firsts_shown(network: &Network, site: &Site, panel: u8) -> [u32; 8]
+    requires size { network.now.panels ≡ site.now.panels }
+    requires panel { IsPanel site.now panel }
+    ensures { (kept : RetainedOf) (done : List DoneOf) (before : List MomentOf) → StandsFor site.now kept done before network.now → result ≡ map (λ (source : ℕ). (shown_word site.now kept done panel before source).first) (range_with_len 1 most_panels) }
+{
+    [
+        word_shown(network, site, panel, 1).first,
+        word_shown(network, site, panel, 2).first,
+        word_shown(network, site, panel, 3).first,
+        word_shown(network, site, panel, 4).first,
+        word_shown(network, site, panel, 5).first,
+        word_shown(network, site, panel, 6).first,
+        word_shown(network, site, panel, 7).first,
+        word_shown(network, site, panel, 8).first,
+    ]
+}
+
+// The word of a panel that another one shows; a panel that the site has not told nothing.
+fn word_shown(network: &Network, site: &Site, panel: u8, source: u8) -> Word
+    requires size { network.now.panels ≡ site.now.panels }
+    requires panel { IsPanel site.now panel }
+    requires source { 1 ≤ source }
+    ensures { (kept : RetainedOf) (done : List DoneOf) (before : List MomentOf) → StandsFor site.now kept done before network.now → result ≡ shown_word site.now kept done panel before source }
+{
+    if source <= site.panels {
+        network.shown_word(panel, source)
+    } else {
+        no_word()
+    }
+}
+
+fn no_word() -> Word
+    ensures { result ≡ empty_word }
+{
+    Word {
+        stamp: Tick(0),
+        alarm: 0,
+        manual: 0,
+        released: 0,
+        first: 0,
+        fault: false,
+    }
+}

@@ -1,0 +1,157 @@
+ghost use Rattle.std.specs.Prelude.{◌≡◌, ◌++◌, [], ◌∷◌, IfOk, OnOk};
+ghost use Rattle.site_types.specs.Valid.{IsValid};
+ghost use Rattle.panel_rules.specs.Moments.{tick_of};
+ghost use Rattle.panel_rules.specs.Operations.{operations};
+ghost use Rattle.plain_panel.specs.Desks.{StandsForDesk};
+ghost use Rattle.plain_panel.specs.Standings.{StandsForStanding};
+ghost use Rattle.plain_panel.specs.Histories.{history, moment_of};
+ghost use Rattle.plain_panel.specs.Keepings.{StandsForKeeping};
+
+use crate::desk::Desk;
+use crate::entering::Entering;
+use crate::moment::Moment;
+use crate::standing::Standing;
+use crate::storing::{make_change, make_changes};
+use site_types::{Change, Retained, Site};
+use std::alloc::Global;
+use tick_units::{NoMemory, Tick};
+
+/// The desk of a site, what stands with the operations that it has done, and what is kept by then.
+#[derive(Drop)]
+pub struct Keeping {
+    pub desk: Desk,
+    pub standing: Standing,
+    pub stored: Retained,
+}
+
+impl Keeping {
+    /// Nothing has befallen a site with this kept.
+    pub fn new(alloc: Global, site: &Site, kept: &Retained) -> Result<Keeping, NoMemory>
+        requires { IsValid site.now }
+        ensures { IfOk result (λ keeping. StandsForKeeping site.now kept.now [] keeping) }
+    {
+        Ok(Keeping {
+            desk: Desk::new(alloc),
+            standing: Standing::new(alloc, site)?,
+            stored: *kept,
+        })
+    }
+
+    /// One moment more, in the tick that began last before it. The moments before it are given, and all with it.
+    pub fn step(
+        &mut self,
+        alloc: Global,
+        site: &Site,
+        kept: &Retained,
+        tick: Tick,
+        before: &[Moment],
+        moment: &Moment,
+        with_it: &[Moment],
+    ) -> Result<(), NoMemory>
+        requires valid { IsValid site.now }
+        requires stands { StandsForKeeping site.now kept.now (history before.now) self.old }
+        requires ticks { tick_of (history before.now) ≡ tick.0 }
+        requires all { with_it.now ≡ before.now ++ moment.now ∷ [] }
+        ensures { OnOk result (StandsForKeeping site.now kept.now (moment_of moment.now ∷ history before.now) self.new) }
+    {
+        self.store_at(site, moment);
+        self.go_on(alloc, site, kept, tick, before, moment, with_it)
+    }
+
+    // The same of the desk and of what stands, where what is kept has been stored.
+    fn go_on(
+        &mut self,
+        alloc: Global,
+        site: &Site,
+        kept: &Retained,
+        tick: Tick,
+        before: &[Moment],
+        moment: &Moment,
+        with_it: &[Moment],
+    ) -> Result<(), NoMemory>
+        requires valid { IsValid site.now }
+        requires desk { StandsForDesk site.now kept.now (history before.now) self.old.desk }
+        requires standing { StandsForStanding site.now kept.now (operations site.now kept.now (history before.now)).done (history before.now) self.old.standing }
+        requires ticks { tick_of (history before.now) ≡ tick.0 }
+        requires all { with_it.now ≡ before.now ++ moment.now ∷ [] }
+        ensures desk { OnOk result (StandsForDesk site.now kept.now (moment_of moment.now ∷ history before.now) self.new.desk) }
+        ensures standing { OnOk result (StandsForStanding site.now kept.now (operations site.now kept.now (moment_of moment.now ∷ history before.now)).done (moment_of moment.now ∷ history before.now) self.new.standing) }
+        ensures stored { self.new.stored ≡ self.old.stored }
+    {
+        let changed = self.desk.step(site, kept, tick, moment)?;
+        let done = self.desk.outcomes().done.as_slice();
+        if changed {
+            self.standing = Standing::over(alloc, site, kept, done, with_it)?;
+            Ok(())
+        } else {
+            self.standing
+                .step(alloc, site, kept, done, tick, before, moment)
+        }
+    }
+
+    // What a moment stores, where it is a turn of Keep that does not fail.
+    fn store_at(&mut self, site: &Site, moment: &Moment)
+        requires valid { IsValid site.now }
+        requires placed { AllPlaced self.old.standing.panels.items }
+        ensures stored { self.new.stored ≡ (if is_storing (moment_of moment.now) then changed_by (changes_of site.now (all_requests self.old.desk.outcomes.waiting.items)) (changed_by (all_counted self.old.standing.panels.items) self.old.stored) else self.old.stored) }
+        ensures desk { self.new.desk ≡ self.old.desk }
+        ensures standing { self.new.standing ≡ self.old.standing }
+    {
+        if !stores(moment) {
+            return;
+        }
+        self.store(site);
+    }
+
+    // What a turn of Keep stores that does not fail.
+    fn store(&mut self, site: &Site)
+        requires valid { IsValid site.now }
+        requires placed { AllPlaced self.old.standing.panels.items }
+        ensures stored { self.new.stored ≡ changed_by (changes_of site.now (all_requests self.old.desk.outcomes.waiting.items)) (changed_by (all_counted self.old.standing.panels.items) self.old.stored) }
+        ensures desk { self.new.desk ≡ self.old.desk }
+        ensures standing { self.new.standing ≡ self.old.standing }
+    {
+        count_entries(&self.standing.panels, &mut self.stored);
+        make_changes(site, &self.desk.outcomes().waiting, &mut self.stored);
+    }
+}
+
+ghost use Rattle.std.specs.Prelude.{if◌then◌else◌};
+ghost use Rattle.site_types.specs.Changes.{IsPanelNumber, changed_by};
+ghost use Rattle.panel_rules.specs.Batches.{changes_of};
+ghost use Rattle.plain_panel.specs.Desks.{all_requests};
+ghost use Rattle.plain_panel.specs.Keepings.{AllPlaced, all_counted, counted, is_storing};
+
+// A moment is a turn of Keep that does not fail.
+fn stores(moment: &Moment) -> bool
+    ensures { result ≡ is_storing (moment_of moment.now) }
+{
+    match *moment {
+        Moment::Kept { failed } => !failed,
+        Moment::Began => false,
+        Moment::Happened(_) => false,
+        Moment::Turned { .. } => false,
+    }
+}
+
+// Counts the entries of all panels.
+fn count_entries(panels: &[Entering], stored: &mut Retained)
+    requires { AllPlaced panels.now }
+    ensures { stored.new ≡ changed_by (all_counted panels.now) stored.old }
+{
+    for entering in panels {
+        count_panel(entering, stored);
+    }
+}
+
+// Counts the entries of a panel.
+fn count_panel(entering: &Entering, stored: &mut Retained)
+    requires { IsPanelNumber entering.now.panel }
+    ensures { stored.new ≡ changed_by (counted entering.now) stored.old }
+{
+    let entries = entering.entries();
+    if entries != 0 {
+        let panel = entering.panel();
+        make_change(stored, &Change::Count { panel, entries });
+    }
+}

@@ -1,0 +1,263 @@
+ghost use Rattle.std.specs.Prelude.{◌≡◌, ◌≤◌, ◌<◌, ◌-◌, [], ◌∷◌, List, ℕ, length};
+ghost use Rattle.tick_units.specs.declared.task.Task.TheVariants.{Hold as HoldTask, Link as LinkTask};
+ghost use Rattle.site_types.specs.declared.event.Event.TheVariants.{Link as LinkTold};
+ghost use Rattle.site_types.specs.declared.retained.Retained.{Retained as RetainedOf};
+ghost use Rattle.site_types.specs.declared.site.Site.{Site as SiteOf};
+ghost use Rattle.site_types.specs.Done.{Done as DoneOf};
+ghost use Rattle.site_types.specs.Valid.{IsPanel, IsValid};
+ghost use Rattle.panel_rules.specs.Moments.{Happened as HappenedOf, Moment as MomentOf, Turned as TurnedOf, tick_of};
+ghost use Rattle.panel_rules.specs.Faces.{buzzer_of, last_news, shown_word};
+ghost use Rattle.panel_rules.specs.Run.{facts_of, faults_of, faults_with, tells_fault};
+ghost use Rattle.panel_rules.specs.Words.{kept_word_of, latest_word, word_made};
+ghost use Rattle.panel_rules.specs.Zones.{held_answers};
+ghost use Rattle.plain_panel.specs.Drives.{AreFacts};
+ghost use Rattle.plain_panel.specs.Histories.{all_done, history, moment_of};
+
+use crate::answered::{answered_faults, answered_word};
+use crate::cables::{broken_loops, shorted_loops};
+use crate::done::Done;
+use crate::mark::muted_before;
+use crate::moment::Moment;
+use crate::news::{has_fault, sounds};
+use crate::own::Own;
+use crate::supplies::shown_supplies;
+use marker_table::Facts;
+use panel_conditions::Outside;
+use panel_links::Ring;
+use site_types::{Answer, Buzzer, Event, FaultSet, Retained, Site, Word, mask_from_8};
+use tick_units::{Task, Tick};
+
+/// What each panel of a site shows of its own and keeps of the others.
+#[derive(Drop)]
+pub struct Network {
+    panels: u8,
+    ring: Ring,
+    /// By panel, panel 1 being the first.
+    own: [Own; 8],
+    ghost same: { ring.panels ≡ panels },
+    ghost few: { panels ≤ 8 },
+}
+
+impl Network {
+    ghost use Rattle.plain_panel.specs.Network.{HasPanel, IsNotHold, IsOtherTask, StandsFor, outside_told, own_in, unconfirmed_at};
+
+    /// The panels of a site before its first tick.
+    pub fn new(site: &Site) -> Network
+        requires { IsValid site.now }
+        ensures stands { (kept : RetainedOf) (done : List DoneOf) → StandsFor site.now kept done [] result }
+        ensures panels { result.panels ≡ site.now.panels }
+    {
+        Network {
+            panels: site.panels,
+            ring: Ring::new(site.panels),
+            own: [Own::nothing(); 8],
+        }
+    }
+
+    /// Hold of a panel has its turn, after these moments and the tick that began last. The answers that it has taken after the turn are given, and
+    /// its outputs without confirmation then, by bit `number - 1`.
+    pub fn hold(
+        &mut self,
+        site: &Site,
+        kept: &Retained,
+        done: &[Done],
+        before: &[Moment],
+        now: Tick,
+        panel: u8,
+        answers: &[Answer],
+        unconfirmed: u32,
+    )
+        ensures stands { StandsFor site.now kept.now (all_done done.now) (history before.now) self.old → now.0 ≡ tick_of (history before.now)
+            → (IsPanel site.now panel → answers.now ≡ held_answers site.now panel (TurnedOf panel HoldTask ∷ history before.now))
+            → (IsPanel site.now panel → unconfirmed ≡ unconfirmed_at site.now kept.now (all_done done.now) panel (TurnedOf panel HoldTask ∷ history before.now))
+            → StandsFor site.now kept.now (all_done done.now) (TurnedOf panel HoldTask ∷ history before.now) self.new }
+        ensures panels { self.new.panels ≡ self.old.panels }
+    {
+        if panel >= 1 && panel <= self.panels {
+            let outside = self.outside(site, before, now, panel, unconfirmed);
+            let faults = answered_faults(site, kept, panel, done, answers, now, &outside);
+            let fault = has_fault(&faults);
+            let word = answered_word(site, kept, panel, done, answers, now, fault);
+            self.show(now, panel, word, faults);
+        }
+    }
+
+    fn own(&self, panel: u8) -> Own
+        requires { HasPanel self.now panel }
+        ensures { result ≡ own_in self.now panel }
+    {
+        self.own[panel as usize - 1]
+    }
+
+    // Shows what a turn of Hold of a panel made.
+    fn show(&mut self, now: Tick, panel: u8, word: Word, faults: FaultSet)
+        requires { HasPanel self.old panel }
+        ensures stands { (site : SiteOf) (kept : RetainedOf) (done : List DoneOf) (before : List MomentOf) → StandsFor site kept done before self.old → now.0 ≡ tick_of before → faults ≡ faults_with site kept done (tells_fault site kept done) panel (TurnedOf panel HoldTask ∷ before) → word ≡ word_made site kept done (tells_fault site kept done) panel (TurnedOf panel HoldTask ∷ before) → StandsFor site kept done (TurnedOf panel HoldTask ∷ before) self.new }
+        ensures panels { self.new.panels ≡ self.old.panels }
+    {
+        let own = self.own(panel);
+        self.own[panel as usize - 1] = own.then(now, word, faults);
+    }
+
+    // What stands besides missing points at a turn of Hold made now, with the outputs without confirmation then.
+    fn outside(
+        &self,
+        site: &Site,
+        before: &[Moment],
+        now: Tick,
+        panel: u8,
+        unconfirmed: u32,
+    ) -> Outside
+        requires { HasPanel self.now panel }
+        ensures { (kept : RetainedOf) (done : List DoneOf) → StandsFor site.now kept done (history before.now) self.now → now.0 ≡ tick_of (history before.now) → result ≡ outside_told site.now panel (history before.now) unconfirmed }
+    {
+        Outside {
+            supply: shown_supplies(&site.waits, panel, before),
+            broken: broken_loops(site, panel, before),
+            shorted: shorted_loops(site, panel, before),
+            silent: self.ring.silent(panel, now, site.profile().silent()),
+            links: self.ring.links_down(panel),
+            unconfirmed,
+        }
+    }
+
+    /// Anything but a turn of Hold befalls the site, after the tick that began last.
+    pub fn step(&mut self, now: Tick, moment: &Moment)
+        ensures stands { (site : SiteOf) (kept : RetainedOf) (done : List DoneOf) (before : List MomentOf) → StandsFor site kept done before self.old → now.0 ≡ tick_of before → IsNotHold moment.now → StandsFor site kept done (moment_of moment.now ∷ before) self.new }
+        ensures panels { self.new.panels ≡ self.old.panels }
+    {
+        match *moment {
+            Moment::Began => {}
+            Moment::Happened(event) => self.hear(&event),
+            Moment::Turned { panel, task } => self.turn(now, panel, task),
+            Moment::Kept { .. } => {}
+        }
+    }
+
+    fn hear(&mut self, event: &Event)
+        ensures stands { (site : SiteOf) (kept : RetainedOf) (done : List DoneOf) (before : List MomentOf) → StandsFor site kept done before self.old → StandsFor site kept done (HappenedOf event.now ∷ before) self.new }
+        ensures panels { self.new.panels ≡ self.old.panels }
+    {
+        match *event {
+            Event::Link { link, up } => self.set_link(link, up),
+            Event::Point { .. }
+            | Event::Cable { .. }
+            | Event::Supply { .. }
+            | Event::Confirmed { .. }
+            | Event::Op { .. } => {}
+        }
+    }
+
+    fn set_link(&mut self, link: u8, up: bool)
+        ensures stands { (site : SiteOf) (kept : RetainedOf) (done : List DoneOf) (before : List MomentOf) → StandsFor site kept done before self.old → StandsFor site kept done (HappenedOf (LinkTold link up) ∷ before) self.new }
+        ensures panels { self.new.panels ≡ self.old.panels }
+    {
+        if link >= 1 && link <= 8 {
+            self.ring.set_link(link, up);
+        }
+    }
+
+    fn turn(&mut self, now: Tick, panel: u8, task: Task)
+        ensures stands { (site : SiteOf) (kept : RetainedOf) (done : List DoneOf) (before : List MomentOf) → StandsFor site kept done before self.old → now.0 ≡ tick_of before → IsOtherTask task → StandsFor site kept done (TurnedOf panel task ∷ before) self.new }
+        ensures panels { self.new.panels ≡ self.old.panels }
+    {
+        match task {
+            Task::Link => self.relay(now, panel),
+            Task::Poll
+            | Task::Decide
+            | Task::Supply
+            | Task::Desk
+            | Task::Hold
+            | Task::Effect
+            | Task::Drive
+            | Task::Keep => {}
+        }
+    }
+
+    fn relay(&mut self, now: Tick, panel: u8)
+        ensures stands { (site : SiteOf) (kept : RetainedOf) (done : List DoneOf) (before : List MomentOf) → StandsFor site kept done before self.old → now.0 ≡ tick_of before → StandsFor site kept done (TurnedOf panel LinkTask ∷ before) self.new }
+        ensures panels { self.new.panels ≡ self.old.panels }
+    {
+        if panel >= 1 && panel <= self.panels {
+            let word = self.own(panel).word;
+            self.ring.turn(now, panel, word);
+        }
+    }
+
+    /// The latest word of a panel.
+    pub fn latest_word(&self, panel: u8) -> Word
+        requires { HasPanel self.now panel }
+        ensures { (site : SiteOf) (kept : RetainedOf) (done : List DoneOf) (before : List MomentOf) → StandsFor site kept done before self.now → result ≡ latest_word site kept done (tells_fault site kept done) panel before }
+    {
+        self.own(panel).word
+    }
+
+    /// The word of a panel that another one keeps.
+    pub fn kept_word(&self, at: u8, of: u8) -> Word
+        requires at { HasPanel self.now at }
+        requires from { HasPanel self.now of }
+        ensures { (site : SiteOf) (kept : RetainedOf) (done : List DoneOf) (before : List MomentOf) → StandsFor site kept done before self.now → result ≡ kept_word_of site kept done (tells_fault site kept done) at of before }
+    {
+        self.ring.word(at, of)
+    }
+
+    /// The word of a panel that another one shows.
+    pub fn shown_word(&self, at: u8, of: u8) -> Word
+        requires at { HasPanel self.now at }
+        requires from { HasPanel self.now of }
+        ensures { (site : SiteOf) (kept : RetainedOf) (done : List DoneOf) (before : List MomentOf) → StandsFor site kept done before self.now → result ≡ shown_word site kept done at before of }
+    {
+        if of == at {
+            self.latest_word(at)
+        } else {
+            self.kept_word(at, of)
+        }
+    }
+
+    /// The faults that a panel shows.
+    pub fn faults(&self, panel: u8) -> FaultSet
+        requires { HasPanel self.now panel }
+        ensures { (site : SiteOf) (kept : RetainedOf) (done : List DoneOf) (before : List MomentOf) → StandsFor site kept done before self.now → result ≡ faults_of site kept done panel before }
+    {
+        self.own(panel).faults
+    }
+
+    /// The last tick in which a panel showed something new; 0 for none.
+    pub fn last_news(&self, panel: u8) -> Tick
+        requires { HasPanel self.now panel }
+        ensures { (site : SiteOf) (kept : RetainedOf) (done : List DoneOf) (before : List MomentOf) → StandsFor site kept done before self.now → result.0 ≡ last_news site kept done panel before }
+    {
+        self.own(panel).news
+    }
+
+    /// What the buzzer of a panel sounds.
+    pub fn buzzer(&self, site: &Site, done: &[Done], panel: u8) -> Buzzer
+        requires { HasPanel self.now panel }
+        ensures { (kept : RetainedOf) (before : List MomentOf) → StandsFor site.now kept (all_done done.now) before self.now → result ≡ buzzer_of site.now kept (all_done done.now) panel before }
+    {
+        let own = self.own(panel);
+        let muted = muted_before(site, panel, own.word.stamp, done);
+        sounds(&own.word, muted.0 < own.news.0)
+    }
+
+    /// The facts of an Effect turn of a panel made now: what the words that it keeps say of zones, and which tell a fault.
+    pub fn facts(&self, panel: u8) -> Facts
+        requires { HasPanel self.now panel }
+        ensures { (site : SiteOf) (kept : RetainedOf) (done : List DoneOf) (before : List MomentOf) → IsValid site → StandsFor site kept done before self.now → AreFacts site (facts_of site kept done panel before) result }
+    {
+        let mut zones = [0; 8];
+        let mut manual = [0; 8];
+        let mut faulty = [false; 8];
+        for source in 1..self.panels + 1 {
+            let word = self.ring.word(panel, source);
+            zones[source as usize - 1] = word.released;
+            manual[source as usize - 1] = word.manual;
+            faulty[source as usize - 1] = word.fault;
+        }
+        Facts {
+            zones,
+            manual,
+            faults: mask_from_8(&faulty),
+        }
+    }
+}
