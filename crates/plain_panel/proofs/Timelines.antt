@@ -1,5 +1,5 @@
 -- The steps of a timeline, tick by tick.
-use Rattle.std.proofs.Common.{◌≡◌, ◌∙◌, ◌+◌, ◌-◌, ◌<◌, ◌≤◌, ◌==◌, ◌&&◌, ◌||◌, ◌⊎◌, Option, Some, None, length, ℕ, zero, suc, Bool, true, false, List, [], ◌∷◌, ◌++◌, add-one, ap, arith, filter, inl, inr, if◌then◌else◌, map, nat_le, refl, sym}
+use Rattle.std.proofs.Common.{◌≡◌, ◌∙◌, ◌+◌, ◌-◌, ◌<◌, ◌≤◌, ◌==◌, ◌&&◌, ◌||◌, ◌⊎◌, Some, None, length, ℕ, zero, suc, Bool, true, false, List, [], ◌∷◌, ◌++◌, add-one, ap, arith, filter, inl, inr, if◌then◌else◌, map, nat_le, refl, sym}
 use Rattle.std.specs.Prelude.{not}
 use Rattle.std.specs.List.{cons_option, list_any, range_with_len}
 use Rattle.tick_units.specs.declared.tick.Tick.{Tick}
@@ -111,6 +111,7 @@ module _ (site : Site) (kept : Retained) where
       chosen : (b : Bool) (step : Step) → (if b then step ∷ [] else []) ≡ cons_option (if b then Some step else None) []
       chosen true step = refl
       chosen false step = refl
+
       closed : (tick : ℕ) → tick_of moments ≡ tick → steps_upto site kept moments tick ≡ steps_upto site kept moments (tick - 1) ++ cons_option (if nat_le 1 tick && is_told site kept moments tick then Some (step_of site kept moments) else None) []
       closed zero at = refl
       closed (suc last) at =

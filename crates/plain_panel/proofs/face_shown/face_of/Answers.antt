@@ -19,5 +19,6 @@ returns c before network drives at =
       c.zones_in_test.ensures,
       c.in_force.ensures,
       c.buzzer.ensures c.args.kept.now before network,
-      at)
+      at,
+    )
     refl
