@@ -1,5 +1,5 @@
 -- Of a panel that a site has not, no panel of it keeps a word.
-use Rattle.std.proofs.Common.{◌≡◌, ◌∙◌, ◌+◌, ◌-◌, ◌%◌, ◌<◌, ◌≤◌, ◌==◌, ℕ, Bool, true, false, List, [], ◌∷◌, ap, arith, inl, inr, refl, if◌then◌else◌}
+use Rattle.std.proofs.Common.{◌≡◌, ◌+◌, ◌-◌, ◌%◌, ◌<◌, ◌≤◌, ◌==◌, ℕ, Bool, true, false, List, [], ◌∷◌, arith, inl, inr, refl, if◌then◌else◌}
 use Rattle.std.proofs.lemmas.Bool.Decides.{eqb_tells}
 use Rattle.tick_units.specs.declared.task.Task.TheVariants.{Link}
 use Rattle.site_types.specs.declared.retained.Retained.{Retained}
@@ -11,8 +11,6 @@ use Rattle.panel_rules.specs.Faces.{shown_word}
 use Rattle.panel_rules.specs.Kept.{above, below, carries, kept_at, made_at, taken_over}
 use Rattle.panel_rules.specs.Moments.{Moment, Began, Happened, Turned, Kept, tick_of}
 use Rattle.panel_rules.specs.States.{is_up}
-use Rattle.panel_rules.specs.Run.{tells_fault}
-use Rattle.panel_rules.specs.Words.{word_made}
 
 apart : (a b : ℕ) → b < a → (a == b) ≡ false
 apart a b less = elim (eqb_tells a b) [ inl h ↦ absurd (omega (arith, h.1)) | inr h ↦ h.0 ]

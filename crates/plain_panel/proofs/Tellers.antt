@@ -1,5 +1,5 @@
 -- What is told of a run, one moment further.
-use Rattle.std.proofs.Common.{◌≡◌, ◌∙◌, ◌+◌, ◌-◌, ◌<◌, ◌≤◌, ℕ, Bool, true, false, List, [], ◌∷◌, ◌++◌, Result, Ok, Err, add-one, ap, arith, get_or, length, map, subst, sym, take}
+use Rattle.std.proofs.Common.{◌≡◌, ◌∙◌, ◌+◌, ◌-◌, ◌<◌, ◌≤◌, ℕ, false, List, ◌∷◌, Result, Ok, Err, add-one, ap, arith, get_or, length, subst, sym, take}
 use Rattle.std.specs.Prelude.{OnOk}
 use Rattle.std.specs.List.{filter_map}
 use Rattle.std.proofs.Math.Seq.{take-suc}

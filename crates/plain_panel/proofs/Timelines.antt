@@ -1,5 +1,5 @@
 -- The steps of a timeline, tick by tick.
-use Rattle.std.proofs.Common.{◌≡◌, ◌∙◌, ◌+◌, ◌-◌, ◌<◌, ◌≤◌, ◌==◌, ◌&&◌, ◌||◌, ◌⊎◌, Option, Some, None, length, ℕ, zero, suc, Bool, true, false, List, [], ◌∷◌, ◌++◌, add-one, ap, arith, filter, inl, inr, if◌then◌else◌, map, nat_le, refl, sym}
+use Rattle.std.proofs.Common.{◌≡◌, ◌∙◌, ◌+◌, ◌-◌, ◌<◌, ◌≤◌, ◌==◌, ◌&&◌, ◌||◌, ◌⊎◌, Some, None, length, ℕ, zero, suc, Bool, true, false, List, [], ◌∷◌, ◌++◌, add-one, ap, arith, filter, inl, inr, if◌then◌else◌, map, nat_le, refl, sym}
 use Rattle.std.specs.Prelude.{not}
 use Rattle.std.specs.List.{cons_option, list_any, range_with_len}
 use Rattle.tick_units.specs.declared.tick.Tick.{Tick}

@@ -1,6 +1,3 @@
-use Rattle.std.proofs.Common.{◌≡◌, ◌∙◌, ◌+◌, ◌++◌, [], ◌∷◌, ap, arith, map}
-use Rattle.std.specs.List.{range_with_len}
-use Rattle.std.proofs.lemmas.List.FromFn.{map-range_with_len_more}
 use Rattle.panel_rules.specs.Timeline.{face_of}
 use Rattle.plain_panel.specs.Histories.{history}
 use Rattle.plain_panel.proofs.FacesMore.{more_faces}

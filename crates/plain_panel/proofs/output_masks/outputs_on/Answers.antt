@@ -1,4 +1,4 @@
-use Rattle.std.proofs.Common.{◌<◌, ◌≤◌, ◌∙◌, ℕ, ap, arith, length, length-set}
+use Rattle.std.proofs.Common.{◌∙◌, ℕ, ap, arith, length, length-set}
 use Rattle.site_types.proofs.ValidSites.{few_outputs}
 use Rattle.panel_rules.specs.Outputs.{is_on}
 use Rattle.plain_panel.specs.Histories.{all_done}

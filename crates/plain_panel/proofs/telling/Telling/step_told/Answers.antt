@@ -1,4 +1,4 @@
-use Rattle.std.proofs.Common.{◌≡◌, ◌∙◌, ◌&&◌, Bool, Some, ap, length, map, nat_le, sym}
+use Rattle.std.proofs.Common.{◌≡◌, ◌∙◌, ◌&&◌, Some, ap, length, map, nat_le, sym}
 use Rattle.std.proofs.lemmas.List.{length-map}
 use Rattle.panel_rules.specs.Moments.{tick_of}
 use Rattle.panel_rules.specs.Timeline.{answers_now, is_told}
