@@ -36,11 +36,11 @@ impl PlainReader {
         for page in pages.panels {
             panel = panel.saturating_add(1);
             for words in page.split('|') {
-                slots.push(slot(alloc, panel, words, "off")?)?;
+                slots.push(slot_of_panel(alloc, panel, words, "off")?)?;
             }
-            slots.push(slot(alloc, panel, "delays", "on")?)?;
-            slots.push(slot(alloc, panel, "buzzer", "off")?)?;
-            slots.push(slot(alloc, panel, "counter", "0")?)?;
+            slots.push(slot_of_panel(alloc, panel, "delays", "on")?)?;
+            slots.push(slot_of_panel(alloc, panel, "buzzer", "off")?)?;
+            slots.push(slot_of_panel(alloc, panel, "counter", "0")?)?;
         }
         Ok(PlainReader {
             slots,
@@ -184,7 +184,7 @@ pub(crate) fn bad_line(alloc: Global, pages: &Pages, text: &str) -> Result<Optio
     }
 }
 
-fn slot(alloc: Global, panel: u64, words: &str, state: &str) -> Result<Slot, Fail> {
+fn slot_of_panel(alloc: Global, panel: u64, words: &str, state: &str) -> Result<Slot, Fail> {
     let words = format!(in alloc; "{panel} {words}")?;
     slot_with(alloc, words.as_str(), state)
 }
