@@ -10,6 +10,7 @@ pub mod Enterings
 pub mod FacesMore
 pub mod FactsKept
 pub mod FlagsTold
+pub mod Halves
 pub mod Histories
 pub mod HoldsShown
 pub mod Joining
@@ -27,7 +28,7 @@ pub mod Silent
 pub mod Solving
 pub mod Standings
 pub mod TakenMoments
+pub mod Tellers
 pub mod Tellings
 pub mod Timelines
 pub mod Unset
-pub mod Tellers

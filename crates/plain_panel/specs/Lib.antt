@@ -3,6 +3,7 @@ pub mod BadRuns
 pub mod Desks
 pub mod Drives
 pub mod Enterings
+pub mod Halves
 pub mod Histories
 pub mod Keepings
 pub mod Network
