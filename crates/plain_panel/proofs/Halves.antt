@@ -18,11 +18,11 @@ use Rattle.panel_conditions.specs.Points.{addressed, is_addressed, on_point}
 use Rattle.plain_panel.specs.Halves.{lies_among}
 use Rattle.plain_panel.proofs.Masked.{point_test}
 
-or_first : (a b : Bool) → (a || b) ≡ false → a ≡ false
+pub or_first : (a b : Bool) → (a || b) ≡ false → a ≡ false
 or_first true b e = e
 or_first false b e = refl
 
-or_rest : (a b : Bool) → (a || b) ≡ false → b ≡ false
+pub or_rest : (a b : Bool) → (a || b) ≡ false → b ≡ false
 or_rest true b e = let t : true ≡ false = e in cc
 or_rest false b e = e
 

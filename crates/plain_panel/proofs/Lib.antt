@@ -20,6 +20,7 @@ pub mod Looking
 pub mod Masked
 pub mod NoFaults
 pub mod Outputs
+pub mod Reported
 pub mod Reports
 pub mod Requesting
 pub mod RingsTold
