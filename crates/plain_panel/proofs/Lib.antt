@@ -10,6 +10,7 @@ pub mod Enterings
 pub mod FacesMore
 pub mod FactsKept
 pub mod FlagsTold
+pub mod Halves
 pub mod Histories
 pub mod HoldsShown
 pub mod Joining
@@ -19,6 +20,7 @@ pub mod Looking
 pub mod Masked
 pub mod NoFaults
 pub mod Outputs
+pub mod Reported
 pub mod Reports
 pub mod Requesting
 pub mod RingsTold

@@ -3,9 +3,11 @@ pub mod BadRuns
 pub mod Desks
 pub mod Drives
 pub mod Enterings
+pub mod Halves
 pub mod Histories
 pub mod Keepings
 pub mod Network
+pub mod Reported
 pub mod Settings
 pub mod Signs
 pub mod Standings

@@ -59,10 +59,12 @@ pub fn answered_faults(
 }
 
 ghost use Rattle.std.specs.Prelude.{◌+◌, ◌&&◌, ◌≤◌, ℕ, not, option_copied};
+ghost use Rattle.std.specs.List.{list_any};
 ghost use Rattle.coincidence_rules.specs.Missing.{is_missing as is_missing_by};
 ghost use Rattle.coincidence_rules.specs.Places.{numbered, on_zone, zones_where};
 ghost use Rattle.panel_conditions.specs.Missing.{is_off as is_off_at, zone_is_off as zone_is_off_at};
 ghost use Rattle.panel_conditions.specs.Points.{addressed, addresses_where, on_point, points_where};
+ghost use Rattle.plain_panel.specs.Halves.{lies_among};
 ghost use Rattle.plain_panel.specs.Signs.{shows as is_shown};
 
 /// The mask of the panel's zones that show a sign.
@@ -152,6 +154,9 @@ fn missing_on(
     requires { past ≤ 96 }
     ensures { result ≡ addresses_where site.now panel (λ (place : ℕ). is_missing_by answers.now place && not (is_off_at site.now kept.now (all_done done.now) place tick.0)) line past }
 {
+    if !has_points(site, panel, line, past) {
+        return 0;
+    }
     let mut mask = 0;
     for bit in 0..96u8 {
         let point = point_at(site, panel, line, past + bit + 1);
@@ -160,6 +165,18 @@ fn missing_on(
         }
     }
     mask
+}
+
+// Whether a panel has a point among 96 addresses of a line that come after so many.
+fn has_points(site: &Site, panel: u8, line: u8, past: u8) -> bool
+    requires { past ≤ 96 }
+    ensures { result ≡ list_any (lies_among panel line past) site.now.points }
+{
+    let last = past + 96;
+    site.points.as_slice().iter().any(|point| point.panel == panel
+        && point.line == line
+        && past < point.address
+        && point.address <= last)
 }
 
 // The place of the point of a panel that has a line and an address.

@@ -49,6 +49,9 @@ fn line_status(site: &Site, panel: u8, line: u8, moments: &[Moment]) -> LineStat
 fn plan_status(plan: &LoopPlan, panel: u8, line: u8, moments: &[Moment]) -> LineStatus
     ensures { result ≡ status_with plan.now (λ piece. piece_of panel line piece (history moments.now)) }
 {
+    if !was_reported(panel, line, moments) {
+        return LineStatus::default();
+    }
     let mut cable = LoopLine::new(plan);
     for moment in moments {
         report(&mut cable, panel, line, moment);
@@ -79,5 +82,32 @@ fn report(cable: &mut LoopLine, panel: u8, line: u8, moment: &Moment)
             | Event::Op { .. } => {}
         },
         Moment::Began | Moment::Turned { .. } | Moment::Kept { .. } => {}
+    }
+}
+
+ghost use Rattle.std.specs.List.{list_any};
+ghost use Rattle.plain_panel.specs.Reported.{tells_cable as tells_cable_so};
+
+// Whether anything was ever reported of the cable of a loop.
+fn was_reported(panel: u8, line: u8, moments: &[Moment]) -> bool
+    ensures { result ≡ list_any (λ moment. tells_cable_so panel line (moment_of moment)) moments.now }
+{
+    moments
+        .iter()
+        .any(|moment| tells_cable(panel, line, moment))
+}
+
+fn tells_cable(panel: u8, line: u8, moment: &Moment) -> bool
+    ensures { result ≡ tells_cable_so panel line (moment_of moment.now) }
+{
+    match *moment {
+        Moment::Happened(
+            Event::Cable {
+                panel: of_panel,
+                line: of_line,
+                ..
+            },
+        ) => of_panel == panel && of_line == line,
+        _ => false,
     }
 }

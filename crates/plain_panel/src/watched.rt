@@ -146,8 +146,8 @@ fn bad_after(panel: u8, kind: SupplyKind, event: &Event, was: bool) -> bool
     }
 }
 
-// The place of a supply's bit.
-fn place_of(kind: SupplyKind) -> u8
+/// The place of a supply's bit.
+pub(crate) fn place_of(kind: SupplyKind) -> u8
     ensures { result ≡ place_of kind }
 {
     match kind {

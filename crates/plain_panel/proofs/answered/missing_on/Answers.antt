@@ -1,7 +1,8 @@
-use Rattle.std.proofs.Common.{◌≡◌, ◌<◌, ◌^◌, Bool, arith, subst, sym}
+use Rattle.std.proofs.Common.{◌≡◌, ◌∙◌, ◌<◌, ◌^◌, Bool, arith, subst, sym}
 use Rattle.site_types.proofs.Masks.{bit_fits, mask_below, mask_none, mask_off, mask_on}
 use Rattle.panel_conditions.specs.Points.{addresses_where}
 use Rattle.plain_panel.specs.Histories.{all_done}
+use Rattle.plain_panel.proofs.Halves.{none_among}
 use Rattle.plain_panel.proofs.Masked.{point_told, point_test, whole}
 use Rattle.plain_panel.proofs.answered.missing_on.Goals as goal
 use Rattle.plain_panel.proofs.answered.missing_on.Goals.{then-point_is_missing, else-point_is_missing}
@@ -29,3 +30,7 @@ loop-bit-init c = sym (mask_none (point_test c.args.site.now c.args.kept.now c.a
 pub returns : goal.returns
 unfolding addresses_where
 returns c = whole 96 c.loop-bit.bit c.loop-bit.mask (point_test c.args.site.now c.args.kept.now c.args.panel (all_done c.args.done.now) c.args.answers.now c.args.tick.0 c.args.line c.args.past) (omega arith) c.loop-bit.invariant
+
+pub returns-then-not-has_points : goal.returns-then-not-has_points
+unfolding addresses_where
+returns-then-not-has_points c = none_among c.args.site.now c.args.kept.now c.args.panel (all_done c.args.done.now) c.args.answers.now c.args.tick.0 c.args.line c.args.past (sym c.has_points.ensures ∙ c.if-not-has_points.true)

@@ -1,7 +1,8 @@
-use Rattle.std.proofs.Common.{◌∙◌, ap, arith}
+use Rattle.std.proofs.Common.{◌∙◌, ap, arith, sym}
 use Rattle.plain_panel.specs.BadRuns.{Watches, shows}
 use Rattle.plain_panel.proofs.TakenMoments.{history_all, history_next}
 use Rattle.plain_panel.proofs.BadRuns.{lasts_by}
+use Rattle.plain_panel.proofs.Reported.{never_bad}
 use Rattle.plain_panel.proofs.supplies.is_shown.Goals as goal
 
 pub loop-moment-init : goal.loop-moment-init
@@ -19,3 +20,6 @@ pub returns : goal.returns
 returns c =
     let all = history_all (λ before. Watches c.args.panel c.args.kind before c.loop-moment.watched) c.args.moments.now c.loop-moment.moment-index c.loop-moment-test.false c.loop-moment.invariant.stands in
     c.is_shown.ensures ∙ ap (shows c.args.wait) all.run ∙ lasts_by c.args.wait _
+
+pub returns-then-not-was_bad : goal.returns-then-not-was_bad
+returns-then-not-was_bad c = never_bad c.args.panel c.args.kind c.args.wait c.args.moments.now (sym c.was_bad.ensures ∙ c.if-not-was_bad.true)
