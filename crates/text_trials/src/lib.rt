@@ -1,6 +1,6 @@
-//! Trials of texts over sites that are read from their files: each line of a page, texts read back, whole records run by the definitions.
+//! Trials of texts over sites that are read from their files: each line of a page, and texts read back.
 //!
-//! Nothing stands on this crate and it promises nothing. What is written is compared with texts that were worked out by hand; what is read back,
+//! Only another crate of trials stands on this one, for [`text_of`], and it promises nothing. What is written is compared with texts that were worked out by hand; what is read back,
 //! with a plain program that knows only the words of lines ([`plain_reader`]).
 #![tactic(auto)]
 
@@ -11,8 +11,7 @@ mod face_lists;
 #[cfg(test)]
 mod plain_reader;
 #[cfg(test)]
-mod plain_runs;
-#[cfg(test)]
 mod reading_back;
-#[cfg(test)]
 mod timeline_text;
+
+pub use timeline_text::text_of;

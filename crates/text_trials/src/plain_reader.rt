@@ -163,21 +163,24 @@ pub(crate) fn bad_line(alloc: Global, pages: &Pages, text: &str) -> Result<Optio
     let mut reader = PlainReader::new(alloc, pages)?;
     let mut count = 0u64;
     let mut over = false;
-    let mut rest = text;
-    while let Some((line, behind)) = rest.split_once('\n') {
-        count = count.saturating_add(1);
-        let stands = if count == 1 {
-            line == pages.opening
-        } else {
-            !over && reader.take(alloc, line)?
-        };
-        if !stands {
-            return Ok(Some(count));
+    // What stands behind the last line end so far.
+    let mut rest: Option<&str> = None;
+    for piece in text.split('\n') {
+        if let Some(line) = rest {
+            count = count.saturating_add(1);
+            let stands = if count == 1 {
+                line == pages.opening
+            } else {
+                !over && reader.take(alloc, line)?
+            };
+            if !stands {
+                return Ok(Some(count));
+            }
+            over = line.starts_with("end ");
         }
-        over = line.starts_with("end ");
-        rest = behind;
+        rest = Some(piece);
     }
-    if over && rest.is_empty() {
+    if over && rest == Some("") {
         Ok(None)
     } else {
         Ok(Some(count.saturating_add(1)))

@@ -7,7 +7,7 @@ use std::alloc::Global;
 use std::test::Fail;
 
 /// The text of a timeline of a site.
-pub(crate) fn text_of(alloc: Global, site: &Site, timeline: &Timeline) -> Result<MemorySink, Fail> {
+pub fn text_of(alloc: Global, site: &Site, timeline: &Timeline) -> Result<MemorySink, Fail> {
     let mut out = match MemorySink::new(alloc, 65_536, Vec::new(alloc)) {
         Ok(out) => out,
         Err(_) => return Err(Fail::from("no memory")),

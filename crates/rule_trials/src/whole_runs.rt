@@ -3,13 +3,13 @@
 
 ghost use Rattle.site_types.specs.Valid.{IsValid};
 
-use crate::timeline_text::text_of;
 use plain_panel::{Moment, timeline};
 use record_lines::{Line, LineReader, Step as Read};
 use site_types::{Retained, Site};
 use std::alloc::Global;
 use std::process::Abort;
 use std::test::Fail;
+use text_trials::text_of;
 use tick_units::{Order, Seat, Task};
 use trial_base::{ONE, SCHOOL, site_of};
 
