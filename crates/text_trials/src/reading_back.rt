@@ -1,5 +1,7 @@
 //! Worked texts read back: as they stand, with a line dropped, doubled or swapped, with a byte changed, and cut anywhere.
 
+ghost use Rattle.site_types.specs.Valid.{IsValid};
+
 use crate::face_lines::{PAGE_1, PAGE_2};
 use crate::plain_reader::{Pages, bad_line};
 use crate::timeline_text::text_of;
@@ -43,7 +45,9 @@ const DAY: &str =
     "site school panels 2|tick 5|op 1 done|tick 6|1 test gym on|tick 20|op 2 done|tick 21|1 test gym off|tick 110|2 zone aula on|2 output bells-2 on|2 output doors on|2 buzzer fire|2 counter 1|tick 111|1 zone aula on|1 output bells-1 on|tick 159|1 output brigade on|tick 200|1 confirmed brigade on|tick 300|op 3 done|tick 301|2 zone aula off|2 output bells-2 off|2 output doors off|2 buzzer off|tick 302|1 zone aula off|1 output bells-1 off|1 output brigade off|1 confirmed brigade off|end 310|";
 
 // The text is read as the plain program says: to a timeline with this text, or to the same bad line.
-fn compare(alloc: Global, site: &Site, pages: &Pages, text: &str) -> Result<(), Fail> {
+fn compare(alloc: Global, site: &Site, pages: &Pages, text: &str) -> Result<(), Fail>
+    requires { IsValid site.now }
+{
     let wanted = bad_line(alloc, pages, text)?;
     match read_faces(alloc, site, text.as_bytes()) {
         Ok(timeline) => {
@@ -73,7 +77,9 @@ fn joined(alloc: Global, lines: &[&str]) -> Result<String, Fail> {
 }
 
 // Each line dropped, doubled, and swapped with the next one.
-fn turn_lines(alloc: Global, site: &Site, pages: &Pages, bars: &str) -> Result<(), Fail> {
+fn turn_lines(alloc: Global, site: &Site, pages: &Pages, bars: &str) -> Result<(), Fail>
+    requires { IsValid site.now }
+{
     let mut lines: Vec<&str> = Vec::new(alloc);
     for line in bars.split('|') {
         if !line.is_empty() {
@@ -108,7 +114,9 @@ fn turn_lines(alloc: Global, site: &Site, pages: &Pages, bars: &str) -> Result<(
 }
 
 // Each byte changed into another, and the text cut before each byte.
-fn turn_bytes(alloc: Global, site: &Site, pages: &Pages, text: &str) -> Result<(), Fail> {
+fn turn_bytes(alloc: Global, site: &Site, pages: &Pages, text: &str) -> Result<(), Fail>
+    requires { IsValid site.now }
+{
     for place in 0..text.len() {
         let Some((front, rest)) = text.split_at_checked(place) else {
             return Err(Fail::from("a text that isn't of ASCII"));
@@ -125,7 +133,9 @@ fn turn_bytes(alloc: Global, site: &Site, pages: &Pages, text: &str) -> Result<(
     Ok(())
 }
 
-fn turn(alloc: Global, site: &Site, pages: &Pages, bars: &str) -> Result<(), Fail> {
+fn turn(alloc: Global, site: &Site, pages: &Pages, bars: &str) -> Result<(), Fail>
+    requires { IsValid site.now }
+{
     let text = bars.replace(alloc, "|", "\n")?;
     if bad_line(alloc, pages, text.as_str())?.is_some() {
         return Err(Fail::from("a worked text is bad"));
