@@ -1,4 +1,4 @@
-ghost use Rattle.std.specs.Prelude.{◌≡◌, ◌≤◌, [], ◌∷◌, List, ℕ, IfOk};
+ghost use Rattle.std.specs.Prelude.{◌≡◌, ◌≤◌, ◌+◌, [], ◌∷◌, List, ℕ, IfOk};
 ghost use Rattle.tick_units.specs.Lane.{HasRoom, with_put};
 ghost use Rattle.site_types.specs.declared.site.Site.{Site as SiteOf};
 ghost use Rattle.site_types.specs.Valid.{IsValid};
@@ -71,7 +71,8 @@ impl Poller {
     pub fn turn(&self, now: Tick, answers: &mut Lane<Answer>)
         requires room { HasRoom answers.old 32 }
         requires stands { StandsForSome self.now }
-        ensures { (site : SiteOf) (panel : ℕ) (calls : List Call) → StandsFor site panel calls self.now → answers.new ≡ with_put answers.old (asked_in site panel (told_point calls) (told_cable calls) now.0) }
+        ensures asked { (site : SiteOf) (panel : ℕ) (calls : List Call) → StandsFor site panel calls self.now → answers.new ≡ with_put answers.old (asked_in site panel (told_point calls) (told_cable calls) now.0) }
+        ensures few { answers.new.put ≤ answers.old.put + 32 }
     {
         let first = (now.0 % self.profile.round()) as u8 * 8 + 1;
         for line in &self.lines {

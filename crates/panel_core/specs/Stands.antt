@@ -3,6 +3,7 @@ use Rattle.std.specs.Prelude.{◌≡◌, ℕ, ◌+◌, ◌≤◌, List, ◌∷�
 use Rattle.tick_units.specs.declared.seat.Seat.{Seat}
 use Rattle.tick_units.specs.declared.task.Task.{Task}
 use Rattle.tick_units.specs.Orders.{IsOrder, canonical_seats}
+use Rattle.tick_units.specs.Ticks.{last_tick}
 use Rattle.site_types.specs.declared.event.Event.{Event}
 use Rattle.site_types.specs.declared.retained.Retained.{Retained}
 use Rattle.site_types.specs.declared.site.Site.{Site}
@@ -36,7 +37,7 @@ pub record MayTurn (task : Task) (tick : ℕ) (parts : Parts) : Type 0 where
   pub stands : PanelStands site kept panel before parts
   pub run : IsRun site.panels (Turned panel task ∷ before)
   pub now : tick ≡ tick_of before
-  pub few : tick_of before ≤ 1000000000
+  pub few : tick_of before ≤ last_tick
 
 -- all panels of a site
 pub record StandsFor (site : Site) (kept : Retained) (before : List Moment) (system : System) : Type 0 where
@@ -54,7 +55,7 @@ pub record MayTurnAll (order : List Seat) (system : System) : Type 0 where
   pub stands : StandsFor site kept before system
   pub ordered : IsOrder site.panels order
   pub run : IsRun site.panels (and_turns false order before)
-  pub few : tick_of before ≤ 1000000000
+  pub few : tick_of before ≤ last_tick
 
 -- one seat of the site may have its turn
 pub record MayTurnSeat (seat : Seat) (system : System) : Type 0 where
@@ -64,7 +65,7 @@ pub record MayTurnSeat (seat : Seat) (system : System) : Type 0 where
   pub stands : StandsFor site kept before system
   pub known : Contains (canonical_seats site.panels) seat
   pub run : IsRun site.panels (and_turns false (seat ∷ []) before)
-  pub few : tick_of before ≤ 1000000000
+  pub few : tick_of before ≤ last_tick
 
 -- the system stands for some history of a site that has what an event names
 pub record MayHappen (event : Event) (system : System) : Type 0 where

@@ -6,13 +6,14 @@ use Rattle.std.proofs.lemmas.Bool.{eqb-true}
 use Rattle.site_types.specs.declared.site.Site.{Site}
 use Rattle.site_types.specs.declared.event.Event.{Event}
 use Rattle.site_types.specs.Events.{has_event}
+use Rattle.tick_units.specs.Ticks.{last_tick}
 use Rattle.tick_units.specs.declared.seat.Seat.{Seat}
 use Rattle.record_lines.specs.Events.{event_of, has_numbers}
 use Rattle.record_lines.specs.Fields.{field, space_count, after_space}
 use Rattle.record_lines.specs.Forms.{form_of}
 use Rattle.record_lines.specs.Seats.{order_of, seats_of}
 use Rattle.site_types.specs.Numbers.{number_of}
-use Rattle.record_lines.specs.Judged.{judged, judged_as, content_of, may_stand, tick_as, last_tick, ordered, event_in}
+use Rattle.record_lines.specs.Judged.{judged, judged_as, content_of, may_stand, tick_as, ordered, event_in}
 use Rattle.record_lines.specs.Lines.{Reading, at_start, by_bytes, by_ending, byte_refusal, cut, lines_read, next_line, next_number, reading_of, refused_rest, rest_by_ending, stands_behind, verdict}
 use Rattle.record_lines.specs.declared.form.Form.{Form}
 use Rattle.record_lines.specs.declared.form.Form.TheVariants.{Tick as TickForm, Point as PointForm, Cable as CableForm, Supply as SupplyForm, Link as LinkForm, Routing as RoutingForm, Op as OpForm, Order as OrderForm, End as EndForm}

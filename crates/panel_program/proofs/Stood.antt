@@ -5,6 +5,7 @@ use Rattle.tick_units.specs.declared.seat.Seat.{Seat}
 use Rattle.tick_units.specs.declared.task.Task.{Task}
 use Rattle.tick_units.specs.declared.task.Task.TheVariants.{Keep}
 use Rattle.tick_units.specs.Orders.{IsOrder, canonical_seats}
+use Rattle.tick_units.specs.Ticks.{last_tick}
 use Rattle.site_types.specs.declared.event.Event.{Event}
 use Rattle.site_types.specs.declared.retained.Retained.{Retained}
 use Rattle.site_types.specs.declared.site.Site.{Site}
@@ -55,7 +56,7 @@ events_more (x ∷ events) event before = events_more events event (Happened x �
 
 -- a tick begins
 pub begun : (site : Site) (ticks : List TickBlock) (old : Run) (system : System) → Stands site (record { run = ticks; block = None }) old →
-    SystemStands site nothing_retained (Began ∷ moments ticks) system → length ticks + 1 ≤ 1000000000 →
+    SystemStands site nothing_retained (Began ∷ moments ticks) system → length ticks + 1 ≤ last_tick →
     Stands site (record { run = ticks; block = Some (new_block site) }) (record old { system = system; is_open = true; order = None })
 begun site ticks old system h stands few =
     record {
@@ -190,7 +191,7 @@ run_few None ticks = omega arith
 run_few (Some block) ticks = omega arith
 
 -- the count of ticks stays far below its type's end
-pub ticks_few : (run : Run) (r : MayClose run) → run.ticks ≤ 1000000000
+pub ticks_few : (run : Run) (r : MayClose run) → run.ticks ≤ last_tick
 ticks_few run r = let few = r.stands.few in let count = r.stands.count in let le = run_few r.p.block r.p.run in omega (arith, few, count, le)
 
 shut_by : (site : Site) (ticks : List TickBlock) (o : Option Block) (run : Run) → Stands site (record { run = ticks; block = o }) run → run.is_open ≡ false → (o ≡ None) × Stands site (record { run = closed_by o ticks; block = None }) run

@@ -3,6 +3,7 @@ use Rattle.std.specs.Prelude.{◌≡◌, ◌+◌, ◌≤◌, ℕ, true, false, L
 use Rattle.std.specs.List.{list_all}
 use Rattle.tick_units.specs.declared.seat.Seat.{Seat}
 use Rattle.tick_units.specs.Orders.{canonical_seats}
+use Rattle.tick_units.specs.Ticks.{last_tick}
 use Rattle.site_types.specs.declared.event.Event.{Event}
 use Rattle.site_types.specs.declared.site.Site.{Site}
 use Rattle.site_types.specs.Changes.{nothing_retained}
@@ -52,7 +53,7 @@ pub record Stands (site : Site) (p : Progress) (run : Run) : Type 0 where
   pub ordered : AreOrdered site.panels (closed p)
   pub shown : run.shown ≡ shown_after site (moments p.run)
   pub count : run.ticks ≡ length p.run
-  pub few : length (closed p) ≤ 1000000000
+  pub few : length (closed p) ≤ last_tick
 
 abbrev pub StandsAtBeginning : Run → Type 0
 StandsAtBeginning run = (site : Site) × Stands site at_beginning run

@@ -9,6 +9,7 @@ ghost use Rattle.panel_program.specs.Writings.{Advances, Breaks};
 ghost use Rattle.panel_program.specs.Zones.{shown_after};
 ghost use Rattle.panel_rules.specs.Moments.{Moment, TickBlock, IsRun, and_turns};
 ghost use Rattle.tick_units.specs.Orders.{IsOrder};
+ghost use Rattle.tick_units.specs.Ticks.{last_tick};
 ghost use Rattle.site_types.specs.Changes.{nothing_retained};
 ghost use Rattle.site_types.specs.Events.{has_event};
 ghost use Rattle.site_types.specs.Valid.{IsValid};
@@ -121,7 +122,7 @@ impl Run {
     }
 
     fn begin(&mut self, tick: Tick)
-        ensures { (site : SiteOf) (ticks : List TickBlock) → Stands site (record { run = ticks; block = None }) self.old → tick.0 ≡ length ticks + 1 → tick.0 ≤ 1000000000 → Stands site (record { run = ticks; block = Some (new_block site) }) self.new }
+        ensures { (site : SiteOf) (ticks : List TickBlock) → Stands site (record { run = ticks; block = None }) self.old → tick.0 ≡ length ticks + 1 → tick.0 ≤ last_tick → Stands site (record { run = ticks; block = Some (new_block site) }) self.new }
     {
         self.system.begin(tick);
         self.is_open = true;

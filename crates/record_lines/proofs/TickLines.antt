@@ -3,9 +3,10 @@ use Rattle.std.proofs.Common.{◌≡◌, ◌∙◌, ◌+◌, ◌<◌, ◌≤◌,
 use Rattle.std.specs.Prelude.{◌==◌, codes, decimal, nat_le, if◌then◌else◌}
 use Rattle.std.proofs.lemmas.Bool.{cond-false, lt-leb}
 use Rattle.site_types.specs.declared.site.Site.{Site}
+use Rattle.tick_units.specs.Ticks.{last_tick}
 use Rattle.tick_units.specs.declared.tick.Tick.{Tick}
 use Rattle.record_lines.specs.Fields.{field, field_count}
-use Rattle.record_lines.specs.Judged.{last_tick, tick_as}
+use Rattle.record_lines.specs.Judged.{tick_as}
 use Rattle.record_lines.specs.Printed.{joined, line_text}
 use Rattle.record_lines.specs.declared.form.Form.TheVariants.{Tick as TickForm}
 use Rattle.record_lines.specs.declared.line.Line.TheVariants.{Tick as TickLine, End}

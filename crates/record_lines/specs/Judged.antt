@@ -4,6 +4,7 @@ use Rattle.site_types.specs.Events.{has_event}
 use Rattle.site_types.specs.Numbers.{number_of}
 use Rattle.site_types.specs.declared.site.Site.{Site}
 use Rattle.site_types.specs.declared.event.Event.{Event}
+use Rattle.tick_units.specs.Ticks.{last_tick}
 use Rattle.tick_units.specs.declared.seat.Seat.{Seat}
 use Rattle.record_lines.specs.Fields.{field, space_count, after_space}
 use Rattle.record_lines.specs.Forms.{form_of, is_seat}
@@ -35,10 +36,6 @@ may_stand standing RoutingForm = nat_lt 0 standing.ticks
 may_stand standing (OpForm action) = nat_lt 0 standing.ticks
 may_stand standing OrderForm = nat_lt 0 standing.ticks
 may_stand standing EndForm = true
-
--- the last tick that a run may have
-abbrev pub last_tick : ℕ
-last_tick = 1000000000
 
 -- ticks come as 1, 2, 3 and so on, up to the last
 abbrev pub tick_as : ℕ → Option ℕ → Result Line Why

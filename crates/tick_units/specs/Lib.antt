@@ -1,3 +1,4 @@
 pub mod Lane
 pub mod Orders
 pub mod SeatSets
+pub mod Ticks

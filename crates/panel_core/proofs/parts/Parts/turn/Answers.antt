@@ -17,7 +17,7 @@ turn-requires-clause-room c =
     (room_for_poll r.site r.panel r.before r.stands.member r.few (subst (λ task. IsRun r.site.panels (Turned r.panel task ∷ r.before)) c.in-Poll.is r.run))
 
 pub returns-in-Poll : goal.returns-in-Poll
-returns-in-Poll c site kept panel before h now run = rw c.in-Poll.is (after_poll site kept panel before c.args.self.now c.turn.new.answers c.args.now.0 h now (c.turn.ensures site panel _ h.polls))
+returns-in-Poll c site kept panel before h now run = rw c.in-Poll.is (after_poll site kept panel before c.args.self.now c.turn.new.answers c.args.now.0 h now (c.turn.ensures.asked site panel _ h.polls))
 
 pub turn-requires-in-Decide-clause-room : goal.turn-requires-in-Decide-clause-room
 turn-requires-in-Decide-clause-room c =
