@@ -1,3 +1,4 @@
 pub mod Lane
+pub mod LastTicks
 pub mod Orders
 pub mod SeatSets
