@@ -15,13 +15,16 @@ use Rattle.site_types.proofs.Done.{lt_tells, lt_true, blocked-later, floor-yet}
 use Rattle.coincidence_rules.specs.Counted.{is_alarm, is_counted}
 use Rattle.coincidence_rules.specs.Places.{is_of, is_detector}
 use Rattle.coincidence_rules.specs.Kept.{run_then, run_of, latest_besides, is_type_C, may_pair}
-use Rattle.coincidence.specs.declared.last_tick.LastTick.{LastTick}
+use Rattle.tick_units.specs.declared.last_done.LastDone.{LastDone}
 use Rattle.coincidence.specs.declared.point_watch.PointWatch.{PointWatch}
 use Rattle.coincidence.specs.declared.zone_watch.ZoneWatch.{ZoneWatch}
 use Rattle.coincidence.specs.declared.decide.Decide.{Decide}
-use Rattle.coincidence.specs.Parts.{switch_after, last_after, last_if}
-use Rattle.coincidence.specs.Stands.{resets, moves, set_in, TellsSetting, TellsLast, WatchesPoint, WatchesZone, IsOwnZone, DecidesFor}
-use Rattle.coincidence.specs.Premises.{IsOwn, NoneIn, MayApply}
+use Rattle.coincidence.specs.Parts.{switch_after}
+use Rattle.tick_units.specs.LastTicks.{last_after, last_if}
+use Rattle.coincidence.specs.Stands.{resets, moves, set_in, TellsSetting, WatchesPoint, WatchesZone, IsOwnZone, DecidesFor}
+use Rattle.coincidence_rules.proofs.LastDone.{told_last}
+use Rattle.coincidence_rules.specs.Applied.{NoneIn, TellsLast}
+use Rattle.coincidence.specs.Premises.{IsOwn, MayApply}
 use Rattle.coincidence.proofs.Watched.{read_is, watched, watched_zone}
 
 abbrev pub done_now : Tick → ℕ → Operation → Done
@@ -53,41 +56,6 @@ module _ (at : Tick) (panel : ℕ) (operation : Operation) where
     moved = last_if (moves place d) at watch.moved;
     cancelled = last_if (cancels place d) at watch.cancelled;
   }
-
-module _ (done : List Done) (at : Tick) (panel : ℕ) (operation : Operation) (by' : AreBy at.0 done) where
-  last_then : (test : Done → Bool) (last : LastTick) → TellsLast test done last → TellsLast test (done_now at panel operation ∷ done) (last_if (test (done_now at panel operation)) at last)
-  last_then test last h = go (test (done_now at panel operation)) refl
-    where
-      again : (after : Bool) (tick earlier was : ℕ) → tick ≡ at.0 → was ≡ (if after then tick else earlier) → (if after then max at.0 was else was) ≡ (if after then tick else earlier)
-      again true tick earlier was e k = omega (arith, e, k)
-      again false tick earlier was e k = k
-
-      raised : last.tick.0 ≤ at.0 → ((nat_lt last.tick.0 at.0 ≡ true) × (last.tick.0 < at.0)) ⊎ ((nat_lt last.tick.0 at.0 ≡ false) × (at.0 ≤ last.tick.0)) → test (done_now at panel operation) ≡ true → TellsLast test (done_now at panel operation ∷ done) (last_after at last)
-      raised le (inl before) e = rw before.0 (record {
-        at = λ x since.
-            let less = before.1 in
-            let later : last.tick.0 < x = omega (arith, less, since) in
-            let was : latest_before test x done ≡ last.tick.0 = h.at x (omega (arith, later)) ∙ ap (λ b. if b then last.tick.0 else last.earlier.0) (lt_true last.tick.0 x later) in
-            ap (λ b. if b && nat_lt at.0 x then max at.0 (latest_before test x done) else latest_before test x done) e
-            ∙ ap (λ n. if nat_lt at.0 x then max at.0 n else n) was ∙ ap (λ m. if nat_lt at.0 x then m else last.tick.0) (omega (arith, less));
-        by = λ x all. all.0;
-      })
-      raised le (inr same) e = rw same.0 (record {
-        at = λ x since.
-            let more = same.1 in
-            let is : last.tick.0 ≡ at.0 = omega (arith, le, more) in
-            ap (λ b. if b && nat_lt at.0 x then max at.0 (latest_before test x done) else latest_before test x done) e
-            ∙ again (nat_lt at.0 x) last.tick.0 last.earlier.0 (latest_before test x done) is (h.at x since ∙ ap (λ t. if nat_lt t x then last.tick.0 else last.earlier.0) is)
-            ∙ ap (λ t. if nat_lt t x then last.tick.0 else last.earlier.0) (sym is);
-        by = λ x all. h.by x all.1;
-      })
-
-      go : (b : Bool) → test (done_now at panel operation) ≡ b → TellsLast test (done_now at panel operation ∷ done) (last_if b at last)
-      go false e = record {
-        at = λ x since. ap (λ b. if b && nat_lt at.0 x then max at.0 (latest_before test x done) else latest_before test x done) e ∙ h.at x since;
-        by = λ x all. h.by x all.1;
-      }
-      go true e = raised (h.by at.0 by') (lt_tells last.tick.0 at.0) e
 
 module _ (site : Site) (kept : Retained) (done : List Done) (at : Tick) (panel : ℕ) (operation : Operation) (by' : AreBy at.0 done) where
   tells_then : (setting : Setting) (switch : Switch) → (is_on setting (done_now at panel operation) ≡ true → switch.since.0 < at.0) → TellsSetting site kept setting done switch → TellsSetting site kept setting (done_now at panel operation ∷ done) (switch_then at panel operation setting switch)
@@ -145,8 +113,8 @@ module _ (site : Site) (kept : Retained) (done : List Done) (at : Tick) (panel :
       partner = h.partner;
       off = tells_then (ZoneOff place) watch.off (λ e. subst (λ n. n < at.0) (sym h.off.since) (before (ZoneOff place) e)) h.off;
       test = tells_then (InTest place) watch.test (λ e. subst (λ n. n < at.0) (sym h.test.since) (before (InTest place) e)) h.test;
-      moved = last_then done at panel operation by' (moves place) watch.moved h.moved;
-      cancelled = last_then done at panel operation by' (cancels place) watch.cancelled h.cancelled;
+      moved = told_last (moves place) (done_now at panel operation) done at watch.moved _ refl refl by' h.moved;
+      cancelled = told_last (cancels place) (done_now at panel operation) done at watch.cancelled _ refl refl by' h.cancelled;
       recent = λ point. h.recent point ∙ besides_yet place zone.rule point None taken late;
     }
 
@@ -168,7 +136,7 @@ pub record IsAfter (at : Tick) (panel : ℕ) (operation : Operation) (old next :
 pub stands_after : (site : Site) (kept : Retained) (panel : ℕ) (done : List Done) (taken : List Answer) (old next : Decide) (at : Tick) (operation : Operation) → DecidesFor site kept panel done taken old → MayApply site panel done taken operation at.0
     → IsAfter at panel operation old next → DecidesFor site kept panel (done_now at panel operation ∷ done) taken next
 stands_after site kept panel done taken old next at operation stands may after =
-    let before = λ (setting : Setting) (e : is_on setting (done_now at panel operation) ≡ true). set_before at.0 setting done may.from_one may.since (may.once setting e) in
+    let before = λ (setting : Setting) (e : is_on setting (done_now at panel operation) ≡ true). set_before at.0 setting done may.next.from_one may.next.since (may.next.once setting e) in
     record {
       wired = stands.wired;
       at = after.same_panel ∙ stands.at;
@@ -176,11 +144,11 @@ stands_after site kept panel done taken old next at operation stands may after =
       zone_count = after.zone_count ∙ stands.zone_count;
       points = λ place watch point there is own.
           let was = after.points place watch there in
-          subst (WatchesPoint site kept (done_now at panel operation ∷ done) taken place point) (sym was.2) (point_stands site kept done at panel operation may.since taken may.late before place point was.0 (stands.points place was.0 point was.1 is own));
+          subst (WatchesPoint site kept (done_now at panel operation ∷ done) taken place point) (sym was.2) (point_stands site kept done at panel operation may.next.since taken may.late before place point was.0 (stands.points place was.0 point was.1 is own));
       zones = λ place watch zone there is own.
           let was = after.zones place watch there in
-          subst (WatchesZone site kept (done_now at panel operation ∷ done) taken place zone) (sym was.2) (zone_stands site kept done at panel operation may.since taken may.late before place zone was.0 (stands.zones place was.0 zone was.1 is own));
-      reset = subst (TellsLast (resets panel) (done_now at panel operation ∷ done)) (sym after.reset) (last_then done at panel operation may.since (resets panel) old.reset stands.reset);
+          subst (WatchesZone site kept (done_now at panel operation ∷ done) taken place zone) (sym was.2) (zone_stands site kept done at panel operation may.next.since taken may.late before place zone was.0 (stands.zones place was.0 zone was.1 is own));
+      reset = subst (TellsLast (resets panel) (done_now at panel operation ∷ done)) (sym after.reset) (told_last (resets panel) (done_now at panel operation) done at old.reset _ refl refl may.next.since stands.reset);
       order = stands.order;
       own = stands.own;
     }
@@ -198,8 +166,8 @@ pub zone_since : {site : Site} {kept : Retained} {panel : ℕ} {done : List Done
 zone_since {panel = panel} {done = done} {decide = decide} stands operation at may place own watch e =
     let w = watched_zone stands place own.zone own.is own.at in
     let same : watch ≡ w.over = read_is decide.zones.items place watch w.over e w.is_over in (
-      λ on. subst (λ (o : ZoneWatch). o.off.since.0 < at.0) (sym same) (subst (λ n. n < at.0) (sym w.watches.off.since) (set_before at.0 (ZoneOff place) done may.from_one may.since (may.once (ZoneOff place) on))),
-      λ on. subst (λ (o : ZoneWatch). o.test.since.0 < at.0) (sym same) (subst (λ n. n < at.0) (sym w.watches.test.since) (set_before at.0 (InTest place) done may.from_one may.since (may.once (InTest place) on))),
+      λ on. subst (λ (o : ZoneWatch). o.off.since.0 < at.0) (sym same) (subst (λ n. n < at.0) (sym w.watches.off.since) (set_before at.0 (ZoneOff place) done may.next.from_one may.next.since (may.next.once (ZoneOff place) on))),
+      λ on. subst (λ (o : ZoneWatch). o.test.since.0 < at.0) (sym same) (subst (λ n. n < at.0) (sym w.watches.test.since) (set_before at.0 (InTest place) done may.next.from_one may.next.since (may.next.once (InTest place) on))),
     )
 
 pub point_since : {site : Site} {kept : Retained} {panel : ℕ} {done : List Done} {taken : List Answer} {decide : Decide} → DecidesFor site kept panel done taken decide → (operation : Operation) (at : Tick) → MayApply site panel done taken operation at.0
@@ -207,4 +175,4 @@ pub point_since : {site : Site} {kept : Retained} {panel : ℕ} {done : List Don
 point_since {panel = panel} {done = done} {decide = decide} stands operation at may place own watch e on =
     let w = watched stands place own in
     let same : watch ≡ w.watch = read_is decide.points.items place watch w.watch e w.is_watch in
-    subst (λ (o : PointWatch). o.off.since.0 < at.0) (sym same) (subst (λ n. n < at.0) (sym w.watches.off.since) (set_before at.0 (PointOff place) done may.from_one may.since (may.once (PointOff place) on)))
+    subst (λ (o : PointWatch). o.off.since.0 < at.0) (sym same) (subst (λ n. n < at.0) (sym w.watches.off.since) (set_before at.0 (PointOff place) done may.next.from_one may.next.since (may.next.once (PointOff place) on)))

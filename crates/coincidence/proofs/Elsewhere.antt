@@ -19,10 +19,11 @@ use Rattle.coincidence_rules.specs.Places.{is_of, is_detector}
 use Rattle.coincidence_rules.specs.Counted.{is_alarm, is_counted}
 use Rattle.coincidence_rules.specs.Kept.{run_then, run_of, latest_besides, is_type_C, may_pair}
 use Rattle.tick_units.specs.declared.switch.Switch.{Switch}
-use Rattle.coincidence.specs.declared.last_tick.LastTick.{LastTick}
+use Rattle.tick_units.specs.declared.last_done.LastDone.{LastDone}
 use Rattle.coincidence.specs.declared.decide.Decide.{Decide}
 use Rattle.coincidence.specs.Premises.{IsOwn}
-use Rattle.coincidence.specs.Stands.{resets, moves, set_in, TellsSetting, TellsLast, DecidesFor}
+use Rattle.coincidence.specs.Stands.{resets, moves, set_in, TellsSetting, DecidesFor}
+use Rattle.coincidence_rules.specs.Applied.{TellsLast}
 
 eq_false : (a b : ℕ) → a ≢ b → (a == b) ≡ false
 eq_false a b h = grind (arith, nat_tests)
@@ -202,7 +203,7 @@ module _ (site : Site) (kept : Retained) (panel : ℕ) (done : List Done) (d : D
   tells_same : (setting : Setting) (switch : Switch) → is_on setting d ≡ false → TellsSetting site kept setting done switch → TellsSetting site kept setting (d ∷ done) switch
   tells_same setting switch e h = record { at = λ x since. force_same setting x e ∙ h.at x since; since = h.since ∙ sym (ap (λ b. if b then d.tick else set_in setting done) e) }
 
-  last_same : (test : Done → Bool) (last : LastTick) → test d ≡ false → TellsLast test done last → TellsLast test (d ∷ done) last
+  last_same : (test : Done → Bool) (last : LastDone) → test d ≡ false → TellsLast test done last → TellsLast test (d ∷ done) last
   last_same test last e h = record { at = λ x since. latest_same test x e ∙ h.at x since; by = λ x all. h.by x all.1 }
 
   module _ (zoned : (place : ℕ) (point : PointPlan) → slice_get site.points place ≡ Some point → HasZone site point.panel point.zone) where

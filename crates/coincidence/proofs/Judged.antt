@@ -10,11 +10,12 @@ use Rattle.site_types.specs.declared.operation.Operation.TheVariants.{Mute, Over
 use Rattle.site_types.specs.Done.{Done, PointOff, ZoneOff, in_force, latest_before, is_of_panel, is_floor, moves_floor, floor_before, cancelled_before, is_zone_blocked, AreBy}
 use Rattle.coincidence_rules.specs.Counted.{is_alarm, is_counted}
 use Rattle.coincidence_rules.specs.Kept.{bar, after, may_pair, latest_besides, second_of}
-use Rattle.coincidence.specs.declared.last_tick.LastTick.{LastTick}
+use Rattle.tick_units.specs.declared.last_done.LastDone.{LastDone}
 use Rattle.coincidence.specs.declared.point_watch.PointWatch.{PointWatch}
 use Rattle.coincidence.specs.declared.zone_watch.ZoneWatch.{ZoneWatch}
 use Rattle.coincidence.specs.declared.decide.Decide.{Decide}
-use Rattle.coincidence.specs.Parts.{switch_at, last_at, besides}
+use Rattle.coincidence.specs.Parts.{switch_at, besides}
+use Rattle.tick_units.specs.LastTicks.{last_at}
 use Rattle.coincidence.specs.Stands.{is_reset, resets, is_move, moves, DecidesFor, Fits}
 use Rattle.coincidence.proofs.Watched.{read_is, watched, watched_zone, over_read, off_since, zone_off_since, test_since}
 
@@ -58,13 +59,6 @@ floor_parts zone panel at o Override e site is = refl
 floor_parts zone panel at o Silence e site is = refl
 floor_parts zone panel at o Resound e site is = refl
 floor_parts zone panel at o Clear e site is = refl
-
-pub before_is : (x : ℕ) (last : LastTick) → (if nat_lt last.tick.0 x then last.tick else last.earlier).0 ≡ last_at x last
-before_is x last = go (nat_lt last.tick.0 x)
-  where
-    go : (b : Bool) → (if b then last.tick else last.earlier).0 ≡ (if b then last.tick.0 else last.earlier.0)
-    go true = refl
-    go false = refl
 
 module _ {site : Site} {kept : Retained} {panel : ℕ} {done : List Done} {taken : List Answer} {decide : Decide} (stands : DecidesFor site kept panel done taken decide) where
   pub floor_is : (x zone : ℕ) (plan : ZonePlan) → AreBy x done → slice_get site.zones zone ≡ Some plan → plan.panel ≡ panel → (z : ZoneWatch) → z ≡ get_or decide.zones.items zone z

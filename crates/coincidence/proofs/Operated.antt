@@ -17,11 +17,12 @@ use Rattle.site_types.specs.declared.operation.Operation.TheVariants.{Mute, Over
 use Rattle.site_types.specs.Events.{is_some_with, has_operands, has_zone}
 use Rattle.site_types.specs.Done.{Done, PointOff, ZoneOff, is_on}
 use Rattle.coincidence_rules.proofs.Lists.{get_small}
-use Rattle.coincidence.specs.declared.last_tick.LastTick.{LastTick}
+use Rattle.tick_units.specs.declared.last_done.LastDone.{LastDone}
 use Rattle.coincidence.specs.declared.point_watch.PointWatch.{PointWatch}
 use Rattle.coincidence.specs.declared.zone_watch.ZoneWatch.{ZoneWatch}
 use Rattle.coincidence.specs.declared.decide.Decide.{Decide}
-use Rattle.coincidence.specs.Parts.{switch_after, last_after, last_if}
+use Rattle.coincidence.specs.Parts.{switch_after}
+use Rattle.tick_units.specs.LastTicks.{last_after, last_if}
 use Rattle.coincidence.specs.Stands.{resets, IsOwnZone, DecidesFor, off_operation}
 use Rattle.coincidence.specs.Premises.{IsOwn, MayApply}
 use Rattle.coincidence.proofs.Noted.{get_set}
@@ -106,7 +107,7 @@ idle_after at panel (Disable (Zone z)) decide h = cc
 idle_after at panel (Enable (Point p)) decide h = cc
 idle_after at panel (Enable (Zone z)) decide h = cc
 
-reset_after : (at : Tick) (panel : ℕ) (decide : Decide) (reset : LastTick) → reset ≡ last_after at decide.reset → IsAfter at panel Reset decide (record { panel = decide.panel; points = decide.points; zones = decide.zones; reset = reset })
+reset_after : (at : Tick) (panel : ℕ) (decide : Decide) (reset : LastDone) → reset ≡ last_after at decide.reset → IsAfter at panel Reset decide (record { panel = decide.panel; points = decide.points; zones = decide.zones; reset = reset })
 reset_after at panel decide reset e = record {
   same_panel = refl;
   point_count = refl;
@@ -206,7 +207,7 @@ module _ {site : Site} {kept : Retained} {panel : ℕ} {done : List Done} {taken
   pub idle_stands : (operation : Operation) → is_idle operation ≡ true → MayApply site panel done taken operation at.0 → DecidesFor site kept panel (done_now at panel operation ∷ done) taken decide
   idle_stands operation idle may = stands_after site kept panel done taken decide decide at operation stands may (idle_after at panel operation decide idle)
 
-  pub reset_stands : (operation : Operation) (reset : LastTick) → operation ≡ Reset → reset ≡ last_after at decide.reset → MayApply site panel done taken operation at.0
+  pub reset_stands : (operation : Operation) (reset : LastDone) → operation ≡ Reset → reset ≡ last_after at decide.reset → MayApply site panel done taken operation at.0
       → DecidesFor site kept panel (done_now at panel operation ∷ done) taken (record { panel = decide.panel; points = decide.points; zones = decide.zones; reset = reset })
   reset_stands operation reset e new may = as_read operation Reset _ e may (λ m. reset_after at panel decide reset new)
 

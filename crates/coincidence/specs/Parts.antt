@@ -9,7 +9,7 @@ use Rattle.site_types.specs.declared.point.Point.{Point as PointPlan}
 use Rattle.site_types.specs.declared.zone.Zone.{Zone as ZonePlan}
 use Rattle.site_types.specs.declared.retained.Retained.{Retained}
 use Rattle.site_types.specs.Done.{kept_point, kept_zone, kept_test}
-use Rattle.coincidence.specs.declared.last_tick.LastTick.{LastTick}
+use Rattle.tick_units.specs.LastTicks.{never_done}
 use Rattle.coincidence.specs.declared.recent.Sighting.{Sighting}
 use Rattle.coincidence.specs.declared.recent.Recent.{Recent}
 use Rattle.coincidence.specs.declared.point_watch.PointWatch.{PointWatch}
@@ -21,16 +21,6 @@ switch_at x switch = if nat_lt switch.since.0 x then switch.now else switch.was
 
 abbrev pub switch_after : Bool → Tick → Switch → Switch
 switch_after value at switch = record { was = switch.now; now = value; since = at }
-
--- the latest tick before one that isn't before the latest of all
-abbrev pub last_at : ℕ → LastTick → ℕ
-last_at x last = if nat_lt last.tick.0 x then last.tick.0 else last.earlier.0
-
-abbrev pub last_after : Tick → LastTick → LastTick
-last_after at last = if nat_lt last.tick.0 at.0 then record { tick = at; earlier = last.tick } else last
-
-abbrev pub last_if : Bool → Tick → LastTick → LastTick
-last_if on at last = if on then last_after at last else last
 
 abbrev pub stamp_of : Option Sighting → Option Tick
 stamp_of None = None
@@ -66,9 +56,6 @@ zone_noted pairs point stamp watch = if pairs then record watch { recent = noted
 abbrev pub switch_begun : Bool → Switch
 switch_begun value = record { was = value; now = value; since = record { 0 = 0 } }
 
-abbrev pub last_begun : LastTick
-last_begun = record { tick = record { 0 = 0 }; earlier = record { 0 = 0 } }
-
 abbrev pub point_begun : PointPlan → Bool → PointWatch
 point_begun point off = record { zone = point.zone; manual = point.manual; off = switch_begun off; silent = 0; run = None }
 
@@ -80,8 +67,8 @@ zone_begun zone off test =
       partner = zone.partner;
       off = switch_begun off;
       test = switch_begun test;
-      moved = last_begun;
-      cancelled = last_begun;
+      moved = never_done;
+      cancelled = never_done;
       recent = record { latest = None; other = None };
     }
 

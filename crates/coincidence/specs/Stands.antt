@@ -12,14 +12,14 @@ use Rattle.site_types.specs.declared.item.Item.TheVariants.{Zone}
 use Rattle.site_types.specs.declared.operation.Operation.{Operation}
 use Rattle.site_types.specs.declared.operation.Operation.TheVariants.{Reset, Disable, Enable, Test}
 use Rattle.site_types.specs.Done.{Done, Setting, PointOff, ZoneOff, InTest, is_on, in_force, latest_before, floor_before, cancels, AreBy}
+use Rattle.coincidence_rules.specs.Applied.{TellsLast}
 use Rattle.coincidence_rules.specs.Counted.{is_counted}
 use Rattle.coincidence_rules.specs.Missing.{latest_of, begins_silent}
 use Rattle.coincidence_rules.specs.InOrder.{AreInOrder}
-use Rattle.coincidence.specs.declared.last_tick.LastTick.{LastTick}
 use Rattle.coincidence.specs.declared.point_watch.PointWatch.{PointWatch}
 use Rattle.coincidence.specs.declared.zone_watch.ZoneWatch.{ZoneWatch}
 use Rattle.coincidence.specs.declared.decide.Decide.{Decide}
-use Rattle.coincidence.specs.Parts.{switch_at, last_at, besides}
+use Rattle.coincidence.specs.Parts.{switch_at, besides}
 use Rattle.coincidence_rules.specs.Kept.{latest_besides, run_of, may_pair}
 use Rattle.coincidence_rules.specs.Wired.{IsWired}
 use Rattle.coincidence.specs.Premises.{IsOwn, MayTake, MayApply}
@@ -50,11 +50,6 @@ set_in setting (d ∷ ds) = if is_on setting d then d.tick else set_in setting d
 pub record TellsSetting (site : Site) (kept : Retained) (setting : Setting) (done : List Done) (switch : Switch) : Type 0 where
   pub at : (x : ℕ) → switch.since.0 ≤ x → in_force site kept setting x done ≡ switch_at x switch
   pub since : switch.since.0 ≡ set_in setting done
-
--- the latest tick of a kind of operations, at each tick from it on
-pub record TellsLast (test : Done → Bool) (done : List Done) (last : LastTick) : Type 0 where
-  pub at : (x : ℕ) → last.tick.0 ≤ x → latest_before test x done ≡ last_at x last
-  pub by : (x : ℕ) → AreBy x done → last.tick.0 ≤ x
 
 pub record WatchesPoint (site : Site) (kept : Retained) (done : List Done) (taken : List Answer) (place : ℕ) (point : PointPlan) (watch : PointWatch) : Type 0 where
   pub zone : watch.zone ≡ point.zone

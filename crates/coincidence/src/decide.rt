@@ -10,7 +10,6 @@ ghost use Rattle.tick_units.specs.Lane.{HasRoom, after_turn, with_put};
 
 use crate::beside::Beside;
 use crate::bits::two_bits;
-use crate::last_tick::LastTick;
 use crate::point_watch::PointWatch;
 use crate::rules::{after, counts_unless, is_on, may_pair};
 use crate::sight::Sight;
@@ -20,7 +19,7 @@ use arrayvec::ArrayVec;
 use coincidence_rules::Finding;
 use site_types::{Answer, Heard, Item, Operation, Retained, Site};
 use std::alloc::Global;
-use tick_units::{Lane, NoMemory, Tick};
+use tick_units::{Lane, LastDone, NoMemory, Tick};
 
 /// Decides which answers of a panel's points confirm and release which of its zones.
 ///
@@ -34,7 +33,7 @@ pub struct Decide {
     /// By the zones' places in the site.
     zones: Vec<ZoneWatch>,
     /// The last reset of the panel.
-    reset: LastTick,
+    reset: LastDone,
 }
 
 impl Decide {
@@ -56,7 +55,7 @@ impl Decide {
             panel,
             points,
             zones,
-            reset: LastTick::never(),
+            reset: LastDone::never(),
         })
     }
 

@@ -18,7 +18,6 @@
 mod beside;
 mod bits;
 mod decide;
-mod last_tick;
 mod point_watch;
 mod recent;
 mod rules;

@@ -9,3 +9,4 @@ pub mod ZoneMasks
 pub mod FoundFindings
 pub mod ValidWired
 pub mod Later
+pub mod LastDone

@@ -11,7 +11,8 @@ use Rattle.site_types.specs.declared.point.Point.{Point}
 use Rattle.site_types.specs.declared.site.Site.{Site}
 use Rattle.site_types.specs.Valid.{HasAddress, IsValid, loop_key}
 use Rattle.site_types.proofs.ValidSites.{loop_of_point}
-use Rattle.loop_poller.specs.Asked.{answer_from, answer_of, asked_on, is_asked, loop_at, point_at}
+use Rattle.loop_poller.specs.Asked.{answer_from, answer_of, asked_on, is_asked, point_at}
+use Rattle.site_types.specs.Things.{loop_of}
 use Rattle.loop_poller.specs.Cables.{CableStands}
 use Rattle.site_types.specs.declared.piece_state.PieceState.{PieceState}
 use Rattle.isolators.specs.Reach.{Cable, sound_cable, with_piece}
@@ -69,7 +70,7 @@ point_there site panel line address place h =
       at = at_from panel line address (get_or site.points place d) found.1;
     }
 
-found_plan : (site : Site) (panel line address : ℕ) (o : Option LoopPlan) → IsValid site → loop_at site panel line ≡ o → HasAddress site panel line address → IsOnLoop o address
+found_plan : (site : Site) (panel line address : ℕ) (o : Option LoopPlan) → IsValid site → loop_of site panel line ≡ o → HasAddress site panel line address → IsOnLoop o address
 found_plan site panel line address None valid e has = tt
 found_plan site panel line address (Some plan) valid e has =
     let found = found_at (λ (l : LoopPlan). (l.panel == panel) && (l.line == line)) site.loops plan e in
@@ -83,11 +84,11 @@ found_plan site panel line address (Some plan) valid e has =
     omega (arith, has.within)
 
 -- the address of a point is one of its loop
-pub on_loop : (site : Site) (panel line address place : ℕ) → IsValid site → point_at site panel line address ≡ Some place → IsOnLoop (loop_at site panel line) address
+pub on_loop : (site : Site) (panel line address place : ℕ) → IsValid site → point_at site panel line address ≡ Some place → IsOnLoop (loop_of site panel line) address
 on_loop site panel line address place valid h =
     let there = point_there site panel line address place h in
     let has : HasAddress site panel line address = rw (there.at.panel_is, there.at.line_is, there.at.address_is) at (loop_of_point site valid place there.point there.is) in
-    found_plan site panel line address (loop_at site panel line) valid refl has
+    found_plan site panel line address (loop_of site panel line) valid refl has
 
 -- the points of a loop are points of the site
 pub knows_points : (site : Site) (panel line : ℕ) (points : List (Option ℕ)) → ArePoints site panel line points → KnowsPoints points (length site.points)
@@ -145,7 +146,7 @@ four_lines site panel a b c d p q r s (suc (suc zero)) l h = let e : c ≡ l = c
 four_lines site panel a b c d p q r s (suc (suc (suc zero))) l h = let e : d ≡ l = cc in subst (λ (x : PolledLine). LineStands site panel 4 sound_cable x) e s
 four_lines site panel a b c d p q r s (suc (suc (suc (suc place)))) l h = absurd cc
 
-no_plan : (site : Site) (panel line address : ℕ) → loop_at site panel line ≡ None → HasAddress site panel line address → ⊥
+no_plan : (site : Site) (panel line address : ℕ) → loop_of site panel line ≡ None → HasAddress site panel line address → ⊥
 no_plan site panel line address none has =
     let fails = none_passes (λ (l : LoopPlan). (l.panel == panel) && (l.line == line)) site.loops has.place has.plan none has.is in
     let passes = and_from (has.plan.panel == panel) (has.plan.line == line) (eq-eqb has.plan.panel panel has.at_panel) (eq-eqb has.plan.line line has.at_line) in
@@ -153,7 +154,7 @@ no_plan site panel line address none has =
     cc
 
 -- a loop that isn't there has no points
-pub no_points : (site : Site) (panel line address : ℕ) → IsValid site → loop_at site panel line ≡ None → (o : Option ℕ) → point_at site panel line address ≡ o → o ≡ None
+pub no_points : (site : Site) (panel line address : ℕ) → IsValid site → loop_of site panel line ≡ None → (o : Option ℕ) → point_at site panel line address ≡ o → o ≡ None
 no_points site panel line address valid none None h = refl
 no_points site panel line address valid none (Some place) h =
     let there = point_there site panel line address place h in
@@ -173,6 +174,6 @@ no_answer false answer o none = refl
 pub nothing_asked : (site : Site) (panel line : ℕ) (points : ℕ → PointState) (cables : ℕ → Cable) (tick : ℕ) (polled : PolledLine) → IsValid site → LineStands site panel line (cables line) polled → is_some polled.cable ≡ false →
     asked_on site panel points cables tick line ≡ []
 nothing_asked site panel line points cables tick polled valid stands none =
-    let absent = no_loop (loop_at site panel line) (cables line) polled.cable stands.cable_stands none in
+    let absent = no_loop (loop_of site panel line) (cables line) polled.cable stands.cable_stands none in
     none_found (answer_from site panel points cables tick line) 1 (last_address_of site.format) (λ address low high.
     no_answer (is_asked site.format address tick) (answer_of site panel points cables tick line address) (point_at site panel line address) (no_points site panel line address valid absent (point_at site panel line address) refl))

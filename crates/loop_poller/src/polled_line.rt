@@ -5,7 +5,8 @@ ghost use Rattle.site_types.specs.declared.site.Site.{Site as SiteOf};
 ghost use Rattle.site_types.specs.Profile.{round_of};
 ghost use Rattle.site_types.specs.Valid.{IsValid};
 ghost use Rattle.isolators.specs.Reach.{Cable, sound_cable, with_piece};
-ghost use Rattle.loop_poller.specs.Asked.{asked_on, heard_of, is_reached_on, loop_at, status_on};
+ghost use Rattle.loop_poller.specs.Asked.{asked_on, heard_of, is_reached_on, status_on};
+ghost use Rattle.site_types.specs.Things.{loop_of};
 ghost use Rattle.loop_poller.specs.Points.{KnowsPoints};
 
 use crate::cables::cable_of;
@@ -45,7 +46,7 @@ impl PolledLine {
     }
 
     pub fn status(&self) -> LineStatus
-        ensures { (site : SiteOf) (panel line : ℕ) (cable : Cable) → LineStands site panel line cable self.now → result ≡ status_on (loop_at site panel line) cable }
+        ensures { (site : SiteOf) (panel line : ℕ) (cable : Cable) → LineStands site panel line cable self.now → result ≡ status_on (loop_of site panel line) cable }
     {
         match &self.cable {
             Some(cable) => cable.status(),
@@ -55,7 +56,7 @@ impl PolledLine {
 
     fn reaches(&self, address: u8) -> bool
         requires { 1 ≤ address }
-        ensures { (site : SiteOf) (panel line : ℕ) (cable : Cable) → LineStands site panel line cable self.now → IsOnLoop (loop_at site panel line) address → result ≡ is_reached_on (loop_at site panel line) cable address }
+        ensures { (site : SiteOf) (panel line : ℕ) (cable : Cable) → LineStands site panel line cable self.now → IsOnLoop (loop_of site panel line) address → result ≡ is_reached_on (loop_of site panel line) cable address }
     {
         match &self.cable {
             Some(cable) => cable.reach(address),
@@ -65,7 +66,7 @@ impl PolledLine {
 
     fn heard(&self, address: u8, state: PointState) -> Heard
         requires { 1 ≤ address }
-        ensures { (site : SiteOf) (panel line : ℕ) (cable : Cable) → LineStands site panel line cable self.now → IsOnLoop (loop_at site panel line) address → result ≡ heard_of state (is_reached_on (loop_at site panel line) cable address) }
+        ensures { (site : SiteOf) (panel line : ℕ) (cable : Cable) → LineStands site panel line cable self.now → IsOnLoop (loop_of site panel line) address → result ≡ heard_of state (is_reached_on (loop_of site panel line) cable address) }
     {
         let reached = self.reaches(address);
         match state {

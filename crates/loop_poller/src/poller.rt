@@ -2,7 +2,8 @@ ghost use Rattle.std.specs.Prelude.{◌≡◌, ◌≤◌, ◌+◌, [], ◌∷◌
 ghost use Rattle.tick_units.specs.Lane.{HasRoom, with_put};
 ghost use Rattle.site_types.specs.declared.site.Site.{Site as SiteOf};
 ghost use Rattle.site_types.specs.Valid.{IsValid};
-ghost use Rattle.loop_poller.specs.Asked.{asked_in, loop_at, status_on};
+ghost use Rattle.loop_poller.specs.Asked.{asked_in, status_on};
+ghost use Rattle.site_types.specs.Things.{loop_of};
 ghost use Rattle.loop_poller.specs.Calls.{Call, Reported, Cabled, told_cable, told_point};
 
 use crate::polled_line::PolledLine;
@@ -62,7 +63,7 @@ impl Poller {
     /// What is wrong with the cable of a loop, 1 to 4. Nothing is, where the panel has no such loop.
     pub fn status(&self, line: u8) -> LineStatus
         requires { (1 ≤ line) × (line ≤ 4) }
-        ensures { (site : SiteOf) (panel : ℕ) (calls : List Call) → StandsFor site panel calls self.now → result ≡ status_on (loop_at site panel line) (told_cable calls line) }
+        ensures { (site : SiteOf) (panel : ℕ) (calls : List Call) → StandsFor site panel calls self.now → result ≡ status_on (loop_of site panel line) (told_cable calls line) }
     {
         self.lines[line as usize - 1].status()
     }

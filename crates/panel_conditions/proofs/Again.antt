@@ -15,12 +15,13 @@ use Rattle.site_types.specs.Bits.{has_bit}
 use Rattle.site_types.specs.Done.{Done, AreBy}
 use Rattle.coincidence_rules.specs.declared.finding.Finding.{Finding}
 use Rattle.panel_conditions.specs.declared.hold.Hold.{Hold}
-use Rattle.panel_conditions.specs.declared.last_tick.LastTick.{LastTick}
+use Rattle.tick_units.specs.declared.last_done.LastDone.{LastDone}
 use Rattle.panel_conditions.specs.declared.outside.Outside.{Outside}
 use Rattle.panel_conditions.specs.declared.point_switch.PointSwitch.{PointSwitch}
 use Rattle.panel_conditions.specs.declared.shown.Shown.{Shown}
 use Rattle.panel_conditions.specs.declared.sign.Sign.TheVariants.{Alarm, Manual, Released, First}
-use Rattle.panel_conditions.specs.Parts.{last_at, later_tick, points_at, points_shown, signs_at}
+use Rattle.panel_conditions.specs.Parts.{later_tick, points_at, points_shown, signs_at}
+use Rattle.tick_units.specs.LastTicks.{last_at}
 use Rattle.panel_conditions.specs.PointSets.{set_without}
 use Rattle.panel_conditions.specs.Shown.{any_below, has_more, has_more_points, is_in_fire_alarm, is_news, on_lines, sounds}
 use Rattle.panel_conditions.specs.Stands.{HoldsFor, IsUnchanged, ShownStays, TakesFindings, Watches, entries_then, faults_now, newly_then, nothing_shown, shown_at, shown_now, shown_then, word_with}
@@ -80,7 +81,7 @@ shown_again shown tick muted buzzer =
 switched : (switch : PointSwitch) (moved x : ℕ) → switch.since.0 ≤ moved → moved < x → points_at x switch ≡ switch.after
 switched switch moved x by later = ap (λ b. if b then switch.after else switch.before) (lt-ltb switch.since.0 x (omega (arith, by, later)))
 
-last_is : (last : LastTick) (moved x : ℕ) → last.tick.0 ≤ moved → moved < x → last_at x last ≡ last.tick.0
+last_is : (last : LastDone) (moved x : ℕ) → last.tick.0 ≤ moved → moved < x → last_at x last ≡ last.tick.0
 last_is last moved x by later = ap (λ b. if b then last.tick.0 else last.earlier.0) (lt-ltb last.tick.0 x (omega (arith, by, later)))
 
 -- ---- what follows at a tick

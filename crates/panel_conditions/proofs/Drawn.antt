@@ -12,13 +12,14 @@ use Rattle.site_types.specs.declared.operation.Operation.{Operation}
 use Rattle.site_types.proofs.Masks.{mask_same, has_bit-mask, has_bit-or, has_bit-above}
 use Rattle.site_types.proofs.Done.{lt_tells, lt_true, lt_false}
 use Rattle.coincidence_rules.specs.declared.finding.Finding.{Finding}
-use Rattle.panel_conditions.specs.declared.last_tick.LastTick.{LastTick}
+use Rattle.tick_units.specs.declared.last_done.LastDone.{LastDone}
 use Rattle.panel_conditions.specs.declared.sign.Sign.{Sign}
 use Rattle.panel_conditions.specs.declared.sign.Sign.TheVariants.{Alarm, Manual, Released, First}
 use Rattle.panel_conditions.specs.declared.signs.Signs.{Signs}
 use Rattle.panel_conditions.specs.declared.zone_watch.ZoneWatch.{ZoneWatch}
 use Rattle.panel_conditions.specs.declared.zones.Zones.{Zones}
-use Rattle.panel_conditions.specs.Parts.{first_shows, last_at, last_if, later_tick, sign_at, sign_mask, signs_at, told_by, watch_shows, zone_done, zone_taken, zone_taken_at}
+use Rattle.panel_conditions.specs.Parts.{first_shows, later_tick, sign_at, sign_mask, signs_at, told_by, watch_shows, zone_done, zone_taken, zone_taken_at}
+use Rattle.tick_units.specs.LastTicks.{last_at, last_if}
 use Rattle.panel_conditions.specs.Stands.{AreNumbered, Settled, are_first_watches}
 use Rattle.panel_conditions.proofs.Watched.{get_map}
 use Rattle.panel_conditions.proofs.Firsts.{first_at}
@@ -26,7 +27,7 @@ use Rattle.panel_conditions.proofs.Addressed.{neq_false}
 
 -- ---- after the latest operation
 
-last_stays : (tick x : ℕ) (last : LastTick) → last.tick.0 < tick → tick ≤ x → last_at x last ≡ last_at tick last
+last_stays : (tick x : ℕ) (last : LastDone) → last.tick.0 < tick → tick ≤ x → last_at x last ≡ last_at tick last
 last_stays tick x last less le =
     ap (λ b. if b then last.tick.0 else last.earlier.0) (lt_true last.tick.0 x (omega (arith, less, le)))
     ∙ sym (ap (λ b. if b then last.tick.0 else last.earlier.0) (lt_true last.tick.0 tick less))
@@ -235,7 +236,7 @@ later_left a b = elim (lt_tells a.0 b.0) [ inl less ↦ (let l = less.1 in rw le
 pub later_right : (a b : Tick) → b.0 ≤ (later_tick a b).0
 later_right a b = elim (lt_tells a.0 b.0) [ inl less ↦ rw less.0 (omega arith) | inr other ↦ rw other.0 other.1 ]
 
-last_within : (on : Bool) (at : Tick) (last : LastTick) (bound : ℕ) → last.tick.0 ≤ bound → at.0 ≤ bound → (last_if on at last).tick.0 ≤ bound
+last_within : (on : Bool) (at : Tick) (last : LastDone) (bound : ℕ) → last.tick.0 ≤ bound → at.0 ≤ bound → (last_if on at last).tick.0 ≤ bound
 last_within false at last bound a b = a
 last_within true at last bound a b = elim (lt_tells last.tick.0 at.0) [ inl less ↦ rw less.0 b | inr other ↦ rw other.0 a ]
 

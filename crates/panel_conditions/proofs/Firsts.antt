@@ -22,7 +22,8 @@ use Rattle.panel_conditions.specs.Stands.{are_first_watches, first_watch, AreZon
 use Rattle.site_types.specs.Changes.{HasOwnPlaces}
 use Rattle.site_types.specs.declared.zone.Zone.{Zone}
 use Rattle.site_types.specs.Done.{moves_floor, cancels, kept_point}
-use Rattle.panel_conditions.proofs.Told.{told_never, told_from}
+use Rattle.panel_conditions.proofs.Told.{told_from}
+use Rattle.coincidence_rules.proofs.LastDone.{told_never}
 use Rattle.panel_conditions.proofs.Masked.{none_past}
 use Rattle.panel_conditions.proofs.Yet.{points_same}
 use Rattle.panel_conditions.proofs.PointSets.{none_is}

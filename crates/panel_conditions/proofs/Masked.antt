@@ -17,7 +17,8 @@ use Rattle.coincidence_rules.proofs.Lists.{and_both, both_and}
 use Rattle.panel_conditions.specs.declared.sign.Sign.{Sign}
 use Rattle.panel_conditions.specs.declared.sign.Sign.TheVariants.{Alarm, Manual, Released, First}
 use Rattle.panel_conditions.specs.declared.zone_watch.ZoneWatch.{ZoneWatch}
-use Rattle.panel_conditions.specs.Parts.{last_at, first_shows, sign_shows, watch_shows}
+use Rattle.panel_conditions.specs.Parts.{first_shows, sign_shows, watch_shows}
+use Rattle.tick_units.specs.LastTicks.{last_at}
 use Rattle.panel_conditions.specs.Zones.{tells, tells_zone, alarm_found, hand_found, release_found, tells_first, first_found_by, first_found}
 use Rattle.panel_conditions.specs.Stands.{WatchesZone, WatchesZones, latest_stamp, within_at, within_of, within_rule}
 use Rattle.panel_conditions.proofs.Latest.{any_latest}

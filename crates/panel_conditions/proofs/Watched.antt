@@ -21,14 +21,17 @@ use Rattle.coincidence_rules.proofs.ZoneMasks.{of_numbered}
 use Rattle.panel_conditions.specs.declared.zone_watch.ZoneWatch.{ZoneWatch}
 use Rattle.panel_conditions.specs.declared.asked.Asked.TheVariants.{OfZone}
 use Rattle.panel_conditions.specs.declared.points.Points.{Points}
-use Rattle.panel_conditions.specs.declared.last_tick.LastTick.{LastTick}
+use Rattle.tick_units.specs.declared.last_done.LastDone.{LastDone}
 use Rattle.panel_conditions.specs.PointSets.{loop_address, address_in, put_at, put_all, either_set, set_without}
-use Rattle.panel_conditions.specs.Parts.{zone_taken, zone_done, points_at, points_taken, points_done, points_shown, item_set, is_asked, raises, on_watched, last_if}
+use Rattle.panel_conditions.specs.Parts.{zone_taken, zone_done, points_at, points_taken, points_done, points_shown, item_set, is_asked, raises, on_watched}
+use Rattle.tick_units.specs.LastTicks.{last_if}
 use Rattle.panel_conditions.specs.Points.{points_where}
 use Rattle.panel_conditions.specs.Missing.{missing_found, zone_is_off, shows_missing}
-use Rattle.panel_conditions.specs.Stands.{AreNumbered, WatchesZone, WatchesZones, WatchesPoints, TellsLast, TellsPoints, set_or_none, point_is_off, zone_of_is_off}
+use Rattle.panel_conditions.specs.Stands.{AreNumbered, WatchesZone, WatchesZones, WatchesPoints, TellsPoints, set_or_none, point_is_off, zone_of_is_off}
+use Rattle.coincidence_rules.specs.Applied.{TellsLast}
 use Rattle.panel_conditions.proofs.Latest.{stamp_more, last-push}
-use Rattle.panel_conditions.proofs.Told.{told_last, told_same, told_points}
+use Rattle.panel_conditions.proofs.Told.{told_same, told_points}
+use Rattle.coincidence_rules.proofs.LastDone.{told_last}
 use Rattle.panel_conditions.proofs.Yet.{points_same}
 use Rattle.panel_conditions.proofs.PointSets.{either_is, without_is, none_is}
 use Rattle.panel_conditions.proofs.Addressed.{but_at, neq_false, put_place}
@@ -325,7 +328,7 @@ missing_shown site kept panel done taken points tick since h =
     neither true false b = refl
     neither false a b = refl
 
-pub muted_after : (panel : ℕ) (done : List Done) (operation : Operation) (at : Tick) (on : Bool) (last : LastTick) → on ≡ is_mute operation → AreBy at.0 done → TellsLast (mutes panel) done last →
+pub muted_after : (panel : ℕ) (done : List Done) (operation : Operation) (at : Tick) (on : Bool) (last : LastDone) → on ≡ is_mute operation → AreBy at.0 done → TellsLast (mutes panel) done last →
     TellsLast (mutes panel) (record { tick = at.0; panel = panel; operation = operation } ∷ done) (last_if on at last)
 muted_after panel done operation at on last e since h =
     told_last (mutes panel) (record { tick = at.0; panel = panel; operation = operation }) done at last on refl

@@ -13,7 +13,7 @@ use Rattle.site_types.specs.declared.operation.Operation.TheVariants.{Reset, Dis
 use Rattle.site_types.specs.Bits.{has_bit, mask_of}
 use Rattle.site_types.specs.Done.{is_cancel, kept_point, kept_zone}
 use Rattle.coincidence_rules.specs.declared.finding.Finding.{Finding}
-use Rattle.panel_conditions.specs.declared.last_tick.LastTick.{LastTick}
+use Rattle.tick_units.specs.LastTicks.{last_at, last_if}
 use Rattle.panel_conditions.specs.declared.sign.Sign.{Sign}
 use Rattle.panel_conditions.specs.declared.sign.Sign.TheVariants.{Alarm, Manual, Released, First}
 use Rattle.panel_conditions.specs.declared.signs.Signs.{Signs}
@@ -23,16 +23,6 @@ use Rattle.panel_conditions.specs.declared.asked.Asked.TheVariants.{Disabled, Zo
 use Rattle.panel_conditions.specs.declared.point_switch.PointSwitch.{PointSwitch}
 use Rattle.panel_conditions.specs.declared.points.Points.{Points}
 use Rattle.panel_conditions.specs.PointSets.{address_in, put_at, put_all, set_without}
-
-abbrev pub never_done : LastTick
-never_done = record { tick = record { 0 = 0 }; earlier = record { 0 = 0 } }
-
--- the latest tick before one that isn't before the latest of all
-abbrev pub last_at : ℕ → LastTick → ℕ
-last_at x last = if nat_lt last.tick.0 x then last.tick.0 else last.earlier.0
-
-abbrev pub last_if : Bool → Tick → LastTick → LastTick
-last_if on at last = if on && nat_lt last.tick.0 at.0 then record { tick = at; earlier = last.tick } else last
 
 -- the later of two stamps, where the second one is of something that was told
 abbrev pub stamp_if : Bool → Tick → Tick → Tick

@@ -16,8 +16,8 @@ use Rattle.site_types.specs.Bits.{IsPlace, has_bit}
 use Rattle.site_types.specs.Changes.{IsPanelNumber, IsNumber, HasOwnPlaces}
 use Rattle.site_types.specs.Done.{Done, Setting, PointOff, is_on, operation_setting, in_force, latest_before, moves_floor, cancels, mutes, muted_before, AreBy}
 use Rattle.coincidence_rules.specs.declared.finding.Finding.{Finding}
+use Rattle.coincidence_rules.specs.Applied.{MayBeDone, TellsLast}
 use Rattle.coincidence_rules.specs.Places.{numbered}
-use Rattle.panel_conditions.specs.declared.last_tick.LastTick.{LastTick}
 use Rattle.panel_conditions.specs.declared.zone_watch.ZoneWatch.{ZoneWatch}
 use Rattle.panel_conditions.specs.declared.sign.Sign.{Sign}
 use Rattle.panel_conditions.specs.declared.zones.Zones.{Zones}
@@ -29,7 +29,8 @@ use Rattle.panel_conditions.specs.declared.hold.Hold.{Hold}
 use Rattle.panel_conditions.specs.declared.outside.Outside.{Outside}
 use Rattle.panel_conditions.specs.PointSets.{loop_address, no_set, set_without}
 use Rattle.panel_conditions.specs.declared.signs.Signs.{Signs}
-use Rattle.panel_conditions.specs.Parts.{never_done, last_at, points_at, points_shown, is_asked, watch_shows, sign_mask}
+use Rattle.panel_conditions.specs.Parts.{points_at, points_shown, is_asked, watch_shows, sign_mask}
+use Rattle.tick_units.specs.LastTicks.{last_at, never_done}
 use Rattle.panel_conditions.specs.Points.{points_where}
 use Rattle.panel_conditions.specs.Turns.{HoldTurn, findings_taken, latest_tick, AreRising}
 use Rattle.panel_conditions.specs.Missing.{missing_found, zone_is_off}
@@ -118,11 +119,6 @@ zone_of_is_off site kept done x place = zone_is_off site kept done (slice_get si
 pub record TellsPoints (site : Site) (panel : ℕ) (test : ℕ → ℕ → Bool) (done : List Done) (switch : PointSwitch) : Type 0 where
   pub at : (x : ℕ) → switch.since.0 ≤ x → points_at x switch ≡ points_where site panel (test x)
   pub by : (x : ℕ) → AreBy x done → switch.since.0 ≤ x
-
--- the latest tick of a kind of operations, at each tick from it on
-pub record TellsLast (test : Done → Bool) (done : List Done) (last : LastTick) : Type 0 where
-  pub at : (x : ℕ) → last.tick.0 ≤ x → latest_before test x done ≡ last_at x last
-  pub by : (x : ℕ) → AreBy x done → last.tick.0 ≤ x
 
 -- the latest stamp of a finding that passes the test, else 0
 abbrev pub latest_stamp : (Finding → Bool) → List Finding → ℕ
@@ -247,22 +243,15 @@ pub record HoldsFor (site : Site) (kept : Retained) (panel : ℕ) (done : List D
   pub rising : AreRising turns
   pub few : entries_after site kept panel done turns ≤ latest_tick turns
 
--- no operation on the setting was done in a tick
-abbrev pub NoneIn : ℕ → Setting → List Done → Type 0
-NoneIn tick setting [] = Unit {0}
-NoneIn tick setting (d ∷ ds) = (is_on setting d ≡ true → d.tick ≢ tick) × NoneIn tick setting ds
-
 -- a turn may be made in a tick: it is later than those made, and no operation was done after it
 pub record MayTurn (done : List Done) (turns : List HoldTurn) (tick : ℕ) : Type 0 where
   pub later : latest_tick turns < tick
   pub since : AreBy tick done
 
--- an operation of a panel may be applied in a tick: it is not earlier than those done and the turns made, and the only one on its setting in that tick
+-- an operation of a panel may be applied in a tick: it may be done after those done, and is not earlier than the turns made
 pub record MayApply (panel : ℕ) (done : List Done) (turns : List HoldTurn) (operation : Operation) (tick : ℕ) : Type 0 where
-  pub counted : 1 ≤ tick
-  pub since : AreBy tick done
+  pub next : MayBeDone panel done operation tick
   pub turned : latest_tick turns ≤ tick
-  pub once : (setting : Setting) → operation_setting panel operation ≡ Some setting → NoneIn tick setting done
 
 -- what is shown at a tick, with these findings taken, after what was shown before
 abbrev pub shown_at : Site → Retained → ℕ → List Done → List Finding → ℕ → Outside → Shown → Shown

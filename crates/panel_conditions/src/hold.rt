@@ -7,7 +7,6 @@ ghost use Rattle.site_types.specs.Valid.{IsValid};
 ghost use Rattle.coincidence_rules.specs.declared.finding.Finding.{Finding as Found};
 ghost use Rattle.panel_conditions.specs.Turns.{HoldTurn, findings_taken};
 
-use crate::last_tick::LastTick;
 use crate::outside::Outside;
 use crate::points::Points;
 use crate::shown::{Shown, has_fault};
@@ -17,14 +16,14 @@ use arrayvec::ArrayVec;
 use coincidence_rules::Finding;
 use site_types::{Buzzer, FaultSet, Operation, PointSet, Retained, Site, Word};
 use std::alloc::Global;
-use tick_units::{Lane, NoMemory, Tick};
+use tick_units::{Lane, LastDone, NoMemory, Tick};
 
 /// Holds the conditions of a panel: its zones, faults and buzzer, and how often it entered the fire alarm condition.
 #[derive(Drop)]
 pub struct Hold {
     zones: Zones,
     points: Points,
-    muted: LastTick,
+    muted: LastDone,
     shown: Shown,
     /// The points that were missing when it was shown.
     missing: PointSet,
@@ -44,7 +43,7 @@ impl Hold {
         Ok(Hold {
             zones,
             points,
-            muted: LastTick::never(),
+            muted: LastDone::never(),
             shown: Shown::nothing(),
             missing: PointSet::default(),
         })

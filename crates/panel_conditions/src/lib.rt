@@ -17,7 +17,6 @@
 
 mod asked;
 mod hold;
-mod last_tick;
 mod laws;
 mod loop_address;
 mod next_bit;

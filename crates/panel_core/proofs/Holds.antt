@@ -12,7 +12,8 @@ use Rattle.site_types.specs.Done.{Done}
 use Rattle.site_types.proofs.Masks.{mask_same}
 use Rattle.isolators.specs.Reach.{Cable}
 use Rattle.isolators.specs.declared.line_status.LineStatus.{LineStatus}
-use Rattle.loop_poller.specs.Asked.{loop_at, status_on}
+use Rattle.loop_poller.specs.Asked.{status_on}
+use Rattle.site_types.specs.Things.{loop_of}
 use Rattle.loop_poller.specs.Calls.{told_cable}
 use Rattle.coincidence_rules.specs.Findings.{findings_of}
 use Rattle.coincidence_rules.specs.declared.finding.Finding.{Finding}
@@ -40,12 +41,12 @@ four test a b c d p q r s (suc (suc zero)) l = r
 four test a b c d p q r s (suc (suc (suc zero))) l = s
 four test a b c d p q r s (suc (suc (suc (suc k)))) l = absurd (omega arith)
 
-pub outside_is : (site : Site) (panel : ℕ) (cables : ℕ → Cable) (one two three four' : LineStatus) (broken shorted : ℕ) → one ≡ status_on (loop_at site panel 1) (cables 1) → two ≡ status_on (loop_at site panel 2) (cables 2) → three ≡ status_on (loop_at site panel 3) (cables 3) → four' ≡ status_on (loop_at site panel 4) (cables 4) → broken ≡ mask_of 4 (λ k. slice_index_or (one.broken ∷ two.broken ∷ three.broken ∷ four'.broken ∷ []) k false) → shorted ≡ mask_of 4 (λ k. slice_index_or (one.shorted ∷ two.shorted ∷ three.shorted ∷ four'.shorted ∷ []) k false) → (let o : Outside = record { supply = 0; broken = broken; shorted = shorted; silent = 0; links = 0; unconfirmed = 0 } in o) ≡ outside_of site panel cables
+pub outside_is : (site : Site) (panel : ℕ) (cables : ℕ → Cable) (one two three four' : LineStatus) (broken shorted : ℕ) → one ≡ status_on (loop_of site panel 1) (cables 1) → two ≡ status_on (loop_of site panel 2) (cables 2) → three ≡ status_on (loop_of site panel 3) (cables 3) → four' ≡ status_on (loop_of site panel 4) (cables 4) → broken ≡ mask_of 4 (λ k. slice_index_or (one.broken ∷ two.broken ∷ three.broken ∷ four'.broken ∷ []) k false) → shorted ≡ mask_of 4 (λ k. slice_index_or (one.shorted ∷ two.shorted ∷ three.shorted ∷ four'.shorted ∷ []) k false) → (let o : Outside = record { supply = 0; broken = broken; shorted = shorted; silent = 0; links = 0; unconfirmed = 0 } in o) ≡ outside_of site panel cables
 outside_is site panel cables one two three four' broken shorted a b c d x y =
-    let opened = x ∙ mask_same 4 (λ k. slice_index_or (one.broken ∷ two.broken ∷ three.broken ∷ four'.broken ∷ []) k false) (λ k. (status_on (loop_at site panel (k + 1)) (cables (k + 1))).broken) (four (λ line. (status_on (loop_at site panel line) (cables line)).broken) one.broken two.broken three.broken four'.broken (ap (λ s. s.broken) a) (ap (λ s. s.broken) b) (ap (λ s. s.broken) c) (ap (λ s. s.broken) d)) in
-    let shorts = y ∙ mask_same 4 (λ k. slice_index_or (one.shorted ∷ two.shorted ∷ three.shorted ∷ four'.shorted ∷ []) k false) (λ k. (status_on (loop_at site panel (k + 1)) (cables (k + 1))).shorted) (four (λ line. (status_on (loop_at site panel line) (cables line)).shorted) one.shorted two.shorted three.shorted four'.shorted (ap (λ s. s.shorted) a) (ap (λ s. s.shorted) b) (ap (λ s. s.shorted) c) (ap (λ s. s.shorted) d)) in
+    let opened = x ∙ mask_same 4 (λ k. slice_index_or (one.broken ∷ two.broken ∷ three.broken ∷ four'.broken ∷ []) k false) (λ k. (status_on (loop_of site panel (k + 1)) (cables (k + 1))).broken) (four (λ line. (status_on (loop_of site panel line) (cables line)).broken) one.broken two.broken three.broken four'.broken (ap (λ s. s.broken) a) (ap (λ s. s.broken) b) (ap (λ s. s.broken) c) (ap (λ s. s.broken) d)) in
+    let shorts = y ∙ mask_same 4 (λ k. slice_index_or (one.shorted ∷ two.shorted ∷ three.shorted ∷ four'.shorted ∷ []) k false) (λ k. (status_on (loop_of site panel (k + 1)) (cables (k + 1))).shorted) (four (λ line. (status_on (loop_of site panel line) (cables line)).shorted) one.shorted two.shorted three.shorted four'.shorted (ap (λ s. s.shorted) a) (ap (λ s. s.shorted) b) (ap (λ s. s.shorted) c) (ap (λ s. s.shorted) d)) in
     ap (λ n. (let o : Outside = record { supply = 0; broken = n; shorted = shorted; silent = 0; links = 0; unconfirmed = 0 } in o)) opened
-    ∙ ap (λ n. (let o : Outside = record { supply = 0; broken = mask_of 4 (λ k. (status_on (loop_at site panel (k + 1)) (cables (k + 1))).broken); shorted = n; silent = 0; links = 0; unconfirmed = 0 } in o)) shorts
+    ∙ ap (λ n. (let o : Outside = record { supply = 0; broken = mask_of 4 (λ k. (status_on (loop_of site panel (k + 1)) (cables (k + 1))).broken); shorted = n; silent = 0; links = 0; unconfirmed = 0 } in o)) shorts
 
 -- what the poller was told of the cables is what they are at
 outside_told : (site : Site) (panel : ℕ) (before : List Moment) → outside_of site panel (told_cable (reports site panel before)) ≡ outside_at site panel before

@@ -7,7 +7,8 @@ use Rattle.site_types.specs.declared.site.Site.{Site}
 use Rattle.site_types.specs.Bits.{mask_of}
 use Rattle.site_types.specs.Done.{Done}
 use Rattle.isolators.specs.Reach.{Cable}
-use Rattle.loop_poller.specs.Asked.{loop_at, status_on}
+use Rattle.loop_poller.specs.Asked.{status_on}
+use Rattle.site_types.specs.Things.{loop_of}
 use Rattle.panel_conditions.specs.declared.outside.Outside.{Outside}
 use Rattle.panel_conditions.specs.Turns.{HoldTurn}
 use Rattle.panel_rules.specs.Moments.{Moment, Began, Happened, Turned, Kept, tick_of}
@@ -19,8 +20,8 @@ abbrev pub outside_of : Site → ℕ → (ℕ → Cable) → Outside
 outside_of site panel cables =
     record {
       supply = 0;
-      broken = mask_of 4 (λ k. (status_on (loop_at site panel (k + 1)) (cables (k + 1))).broken);
-      shorted = mask_of 4 (λ k. (status_on (loop_at site panel (k + 1)) (cables (k + 1))).shorted);
+      broken = mask_of 4 (λ k. (status_on (loop_of site panel (k + 1)) (cables (k + 1))).broken);
+      shorted = mask_of 4 (λ k. (status_on (loop_of site panel (k + 1)) (cables (k + 1))).shorted);
       silent = 0;
       links = 0;
       unconfirmed = 0;

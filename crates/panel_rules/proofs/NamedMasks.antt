@@ -13,7 +13,8 @@ use Rattle.site_types.specs.Events.{is_link, is_panel}
 use Rattle.site_types.proofs.Masks.{has_bit-mask, has_bit-zero, mask_below, mask_empty, mask_same}
 use Rattle.isolators.specs.Reach.{Cable}
 use Rattle.coincidence_rules.specs.Places.{is_numbered, numbered, on_zone, zones_where}
-use Rattle.loop_poller.specs.Asked.{loop_at, status_on}
+use Rattle.loop_poller.specs.Asked.{status_on}
+use Rattle.site_types.specs.Things.{loop_of}
 use Rattle.panel_conditions.specs.Points.{addressed, addresses_where, is_addressed, on_point}
 use Rattle.panel_links.specs.Stands.{is_link_of}
 use Rattle.panel_links.specs.Words.{left_of}
@@ -132,17 +133,17 @@ find_any test (y ∷ xs) x h = go (test y) h (find_any test xs x)
     go true h ih = refl
     go false h ih = ih h
 
-broken_there : (site : Site) (panel line : ℕ) (cable : Cable) → (status_on (loop_at site panel line) cable).broken ≡ true → has_loop site panel line ≡ true
-broken_there site panel line cable h = go (loop_at site panel line) refl h
+broken_there : (site : Site) (panel line : ℕ) (cable : Cable) → (status_on (loop_of site panel line) cable).broken ≡ true → has_loop site panel line ≡ true
+broken_there site panel line cable h = go (loop_of site panel line) refl h
   where
-    go : (o : Option LoopPlan) → loop_at site panel line ≡ o → (status_on o cable).broken ≡ true → has_loop site panel line ≡ true
+    go : (o : Option LoopPlan) → loop_of site panel line ≡ o → (status_on o cable).broken ≡ true → has_loop site panel line ≡ true
     go None e t = absurd cc
     go (Some plan) e t = find_any (λ (l : LoopPlan). (l.panel == panel) && (l.line == line)) site.loops plan e
 
-shorted_there : (site : Site) (panel line : ℕ) (cable : Cable) → (status_on (loop_at site panel line) cable).shorted ≡ true → has_loop site panel line ≡ true
-shorted_there site panel line cable h = go (loop_at site panel line) refl h
+shorted_there : (site : Site) (panel line : ℕ) (cable : Cable) → (status_on (loop_of site panel line) cable).shorted ≡ true → has_loop site panel line ≡ true
+shorted_there site panel line cable h = go (loop_of site panel line) refl h
   where
-    go : (o : Option LoopPlan) → loop_at site panel line ≡ o → (status_on o cable).shorted ≡ true → has_loop site panel line ≡ true
+    go : (o : Option LoopPlan) → loop_of site panel line ≡ o → (status_on o cable).shorted ≡ true → has_loop site panel line ≡ true
     go None e t = absurd cc
     go (Some plan) e t = find_any (λ (l : LoopPlan). (l.panel == panel) && (l.line == line)) site.loops plan e
 
@@ -154,14 +155,14 @@ module _ (site : Site) (panel : ℕ) (cable : ℕ → Cable) where
   loop_named : (k : ℕ) → has_loop site panel (k + 1) ≡ true → is_named (number_if (has_loop site panel (1 + k)) (1 + k)) ≡ true
   loop_named k h = let e : k + 1 ≡ 1 + k = omega arith in numbered_if (has_loop site panel (1 + k)) (1 + k) (subst (λ n. has_loop site panel n ≡ true) e h)
 
-  pub broken_named : HasNames 4 (λ k. is_named (number_if (has_loop site panel (1 + k)) (1 + k))) (mask_of 4 (λ k. (status_on (loop_at site panel (k + 1)) (cable (k + 1))).broken))
+  pub broken_named : HasNames 4 (λ k. is_named (number_if (has_loop site panel (1 + k)) (1 + k))) (mask_of 4 (λ k. (status_on (loop_of site panel (k + 1)) (cable (k + 1))).broken))
   broken_named =
-      of_test 4 (λ k. is_named (number_if (has_loop site panel (1 + k)) (1 + k))) (λ k. (status_on (loop_at site panel (k + 1)) (cable (k + 1))).broken)
+      of_test 4 (λ k. is_named (number_if (has_loop site panel (1 + k)) (1 + k))) (λ k. (status_on (loop_of site panel (k + 1)) (cable (k + 1))).broken)
       (λ k small h. loop_named k (broken_there site panel (k + 1) (cable (k + 1)) h))
 
-  pub shorted_named : HasNames 4 (λ k. is_named (number_if (has_loop site panel (1 + k)) (1 + k))) (mask_of 4 (λ k. (status_on (loop_at site panel (k + 1)) (cable (k + 1))).shorted))
+  pub shorted_named : HasNames 4 (λ k. is_named (number_if (has_loop site panel (1 + k)) (1 + k))) (mask_of 4 (λ k. (status_on (loop_of site panel (k + 1)) (cable (k + 1))).shorted))
   shorted_named =
-      of_test 4 (λ k. is_named (number_if (has_loop site panel (1 + k)) (1 + k))) (λ k. (status_on (loop_at site panel (k + 1)) (cable (k + 1))).shorted)
+      of_test 4 (λ k. is_named (number_if (has_loop site panel (1 + k)) (1 + k))) (λ k. (status_on (loop_of site panel (k + 1)) (cable (k + 1))).shorted)
       (λ k small h. loop_named k (shorted_there site panel (k + 1) (cable (k + 1)) h))
 
 supply_there : (k : ℕ) → k < 4 → is_named (supply_name (1 + k)) ≡ true

@@ -9,7 +9,8 @@ use Rattle.site_types.specs.Bits.{has_bit, mask_of}
 use Rattle.site_types.proofs.Masks.{has_bit-mask}
 use Rattle.site_types.proofs.ValidSites.{zone_at}
 use Rattle.isolators.specs.Reach.{is_open, is_short}
-use Rattle.loop_poller.specs.Asked.{loop_at, status_on}
+use Rattle.loop_poller.specs.Asked.{status_on}
+use Rattle.site_types.specs.Things.{loop_of}
 use Rattle.panel_links.specs.Stands.{is_link_of}
 use Rattle.panel_rules.specs.Moments.{Moment, Began, Happened, Turned, Kept, tick_of, is_fresh, IsPanel, IsRun, up_to}
 use Rattle.panel_rules.specs.States.{piece_of, is_up}
@@ -96,17 +97,17 @@ piece_shown site kept done stored m panel line piece plan after p one four is la
     same : piece_of panel line piece (made_at panel m) ≡ piece_of panel line piece m
     same = told_now site m after panel p (λ b. piece_of panel line piece b) (piece_by_events panel line piece)
 
-    broken : piece_of panel line piece m ≡ Open → has_bit (mask_of 4 (λ k. (status_on (loop_at site panel (k + 1)) (λ x. piece_of panel (k + 1) x (made_at panel m))).broken)) (line - 1) ≡ true
+    broken : piece_of panel line piece m ≡ Open → has_bit (mask_of 4 (λ k. (status_on (loop_of site panel (k + 1)) (λ x. piece_of panel (k + 1) x (made_at panel m))).broken)) (line - 1) ≡ true
     broken e =
-        has_bit-mask 4 (λ k. (status_on (loop_at site panel (k + 1)) (λ x. piece_of panel (k + 1) x (made_at panel m))).broken) (line - 1) (omega (arith, one, four))
-        ∙ ap (λ k. (status_on (loop_at site panel k) (λ x. piece_of panel k x (made_at panel m))).broken) here
+        has_bit-mask 4 (λ k. (status_on (loop_of site panel (k + 1)) (λ x. piece_of panel (k + 1) x (made_at panel m))).broken) (line - 1) (omega (arith, one, four))
+        ∙ ap (λ k. (status_on (loop_of site panel k) (λ x. piece_of panel k x (made_at panel m))).broken) here
         ∙ ap (λ o. (status_on o (λ x. piece_of panel line x (made_at panel m))).broken) is
         ∙ some_piece is_open (λ x. piece_of panel line x (made_at panel m)) plan.last piece last (ap is_open (same ∙ e))
 
-    shorted : piece_of panel line piece m ≡ Short → has_bit (mask_of 4 (λ k. (status_on (loop_at site panel (k + 1)) (λ x. piece_of panel (k + 1) x (made_at panel m))).shorted)) (line - 1) ≡ true
+    shorted : piece_of panel line piece m ≡ Short → has_bit (mask_of 4 (λ k. (status_on (loop_of site panel (k + 1)) (λ x. piece_of panel (k + 1) x (made_at panel m))).shorted)) (line - 1) ≡ true
     shorted e =
-        has_bit-mask 4 (λ k. (status_on (loop_at site panel (k + 1)) (λ x. piece_of panel (k + 1) x (made_at panel m))).shorted) (line - 1) (omega (arith, one, four))
-        ∙ ap (λ k. (status_on (loop_at site panel k) (λ x. piece_of panel k x (made_at panel m))).shorted) here
+        has_bit-mask 4 (λ k. (status_on (loop_of site panel (k + 1)) (λ x. piece_of panel (k + 1) x (made_at panel m))).shorted) (line - 1) (omega (arith, one, four))
+        ∙ ap (λ k. (status_on (loop_of site panel k) (λ x. piece_of panel k x (made_at panel m))).shorted) here
         ∙ ap (λ o. (status_on o (λ x. piece_of panel line x (made_at panel m))).shorted) is
         ∙ some_piece is_short (λ x. piece_of panel line x (made_at panel m)) plan.last piece last (ap is_short (same ∙ e))
 

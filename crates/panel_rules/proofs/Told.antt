@@ -17,7 +17,8 @@ use Rattle.site_types.specs.declared.piece_state.PieceState.{PieceState}
 use Rattle.site_types.specs.Profile.{round_of}
 use Rattle.panel_rules.specs.Moments.{Moment, Began, Happened, Turned, Kept, tick_of, has_turned, IsPanel, IsPanelTask, IsRun, IsPast, present, later, up_to}
 use Rattle.panel_rules.specs.States.{state_of, piece_of}
-use Rattle.loop_poller.specs.Asked.{is_asked, answer_of, point_at, loop_at, is_reached_on, heard_of}
+use Rattle.loop_poller.specs.Asked.{is_asked, answer_of, point_at, is_reached_on, heard_of}
+use Rattle.site_types.specs.Things.{loop_of}
 use Rattle.loop_poller.specs.Places.{answer_at, places, line_at, address_at}
 use Rattle.panel_rules.specs.Reached.{is_point_reached}
 use Rattle.panel_rules.specs.Answers.{answers, asked}
@@ -136,20 +137,20 @@ tells_asked site panels panel moments before place point run turn h =
     let after = up_to (tick_of before) moments in
     let state : state_of point after ≡ state_of point before = state_stays (λ b. state_of point b) panels (Turned panel Poll ∷ before) moments (state_by_events point) turn run refl in
     let pieces : (piece : ℕ) → piece_of panel line piece after ≡ piece_of panel line piece before = λ piece. state_stays (λ b. piece_of panel line piece b) panels (Turned panel Poll ∷ before) moments (piece_by_events panel line piece) turn run refl in
-    let reached : is_reached_on (loop_at site panel line) (λ piece. piece_of panel line piece after) address ≡ is_reached_on (loop_at site panel line) (λ piece. piece_of panel line piece before) address = reached_same (loop_at site panel line) (λ piece. piece_of panel line piece after) (λ piece. piece_of panel line piece before) address pieces in
-    let there : reached_at site point after ≡ is_reached_on (loop_at site panel line) (λ piece. piece_of panel line piece after) address = ap (λ o. is_point_reached site o (λ p l k. piece_of p l k after)) g.is ∙ placed_reached site after g.plan panel line address g.panel_is g.line_is g.address_is in
+    let reached : is_reached_on (loop_of site panel line) (λ piece. piece_of panel line piece after) address ≡ is_reached_on (loop_of site panel line) (λ piece. piece_of panel line piece before) address = reached_same (loop_of site panel line) (λ piece. piece_of panel line piece after) (λ piece. piece_of panel line piece before) address pieces in
+    let there : reached_at site point after ≡ is_reached_on (loop_of site panel line) (λ piece. piece_of panel line piece after) address = ap (λ o. is_point_reached site o (λ p l k. piece_of p l k after)) g.is ∙ placed_reached site after g.plan panel line address g.panel_is g.line_is g.address_is in
     record {
       plan = g.plan;
       is = g.is;
       of_panel = g.panel_is;
       asked = eq_true _ _ (sym (ap (λ a. (a - 1) / 8) g.address_is ∙ group place (tick_of before % round_of site.format)));
-      heard = ap (λ s. heard_of s (is_reached_on (loop_at site panel line) (λ piece. piece_of panel line piece before) address)) (sym state) ∙ ap (λ r. heard_of (state_of point after) r) (sym (there ∙ reached));
+      heard = ap (λ s. heard_of s (is_reached_on (loop_of site panel line) (λ piece. piece_of panel line piece before) address)) (sym state) ∙ ap (λ r. heard_of (state_of point after) r) (sym (there ∙ reached));
     }
   where
     group : (place phase : ℕ) → (8 * phase + place % 8 + 1 - 1) / 8 ≡ phase
     group place phase = omega arith
 
-    placed_reached : (site : Site) (after : List Moment) (plan : Point) (panel line address : ℕ) → plan.panel ≡ panel → plan.line ≡ line → plan.address ≡ address → is_reached_on (loop_at site plan.panel plan.line) (λ piece. piece_of plan.panel plan.line piece after) plan.address ≡ is_reached_on (loop_at site panel line) (λ piece. piece_of panel line piece after) address
+    placed_reached : (site : Site) (after : List Moment) (plan : Point) (panel line address : ℕ) → plan.panel ≡ panel → plan.line ≡ line → plan.address ≡ address → is_reached_on (loop_of site plan.panel plan.line) (λ piece. piece_of plan.panel plan.line piece after) plan.address ≡ is_reached_on (loop_of site panel line) (λ piece. piece_of panel line piece after) address
     placed_reached site after plan panel line address p l a = rw (p, l, a) refl
 
 -- each answer tells what its point was at

@@ -11,7 +11,8 @@ use Rattle.site_types.specs.Done.{Done}
 use Rattle.site_types.specs.Events.{is_confirming}
 use Rattle.site_types.specs.Limits.{most_loops, most_panels}
 use Rattle.site_types.specs.Profile.{routing_of, silent_of}
-use Rattle.loop_poller.specs.Asked.{loop_at, status_on}
+use Rattle.loop_poller.specs.Asked.{status_on}
+use Rattle.site_types.specs.Things.{loop_of}
 use Rattle.supply_monitor.specs.Supply.{Call, Reported, Turned as TurnMade, shown_mask}
 use Rattle.panel_links.specs.Stands.{is_link_of}
 use Rattle.panel_conditions.specs.declared.outside.Outside.{Outside}
@@ -37,10 +38,10 @@ supply_calls panel (Kept failed ∷ before) = supply_calls panel before
 
 -- the loops of a panel with an open piece, and those with a short one
 abbrev pub broken_loops : Site → ℕ → List Moment → ℕ
-broken_loops site panel moments = mask_of most_loops (λ k. (status_on (loop_at site panel (k + 1)) (λ piece. piece_of panel (k + 1) piece moments)).broken)
+broken_loops site panel moments = mask_of most_loops (λ k. (status_on (loop_of site panel (k + 1)) (λ piece. piece_of panel (k + 1) piece moments)).broken)
 
 abbrev pub shorted_loops : Site → ℕ → List Moment → ℕ
-shorted_loops site panel moments = mask_of most_loops (λ k. (status_on (loop_at site panel (k + 1)) (λ piece. piece_of panel (k + 1) piece moments)).shorted)
+shorted_loops site panel moments = mask_of most_loops (λ k. (status_on (loop_of site panel (k + 1)) (λ piece. piece_of panel (k + 1) piece moments)).shorted)
 
 -- the panels of which nothing newer was heard for too long
 abbrev pub silent_panels : Site → (ℕ → ℕ) → ℕ → ℕ

@@ -12,7 +12,7 @@ use Rattle.site_types.specs.declared.zone.Zone.{Zone}
 use Rattle.site_types.specs.Bits.{has_bit, has_point}
 use Rattle.site_types.specs.Done.{Done, Setting, in_force, is_on, value_set}
 use Rattle.site_types.specs.Profile.{fault_of, reset_of}
-use Rattle.loop_poller.specs.Asked.{loop_at}
+use Rattle.site_types.specs.Things.{loop_of}
 use Rattle.supply_monitor.specs.Supply.{wait_of}
 use Rattle.panel_conditions.specs.Missing.{is_off}
 use Rattle.panel_links.specs.Stands.{is_link_of}
@@ -35,7 +35,7 @@ StandsAgain =
 abbrev pub PieceIsShown : Type 0
 PieceIsShown =
     (site : Site) (kept : Retained) (done : List Done) (stored : Retained) (moments : List Moment) (panel line piece : ℕ) (plan : LoopPlan) → HasEnded site moments → IsPanel site.panels panel → 1 ≤ line → line ≤ 4
-    → loop_at site panel line ≡ Some plan → piece ≤ plan.last
+    → loop_of site panel line ≡ Some plan → piece ≤ plan.last
     → (piece_of panel line piece moments ≡ Open → has_bit (face_with site kept done stored panel moments).faults.broken (line - 1) ≡ true)
     × (piece_of panel line piece moments ≡ Short → has_bit (face_with site kept done stored panel moments).faults.shorted (line - 1) ≡ true)
 

@@ -14,7 +14,8 @@ use Rattle.coincidence_rules.specs.InOrder.{AreInOrder}
 use Rattle.coincidence_rules.specs.declared.finding.Finding.{Finding}
 use Rattle.coincidence_rules.proofs.Lists.{get_left}
 use Rattle.coincidence.specs.declared.decide.Decide.{Decide}
-use Rattle.coincidence.specs.Premises.{IsOwn, MayTake, MayApply, NoneIn}
+use Rattle.coincidence.specs.Premises.{IsOwn, MayTake, MayApply}
+use Rattle.coincidence_rules.specs.Applied.{NoneIn}
 use Rattle.coincidence.specs.Stands.{DecidesFor, CanTake, CanApply, taken_by}
 use Rattle.part_trials.specs.Bench.{IsUpTo, IsReady, MayPut, MayDo}
 
@@ -167,10 +168,12 @@ pub may_apply : (site : Site) (panel : ℕ) (decide : Decide) (answers : LaneSta
 may_apply site panel decide answers findings stamp point at operation tick h may =
     record {
       own = may.own;
-      from_one = (let later = may.later in omega (arith, later));
-      since = by_later at tick h.done (let later = may.later in omega (arith, later)) h.by;
+      next = record {
+        from_one = (let later = may.later in omega (arith, later));
+        since = by_later at tick h.done (let later = may.later in omega (arith, later)) h.by;
+        once = λ setting on. none_in tick at setting h.done h.by may.later;
+      };
       late = λ k b is. late b (h.last k b (get_left h.taken answers.items k b is));
-      once = λ setting on. none_in tick at setting h.done h.by may.later;
     }
   where
     late : (b : Answer) → IsUpTo stamp point b → b.stamp.0 ≤ tick

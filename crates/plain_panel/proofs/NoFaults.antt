@@ -16,7 +16,8 @@ use Rattle.site_types.specs.Profile.{silent_of}
 use Rattle.site_types.proofs.Done.{lt_false}
 use Rattle.site_types.proofs.Masks.{has_bit-mask, mask_below, mask_empty}
 use Rattle.isolators.specs.Reach.{is_open, is_short}
-use Rattle.loop_poller.specs.Asked.{loop_at, status_on}
+use Rattle.loop_poller.specs.Asked.{status_on}
+use Rattle.site_types.specs.Things.{loop_of}
 use Rattle.supply_monitor.specs.Supply.{is_shown, kind_at, shown_mask}
 use Rattle.coincidence_rules.specs.Missing.{is_missing}
 use Rattle.panel_conditions.specs.Missing.{is_off}
@@ -70,10 +71,10 @@ module _ (site : Site) (kept : Retained) (done : List Done) (panel : ℕ) where
   not_shorted (Some plan) = none_any (λ piece. is_short Sound) (range_with_len 0 (plan.last + 1)) (λ x. refl)
 
   none_broken : broken_loops site panel [] ≡ 0
-  none_broken = mask_none 4 (λ k. (status_on (loop_at site panel (k + 1)) (λ piece. Sound)).broken) (λ k. not_broken (loop_at site panel (k + 1)))
+  none_broken = mask_none 4 (λ k. (status_on (loop_of site panel (k + 1)) (λ piece. Sound)).broken) (λ k. not_broken (loop_of site panel (k + 1)))
 
   none_shorted : shorted_loops site panel [] ≡ 0
-  none_shorted = mask_none 4 (λ k. (status_on (loop_at site panel (k + 1)) (λ piece. Sound)).shorted) (λ k. not_shorted (loop_at site panel (k + 1)))
+  none_shorted = mask_none 4 (λ k. (status_on (loop_of site panel (k + 1)) (λ piece. Sound)).shorted) (λ k. not_shorted (loop_of site panel (k + 1)))
 
   none_supplied : shown_mask site.waits [] ≡ 0
   none_supplied = mask_none 4 (λ k. is_shown site.waits (kind_at k) []) (λ k. refl)

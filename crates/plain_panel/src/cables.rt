@@ -2,7 +2,8 @@ ghost use Rattle.std.specs.Prelude.{◌≡◌, ◌+◌, ◌∷◌, List, ℕ};
 ghost use Rattle.site_types.specs.declared.loop_plan.LoopPlan.{LoopPlan as PlanOf};
 ghost use Rattle.isolators.specs.Reach.{status_of as status_with};
 ghost use Rattle.isolators.specs.Stands.{StandsFor as CableStands};
-ghost use Rattle.loop_poller.specs.Asked.{loop_at, status_on};
+ghost use Rattle.loop_poller.specs.Asked.{status_on};
+ghost use Rattle.site_types.specs.Things.{loop_of};
 ghost use Rattle.panel_rules.specs.Faults.{broken_loops, shorted_loops};
 ghost use Rattle.panel_rules.specs.Moments.{Moment as MomentOf};
 ghost use Rattle.panel_rules.specs.States.{piece_of};
@@ -38,7 +39,7 @@ pub(crate) fn shorted_loops(site: &Site, panel: u8, moments: &[Moment]) -> u8
 
 /// What is wrong with the cable of a loop of a panel; where there is no loop, nothing.
 fn line_status(site: &Site, panel: u8, line: u8, moments: &[Moment]) -> LineStatus
-    ensures { result ≡ status_on (loop_at site.now panel line) (λ piece. piece_of panel line piece (history moments.now)) }
+    ensures { result ≡ status_on (loop_of site.now panel line) (λ piece. piece_of panel line piece (history moments.now)) }
 {
     match site.loop_of(panel, line) {
         Some(plan) => plan_status(plan, panel, line, moments),

@@ -2,10 +2,9 @@
 use Rattle.std.specs.Prelude.{ℕ, ◌-◌, ◌==◌, ◌&&◌, Bool, true, false, List, [], ◌∷◌, Option, Some, None, if◌then◌else◌, nat_le}
 use Rattle.std.specs.List.{find, list_any}
 use Rattle.site_types.specs.declared.output.Output.{Output}
-use Rattle.site_types.specs.declared.output_kind.OutputKind.{OutputKind}
-use Rattle.site_types.specs.declared.output_kind.OutputKind.TheVariants.{Sounder, Routing, Protection, Relay}
 use Rattle.site_types.specs.declared.site.Site.{Site}
 use Rattle.site_types.specs.Bits.{has_bit}
+use Rattle.site_types.specs.Events.{is_confirming}
 use Rattle.routing_outputs.specs.declared.routing_state.RoutingState.{RoutingState}
 use Rattle.routing_outputs.specs.declared.routing_state.RoutingState.TheVariants.{Idle, Waiting, Confirmed as IsConfirmed, Unconfirmed}
 
@@ -17,13 +16,6 @@ pub data Call : Type 0 where
 -- the output of a panel with a number
 abbrev pub output_of : Site → ℕ → ℕ → Option Output
 output_of site panel number = find (λ output. (output.panel == panel) && (output.number == number)) site.outputs
-
--- the kinds of output that are confirmed
-abbrev pub is_confirming : OutputKind → Bool
-is_confirming Sounder = false
-is_confirming Routing = true
-is_confirming Protection = true
-is_confirming Relay = false
 
 abbrev pub is_confirming_output : Option Output → Bool
 is_confirming_output None = false

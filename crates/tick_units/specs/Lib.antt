@@ -1,4 +1,5 @@
 pub mod Lane
+pub mod LastTicks
 pub mod Orders
 pub mod SeatSets
 pub mod Ticks

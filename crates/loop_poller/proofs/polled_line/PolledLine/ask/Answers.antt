@@ -2,7 +2,8 @@ use Rattle.std.proofs.Common.{◌≡◌, ◌∙◌, ap, sym, ◌+◌, ◌-◌, �
 use Rattle.std.specs.List.{filter_map, range_with_len}
 use Rattle.tick_units.specs.Lane.{with_put}
 use Rattle.site_types.specs.Profile.{round_of}
-use Rattle.loop_poller.specs.Asked.{answer_from, answer_of, heard_of, is_reached_on, loop_at, point_at}
+use Rattle.loop_poller.specs.Asked.{answer_from, answer_of, heard_of, is_reached_on, point_at}
+use Rattle.site_types.specs.Things.{loop_of}
 use Rattle.loop_poller.proofs.Filling.{read_at}
 use Rattle.loop_poller.proofs.Lanes.{got_more, got_same, put-nil, put_some, put_none}
 use Rattle.loop_poller.proofs.Lines.{nothing_asked, on_loop, point_there}
@@ -47,7 +48,7 @@ loop-address-preserved c =
                 let known = (point_there site panel line address point at).within in
                 let state = states.each point known in
                 let heard = w.heard-heard.ensures site panel line (cables line) stands (on_loop site panel line address point valid at)
-                ∙ ap (λ s. heard_of s (is_reached_on (loop_at site panel line) (cables line) address)) state in
+                ∙ ap (λ s. heard_of s (is_reached_on (loop_of site panel line) (cables line) address)) state in
                 let answer : f address ≡ Some (record { stamp = c.args.now; point = point; heard = w.heard-heard.result }) =
                 asked ∙ ap (option_map (answer_of site panel points cables c.args.now.0 line address)) w.in-Some.is ∙ ap (λ h. Some (record { stamp = c.args.now; point = point; heard = h })) (sym heard) in
                 put_some f address (range_with_len first (address - first)) _ _ _ so_far _ answer (w.answers-is ∙ w.put.ensures)

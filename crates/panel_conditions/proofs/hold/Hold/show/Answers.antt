@@ -1,7 +1,8 @@
 use Rattle.std.proofs.Common.{◌∙◌, refl, ap, sym, subst}
 use Rattle.site_types.specs.Done.{mutes}
 use Rattle.panel_conditions.specs.Parts.{signs_at}
-use Rattle.panel_conditions.specs.Stands.{Settled, ShownStays, TellsLast, Watches, WatchesPoints, WatchesZones}
+use Rattle.panel_conditions.specs.Stands.{Settled, ShownStays, Watches, WatchesPoints, WatchesZones}
+use Rattle.coincidence_rules.specs.Applied.{TellsLast}
 use Rattle.panel_conditions.proofs.Again.{shown_is, stays_now, stays_taken, unchanged_is}
 use Rattle.panel_conditions.proofs.hold.Hold.show.Goals as goal
 

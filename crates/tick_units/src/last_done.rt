@@ -1,20 +1,20 @@
-ghost use Rattle.std.specs.Prelude.{◌≡◌, ◌<◌, ◌≤◌, nat_lt, if◌then◌else◌};
-ghost use Rattle.coincidence.specs.Parts.{last_after};
+ghost use Rattle.std.specs.Prelude.{◌≡◌};
+ghost use Rattle.tick_units.specs.LastTicks.{last_after, last_at, last_if, never_done};
 
-use tick_units::Tick;
+use crate::tick::Tick;
 
 /// The latest tick in which something was done, and the latest one before that tick. 0 stands for none.
-#[derive(Clone, Copy)]
-pub struct LastTick {
-    tick: Tick,
-    earlier: Tick,
+#[derive(Clone, Copy, Debug, PartialEq, Eq)]
+pub struct LastDone {
+    pub tick: Tick,
+    pub earlier: Tick,
 }
 
-impl LastTick {
-    pub fn never() -> LastTick
-        ensures { result ≡ record { tick = record { 0 = 0 }; earlier = record { 0 = 0 } } }
+impl LastDone {
+    pub fn never() -> LastDone
+        ensures { result ≡ never_done }
     {
-        LastTick {
+        LastDone {
             tick: Tick(0),
             earlier: Tick(0),
         }
@@ -22,7 +22,7 @@ impl LastTick {
 
     /// The latest tick before `x`, where `x` isn't before the latest of all.
     pub fn before(&self, x: Tick) -> Tick
-        ensures { result ≡ (if nat_lt self.now.tick.0 x.0 then self.now.tick else self.now.earlier) }
+        ensures { result.0 ≡ last_at x.0 self.now }
     {
         if self.tick.0 < x.0 {
             self.tick
@@ -36,10 +36,19 @@ impl LastTick {
         ensures { self.new ≡ last_after at self.old }
     {
         if self.tick.0 < at.0 {
-            *self = LastTick {
+            *self = LastDone {
                 tick: at,
                 earlier: self.tick,
             };
+        }
+    }
+
+    /// If `on`, it was done again in this tick.
+    pub fn raise_if(&mut self, on: bool, at: Tick)
+        ensures { self.new ≡ last_if on at self.old }
+    {
+        if on {
+            self.raise(at);
         }
     }
 }
