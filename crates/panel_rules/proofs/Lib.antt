@@ -58,6 +58,8 @@ pub mod Steps
 pub mod EntriesAddUp
 pub mod LaterDone
 pub mod CountersAddUp
+pub mod DoneKept
+pub mod ClearedCounts
 pub mod NamedMasks
 pub mod NamedFaces
 pub mod FacesInForm

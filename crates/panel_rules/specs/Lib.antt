@@ -33,6 +33,7 @@ pub mod OutputDeadlines
 pub mod FaceLaws
 pub mod OtherDeadlines
 pub mod TimelineLaws
+pub mod BatchLaws
 pub mod FormLaws
 pub mod Examples
 pub mod OutputExamples

@@ -11,6 +11,7 @@
 //! nothing is shown or on without a cause, and [`answered_by_the_next_tick`], the one answer of each operation.
 #![tactic(auto)]
 
+mod batches;
 mod examples;
 mod faces;
 mod forms;
@@ -24,6 +25,7 @@ mod timelines;
 mod words;
 mod zones;
 
+pub use batches::{cleared_counts_from_zero, done_is_kept, settings_make_changes};
 pub use examples::{
     alarms_of_small_cases, one_run_in_both_orders, operations_of_small_cases,
     outputs_of_small_cases, words_of_a_long_ring, words_of_small_rings,
