@@ -60,6 +60,7 @@ pub mod LaterDone
 pub mod CountersAddUp
 pub mod DoneKept
 pub mod ClearedCounts
+pub mod BatchesFit
 pub mod NamedMasks
 pub mod NamedFaces
 pub mod FacesInForm

@@ -34,6 +34,7 @@ pub mod FaceLaws
 pub mod OtherDeadlines
 pub mod TimelineLaws
 pub mod BatchLaws
+pub mod BatchFits
 pub mod FormLaws
 pub mod Examples
 pub mod OutputExamples

@@ -1,3 +1,4 @@
+ghost use Rattle.panel_rules.specs.BatchFits.{BatchesFit, ChangesHavePlaces, FewWait};
 ghost use Rattle.panel_rules.specs.BatchLaws.{ClearedCountsFromZero, DoneIsKept, SettingsMakeChanges};
 
 /// **What is answered as done is kept**: the change of each operation that was done stands in the batch of a turn of Keep that did
@@ -15,4 +16,19 @@ pub fn settings_make_changes()
 /// the entries that it counts are cleared with it.
 pub fn cleared_counts_from_zero()
     ensures { ClearedCountsFromZero }
+{}
+
+/// At most 64 operations wait for Keep at any time, and at most 32 once it has had its turn in a tick.
+pub fn few_operations_wait()
+    ensures { FewWait }
+{}
+
+/// A batch has at most 72 changes: a count for each panel, and the operations that wait. Each is of the site.
+pub fn batches_fit()
+    ensures { BatchesFit }
+{}
+
+/// What such a change names has a place in what is retained, and a point's address lies within the loops of the site's format.
+pub fn changes_have_places()
+    ensures { ChangesHavePlaces }
 {}

@@ -25,7 +25,10 @@ mod timelines;
 mod words;
 mod zones;
 
-pub use batches::{cleared_counts_from_zero, done_is_kept, settings_make_changes};
+pub use batches::{
+    batches_fit, changes_have_places, cleared_counts_from_zero, done_is_kept, few_operations_wait,
+    settings_make_changes,
+};
 pub use examples::{
     alarms_of_small_cases, one_run_in_both_orders, operations_of_small_cases,
     outputs_of_small_cases, words_of_a_long_ring, words_of_small_rings,
