@@ -61,6 +61,7 @@ pub mod CountersAddUp
 pub mod DoneKept
 pub mod ClearedCounts
 pub mod BatchesFit
+pub mod ProfileRows
 pub mod NamedMasks
 pub mod NamedFaces
 pub mod FacesInForm

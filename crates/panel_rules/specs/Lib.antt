@@ -35,6 +35,7 @@ pub mod OtherDeadlines
 pub mod TimelineLaws
 pub mod BatchLaws
 pub mod BatchFits
+pub mod ProfileLaws
 pub mod FormLaws
 pub mod Examples
 pub mod OutputExamples

@@ -20,6 +20,7 @@ mod markers;
 mod operations;
 mod other_deadlines;
 mod outputs;
+mod profile;
 mod records;
 mod timelines;
 mod words;
@@ -54,6 +55,10 @@ pub use other_deadlines::{
 pub use outputs::{
     due_needs_a_signal, due_output_is_on, due_output_needs_a_signal, faults_are_told,
     indicated_output_is_on, on_output_is_caused, unasked_is_off,
+};
+pub use profile::{
+    disablement_is_shown, joined_panels_show, network_is_the_sum, signal_is_shown,
+    single_detector_is_shown,
 };
 pub use records::{asked_once_in_a_round, records_are_runs};
 pub use timelines::{
