@@ -49,28 +49,28 @@ answered_once site kept moments i j a b run is is' same =
 
 -- ---- what is answered was asked for
 
-record IsAsked (asked : List Request) (r : Request) : Type 0 where
-  place : ℕ
-  is : slice_get asked place ≡ Some r
+pub record IsAsked (asked : List Request) (r : Request) : Type 0 where
+  pub place : ℕ
+  pub is : slice_get asked place ≡ Some r
 
-abbrev owed : Bool → ℕ
+abbrev pub owed : Bool → ℕ
 owed true = 0
 owed false = 1
 
 -- an answer to one that was asked for, and one that waits
-record Fits (asked : List Request) (a : Answered) : Type 0 where
-  from : IsAsked asked a.request
-  after : a.request.tick ≤ a.tick
-  soon : a.tick ≤ a.request.tick + 1
+pub record Fits (asked : List Request) (a : Answered) : Type 0 where
+  pub from : IsAsked asked a.request
+  pub after : a.request.tick ≤ a.tick
+  pub soon : a.tick ≤ a.request.tick + 1
 
-record Waits (asked : List Request) (tick : ℕ) (turned : Bool) (r : Request) : Type 0 where
-  from : IsAsked asked r
-  by : r.tick ≤ tick
-  soon : tick ≤ r.tick + owed turned
+pub record Waits (asked : List Request) (tick : ℕ) (turned : Bool) (r : Request) : Type 0 where
+  pub from : IsAsked asked r
+  pub by : r.tick ≤ tick
+  pub soon : tick ≤ r.tick + owed turned
 
-record AreSound (asked : List Request) (tick : ℕ) (turned : Bool) (so_far : Operations) : Type 0 where
-  answers : AllByRecursion (Fits asked) so_far.answers
-  waiting : AllByRecursion (Waits asked tick turned) so_far.waiting
+pub record AreSound (asked : List Request) (tick : ℕ) (turned : Bool) (so_far : Operations) : Type 0 where
+  pub answers : AllByRecursion (Fits asked) so_far.answers
+  pub waiting : AllByRecursion (Waits asked tick turned) so_far.waiting
 
 -- as more is asked for
 grown : (asked : List Request) (r x : Request) → IsAsked asked r → IsAsked (asked ++ x ∷ []) r
@@ -119,7 +119,7 @@ sound_began asked tick true so_far t h = record {
 }
 sound_began asked tick false so_far t h = absurd cc
 
-sound : (site : Site) (kept : Retained) (moments : List Moment) → IsRun site.panels moments → AreSound (requests site moments) (tick_of moments) (has_kept moments) (operations site kept moments)
+pub sound : (site : Site) (kept : Retained) (moments : List Moment) → IsRun site.panels moments → AreSound (requests site moments) (tick_of moments) (has_kept moments) (operations site kept moments)
 sound site kept [] run = record { answers = tt; waiting = tt }
 sound site kept (Began ∷ before) run = sound_began (requests site before) (tick_of before) (has_kept before) (operations site kept before) run.1.keep (sound site kept before run.0)
 sound site kept (Happened (Op panel code operation) ∷ before) run =

@@ -154,7 +154,7 @@ module _ (site : Site) (kept : Retained) (r : Request) (so_far : Operations) (le
   desk_fits : FitsOption r (desk_reply site kept r so_far)
   desk_fits = by_row (nat_le most_operations r.earlier) (nat_lt r.level (needed_by r.operation)) refl refl
 
-abbrev IsEarly : Request → Type 0
+abbrev pub IsEarly : Request → Type 0
 IsEarly r = r.earlier < 4
 
 abbrev pub IsFit : Answered → Type 0

@@ -37,16 +37,16 @@ length_changed (ClearChange panel) kept l = length-set kept.counters (panel - 1)
 length_changed (TestChange panel number on) kept l = l
 
 -- counters are as many as ever, and none is past its end
-record AreWhole (kept : Retained) : Type 0 where
-  long : length kept.counters ≡ 8
-  small : AreCounters kept.counters
+pub record AreWhole (kept : Retained) : Type 0 where
+  pub long : length kept.counters ≡ 8
+  pub small : AreCounters kept.counters
 
 whole_changed : (changes : List Change) (kept : Retained) → AreWhole kept → AreWhole (changed_by changes kept)
 whole_changed [] kept h = h
 whole_changed (change ∷ changes) kept h =
     whole_changed changes (changed change kept) (record { long = length_changed change kept h.long; small = counters-changed change kept h.small })
 
-whole_after : (site : Site) (kept : Retained) (moments : List Moment) → AreWhole kept → AreWhole (kept_after site kept moments)
+pub whole_after : (site : Site) (kept : Retained) (moments : List Moment) → AreWhole kept → AreWhole (kept_after site kept moments)
 whole_after site kept [] h = h
 whole_after site kept (Began ∷ before) h = whole_after site kept before h
 whole_after site kept (Happened event ∷ before) h = whole_after site kept before h
@@ -78,7 +78,7 @@ module _ (panel : ℕ) (one : 1 ≤ panel) (few : panel ≤ 8) where
         ∙ behind (first + 1) many (changed_by (count_of site kept done first (new_entries site kept done first before)) stored) (omega (arith, least)) (omega (arith, far))
         ∙ other_count site kept done first (new_entries site kept done first before) stored least (λ same. omega (arith, far, same))
 
-    within : (first many : ℕ) (stored : Retained) → 1 ≤ first → first ≤ panel → panel < first + many → AreWhole stored →
+    pub within : (first many : ℕ) (stored : Retained) → 1 ≤ first → first ≤ panel → panel < first + many → AreWhole stored →
         counter_in panel (changed_by (flat_map (λ p. count_of site kept done p (new_entries site kept done p before)) (range_with_len first many)) stored) ≡ min (counter_in panel stored + length (new_entries site kept done panel before)) greatest_count
     within first zero stored least low high h = absurd (omega (arith, low, high))
     within first (suc many) stored least low high h =
@@ -145,7 +145,7 @@ module _ (panel : ℕ) where
   from_operation site p Reset c e f = cc
   from_operation site p (Cancel zone) c e f = cc
 
-  none_of : (a b : Bool) → (a || b) ≡ false → (a ≡ false) × (b ≡ false)
+  pub none_of : (a b : Bool) → (a || b) ≡ false → (a ≡ false) × (b ≡ false)
   none_of true b e = cc
   none_of false b e = (refl, e)
 
@@ -178,7 +178,7 @@ module _ (panel : ℕ) where
 
 -- ---- the whole
 
-twice : (a n : ℕ) → min (min a greatest_count + n) greatest_count ≡ min (a + n) greatest_count
+pub twice : (a n : ℕ) → min (min a greatest_count + n) greatest_count ≡ min (a + n) greatest_count
 twice a n = omega arith
 
 neither_of : (a b : Bool) → (a || b) ≡ false → b ≡ false

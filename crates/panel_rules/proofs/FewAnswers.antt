@@ -140,6 +140,10 @@ few_panels tick xs each (suc n) =
     let split = count_split (is_early_up_to (suc n) tick) (is_early_up_to n tick) (is_early_at (suc n) tick) xs (λ r. split_panel r.panel n (r.tick == tick) (nat_lt r.earlier 4)) in
     omega (arith, ih, one_more, split)
 
+-- those of a tick that aren't busy
+pub few_in_tick : (site : Site) (moments : List Moment) (tick : ℕ) → count (is_early_up_to 8 tick) (requests site moments) ≤ 32
+few_in_tick site moments tick = few_panels tick (requests site moments) (λ panel. (few_at panel tick site moments).bound) 8
+
 -- those that can be answered by number in a tick
 abbrev pub can_be_told : ℕ → Request → Bool
 can_be_told tick r = is_early_up_to 8 tick r || is_early_up_to 8 (tick - 1) r
@@ -150,8 +154,8 @@ or_split false b = omega arith
 
 pub few_asked : (site : Site) (moments : List Moment) (tick : ℕ) → count (can_be_told tick) (requests site moments) ≤ 64
 few_asked site moments tick =
-    let now_few = few_panels tick (requests site moments) (λ panel. (few_at panel tick site moments).bound) 8 in
-    let last_few = few_panels (tick - 1) (requests site moments) (λ panel. (few_at panel (tick - 1) site moments).bound) 8 in
+    let now_few = few_in_tick site moments tick in
+    let last_few = few_in_tick site moments (tick - 1) in
     let split = count_split (can_be_told tick) (is_early_up_to 8 tick) (is_early_up_to 8 (tick - 1)) (requests site moments) (λ r. or_split (is_early_up_to 8 tick r) (is_early_up_to 8 (tick - 1) r)) in
     omega (arith, now_few, last_few, split)
 

@@ -58,6 +58,10 @@ pub mod Steps
 pub mod EntriesAddUp
 pub mod LaterDone
 pub mod CountersAddUp
+pub mod DoneKept
+pub mod ClearedCounts
+pub mod BatchesFit
+pub mod ProfileRows
 pub mod NamedMasks
 pub mod NamedFaces
 pub mod FacesInForm

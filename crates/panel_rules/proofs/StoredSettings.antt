@@ -51,11 +51,11 @@ own_places site valid = record {
 
 -- ---- an operation on a setting of the site makes a change
 
-record Changes (site : Site) (panel : ℕ) (operation : Operation) : Type 0 where
-  change : Change
-  is : operation_change site panel operation ≡ Some change
+pub record Changes (site : Site) (panel : ℕ) (operation : Operation) : Type 0 where
+  pub change : Change
+  pub is : operation_change site panel operation ≡ Some change
 
-some_of : {X : Type 0} (test : X → Bool) (o : Option X) → is_some_with test o ≡ true → (x : X) × (o ≡ Some x)
+pub some_of : {X : Type 0} (test : X → Bool) (o : Option X) → is_some_with test o ≡ true → (x : X) × (o ≡ Some x)
 some_of test None h = absurd cc
 some_of test (Some x) h = (x, refl)
 
@@ -64,7 +64,7 @@ item_changes site panel (PointItem i) off h = let g = some_of (λ (p : PointPlan
 item_changes site panel (ZoneItem i) off h = let g = some_of (λ (z : ZonePlan). z.panel == panel) (slice_get site.zones i) h in (_, ap (λ o. zone_change o off) g.1)
 item_changes site panel (OutputItem i) off h = let g = some_of (λ (o : OutputPlan). o.panel == panel) (slice_get site.outputs i) h in (_, ap (λ o. output_change o off) g.1)
 
-changes : (site : Site) (panel : ℕ) (operation : Operation) (setting : Setting) → has_operands site panel operation ≡ true → operation_setting panel operation ≡ Some setting → Changes site panel operation
+pub changes : (site : Site) (panel : ℕ) (operation : Operation) (setting : Setting) → has_operands site panel operation ≡ true → operation_setting panel operation ≡ Some setting → Changes site panel operation
 changes site panel Mute setting h e = absurd cc
 changes site panel Override setting h e = absurd cc
 changes site panel Silence setting h e = absurd cc

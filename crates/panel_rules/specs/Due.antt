@@ -6,7 +6,7 @@ use Rattle.site_types.specs.declared.rule.Rule.TheVariants.{Plain, A, B, C}
 use Rattle.site_types.specs.declared.retained.Retained.{Retained}
 use Rattle.site_types.specs.declared.site.Site.{Site}
 use Rattle.site_types.specs.Done.{Done, is_blocked, moves_floor, cancels}
-use Rattle.site_types.specs.Profile.{round_of, signal_of, settled_of, spread_of}
+use Rattle.site_types.specs.Profile.{round_of, signal_of, settled_of, spread_of, verify_of}
 use Rattle.coincidence_rules.specs.Places.{is_of, is_detector, rule_of, pairs_up}
 use Rattle.coincidence_rules.specs.Confirmed.{is_by_call_point}
 use Rattle.panel_rules.specs.Moments.{Moment, tick_of, up_to}
@@ -61,7 +61,7 @@ module _ (site : Site) (kept : Retained) (done : List Done) (moments : List Mome
     pub held : IsHeld point first
     pub floor : NoFloor site done zone first last
 
-  -- one detector of a zone of type A signals for its time and two rounds; the signal counts from a round after the time
+  -- one detector of a zone of type A signals for its time and two rounds; the signal counts from the time and the profile's addition after its start
   pub record DetectorSignals (zone last settled : ℕ) : Type 0 where
     pub point : ℕ
     pub first : ℕ
@@ -73,7 +73,7 @@ module _ (site : Site) (kept : Retained) (done : List Done) (moments : List Mome
     pub detects : is_detector site point ≡ true
     pub signals : (tick : ℕ) → first ≤ tick → tick + 2 ≤ first + verify + (round_of site.format + round_of site.format) → SignalsAt point tick
     pub floor : NoFloor site done zone first last
-    pub settles : settled ≡ first + verify + round_of site.format
+    pub settles : settled ≡ first + verify + verify_of site.format
 
   -- two points are held, the second not before the first, so close that the end of its round lies within a time of the first's beginning
   pub record TwoHeld (first_point second_point first second : ℕ) : Type 0 where

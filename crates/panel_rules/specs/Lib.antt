@@ -33,6 +33,9 @@ pub mod OutputDeadlines
 pub mod FaceLaws
 pub mod OtherDeadlines
 pub mod TimelineLaws
+pub mod BatchLaws
+pub mod BatchFits
+pub mod ProfileLaws
 pub mod FormLaws
 pub mod Examples
 pub mod OutputExamples

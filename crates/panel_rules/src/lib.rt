@@ -11,6 +11,7 @@
 //! nothing is shown or on without a cause, and [`answered_by_the_next_tick`], the one answer of each operation.
 #![tactic(auto)]
 
+mod batches;
 mod examples;
 mod faces;
 mod forms;
@@ -19,11 +20,16 @@ mod markers;
 mod operations;
 mod other_deadlines;
 mod outputs;
+mod profile;
 mod records;
 mod timelines;
 mod words;
 mod zones;
 
+pub use batches::{
+    batches_fit, changes_have_places, cleared_counts_from_zero, done_is_kept, few_operations_wait,
+    settings_make_changes,
+};
 pub use examples::{
     alarms_of_small_cases, one_run_in_both_orders, operations_of_small_cases,
     outputs_of_small_cases, words_of_a_long_ring, words_of_small_rings,
@@ -49,6 +55,10 @@ pub use other_deadlines::{
 pub use outputs::{
     due_needs_a_signal, due_output_is_on, due_output_needs_a_signal, faults_are_told,
     indicated_output_is_on, on_output_is_caused, unasked_is_off,
+};
+pub use profile::{
+    disablement_is_shown, joined_panels_show, network_is_the_sum, signal_is_shown,
+    single_detector_is_shown,
 };
 pub use records::{asked_once_in_a_round, records_are_runs};
 pub use timelines::{
