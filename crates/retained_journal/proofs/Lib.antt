@@ -7,6 +7,7 @@ pub mod FrontAgreement
 pub mod Images
 pub mod Keeping
 pub mod NewFiles
+pub mod NewJournals
 pub mod Openings
 pub mod ReadImages
 pub mod Reading

@@ -3,6 +3,10 @@ use Rattle.std.specs.Prelude.{◌≡◌, ℕ, zero, suc, ◌+◌, ◌*◌, ◌<�
 use Rattle.std.specs.List.{range_with_len}
 use Rattle.byteorder.specs.Endian.{big_from, little_from}
 
+-- each is a byte
+abbrev pub AreBytes : List ℕ → Type 0
+AreBytes file = (place : ℕ) → slice_index file place < 256
+
 -- these bytes of one file are those of another, from a place in each on
 pub record Agrees (n : ℕ) (file : List ℕ) (at : ℕ) (other : List ℕ) (from : ℕ) : Type 0 where
   pub same : (i : ℕ) → i < n → slice_index file (at + i) ≡ slice_index other (from + i)

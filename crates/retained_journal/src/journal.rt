@@ -7,7 +7,8 @@ ghost use Rattle.retained_journal.specs.Batches.{IsBatch};
 ghost use Rattle.retained_journal.specs.Creating.{HasCreateCause};
 ghost use Rattle.retained_journal.specs.Fields.{Agrees, first_in};
 ghost use Rattle.retained_journal.specs.Images.{HasRoom, HasRoomForTwo, IsEarly, IsSound, KeepsAll, LeavesInTurn, MayLeave, MayLeaveOr, OpensToKept, OpensToKeptOrWith, SameFront, Stands};
-ghost use Rattle.retained_journal.specs.Journals.{IsLong, IsNewJournal, IsOfFront, IsReadFrom, IsReplayOf};
+ghost use Rattle.retained_journal.specs.Journals.{IsFresh, IsLong, IsNewJournal, IsOpenedOn, IsOfFront, IsReadFrom, IsReplayOf};
+ghost use Rattle.retained_journal.specs.NewFiles.{BecomesNew};
 ghost use Rattle.retained_journal.specs.Opening.{Empty, Opens, Refuses, change_out_of_form, chosen_place, counted, great_counter, is_second as second_counts, opened, refusal_of};
 ghost use Rattle.retained_journal.specs.Places.{slot_place as place_of_slot};
 ghost use Rattle.retained_journal.specs.Replays.{HasRefusalCause};
@@ -73,9 +74,10 @@ impl Journal {
         ensures stands { IfOk result (λ r. Stands D.honest D.images disk.new r.0) }
         ensures opens { D.honest disk.new → IfOk result (λ r. (file : List ℕ) → D.images disk.new file → OpensToKept r.0 file × (counted file ≡ r.0.cells)) }
         ensures cells { IfOk result (λ r. IfSome (D.seen disk.new) (λ file. r.0.torn ≡ false → counted file ≡ r.0.cells)) }
-        ensures read { IfOk result (λ r. IfSome (D.seen disk.old) (λ file. 0 < length file → IsReadFrom wide digest file r.0)) }
+        // The journal is that of the file as it then stands: that of an empty one, too, of which a new file was made.
+        ensures read { IfOk result (λ r. Becomes (IsOpenedOn wide digest r.0) (D.seen disk.old) (D.seen disk.new)) }
         ensures early { IfOk result (λ r. IfSome (D.seen disk.old) (λ file. slot_number (chosen_place file) file ≤ 2 ^ 62 → IsEarly r.0)) }
-        ensures fresh { IfOk result (λ r. (r.0.tried ≡ 0) × (r.0.wide ≡ wide) × (r.0.digest ≡ digest)) }
+        ensures fresh { IfOk result (λ r. IsFresh wide digest r.0) }
         ensures unwritten { IfSome (D.seen disk.old) (λ file. 0 < length file → D.seen disk.new ≡ D.seen disk.old) }
         // Nothing is written to a file that isn't empty: at each moment of the call a crash leaves what it might have left before.
         ensures untouched { D.honest disk.old → IfSome (D.seen disk.old) (λ file. 0 < length file → LeavesOnly D.moment D.left_since disk.old disk.new (D.images disk.old)) }
@@ -110,7 +112,7 @@ impl Journal {
         requires points { FitPoints state.now.points }
         requires narrow { HasNarrowPoints wide state.now.points }
         ensures ok { D.honest disk.old → OnOk result ((file : List ℕ) → D.images disk.new file → opened wide digest file ≡ Opens state.now) }
-        ensures empty { OnOk result (IfSome (D.seen disk.old) (λ file. length file ≡ 0)) }
+        ensures made { OnOk result (Becomes (BecomesNew digest state.now) (D.seen disk.old) (D.seen disk.new)) }
         ensures err { IfErr result (λ e. e ≢ CreateRefusal.DiskFault → IfSome (D.seen disk.old) (λ file. (0 < length file) × (e ≡ CreateRefusal.NotEmpty (length file)))) }
         ensures unwritten { IfErr result (λ e. e ≢ CreateRefusal.DiskFault → D.seen disk.new ≡ D.seen disk.old) }
         ensures seen { IfSome (D.seen disk.old) (λ file. 0 < length file → D.seen disk.new ≡ D.seen disk.old) }
@@ -294,7 +296,7 @@ fn read_journal<D: Disk>(
 ) -> Result<Journal, OpenRefusal>
     requires { IfSome (D.seen disk.old) (λ file. len ≡ length file) }
     ensures sound { IfOk result IsSound }
-    ensures fresh { IfOk result (λ journal. (journal.tried ≡ 0) × (journal.wide ≡ wide) × (journal.digest ≡ digest)) }
+    ensures fresh { IfOk result (IsFresh wide digest) }
     ensures ok { IfOk result (λ journal. IfSome (D.seen disk.old) (λ file. (refusal_of wide digest file ≡ None) × IsReadFrom wide digest file journal)) }
     ensures err { IfErr result (λ e. e ≢ OpenRefusal.DiskFault → IfSome (D.seen disk.old) (λ file. refusal_of wide digest file ≡ Some e)) }
     ensures seen { D.seen disk.new ≡ D.seen disk.old }

@@ -1,11 +1,14 @@
-use Rattle.std.proofs.Common.{◌≡◌, subst}
+use Rattle.std.proofs.Common.{◌≡◌, ◌∙◌, subst}
 use Rattle.std.specs.Prelude.{IfSome, None}
+use Rattle.panel_edges.specs.Disks.{Becomes}
+use Rattle.site_types.specs.Changes.{nothing_retained}
 use Rattle.site_types.specs.declared.retained.Retained.{Retained}
 use Rattle.retained_journal.specs.Journals.{IsReadFrom}
-use Rattle.retained_journal.specs.NewFiles.{IsNewFile}
+use Rattle.retained_journal.specs.NewFiles.{BecomesNew, IsNewFile}
 use Rattle.retained_journal.specs.Opening.{refusal_of}
 use Rattle.retained_journal.proofs.Calls.{only_so}
-use Rattle.retained_journal.proofs.ReadImages.{keeps_nothing, new_image, new_opens_kept, read_image, read_opens, sound_new}
+use Rattle.retained_journal.proofs.NewJournals.{keeps_nothing, new_image, new_opens_kept, opened_new, sound_new}
+use Rattle.retained_journal.proofs.ReadImages.{read_image, read_opens}
 use Rattle.retained_journal.proofs.journal.Journal.open.Goals as goal
 
 pub returns-then-len-eq0-clause-stands : goal.returns-then-len-eq0-clause-stands
@@ -47,3 +50,9 @@ returns-clause-opens g c honest file here =
     let told = subst (λ s. IfSome s (λ f. (refusal_of c.args.wide c.args.digest f ≡ None) × IsReadFrom c.args.wide c.args.digest f j)) c.len.ensures.seen c.in_ok-journal.ensures.ok in
     let so = only_so (g.D.Disk.seen c.sync.new.self) seen.0 (g.D.Disk.images c.sync.new.self) (λ f. (refusal_of c.args.wide c.args.digest f ≡ None) × IsReadFrom c.args.wide c.args.digest f j) seen.1 told (c.in_ok-sync.ensures.durable at_first) file was in
     read_opens c.args.wide c.args.digest file j so.1 so.0
+
+pub returns-then-len-eq0-clause-read : goal.returns-then-len-eq0-clause-read
+returns-then-len-eq0-clause-read g c =
+    opened_new c.args.wide c.args.digest c.of_new.result (g.D.Disk.seen c.args.disk.now) (g.D.Disk.seen c.write_new.new.disk) c.of_new.ensures
+    (subst (λ s. Becomes (BecomesNew c.args.digest nothing_retained) s (g.D.Disk.seen c.write_new.new.disk)) (c.len.ensures.seen ∙ c.sync.ensures.seen)
+    (subst (λ (s : Retained). Becomes (BecomesNew c.args.digest s) (g.D.Disk.seen c.len.new.self) (g.D.Disk.seen c.write_new.new.disk)) c.empty-kept.ensures c.in_ok-write_new.ensures.made))
