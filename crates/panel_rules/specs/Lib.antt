@@ -14,6 +14,7 @@ pub mod Batches
 pub mod Ring
 pub mod Kept
 pub mod Words
+pub mod HeardWords
 pub mod MarkerLaws
 pub mod Markers
 pub mod Outputs

@@ -56,8 +56,9 @@ pub use timelines::{
     untold_ticks_change_nothing,
 };
 pub use words::{
-    due_hand_is_kept, due_release_is_kept, due_zone_is_kept, kept_by_the_ring, kept_hand_is_caused,
-    kept_release_is_caused, kept_zone_is_caused, newest_over_chains,
+    due_hand_is_kept, due_release_is_kept, due_zone_is_kept, heard_is_stamp, kept_by_the_ring,
+    kept_hand_is_caused, kept_is_word, kept_release_is_caused, kept_zone_is_caused,
+    newest_over_chains,
 };
 pub use zones::{
     lone_signal_is_shown, own_hand_is_caused, own_release_is_caused, own_zone_is_by_hand,
