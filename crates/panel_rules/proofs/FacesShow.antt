@@ -157,7 +157,7 @@ two a b c d p q = cc
 eq_is : (a b : ℕ) → (a == b) ≡ true → a ≡ b
 eq_is a b t = elim (eqb_tells a b) [ inl h ↦ h.1 | inr h ↦ (let e = sym t ∙ h.0 in absurd cc) ]
 
-output_bit : (site : Site) → IsValid site → (output : ℕ) (plan : Output) → slice_get site.outputs output ≡ Some plan → (test : ℕ → Bool) → has_bit (outputs_where site plan.panel test) (plan.number - 1) ≡ test output
+pub output_bit : (site : Site) → IsValid site → (output : ℕ) (plan : Output) → slice_get site.outputs output ≡ Some plan → (test : ℕ → Bool) → has_bit (outputs_where site plan.panel test) (plan.number - 1) ≡ test output
 unfolding outputs_where
 output_bit site valid output plan is test =
     let n = output_numbers site valid output plan is in

@@ -50,6 +50,7 @@ pub mod OwnTick
 pub mod LastAnswers
 pub mod Away
 pub mod Accepted
+pub mod SettingsShow
 pub mod HeardWords
 pub mod FirstsShow
 pub mod FireTold

@@ -20,6 +20,7 @@ mod operations;
 mod other_deadlines;
 mod outputs;
 mod records;
+mod shown_settings;
 mod timelines;
 mod words;
 mod zones;
@@ -51,6 +52,7 @@ pub use outputs::{
     indicated_output_is_on, on_output_is_caused, unasked_is_off,
 };
 pub use records::{asked_once_in_a_round, records_are_runs};
+pub use shown_settings::{accepted_is_shown, settings_are_shown};
 pub use timelines::{
     counters_add_up, entries_are_counted_once, steps_rise, told_ticks_are_steps,
     untold_ticks_change_nothing,
