@@ -51,6 +51,7 @@ pub mod LastAnswers
 pub mod Away
 pub mod Accepted
 pub mod SettingsShow
+pub mod IndicationsShow
 pub mod HeardWords
 pub mod FirstsShow
 pub mod FireTold

@@ -33,6 +33,7 @@ pub mod OutputLaws
 pub mod OutputDeadlines
 pub mod FaceLaws
 pub mod OtherDeadlines
+pub mod ShownOutputs
 pub mod ShownSettings
 pub mod TimelineLaws
 pub mod FormLaws

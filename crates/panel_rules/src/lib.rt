@@ -30,8 +30,8 @@ pub use examples::{
     outputs_of_small_cases, words_of_a_long_ring, words_of_small_rings,
 };
 pub use faces::{
-    due_output_is_shown, due_zone_is_shown, fire_is_counted, lone_zone_is_shown,
-    shown_output_is_caused, shown_zone_is_caused,
+    due_output_is_shown, due_zone_is_shown, fire_is_counted, indicated_output_is_shown,
+    lone_zone_is_shown, shown_output_is_caused, shown_zone_is_caused,
 };
 pub use forms::{
     answers_rise, counters_have_an_end, faces_are_by_panel, faces_are_of_site, timeline_is_in_form,
