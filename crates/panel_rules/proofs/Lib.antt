@@ -53,6 +53,7 @@ pub mod Accepted
 pub mod SettingsShow
 pub mod IndicationsShow
 pub mod HeardWords
+pub mod KeepFaults
 pub mod FirstsShow
 pub mod FireTold
 pub mod Supplies

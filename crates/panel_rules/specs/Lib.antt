@@ -2,6 +2,7 @@ pub mod Moments
 pub mod Latest
 pub mod States
 pub mod Storing
+pub mod StoringLaws
 pub mod Records
 pub mod Reached
 pub mod Answers

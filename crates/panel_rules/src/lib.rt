@@ -21,6 +21,7 @@ mod other_deadlines;
 mod outputs;
 mod records;
 mod shown_settings;
+mod storing;
 mod timelines;
 mod words;
 mod zones;
@@ -53,6 +54,7 @@ pub use outputs::{
 };
 pub use records::{asked_once_in_a_round, records_are_runs};
 pub use shown_settings::{accepted_is_shown, settings_are_shown};
+pub use storing::{keep_answers_tell, keep_fails_by_the_disk, sound_turns_succeed};
 pub use timelines::{
     counters_add_up, entries_are_counted_once, steps_rise, told_ticks_are_steps,
     untold_ticks_change_nothing,
