@@ -15,7 +15,7 @@ KeptIsWord =
     → kept_word_of site kept done told panel source moments
     ≡ word_of site kept done told source (heard site.panels panel source moments) moments
 
--- its stamp is that tick, whatever befell
+-- the stamp of the word kept is the tick that was heard, whatever befell
 abbrev pub HeardIsStamp : Type 0
 HeardIsStamp =
     (site : Site) (kept : Retained) (done : List Done) (told : ℕ → List Moment → Bool) (moments : List Moment)

@@ -61,8 +61,8 @@ pub record WasAccepted (site : Site) (kept : Retained) (moments : List Moment) (
   pub stored : (tick : ℕ) → a.request.tick ≤ tick → tick ≤ a.request.tick + 1
       → list_any (λ failed. failed == tick) (failed_ticks moments) ≡ false
 
--- the face of its panel shows the setting as the operation set it, from the second tick after its own on and until
--- another operation on the setting is done: a disablement is shown, a test, and that delays are off
+-- from the second tick after an accepted operation on, the face of its panel shows the setting as the operation set it,
+-- until another operation on the setting is done: a disablement is shown, a test, and that delays are off
 abbrev pub AcceptedIsShown : Type 0
 AcceptedIsShown =
     (site : Site) (kept : Retained) (stored : Retained) (moments : List Moment) (a : Answered) (setting : Setting)
