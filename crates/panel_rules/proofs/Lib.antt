@@ -50,6 +50,10 @@ pub mod OwnTick
 pub mod LastAnswers
 pub mod Away
 pub mod Accepted
+pub mod SettingsShow
+pub mod IndicationsShow
+pub mod HeardWords
+pub mod KeepFaults
 pub mod FirstsShow
 pub mod FireTold
 pub mod Supplies

@@ -89,7 +89,7 @@ taken_older true false one other l = refl
 taken_older false carried one other l = refl
 
 module _ (site : Site) (kept : Retained) (done : List Done) (told : ℕ → List Moment → Bool) where
-  stamp_is : (source : ℕ) (x : List Moment) → (word_made site kept done told source x).stamp.0 ≡ tick_of x
+  pub stamp_is : (source : ℕ) (x : List Moment) → (word_made site kept done told source x).stamp.0 ≡ tick_of x
   stamp_is source [] = refl
   stamp_is source (moment ∷ before) = refl
 

@@ -2,6 +2,7 @@ pub mod Moments
 pub mod Latest
 pub mod States
 pub mod Storing
+pub mod StoringLaws
 pub mod Records
 pub mod Reached
 pub mod Answers
@@ -14,6 +15,7 @@ pub mod Batches
 pub mod Ring
 pub mod Kept
 pub mod Words
+pub mod HeardWords
 pub mod MarkerLaws
 pub mod Markers
 pub mod Outputs
@@ -32,6 +34,8 @@ pub mod OutputLaws
 pub mod OutputDeadlines
 pub mod FaceLaws
 pub mod OtherDeadlines
+pub mod ShownOutputs
+pub mod ShownSettings
 pub mod TimelineLaws
 pub mod BatchLaws
 pub mod BatchFits

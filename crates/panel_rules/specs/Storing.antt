@@ -1,5 +1,6 @@
 -- What a turn of Keep makes of the journal, and what it answers.
-use Rattle.std.specs.Prelude.{◌≡◌, ◌<◌, ◌&&◌, ◌||◌, ℕ, Bool, true, false, List, [], ◌∷◌}
+use Rattle.std.specs.Prelude.{◌≡◌, ◌&&◌, ◌||◌, ℕ, Bool, true, false, List, [], ◌∷◌}
+use Rattle.panel_edges.specs.Faults.{Rose}
 use Rattle.site_types.specs.declared.change.Change.{Change}
 
 -- there is something to commit
@@ -11,9 +12,10 @@ has_batch (change ∷ changes) = true
 abbrev pub turn_fails : Bool → Bool → List Change → Bool → Bool
 turn_fails torn mending_fails changes committing_fails = (torn && mending_fails) || (has_batch changes && committing_fails)
 
--- it fails only where a call of the disk failed in it: by the counts of failed calls before and after the turn
+-- it fails only where a call of the disk failed in it: the count of failed calls has risen from before to after the
+-- turn, or stands at its last value
 abbrev pub FailsByTheDisk : Bool → ℕ → ℕ → Type 0
-FailsByTheDisk failed before after = failed ≡ true → before < after
+FailsByTheDisk failed before after = failed ≡ true → Rose before after
 
 -- what a turn of Keep answers
 pub data KeepAnswer : Type 0 where

@@ -1,4 +1,5 @@
 ghost use Rattle.panel_rules.specs.FaceLaws.{DueZoneIsShown, ShownZoneIsCaused, DueOutputIsShown, ShownOutputIsCaused, LoneZoneIsShown, FireIsCounted};
+ghost use Rattle.panel_rules.specs.ShownOutputs.{IndicatedOutputIsShown};
 
 /// **A zone that is due at a panel is shown in its face after the tick**, whatever the orders of turns: at the zone's own panel after
 /// the profile's ticks of a signal, and at each panel that was joined with it within the network's.
@@ -15,6 +16,12 @@ pub fn shown_zone_is_caused()
 /// **An output that is due to be on is shown in the face of its panel.**
 pub fn due_output_is_shown()
     ensures { DueOutputIsShown }
+{}
+
+/// An output without a delay is shown on in the face of its panel once each word of that panel has asked for it through
+/// the profile's ticks of the output, where it is neither disabled nor a quiet sounder.
+pub fn indicated_output_is_shown()
+    ensures { IndicatedOutputIsShown }
 {}
 
 /// No output is shown without a cause.

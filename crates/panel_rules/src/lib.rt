@@ -22,6 +22,8 @@ mod other_deadlines;
 mod outputs;
 mod profile;
 mod records;
+mod shown_settings;
+mod storing;
 mod timelines;
 mod words;
 mod zones;
@@ -35,8 +37,8 @@ pub use examples::{
     outputs_of_small_cases, words_of_a_long_ring, words_of_small_rings,
 };
 pub use faces::{
-    due_output_is_shown, due_zone_is_shown, fire_is_counted, lone_zone_is_shown,
-    shown_output_is_caused, shown_zone_is_caused,
+    due_output_is_shown, due_zone_is_shown, fire_is_counted, indicated_output_is_shown,
+    lone_zone_is_shown, shown_output_is_caused, shown_zone_is_caused,
 };
 pub use forms::{
     answers_rise, counters_have_an_end, faces_are_by_panel, faces_are_of_site, timeline_is_in_form,
@@ -61,13 +63,16 @@ pub use profile::{
     single_detector_is_shown,
 };
 pub use records::{asked_once_in_a_round, records_are_runs};
+pub use shown_settings::{accepted_is_shown, settings_are_shown};
+pub use storing::{keep_answers_tell, keep_fails_by_the_disk, sound_turns_succeed};
 pub use timelines::{
     counters_add_up, entries_are_counted_once, steps_rise, told_ticks_are_steps,
     untold_ticks_change_nothing,
 };
 pub use words::{
-    due_hand_is_kept, due_release_is_kept, due_zone_is_kept, kept_by_the_ring, kept_hand_is_caused,
-    kept_release_is_caused, kept_zone_is_caused, newest_over_chains,
+    due_hand_is_kept, due_release_is_kept, due_zone_is_kept, heard_is_stamp, kept_by_the_ring,
+    kept_hand_is_caused, kept_is_word, kept_release_is_caused, kept_zone_is_caused,
+    newest_over_chains,
 };
 pub use zones::{
     lone_signal_is_shown, own_hand_is_caused, own_release_is_caused, own_zone_is_by_hand,

@@ -1,4 +1,5 @@
 ghost use Rattle.panel_rules.specs.Laws.{DueZoneIsKept, DueReleaseIsKept, DueHandIsKept, KeptZoneIsCaused, KeptReleaseIsCaused, KeptHandIsCaused};
+ghost use Rattle.panel_rules.specs.HeardWords.{KeptIsWord, HeardIsStamp};
 ghost use Rattle.panel_rules.specs.WordLaws.{KeptByTheRing, NewestOverChains};
 
 /// After a tick a zone that is due at a panel is in alarm in the word that the panel keeps of the zone's panel, whatever the
@@ -40,4 +41,15 @@ pub fn kept_by_the_ring()
 /// It is the word of the greatest stamp that came over any chain of turns, along links that were up, in ticks that carried it.
 pub fn newest_over_chains()
     ensures { NewestOverChains }
+{}
+
+/// **The word that a panel keeps of a panel is that panel's own word of the tick that was heard of it**, in every run,
+/// whatever the orders of turns: what is kept is never mixed of two words, nor one that nobody made.
+pub fn kept_is_word()
+    ensures { KeptIsWord }
+{}
+
+/// What was heard of a panel is the stamp of the word that is kept of it.
+pub fn heard_is_stamp()
+    ensures { HeardIsStamp }
 {}
