@@ -1,35 +1,17 @@
 -- The rows of the profile.
-use Rattle.std.proofs.Common.{◌≡◌, ℕ, ◌-◌, ◌≤◌, ◌==◌, List, Some, slice_get, Bool, true, refl, sym, ◌∙◌, ap, subst, arith}
-use Rattle.site_types.specs.declared.item.Item.{Item}
-use Rattle.site_types.specs.declared.item.Item.TheVariants.{Point as PointItem, Zone as ZoneItem, Output as OutputItem}
-use Rattle.site_types.specs.declared.operation.Operation.{Operation}
-use Rattle.site_types.specs.declared.operation.Operation.TheVariants.{Mute, Override, Silence, Resound, Reset, Cancel, Disable, Enable, Test, Untest, Delays, Clear}
-use Rattle.site_types.specs.declared.output.Output.{Output}
-use Rattle.site_types.specs.declared.point.Point.{Point}
+use Rattle.std.proofs.Common.{ℕ, ◌-◌, ◌≤◌, List, sym, subst, arith}
 use Rattle.site_types.specs.declared.retained.Retained.{Retained}
 use Rattle.site_types.specs.declared.site.Site.{Site}
 use Rattle.site_types.specs.declared.zone.Zone.{Zone}
-use Rattle.site_types.specs.Done.{Done, Setting, PointOff, ZoneOff, OutputOff, InTest, DelaysOff, Counter, in_force, item_off, operation_setting, value_set}
-use Rattle.site_types.specs.Events.{has_item, has_operands, is_some_with}
 use Rattle.site_types.specs.Profile.{network_of, spread_of}
 use Rattle.site_types.specs.Valid.{IsValid}
-use Rattle.site_types.specs.Bits.{has_bit, has_point}
-use Rattle.coincidence_rules.specs.Places.{zones_where}
-use Rattle.coincidence_rules.proofs.ValidWired.{wired_of}
-use Rattle.coincidence_rules.proofs.ZoneMasks.{has_bit-zone}
-use Rattle.panel_conditions.specs.Points.{points_where}
-use Rattle.panel_rules.specs.Outputs.{outputs_where}
-use Rattle.panel_rules.proofs.AnswerLaws.{eq_is}
 use Rattle.panel_rules.specs.Moments.{Moment, tick_of}
 use Rattle.panel_rules.specs.Ring.{AreJoined, IsWayUp, the_same, upward, downward}
 use Rattle.panel_rules.specs.Due.{IsDueAfter, own, by_way, by_itself}
-use Rattle.panel_rules.specs.Operations.{operations}
-use Rattle.panel_rules.specs.Timeline.{face_of}
-use Rattle.panel_rules.specs.ProfileLaws.{NetworkIsTheSum, SignalIsShown, JoinedPanelsShow, SingleDetectorIsShown, DisablementIsShown, shows_setting}
+use Rattle.panel_rules.specs.ProfileLaws.{NetworkIsTheSum, SignalIsShown, JoinedPanelsShow, SingleDetectorIsShown, DisablementIsShown}
 use Rattle.panel_rules.proofs.Accepted.{accepted}
-use Rattle.panel_rules.proofs.Away.{point_bit}
-use Rattle.panel_rules.proofs.FacesShow.{due_zone_shown, of_plan, output_bit, plan_panel}
-use Rattle.panel_rules.proofs.StoredSettings.{some_of}
+use Rattle.panel_rules.proofs.FacesShow.{due_zone_shown, of_plan, plan_panel}
+use Rattle.panel_rules.proofs.SettingsShow.{accepted_shown}
 
 pub network_sum : NetworkIsTheSum
 network_sum format = omega arith
@@ -67,74 +49,10 @@ pub single_shown : SingleDetectorIsShown
 single_shown site kept done stored moments zone plan settled after is signals late =
     (signal_shown site kept done stored moments zone plan settled after is (let e = signals.settles in omega (arith, e, late))).0 (by_itself signals)
 
--- ---- a disablement
-
-module _ (site : Site) (kept : Retained) (valid : IsValid site) (moments : List Moment) (panel : ℕ) where
-  abbrev now_done : List Done
-  now_done = (operations site kept moments).done
-
-  -- the face of the panel shows the value in force
-  abbrev Shows : Setting → Type 0
-  Shows setting = shows_setting site (face_of site kept panel moments) setting ≡ in_force site kept setting (tick_of moments) now_done
-
-  shows_point : (point : ℕ) → is_some_with (λ (p : Point). p.panel == panel) (slice_get site.points point) ≡ true → Shows (PointOff point)
-  shows_point point h =
-      let g = some_of (λ (p : Point). p.panel == panel) (slice_get site.points point) h in
-      let here = eq_is g.0.panel panel (sym (ap (is_some_with (λ (p : Point). p.panel == panel)) g.1) ∙ h) in
-      let off = λ (k : ℕ). in_force site kept (PointOff k) (tick_of moments) now_done in
-      ap (is_some_with (λ (p : Point). has_point (face_of site kept panel moments).points_off p.line p.address)) g.1
-      ∙ ap (λ q. has_point (points_where site q off) g.0.line g.0.address) (sym here)
-      ∙ point_bit site valid point g.0 g.1 off
-
-  -- the bit of a zone of the panel in a mask of its zones
-  zone_shown : (zone : ℕ) (test : ℕ → Bool) → is_some_with (λ (z : Zone). z.panel == panel) (slice_get site.zones zone) ≡ true →
-      is_some_with (λ (z : Zone). has_bit (zones_where site panel test) (z.number - 1)) (slice_get site.zones zone) ≡ test zone
-  zone_shown zone test h =
-      let g = some_of (λ (z : Zone). z.panel == panel) (slice_get site.zones zone) h in
-      let here = eq_is g.0.panel panel (sym (ap (is_some_with (λ (z : Zone). z.panel == panel)) g.1) ∙ h) in
-      ap (is_some_with (λ (z : Zone). has_bit (zones_where site panel test) (z.number - 1))) g.1
-      ∙ ap (λ q. has_bit (zones_where site q test) (g.0.number - 1)) (sym here)
-      ∙ has_bit-zone site test zone g.0 (wired_of site valid) g.1
-
-  shows_output : (output : ℕ) → is_some_with (λ (o : Output). o.panel == panel) (slice_get site.outputs output) ≡ true → Shows (OutputOff output)
-  shows_output output h =
-      let g = some_of (λ (o : Output). o.panel == panel) (slice_get site.outputs output) h in
-      let here = eq_is g.0.panel panel (sym (ap (is_some_with (λ (o : Output). o.panel == panel)) g.1) ∙ h) in
-      let off = λ (k : ℕ). in_force site kept (OutputOff k) (tick_of moments) now_done in
-      ap (is_some_with (λ (o : Output). has_bit (face_of site kept panel moments).outputs_off (o.number - 1))) g.1
-      ∙ ap (λ q. has_bit (outputs_where site q off) (g.0.number - 1)) (sym here)
-      ∙ output_bit site valid output g.0 g.1 off
-
-  shows_item : (item : Item) → has_item site panel item ≡ true → Shows (item_off item)
-  shows_item (PointItem point) h = shows_point point h
-  shows_item (ZoneItem zone) h = zone_shown zone (λ k. in_force site kept (ZoneOff k) (tick_of moments) now_done) h
-  shows_item (OutputItem output) h = shows_output output h
-
-  shows_test : (zone : ℕ) → is_some_with (λ (z : Zone). z.panel == panel) (slice_get site.zones zone) ≡ true → Shows (InTest zone)
-  shows_test zone h = zone_shown zone (λ k. in_force site kept (InTest k) (tick_of moments) now_done) h
-
-  one_setting : (a b : Setting) → Some a ≡ Some b → a ≡ b
-  one_setting a b e = cc
-
-  -- of a counter nothing is shown, and no operation on one sets a value
-  shows_of : (operation : Operation) (setting : Setting) → operation_setting panel operation ≡ Some setting → has_operands site panel operation ≡ true
-      → in_force site kept setting (tick_of moments) now_done ≡ value_set operation → shows_setting site (face_of site kept panel moments) setting ≡ value_set operation
-  shows_of Mute setting e h v = cc
-  shows_of Override setting e h v = cc
-  shows_of Silence setting e h v = cc
-  shows_of Resound setting e h v = cc
-  shows_of Reset setting e h v = cc
-  shows_of (Cancel zone) setting e h v = cc
-  shows_of (Disable item) setting e h v = subst Shows (one_setting (item_off item) setting e) (shows_item item h) ∙ v
-  shows_of (Enable item) setting e h v = subst Shows (one_setting (item_off item) setting e) (shows_item item h) ∙ v
-  shows_of (Test zone) setting e h v = subst Shows (one_setting (InTest zone) setting e) (shows_test zone h) ∙ v
-  shows_of (Untest zone) setting e h v = subst Shows (one_setting (InTest zone) setting e) (shows_test zone h) ∙ v
-  shows_of (Delays on) setting e h v = subst Shows (one_setting (DelaysOff panel) setting e) refl ∙ v
-  shows_of Clear setting e h v = ap (shows_setting site (face_of site kept panel moments)) (sym (one_setting (Counter panel) setting e))
-
 pub disablement_shown : DisablementIsShown
-disablement_shown site kept moments a setting valid run is late none =
-    let h = accepted site kept moments is.place a setting run is.is is.on is.accepted is.free in
-    let format = valid.forms.format.0 in
-    let v = h.holds (tick_of moments) (let s = h.soon in omega (arith, s, late, format)) none in
-    (v, shows_of site kept valid moments a.request.panel a.request.operation setting is.on is.has v)
+disablement_shown site kept stored moments a setting valid run of_site was late none =
+    let h = accepted site kept moments was.place a setting run was.is was.on was.by_keep was.stored in
+    let format = valid.forms.format.0 in (
+      h.holds (tick_of moments) (let s = h.soon in omega (arith, s, late, format)) none,
+      accepted_shown site kept stored moments a setting valid run of_site was (omega (arith, late, format)) none,
+    )

@@ -1,27 +1,21 @@
 -- What the numbers of ticks of the profile promise, in each run of a valid site and whatever the order of turns. The
 -- rows on faults, on a reset and on outputs after the indication stand among the other deadlines.
-use Rattle.std.specs.Prelude.{◌≡◌, ◌≤◌, ◌+◌, ◌-◌, ◌==◌, ℕ, Bool, true, false, List, Some, slice_get}
-use Rattle.std.specs.List.{list_any}
-use Rattle.site_types.specs.declared.output.Output.{Output}
-use Rattle.site_types.specs.declared.point.Point.{Point}
+use Rattle.std.specs.Prelude.{◌≡◌, ◌≤◌, ◌+◌, ◌-◌, ℕ, true, List, Some, slice_get}
 use Rattle.site_types.specs.declared.retained.Retained.{Retained}
 use Rattle.site_types.specs.declared.site.Site.{Site}
 use Rattle.site_types.specs.declared.zone.Zone.{Zone}
-use Rattle.site_types.specs.Bits.{has_bit, has_point}
-use Rattle.site_types.specs.Done.{Done, Setting, PointOff, ZoneOff, OutputOff, InTest, DelaysOff, Counter}
-use Rattle.site_types.specs.Done.{in_force, value_set}
-use Rattle.site_types.specs.Events.{has_operands, is_some_with}
+use Rattle.site_types.specs.Done.{Done, Setting, in_force, value_set}
 use Rattle.site_types.specs.Profile.{disablement_of, network_of, settled_of, signal_of, spread_of, verify_of}
 use Rattle.site_types.specs.Valid.{IsValid}
-use Rattle.face_text.specs.declared.face.Face.{Face}
 use Rattle.panel_rules.specs.Moments.{Moment, tick_of, IsPanel, IsRun}
 use Rattle.panel_rules.specs.Ring.{AreJoined}
 use Rattle.panel_rules.specs.Due.{DetectorSignals, IsDueOut, Signals, SignalsOut}
-use Rattle.panel_rules.specs.Operations.{Answered, operations, setting_asked}
-use Rattle.panel_rules.specs.Timeline.{face_of, failed_ticks}
+use Rattle.panel_rules.specs.Operations.{Answered, operations}
+use Rattle.panel_rules.specs.OperationLaws.{AreOfSite}
 use Rattle.panel_rules.specs.Faces.{face_with}
 use Rattle.panel_rules.specs.FaceLaws.{HasEnded, shows_zone}
-use Rattle.panel_rules.specs.OtherDeadlines.{NoneBetween, is_by_desk}
+use Rattle.panel_rules.specs.OtherDeadlines.{NoneBetween}
+use Rattle.panel_rules.specs.ShownSettings.{WasAccepted, shows_setting}
 
 -- the network's ticks are those in which a zone settles at its own panel, and those in which its word goes round
 abbrev pub NetworkIsTheSum : Type 0
@@ -60,36 +54,14 @@ SingleDetectorIsShown =
     → signals.first + signals.verify + verify_of site.format + signal_of site.format ≤ tick_of moments
     → shows_zone (face_with site kept done stored plan.panel moments) plan ≡ true
 
--- a face shows a setting: its point, zone or output disabled, its zone in test, delays off; no value of a counter
-abbrev pub shows_setting : Site → Face → Setting → Bool
-shows_setting site face (PointOff point) =
-    is_some_with (λ (plan : Point). has_point face.points_off plan.line plan.address) (slice_get site.points point)
-shows_setting site face (ZoneOff zone) =
-    is_some_with (λ (plan : Zone). has_bit face.zones_off (plan.number - 1)) (slice_get site.zones zone)
-shows_setting site face (OutputOff output) =
-    is_some_with (λ (plan : Output). has_bit face.outputs_off (plan.number - 1)) (slice_get site.outputs output)
-shows_setting site face (InTest zone) =
-    is_some_with (λ (plan : Zone). has_bit face.test (plan.number - 1)) (slice_get site.zones zone)
-shows_setting site face (DelaysOff panel) = face.delays_off
-shows_setting site face (Counter panel) = false
-
--- an operation of the site on a setting was accepted, and no turn of Keep failed in its tick and the next one
-pub record IsAccepted (site : Site) (kept : Retained) (moments : List Moment) (a : Answered) (setting : Setting) : Type 0 where
-  pub place : ℕ
-  pub is : slice_get (operations site kept moments).answers place ≡ Some a
-  pub on : setting_asked a.request ≡ Some setting
-  pub has : has_operands site a.request.panel a.request.operation ≡ true
-  pub accepted : is_by_desk a.reply ≡ false
-  pub free : (tick : ℕ) → a.request.tick ≤ tick → tick ≤ a.request.tick + 1
-      → list_any (λ failed. failed == tick) (failed_ticks moments) ≡ false
-
 -- after a disablement's ticks its setting is as the operation set it, and is shown so by its panel, until another
 -- operation on the setting is done
 abbrev pub DisablementIsShown : Type 0
 DisablementIsShown =
-    (site : Site) (kept : Retained) (moments : List Moment) (a : Answered) (setting : Setting)
-    → IsValid site → IsRun site.panels moments → IsAccepted site kept moments a setting
+    (site : Site) (kept : Retained) (stored : Retained) (moments : List Moment) (a : Answered) (setting : Setting)
+    → IsValid site → IsRun site.panels moments → AreOfSite site moments → WasAccepted site kept moments a setting
     → a.request.tick + disablement_of site.format ≤ tick_of moments
     → NoneBetween setting a.tick (tick_of moments) (operations site kept moments).done
     → (in_force site kept setting (tick_of moments) (operations site kept moments).done ≡ value_set a.request.operation)
-    × (shows_setting site (face_of site kept a.request.panel moments) setting ≡ value_set a.request.operation)
+    × (shows_setting site (face_with site kept (operations site kept moments).done stored a.request.panel moments) setting
+    ≡ value_set a.request.operation)
