@@ -44,10 +44,12 @@ signal_shown site kept done stored moments zone plan settled after is signal lat
     (record { settled = settled; signal = signal; late = own (sym (of_plan site kept done after.valid zone plan is)) late })
 
 -- panels that were joined in a span were joined in each part of it
-way_within : (panels : ℕ) (moments : List Moment) (from to first last later sooner : ℕ) → first ≤ later → sooner ≤ last → IsWayUp panels moments from to first last → IsWayUp panels moments from to later sooner
+way_within : (panels : ℕ) (moments : List Moment) (from to first last later sooner : ℕ) → first ≤ later → sooner ≤ last → IsWayUp panels moments from to first last
+    → IsWayUp panels moments from to later sooner
 way_within panels moments from to first last later sooner l m way step tick on after before = way step tick on (omega (arith, l, after)) (omega (arith, m, before))
 
-joined_within : (panels : ℕ) (moments : List Moment) (one other first last later sooner : ℕ) → first ≤ later → sooner ≤ last → AreJoined panels moments one other first last → AreJoined panels moments one other later sooner
+joined_within : (panels : ℕ) (moments : List Moment) (one other first last later sooner : ℕ) → first ≤ later → sooner ≤ last → AreJoined panels moments one other first last
+    → AreJoined panels moments one other later sooner
 joined_within panels moments one other first last later sooner l m (the_same e) = the_same e
 joined_within panels moments one other first last later sooner l m (upward way) = upward (way_within panels moments one other first last later sooner l m way)
 joined_within panels moments one other first last later sooner l m (downward way) = downward (way_within panels moments other one first last later sooner l m way)
@@ -56,7 +58,8 @@ due_by_network : (site : Site) (kept : Retained) (done : List Done) (moments : L
     → WereJoined site moments (panel_of_zone site zone) panel → IsDueAfter site kept done moments zone panel settled
 due_by_network site kept done moments zone panel settled format late joined =
     by_way (tick_of moments - spread_of site.format) (tick_of moments - 1) (omega (arith, late)) (omega (arith, late)) (omega (arith, late, format))
-    (joined_within site.panels moments (panel_of_zone site zone) panel (tick_of moments - network_of site.format) (tick_of moments) (tick_of moments - spread_of site.format) (tick_of moments - 1) (omega arith) (omega arith) joined)
+    (joined_within site.panels moments (panel_of_zone site zone) panel (tick_of moments - network_of site.format) (tick_of moments) (tick_of moments - spread_of site.format) (tick_of moments - 1)
+    (omega arith) (omega arith) joined)
 
 pub joined_shown : JoinedPanelsShow
 joined_shown site kept done stored moments zone plan panel settled after is p signal late joined =
@@ -64,7 +67,8 @@ joined_shown site kept done stored moments zone plan panel settled after is p si
     (record {
       settled = settled;
       signal = signal;
-      late = due_by_network site kept done moments zone panel settled after.valid.forms.format.0 late (subst (λ q. WereJoined site moments q panel) (sym (of_plan site kept done after.valid zone plan is)) joined);
+      late = due_by_network site kept done moments zone panel settled after.valid.forms.format.0 late
+          (subst (λ q. WereJoined site moments q panel) (sym (of_plan site kept done after.valid zone plan is)) joined);
     })
 
 pub single_shown : SingleDetectorIsShown
@@ -73,7 +77,8 @@ single_shown site kept done stored moments zone plan settled after is signals la
 
 -- ---- outputs
 
-due_out : (site : Site) (kept : Retained) (done : List Done) (moments : List Moment) (zone panel : ℕ) → 1 ≤ site.format → HasSignalled site kept done moments zone panel → IsDueOut site kept done moments zone panel
+due_out : (site : Site) (kept : Retained) (done : List Done) (moments : List Moment) (zone panel : ℕ) → 1 ≤ site.format → HasSignalled site kept done moments zone panel
+    → IsDueOut site kept done moments zone panel
 due_out site kept done moments zone panel format (at_home settled signal late home) = record { settled = settled; signal = signal; late = own home late }
 due_out site kept done moments zone panel format (over_the_network settled signal late joined) =
     record { settled = settled; signal = signal; late = due_by_network site kept done moments zone panel settled format late joined }

@@ -110,7 +110,8 @@ shows_setting site face (DelaysOff panel) = face.delays_off
 shows_setting site face (Counter panel) = false
 
 -- an operation of the site on a setting was accepted, and no turn of Keep failed in its tick and the next one
-pub record IsAccepted (site : Site) (kept : Retained) (moments : List Moment) (a : Answered) (setting : Setting) : Type 0 where
+pub record IsAccepted (site : Site) (kept : Retained) (moments : List Moment) (a : Answered) (setting : Setting) :
+    Type 0 where
   pub place : ℕ
   pub is : slice_get (operations site kept moments).answers place ≡ Some a
   pub on : setting_asked a.request ≡ Some setting
