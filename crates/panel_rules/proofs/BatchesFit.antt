@@ -1,7 +1,7 @@
 -- Few operations wait, and a batch is small and of the site.
 use Rattle.std.proofs.Common.{◌≡◌, ℕ, zero, suc, ◌+◌, ◌-◌, ◌≤◌, ◌==◌, ◌&&◌, ◌⊎◌, inl, inr, List, [], ◌∷◌, length, Option, Some, None, slice_get, Bool, true, false, refl, ◌∙◌, subst, arith, length-append}
 use Rattle.std.specs.Prelude.{nat_le}
-use Rattle.std.specs.List.{cons_option, flat_map, list_all, list_any, range_with_len}
+use Rattle.std.specs.List.{cons_option, list_all, list_any}
 use Rattle.std.proofs.lemmas.Bool.Decides.{eqb_tells}
 use Rattle.std.proofs.lemmas.List.Folds.{list_all-append}
 use Rattle.site_types.specs.declared.change.Change.{Change}
@@ -32,6 +32,7 @@ use Rattle.panel_rules.specs.BatchFits.{BatchesFit, ChangesHavePlaces, FewWait, 
 use Rattle.panel_rules.proofs.AnswerLaws.{Waits, eq_is, owed, sound}
 use Rattle.panel_rules.proofs.AnswersFit.{IsEarly, answers_fit}
 use Rattle.panel_rules.proofs.Bools.{all_by, any_at, at_any, both, either_left, either_right, parts}
+use Rattle.panel_rules.proofs.ClearedCounts.{counted_now, counts_from}
 use Rattle.panel_rules.proofs.Counting.{count, each_at}
 use Rattle.panel_rules.proofs.FewAnswers.{can_be_told, few_asked, few_in_tick, is_early_up_to}
 use Rattle.panel_rules.proofs.Floors.{le_from, le_to, lt_to}
@@ -107,12 +108,12 @@ count_one site kept done panel [] = omega arith
 count_one site kept done panel (tick ∷ ticks) = omega arith
 
 counts_few : (site : Site) (kept : Retained) (done : List Done) (before : List Moment) (first many : ℕ) →
-    length (flat_map (λ panel. count_of site kept done panel (new_entries site kept done panel before)) (range_with_len first many)) ≤ many
+    length (counts_from site kept done before first many) ≤ many
 counts_few site kept done before first zero = omega arith
 counts_few site kept done before first (suc many) =
     let ih = counts_few site kept done before (first + 1) many in
     let here = count_one site kept done first (new_entries site kept done first before) in
-    let both = length-append (count_of site kept done first (new_entries site kept done first before)) (flat_map (λ panel. count_of site kept done panel (new_entries site kept done panel before)) (range_with_len (first + 1) many)) in
+    let both = length-append (counted_now site kept done before first) (counts_from site kept done before (first + 1) many) in
     omega (arith, ih, here, both)
 
 one_less : (o : Option Change) (xs : List Change) → length (cons_option o xs) ≤ 1 + length xs
@@ -181,16 +182,19 @@ count_of_site site kept done panel [] p = refl
 count_of_site site kept done panel (tick ∷ ticks) p = both _ _ (panel_of_site site panel p) refl
 
 counts_of_site : (site : Site) (kept : Retained) (done : List Done) (before : List Moment) (first many : ℕ) → 1 ≤ first → first + many ≤ site.panels + 1 →
-    list_all (is_change_of site) (flat_map (λ panel. count_of site kept done panel (new_entries site kept done panel before)) (range_with_len first many)) ≡ true
+    list_all (is_change_of site) (counts_from site kept done before first many) ≡ true
 counts_of_site site kept done before first zero one few = refl
 counts_of_site site kept done before first (suc many) one few =
-    list_all-append (is_change_of site) (count_of site kept done first (new_entries site kept done first before)) (flat_map (λ panel. count_of site kept done panel (new_entries site kept done panel before)) (range_with_len (first + 1) many))
-    ∙ both _ _ (count_of_site site kept done first (new_entries site kept done first before) (one, omega (arith, few))) (counts_of_site site kept done before (first + 1) many (omega (arith, one)) (omega (arith, few)))
+    list_all-append (is_change_of site) (counted_now site kept done before first) (counts_from site kept done before (first + 1) many)
+    ∙ both _ _ (count_of_site site kept done first (new_entries site kept done first before) (one, omega (arith, few)))
+    (counts_of_site site kept done before (first + 1) many (omega (arith, one)) (omega (arith, few)))
 
-changes_of_site : (site : Site) (waiting : List Request) → ((k : ℕ) (r : Request) → slice_get waiting k ≡ Some r → IsPanel site.panels r.panel) → list_all (is_change_of site) (changes_of site waiting) ≡ true
+changes_of_site : (site : Site) (waiting : List Request) → ((k : ℕ) (r : Request) → slice_get waiting k ≡ Some r → IsPanel site.panels r.panel)
+    → list_all (is_change_of site) (changes_of site waiting) ≡ true
 changes_of_site site waiting panels =
     all_by (is_change_of site) (changes_of site waiting)
-    (λ k c is. (let g = found_from (λ (r : Request). operation_change site r.panel r.operation) waiting k c is in of_operation site g.source.panel g.source.operation c (panels g.place g.source g.is) g.gives))
+    (λ k c is. (let g = found_from (λ (r : Request). operation_change site r.panel r.operation) waiting k c is in
+    of_operation site g.source.panel g.source.operation c (panels g.place g.source g.is) g.gives))
 
 pub batches_fit : BatchesFit
 batches_fit site kept moments valid run of =

@@ -28,6 +28,13 @@ use Rattle.panel_rules.specs.BatchLaws.{ClearedCountsFromZero, is_cleared_now, i
 use Rattle.panel_rules.proofs.CountersAddUp.{AreWhole, none_of, twice, whole_after, within}
 use Rattle.panel_rules.proofs.LaterDone.{Grew, counted_same, new_same, next_grew}
 
+-- the count of a panel in a batch, and those of so many panels from one on
+abbrev pub counted_now : Site → Retained → List Done → List Moment → ℕ → List Change
+counted_now site kept done before panel = count_of site kept done panel (new_entries site kept done panel before)
+
+abbrev pub counts_from : Site → Retained → List Done → List Moment → ℕ → ℕ → List Change
+counts_from site kept done before first many = flat_map (counted_now site kept done before) (range_with_len first many)
+
 -- ---- the changes of operations count nothing
 
 abbrev IsNoCount : Change → Type 0
@@ -120,7 +127,8 @@ module _ (panel : ℕ) where
         | inr h ↦ absurd (let x : true ≡ false = sym e ∙ h.0 in cc)
       ]
 
-  all_leave : (changes : List Change) → AllByRecursion IsNoCount changes → list_any (is_clearing_of panel) changes ≡ false → (stored : Retained) → counter_in panel (changed_by changes stored) ≡ counter_in panel stored
+  all_leave : (changes : List Change) → AllByRecursion IsNoCount changes → list_any (is_clearing_of panel) changes ≡ false → (stored : Retained)
+      → counter_in panel (changed_by changes stored) ≡ counter_in panel stored
   all_leave [] all e stored = refl
   all_leave (c ∷ changes) all e stored =
       let none = none_of panel (is_clearing_of panel c) (list_any (is_clearing_of panel) changes) e in
@@ -138,7 +146,8 @@ module _ (panel : ℕ) where
   emptied [] all e stored = cc
   emptied (c ∷ changes) all e stored = go (is_clearing_of panel c) refl (λ rest. emptied changes all.1 rest (changed c stored))
     where
-      go : (b : Bool) → is_clearing_of panel c ≡ b → (list_any (is_clearing_of panel) changes ≡ true → counter_in panel (changed_by changes (changed c stored)) ≡ 0) → counter_in panel (changed_by changes (changed c stored)) ≡ 0
+      go : (b : Bool) → is_clearing_of panel c ≡ b → (list_any (is_clearing_of panel) changes ≡ true → counter_in panel (changed_by changes (changed c stored)) ≡ 0)
+          → counter_in panel (changed_by changes (changed c stored)) ≡ 0
       go true t ih = stays_empty changes all.1 (changed c stored) (empties c t stored)
       go false t ih = ih (sym (ap (λ b. b || list_any (is_clearing_of panel) changes) t) ∙ e)
 
@@ -148,11 +157,11 @@ module _ (panel : ℕ) where
   count_clears site kept done p (tick ∷ ticks) = refl
 
   counts_clear : (site : Site) (kept : Retained) (done : List Done) (before : List Moment) (first many : ℕ) →
-      list_any (is_clearing_of panel) (flat_map (λ p. count_of site kept done p (new_entries site kept done p before)) (range_with_len first many)) ≡ false
+      list_any (is_clearing_of panel) (counts_from site kept done before first many) ≡ false
   counts_clear site kept done before first zero = refl
   counts_clear site kept done before first (suc many) =
-      list_any-append (is_clearing_of panel) (count_of site kept done first (new_entries site kept done first before)) (flat_map (λ p. count_of site kept done p (new_entries site kept done p before)) (range_with_len (first + 1) many))
-      ∙ ap (λ b. b || list_any (is_clearing_of panel) (flat_map (λ p. count_of site kept done p (new_entries site kept done p before)) (range_with_len (first + 1) many))) (count_clears site kept done first (new_entries site kept done first before))
+      list_any-append (is_clearing_of panel) (counted_now site kept done before first) (counts_from site kept done before (first + 1) many)
+      ∙ ap (λ b. b || list_any (is_clearing_of panel) (counts_from site kept done before (first + 1) many)) (count_clears site kept done first (new_entries site kept done first before))
       ∙ counts_clear site kept done before (first + 1) many
 
   cleared_by : (site : Site) (kept : Retained) (before : List Moment) → is_cleared_now site kept panel before ≡ list_any (is_clearing_of panel) (changes_of site (operations site kept before).waiting)
@@ -169,7 +178,8 @@ past_in_time past moments (later (Happened event) before h) = past_in_time past 
 past_in_time past moments (later (Turned panel task) before h) = past_in_time past before h
 past_in_time past moments (later (Kept failed) before h) = past_in_time past before h
 
-counted_more : (site : Site) (kept : Retained) (done : List Done) (panel : ℕ) (past moments : List Moment) → IsPast past moments → counted_entries site kept done panel past ≤ counted_entries site kept done panel moments
+counted_more : (site : Site) (kept : Retained) (done : List Done) (panel : ℕ) (past moments : List Moment) → IsPast past moments
+    → counted_entries site kept done panel past ≤ counted_entries site kept done panel moments
 counted_more site kept done panel past moments present = omega arith
 counted_more site kept done panel past moments (later Began before h) = counted_more site kept done panel past before h
 counted_more site kept done panel past moments (later (Happened event) before h) = counted_more site kept done panel past before h
@@ -183,7 +193,8 @@ nothing_since n = omega arith
 more_since : (c b n : ℕ) → b ≤ c → (c - b) + n ≡ (c + n) - b
 more_since c b n l = omega (arith, l)
 
-module _ (site : Site) (kept : Retained) (panel : ℕ) (few : site.panels ≤ 8) (own : IsPanel site.panels panel) (whole : AreWhole kept) (before : List Moment) (clears : is_cleared_now site kept panel before ≡ true) where
+module _ (site : Site) (kept : Retained) (panel : ℕ) (few : site.panels ≤ 8) (own : IsPanel site.panels panel) (whole : AreWhole kept)
+    (before : List Moment) (clears : is_cleared_now site kept panel before ≡ true) where
   abbrev NoneLater : List Moment → Type 0
   NoneLater moments = (after : List Moment) → IsPast (Kept false ∷ before) after → IsPast (Kept false ∷ after) moments → is_cleared_now site kept panel after ≡ false
 
@@ -191,11 +202,13 @@ module _ (site : Site) (kept : Retained) (panel : ℕ) (few : site.panels ≤ 8)
   Counts moments done = counter_in panel (kept_after site kept moments) ≡ min (counted_entries site kept done panel moments - counted_entries site kept done panel (Kept false ∷ before)) greatest_count
 
   -- the same by what was done a little later
-  carry : (rest : List Moment) (after : List Done) → IsPast (Kept false ∷ before) rest → Grew (operations site kept rest).done after (tick_of rest) → Counts rest (operations site kept rest).done → Counts rest after
+  carry : (rest : List Moment) (after : List Done) → IsPast (Kept false ∷ before) rest → Grew (operations site kept rest).done after (tick_of rest) → Counts rest (operations site kept rest).done
+      → Counts rest after
   carry rest after h grew ih =
       let old = (operations site kept rest).done in
       let now = ap (λ done. counted_entries site kept done panel rest) grew.is ∙ counted_same site kept grew.new old (tick_of rest) grew.from panel rest (omega arith) in
-      let then = ap (λ done. counted_entries site kept done panel (Kept false ∷ before)) grew.is ∙ counted_same site kept grew.new old (tick_of rest) grew.from panel (Kept false ∷ before) (past_in_time (Kept false ∷ before) rest h) in
+      let then = ap (λ done. counted_entries site kept done panel (Kept false ∷ before)) grew.is
+      ∙ counted_same site kept grew.new old (tick_of rest) grew.from panel (Kept false ∷ before) (past_in_time (Kept false ∷ before) rest h) in
       ih
       ∙ ap (λ n. min (n - counted_entries site kept old panel (Kept false ∷ before)) greatest_count) (sym now)
       ∙ ap (λ n. min (counted_entries site kept after panel rest - n) greatest_count) (sym then)
@@ -207,7 +220,8 @@ module _ (site : Site) (kept : Retained) (panel : ℕ) (few : site.panels ≤ 8)
   since moments present none =
       let so_far = operations site kept before in
       ap (counter_in panel) (changed_by-append (counts site kept so_far.done before) (changes_of site so_far.waiting) (kept_after site kept before))
-      ∙ emptied panel (changes_of site so_far.waiting) (no_counts site so_far.waiting) (sym (cleared_by panel site kept before) ∙ clears) (changed_by (counts site kept so_far.done before) (kept_after site kept before))
+      ∙ emptied panel (changes_of site so_far.waiting) (no_counts site so_far.waiting) (sym (cleared_by panel site kept before) ∙ clears)
+      (changed_by (counts site kept so_far.done before) (kept_after site kept before))
       ∙ nothing_since (counted_entries site kept (operations site kept (Kept false ∷ before)).done panel (Kept false ∷ before))
   since moments (later Began rest h) none = carry rest _ h (next_grew site kept Began rest) (since rest h (sooner Began rest none))
   since moments (later (Happened event) rest h) none = carry rest _ h (next_grew site kept (Happened event) rest) (since rest h (sooner (Happened event) rest none))
@@ -222,9 +236,11 @@ module _ (site : Site) (kept : Retained) (panel : ℕ) (few : site.panels ≤ 8)
       let fresh = new_entries site kept so_far.done panel rest in
       let old = counted_entries site kept after panel (Kept false ∷ before) in
       let now = counted_entries site kept after panel rest in
-      let counted = within panel own.0 (let p = own.1 in omega (arith, p, few)) site kept so_far.done rest 1 site.panels stored (omega arith) own.0 (let p = own.1 in omega (arith, p)) (whole_after site kept rest whole) in
+      let counted = within panel own.0 (let p = own.1 in omega (arith, p, few)) site kept so_far.done rest 1 site.panels stored (omega arith) own.0 (let p = own.1 in omega (arith, p))
+      (whole_after site kept rest whole) in
       ap (counter_in panel) (changed_by-append (counts site kept so_far.done rest) (changes_of site so_far.waiting) stored)
-      ∙ all_leave panel (changes_of site so_far.waiting) (no_counts site so_far.waiting) (sym (cleared_by panel site kept rest) ∙ none rest h present) (changed_by (counts site kept so_far.done rest) stored)
+      ∙ all_leave panel (changes_of site so_far.waiting) (no_counts site so_far.waiting) (sym (cleared_by panel site kept rest) ∙ none rest h present)
+      (changed_by (counts site kept so_far.done rest) stored)
       ∙ counted
       ∙ ap (λ n. min (n + length fresh) greatest_count) was
       ∙ twice (now - old) (length fresh)

@@ -51,16 +51,19 @@ module _ (site : Site) (kept : Retained) where
   all_still moment before answers all = each_to (IsKept before) (IsKept (moment ∷ before)) answers (still moment before) all
 
   -- Desk does only what makes no change
-  kept_reply : (moments : List Moment) (r : Request) (so_far : Operations) (reply : Option Reply) → Outcome r reply → AllByRecursion (IsKept moments) so_far.answers → AllByRecursion (IsKept moments) (after_reply r so_far reply).answers
+  kept_reply : (moments : List Moment) (r : Request) (so_far : Operations) (reply : Option Reply) → Outcome r reply → AllByRecursion (IsKept moments) so_far.answers
+      → AllByRecursion (IsKept moments) (after_reply r so_far reply).answers
   kept_reply moments r so_far reply (told answer by same) all = (λ done change makes. absurd (let x = sym (ap is_by_desk done) ∙ by in cc), all)
   kept_reply moments r so_far reply (at_once none) all = (λ done change makes. absurd (no_change site r.panel r.operation none change makes), all)
   kept_reply moments r so_far reply (goes_on setting is) all = all
 
-  kept_desk : (moments : List Moment) (taken : List Request) (so_far : Operations) → AllByRecursion (IsKept moments) so_far.answers → AllByRecursion (IsKept moments) (after_desk site kept taken so_far).answers
+  kept_desk : (moments : List Moment) (taken : List Request) (so_far : Operations) → AllByRecursion (IsKept moments) so_far.answers
+      → AllByRecursion (IsKept moments) (after_desk site kept taken so_far).answers
   kept_desk moments [] so_far all = all
   kept_desk moments (r ∷ taken) so_far all = kept_desk moments taken (after_request site kept so_far r) (kept_reply moments r so_far (desk_reply site kept r so_far) (outcome site kept r so_far) all)
 
-  not_stored : (moments : List Moment) (tick : ℕ) (waiting : List Request) (answers : List Answered) → AllByRecursion (IsKept moments) answers → AllByRecursion (IsKept moments) (answer_all tick true waiting answers)
+  not_stored : (moments : List Moment) (tick : ℕ) (waiting : List Request) (answers : List Answered) → AllByRecursion (IsKept moments) answers
+      → AllByRecursion (IsKept moments) (answer_all tick true waiting answers)
   not_stored moments tick [] answers all = all
   not_stored moments tick (r ∷ waiting) answers all = not_stored moments tick waiting (record { request = r; tick = tick; reply = Store } ∷ answers) (λ done change makes. absurd cc, all)
 
@@ -76,10 +79,12 @@ module _ (site : Site) (kept : Retained) where
   all_kept (Began ∷ before) = all_still Began before (operations site kept before).answers (all_kept before)
   all_kept (Happened event ∷ before) = all_still (Happened event) before (operations site kept before).answers (all_kept before)
   all_kept (Turned panel Desk ∷ before) =
-      kept_desk (Turned panel Desk ∷ before) (requests_in panel (tick_of before) (requests site before)) (operations site kept before) (all_still (Turned panel Desk) before (operations site kept before).answers (all_kept before))
+      kept_desk (Turned panel Desk ∷ before) (requests_in panel (tick_of before) (requests site before)) (operations site kept before)
+      (all_still (Turned panel Desk) before (operations site kept before).answers (all_kept before))
   all_kept (Turned panel task ∷ before) = all_still (Turned panel task) before (operations site kept before).answers (all_kept before)
   all_kept (Kept true ∷ before) =
-      not_stored (Kept true ∷ before) (tick_of before) (operations site kept before).waiting (operations site kept before).answers (all_still (Kept true) before (operations site kept before).answers (all_kept before))
+      not_stored (Kept true ∷ before) (tick_of before) (operations site kept before).waiting (operations site kept before).answers
+      (all_still (Kept true) before (operations site kept before).answers (all_kept before))
   all_kept (Kept false ∷ before) =
       let so_far = operations site kept before in
       was_stored (Kept false ∷ before) (tick_of before) so_far.waiting so_far.answers

@@ -18,7 +18,8 @@ use Rattle.panel_rules.specs.Faces.{counter_in}
 use Rattle.panel_rules.specs.TimelineLaws.{counted_entries}
 
 -- in a tick there was a turn of Keep that did not fail, and a change stands in what it committed
-pub record IsInABatch (site : Site) (kept : Retained) (moments : List Moment) (tick : ℕ) (change : Change) : Type 0 where
+pub record IsInABatch (site : Site) (kept : Retained) (moments : List Moment) (tick : ℕ) (change : Change) :
+    Type 0 where
   pub before : List Moment
   pub turn : IsPast (Kept false ∷ before) moments
   pub in_tick : tick_of before ≡ tick

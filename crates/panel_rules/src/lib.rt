@@ -60,7 +60,7 @@ pub use outputs::{
 };
 pub use profile::{
     disablement_is_shown, joined_panels_show, network_is_the_sum, signal_is_shown,
-    single_detector_is_shown,
+    signalled_output_is_on, single_detector_is_shown,
 };
 pub use records::{asked_once_in_a_round, records_are_runs};
 pub use shown_settings::{accepted_is_shown, settings_are_shown};
