@@ -46,32 +46,32 @@ IsNoCount (DelaysChange panel off) = Unit {0}
 IsNoCount (ClearChange panel) = Unit {0}
 IsNoCount (TestChange panel number on) = Unit {0}
 
-abbrev IsNone : Option Change → Type 0
-IsNone None = Unit {0}
-IsNone (Some change) = IsNoCount change
+abbrev MakesNoCount : Option Change → Type 0
+MakesNoCount None = Unit {0}
+MakesNoCount (Some change) = IsNoCount change
 
-of_point : (o : Option PointPlan) (off : Bool) → IsNone (point_change o off)
+of_point : (o : Option PointPlan) (off : Bool) → MakesNoCount (point_change o off)
 of_point None off = tt
 of_point (Some p) off = tt
 
-of_zone : (o : Option ZonePlan) (off : Bool) → IsNone (zone_change o off)
+of_zone : (o : Option ZonePlan) (off : Bool) → MakesNoCount (zone_change o off)
 of_zone None off = tt
 of_zone (Some z) off = tt
 
-of_output : (o : Option OutputPlan) (off : Bool) → IsNone (output_change o off)
+of_output : (o : Option OutputPlan) (off : Bool) → MakesNoCount (output_change o off)
 of_output None off = tt
 of_output (Some p) off = tt
 
-of_test : (o : Option ZonePlan) (on : Bool) → IsNone (test_change o on)
+of_test : (o : Option ZonePlan) (on : Bool) → MakesNoCount (test_change o on)
 of_test None on = tt
 of_test (Some z) on = tt
 
-of_item : (site : Site) (item : Item) (off : Bool) → IsNone (item_change site item off)
+of_item : (site : Site) (item : Item) (off : Bool) → MakesNoCount (item_change site item off)
 of_item site (PointItem point) off = of_point (slice_get site.points point) off
 of_item site (ZoneItem zone) off = of_zone (slice_get site.zones zone) off
 of_item site (OutputItem output) off = of_output (slice_get site.outputs output) off
 
-of_operation : (site : Site) (panel : ℕ) (operation : Operation) → IsNone (operation_change site panel operation)
+of_operation : (site : Site) (panel : ℕ) (operation : Operation) → MakesNoCount (operation_change site panel operation)
 of_operation site panel Mute = tt
 of_operation site panel Override = tt
 of_operation site panel Silence = tt
@@ -85,7 +85,7 @@ of_operation site panel (Untest zone) = of_test (slice_get site.zones zone) fals
 of_operation site panel (Delays on) = tt
 of_operation site panel Clear = tt
 
-one_more : (o : Option Change) (changes : List Change) → IsNone o → AllByRecursion IsNoCount changes → AllByRecursion IsNoCount (cons_option o changes)
+one_more : (o : Option Change) (changes : List Change) → MakesNoCount o → AllByRecursion IsNoCount changes → AllByRecursion IsNoCount (cons_option o changes)
 one_more None changes h all = all
 one_more (Some change) changes h all = (h, all)
 
