@@ -8,6 +8,7 @@ pub mod Images
 pub mod Keeping
 pub mod NewFiles
 pub mod NewJournals
+pub mod OlderFiles
 pub mod Openings
 pub mod ReadImages
 pub mod Reading

@@ -5,6 +5,7 @@ pub mod Fields
 pub mod Images
 pub mod Journals
 pub mod NewFiles
+pub mod OlderFiles
 pub mod Opening
 pub mod Places
 pub mod Replays
