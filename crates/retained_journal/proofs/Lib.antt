@@ -14,6 +14,7 @@ pub mod ReadImages
 pub mod Reading
 pub mod Refused
 pub mod Replaying
+pub mod SameFiles
 pub mod Stepped
 pub mod Told
 pub mod Torn

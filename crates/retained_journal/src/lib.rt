@@ -43,6 +43,7 @@ pub use batch::Batch;
 pub use create_refusal::CreateRefusal;
 pub use disk_fault::DiskFault;
 pub use journal::Journal;
+pub use new_file::one_new_file;
 pub use older_files::{older_file_opens_to_its_slot, older_file_opens_without_tests};
 pub use open_refusal::OpenRefusal;
 pub use room::early_has_room;
