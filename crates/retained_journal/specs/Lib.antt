@@ -7,6 +7,7 @@ pub mod Journals
 pub mod NewFiles
 pub mod OlderFiles
 pub mod Opening
+pub mod Outcomes
 pub mod Places
 pub mod Replays
 pub mod Slots
