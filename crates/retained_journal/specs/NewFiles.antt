@@ -24,3 +24,7 @@ pub record IsNewFile (digest : List ℕ) (state : Retained) (file : List ℕ) : 
 pub record BecomesNew (digest : List ℕ) (state : Retained) (old new : List ℕ) : Type 0 where
   pub empty : length old ≡ 0
   pub made : IsNewFile digest state new
+
+-- there is one new file of a site and a state
+abbrev pub OneNewFile : Type 0
+OneNewFile = (digest : List ℕ) (state : Retained) (file other : List ℕ) → IsNewFile digest state file → IsNewFile digest state other → file ≡ other

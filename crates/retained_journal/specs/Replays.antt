@@ -9,11 +9,17 @@ use Rattle.retained_journal.specs.Cells.{cell_changes, changes_of_cells, is_next
 use Rattle.retained_journal.specs.Fields.{first_in, run_length}
 use Rattle.retained_journal.specs.Opening.{damaged, is_open}
 use Rattle.retained_journal.specs.Places.{cell_place, most_cells}
+use Rattle.retained_journal.specs.Slots.{retained_at, slot_number}
 
 -- The count of faults never falls, and an answer of a fault has raised it.
 pub record HasRefusalCause {T : Type 0} (before after : ℕ) (result : Result T OpenRefusal) : Type 0 where
   pub later : before ≤ after
   pub failed : result ≡ Err DiskFault → Rose before after
+
+-- a replay of the state of a slot, before any cell
+abbrev pub BeginsReplay : Bool → ℕ → List ℕ → Replay → Type 0
+BeginsReplay wide at front replay =
+    replay ≡ record { wide = wide; kept = retained_at wide at front; number = slot_number at front; cells = 0; is_next_open = false }
 
 -- What becomes of a replay with the bytes of the next cell: it ends where the cell doesn't count, is refused where a byte is out of its form, and else goes on with the changes of the cell.
 abbrev pub TakesCell : Replay → List ℕ → Result Bool OpenRefusal → Replay → Type 0

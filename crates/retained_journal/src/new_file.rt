@@ -4,7 +4,7 @@ ghost use Rattle.std.specs.Prelude.{◌≡◌, ◌⊎◌, ◌+◌, ◌<◌, ◌�
 ghost use Rattle.panel_edges.specs.Disks.{Becomes};
 ghost use Rattle.panel_edges.specs.Faults.{HasCause};
 ghost use Rattle.retained_journal.specs.Fields.{Agrees};
-ghost use Rattle.retained_journal.specs.NewFiles.{BecomesNew, IsNewFile};
+ghost use Rattle.retained_journal.specs.NewFiles.{BecomesNew, IsNewFile, OneNewFile};
 ghost use Rattle.retained_journal.specs.Slots.{FitPoints};
 
 use crate::fields::put;
@@ -42,3 +42,8 @@ pub(crate) fn write_new<D: Disk>(
 {
     write_synced(disk, 0, &new_front(digest, state))
 }
+
+/// There is one new file of a site and a state: what is said of it leaves no byte open.
+pub fn one_new_file()
+    ensures { OneNewFile }
+{}
