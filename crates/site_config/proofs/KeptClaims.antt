@@ -1,9 +1,9 @@
 -- The claims of a draft with what is kept of their places: the first that is made twice is the same, and where each list is short they are the claims themselves.
-use Rattle.std.proofs.Common.{◌≡◌, ◌≤◌, ◌<◌, ◌+◌, ◌++◌, ◌||◌, ℕ, List, [], ◌∷◌, Bool, true, false, Option, Some, None, is_some, min, length, refl, ap, sym, ◌∙◌, arith, if◌then◌else◌}
+use Rattle.std.proofs.Common.{◌≡◌, ◌≤◌, ◌+◌, ◌++◌, ◌||◌, ℕ, List, [], ◌∷◌, Bool, true, false, Option, Some, None, is_some, length, refl, ap, ◌∙◌, arith, if◌then◌else◌}
 use Rattle.std.specs.Str.{bytes_eq}
 use Rattle.site_types.specs.declared.named.Thing.{Thing}
 use Rattle.site_document.specs.declared.draft.Draft.{Draft}
-use Rattle.site_document.specs.Refusals.{Refusal, or_later, twice}
+use Rattle.site_document.specs.Refusals.{or_later, twice}
 use Rattle.site_config.specs.declared.claim.Claim.{Claim}
 use Rattle.site_config.specs.Claims.{claims_by, claims_from, claims_of, first_twice, has_number, is_claimed, is_number_claimed, is_number_of, kept_place, marker_claim, output_claim, point_claim, thing_named, zone_claim}
 use Rattle.site_config.proofs.FewParts.{HasFewParts}
