@@ -31,7 +31,9 @@ HasNoTestBytes file = (i : ℕ) → i < 32 → slice_index file (chosen_place fi
 
 -- no change of a cell that counts has the kind 7, that of a zone in test
 abbrev pub HasNoTestChange : List ℕ → Type 0
-HasNoTestChange file = (cell k : ℕ) → cell < counted file → k < cell_count (cell_place cell) file → slice_index file (cell_place cell + 10 + 8 * k) ≢ 7
+HasNoTestChange file =
+    (cell k : ℕ) → cell < counted file → k < cell_count (cell_place cell) file
+    → slice_index file (cell_place cell + 10 + 8 * k) ≢ 7
 
 -- such a file, if it opens, opens with no zone in test
 abbrev pub OpensWithoutTests : Type 0

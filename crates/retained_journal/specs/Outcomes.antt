@@ -1,5 +1,6 @@
--- What opening, creating, mending and committing leave: of the journal, of its file, and of the files that a crash may leave.
-use Rattle.std.specs.Prelude.{◌≡◌, ◌≢◌, ◌⊎◌, ◌+◌, ◌<◌, ◌≤◌, ◌^◌, ℕ, Bool, true, false, List, length, Option, IfSome}
+-- What opening, creating, mending and committing leave: of the journal, of its file, and of the files that a crash
+-- may leave.
+use Rattle.std.specs.Prelude.{◌≡◌, ◌≢◌, ◌⊎◌, ◌+◌, ◌<◌, ◌≤◌, ◌^◌, ℕ, Bool, true, false, not, List, length, Option, IfSome}
 use Rattle.panel_edges.specs.Crashes.{LeavesOnly}
 use Rattle.site_types.specs.Changes.{changed_by, nothing_retained}
 use Rattle.site_types.specs.declared.change.Change.{Change}
@@ -28,11 +29,13 @@ IsKeptIn wide digest state file =
 
 -- why a file isn't opened, unless the disk failed
 abbrev pub IsRefusalOf : Bool → List ℕ → Option (List ℕ) → OpenRefusal → Type 0
-IsRefusalOf wide digest seen refusal = refusal ≢ DiskFault → IfSome seen (λ file. opened wide digest file ≡ Refuses refusal)
+IsRefusalOf wide digest seen refusal =
+    refusal ≢ DiskFault → IfSome seen (λ file. opened wide digest file ≡ Refuses refusal)
 
 -- why no journal is created in a file, unless the disk failed: it isn't empty
 abbrev pub IsLengthOf : Option (List ℕ) → CreateRefusal → Type 0
-IsLengthOf seen refusal = refusal ≢ CreateFault → IfSome seen (λ file. (0 < length file) × (refusal ≡ NotEmpty (length file)))
+IsLengthOf seen refusal =
+    refusal ≢ CreateFault → IfSome seen (λ file. (0 < length file) × (refusal ≡ NotEmpty (length file)))
 
 -- a number of the chosen slot that is at most 2^62 leaves room for those to come
 abbrev pub IsEarlyFor : Journal → List ℕ → Type 0
@@ -54,11 +57,34 @@ EachOpens images journal = (file : List ℕ) → images file → OpensToKept jou
 abbrev pub EachMayBeLeft : (List ℕ → Type 0) → Journal → Type 0
 EachMayBeLeft images journal = (file : List ℕ) → images file → MayLeave journal file
 
+-- what is kept went to the other slot, and cell 0 is the next one
+abbrev pub HasMoved : Journal → Journal → Type 0
+HasMoved old new =
+    new ≡ record old {
+      slot_may_be_open = true;
+      second = not old.second;
+      number = old.number + 1;
+      cells = 0;
+      cell_may_be_open = true;
+      moving = false;
+    }
+
+-- the batch last attempted went to the next cell, and is kept
+abbrev pub HasAppended : Journal → Journal → Type 0
+HasAppended old new =
+    new ≡ record old {
+      kept = changed_by old.attempt.items old.kept;
+      number = old.number + 1;
+      cells = old.cells + 1;
+      cell_may_be_open = false;
+    }
+
 -- a batch was kept
 abbrev pub HasKept : List Change → Journal → Journal → Type 0
 HasKept batch old new = (new.kept ≡ changed_by batch old.kept) × (new.torn ≡ false) × (new.attempt.items ≡ batch)
 
--- A batch was not kept: the journal is torn and keeps what it kept. The batch was attempted, or the mending before it failed.
+-- A batch was not kept: the journal is torn and keeps what it kept. The batch was attempted, or the mending before it
+-- failed.
 abbrev pub HasFailed : List Change → Journal → Journal → Type 0
 HasFailed batch old new =
     (new.kept ≡ old.kept) × (new.torn ≡ true) × ((new.attempt.items ≡ batch) ⊎ (new.attempt ≡ old.attempt))
@@ -68,8 +94,11 @@ abbrev pub HasTried : Journal → Journal → Type 0
 HasTried old new =
     (new.wide ≡ old.wide) × (new.digest ≡ old.digest) × (new.tried ≡ old.tried + 1) × (new.number ≤ old.number + 2)
 
--- The batch that was attempted before may be left until the mending has ended, and the new one only from then on: the mending failed, or the call had both parts.
-abbrev pub LeavesEachInTurn : {D : Type 0} → (D → ℕ) → (D → ℕ → List ℕ → Type 0) → D → D → Journal → List Change → Journal → Type 0
+-- The batch that was attempted before may be left until the mending has ended, and the new one only from then on: the
+-- mending failed, or the call had both parts.
+abbrev pub LeavesEachInTurn :
+    {D : Type 0} → (D → ℕ) → (D → ℕ → List ℕ → Type 0) → D → D → Journal → List Change → Journal → Type 0
 LeavesEachInTurn moment left_since before after old batch new =
     ((new.attempt ≡ old.attempt) × LeavesOnly moment left_since before after (MayLeave old))
-    ⊎ ((new.attempt.items ≡ batch) × LeavesInTurn moment left_since before after (MayLeave old) (OpensToKeptOrWith old batch))
+    ⊎ ((new.attempt.items ≡ batch)
+    × LeavesInTurn moment left_since before after (MayLeave old) (OpensToKeptOrWith old batch))

@@ -11,7 +11,7 @@ ghost use Rattle.retained_journal.specs.Journals.{IsFresh, IsLong, IsNewJournal,
 ghost use Rattle.retained_journal.specs.NewFiles.{BecomesNew};
 ghost use Rattle.retained_journal.specs.Opening.{Opens, change_out_of_form, counted, great_counter, is_second as second_counts, opened, refusal_of};
 ghost use Rattle.retained_journal.specs.Outcomes.{CountsItsCells, CountsUnlessTorn, EachMayBeLeft, EachOpens, HasFailed, HasKept, HasTried, IsEarlyFor, IsKeptIn, IsLengthOf, IsRefusalOf, LeavesAsItWas, LeavesEachInTurn, UnlessEmpty};
-ghost use Rattle.retained_journal.specs.Places.{slot_place as place_of_slot};
+ghost use Rattle.retained_journal.specs.Places.{bytes_of_slot, front_bytes, slot_place as place_of_slot};
 ghost use Rattle.retained_journal.specs.Replays.{BeginsReplay, HasRefusalCause};
 ghost use Rattle.retained_journal.specs.Slots.{FitPoints, HasNarrowPoints, IsKeepable, slot_number};
 
@@ -58,8 +58,8 @@ pub struct Journal {
 }
 
 impl Journal {
-    /// Opens the journal of a site by the digest of its site file, and gives what it keeps. A file of no bytes becomes a
-    /// new journal; nothing is written to any other.
+    /// Opens the journal of a site by the digest of its site file, and gives what it keeps. A file of no bytes
+    /// becomes a new journal; nothing is written to any other.
     ///
     /// # Errors
     ///
@@ -81,7 +81,8 @@ impl Journal {
         ensures early { IfOk result (λ r. IfSome (D.seen disk.old) (IsEarlyFor r.0)) }
         ensures fresh { IfOk result (λ r. IsFresh wide digest r.0) }
         ensures unwritten { UnlessEmpty (D.seen disk.old) (D.seen disk.new ≡ D.seen disk.old) }
-        // Nothing is written to a file that isn't empty: at each moment of the call a crash leaves what it might have left before.
+        // Nothing is written to a file that isn't empty: at each moment of the call a crash leaves what it might have
+        // left before.
         ensures untouched { D.honest disk.old →
             UnlessEmpty (D.seen disk.old)
             (LeavesAsItWas D.moment D.left_since D.images disk.old disk.new) }
@@ -100,12 +101,13 @@ impl Journal {
         Ok((journal, kept))
     }
 
-    /// Makes the journal of a site, by the digest of its site file, in an empty file, with the state that it is to keep.
+    /// Makes the journal of a site, by the digest of its site file, in an empty file, with the state that it is to
+    /// keep.
     ///
     /// # Errors
     ///
-    /// The file isn't empty, or the disk failed. Nothing is written to a file that isn't empty; an empty one may be written in
-    /// part where the disk failed.
+    /// The file isn't empty, or the disk failed. Nothing is written to a file that isn't empty; an empty one may be
+    /// written in part where the disk failed.
     pub fn create<D: Disk>(
         disk: &mut D,
         digest: [u8; 32],
@@ -123,7 +125,8 @@ impl Journal {
         ensures unwritten { IfErr result (λ e. e ≢ CreateRefusal.DiskFault →
             D.seen disk.new ≡ D.seen disk.old) }
         ensures seen { UnlessEmpty (D.seen disk.old) (D.seen disk.new ≡ D.seen disk.old) }
-        // Nothing is written to a file that isn't empty: at each moment of the call a crash leaves what it might have left before.
+        // Nothing is written to a file that isn't empty: at each moment of the call a crash leaves what it might have
+        // left before.
         ensures untouched { D.honest disk.old →
             UnlessEmpty (D.seen disk.old)
             (LeavesAsItWas D.moment D.left_since D.images disk.old disk.new) }
@@ -182,8 +185,8 @@ impl Journal {
     ///
     /// # Errors
     ///
-    /// A call of the disk failed. The journal is torn and keeps what it kept; a crash may leave the batch, until the journal
-    /// is mended.
+    /// A call of the disk failed. The journal is torn and keeps what it kept; a crash may leave the batch, until the
+    /// journal is mended.
     pub fn commit<D: Disk>(&mut self, disk: &mut D, batch: &Batch) -> Result<(), DiskFault>
         requires stands { Stands D.honest D.images disk.old self.old }
         requires batch { IsBatch self.old.wide batch.now.items }
@@ -202,7 +205,8 @@ impl Journal {
         ensures moments { D.honest disk.old → HasRoomForTwo self.old →
             LeavesOnly D.moment D.left_since disk.old disk.new
             (MayLeaveOr self.old batch.now.items) }
-        // The earlier batch may be left until the mending has ended, and this one only from then on: the mending failed, or the call had both parts.
+        // The earlier batch may be left until the mending has ended, and this one only from then on: the mending
+        // failed, or the call had both parts.
         ensures in_turn { D.honest disk.old → HasRoomForTwo self.old →
             LeavesEachInTurn D.moment D.left_since disk.old disk.new
             self.old batch.now.items self.new }
@@ -346,7 +350,7 @@ fn read_counted<D: Disk>(
     requires number { slot_number (place_of_slot second) front.now ≤ 2 ^ 63 }
     requires counters { first_in (great_counter (place_of_slot second) front.now) 8 ≡ None }
     requires told { IfSome (D.seen disk.old) (λ file.
-        Agrees 2048 front.now 0 file 0 × IsLong front.now file) }
+        Agrees front_bytes front.now 0 file 0 × IsLong front.now file) }
     ensures keeps { IfOk result (λ replay.
         IsKeepable wide replay.kept × (replay.cells ≤ 64) × (replay.number ≤ 2 ^ 63 + 64)) }
     ensures ok { IfOk result (λ replay. IfSome (D.seen disk.old) (λ file.
@@ -369,7 +373,7 @@ fn read_counted<D: Disk>(
 
 // The state of a slot, before any cell.
 fn begin_replay(front: &Front, wide: bool, at: usize) -> Replay
-    requires { at + 906 ≤ 2048 }
+    requires { at + bytes_of_slot ≤ front_bytes }
     ensures { BeginsReplay wide at front.now result }
 {
     Replay {

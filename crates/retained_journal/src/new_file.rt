@@ -33,10 +33,13 @@ pub(crate) fn write_new<D: Disk>(
     state: &Retained,
 ) -> Result<(), Failed>
     requires fits { FitPoints state.now.points }
-    requires empty { D.honest disk.old → (file : List ℕ) → D.images disk.old file → length file ≡ 0 }
+    requires empty { D.honest disk.old →
+        (file : List ℕ) → D.images disk.old file → length file ≡ 0 }
     requires told { IfSome (D.seen disk.old) (λ file. length file ≡ 0) }
-    ensures made { OnOk result (Becomes (BecomesNew digest.now state.now) (D.seen disk.old) (D.seen disk.new)) }
-    ensures ok { D.honest disk.old → OnOk result ((file : List ℕ) → D.images disk.new file → IsNewFile digest.now state.now file) }
+    ensures made { OnOk result (
+        Becomes (BecomesNew digest.now state.now) (D.seen disk.old) (D.seen disk.new)) }
+    ensures ok { D.honest disk.old → OnOk result (
+        (file : List ℕ) → D.images disk.new file → IsNewFile digest.now state.now file) }
     ensures honest { D.honest disk.new ↔ D.honest disk.old }
     ensures cause { HasCause (D.faults disk.old) (D.faults disk.new) result }
 {
