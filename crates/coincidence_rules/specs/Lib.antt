@@ -10,3 +10,4 @@ pub mod Applied
 pub mod Kept
 pub mod Found
 pub mod Wired
+pub mod Laws

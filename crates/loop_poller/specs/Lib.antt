@@ -4,3 +4,4 @@ pub mod Calls
 pub mod Places
 pub mod Points
 pub mod Stands
+pub mod Puts

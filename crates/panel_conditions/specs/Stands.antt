@@ -1,5 +1,5 @@
 -- The part that holds stands for the operations done and the turns made.
-use Rattle.std.specs.Prelude.{◌≡◌, ◌≢◌, ◌<◌, ◌≤◌, ◌+◌, ◌-◌, ◌^◌, min, max, ℕ, zero, suc, Bool, true, false, not, List, [], ◌∷◌, ◌++◌, Option, Some, None, length, map, slice_get, ◌&&◌, nat_lt, if◌then◌else◌}
+use Rattle.std.specs.Prelude.{◌≡◌, ◌<◌, ◌≤◌, ◌+◌, ◌-◌, ◌^◌, min, max, ℕ, zero, suc, Bool, false, not, List, [], ◌∷◌, ◌++◌, Option, Some, None, length, map, slice_get, ◌&&◌, nat_lt, if◌then◌else◌}
 use Rattle.tick_units.specs.declared.tick.Tick.{Tick}
 use Rattle.site_types.specs.declared.site.Site.{Site}
 use Rattle.site_types.specs.declared.point.Point.{Point as PointPlan}
@@ -14,7 +14,7 @@ use Rattle.site_types.specs.declared.word.Word.{Word}
 use Rattle.site_types.specs.declared.operation.Operation.{Operation}
 use Rattle.site_types.specs.Bits.{IsPlace, has_bit}
 use Rattle.site_types.specs.Changes.{IsPanelNumber, IsNumber, HasOwnPlaces}
-use Rattle.site_types.specs.Done.{Done, Setting, PointOff, is_on, operation_setting, in_force, latest_before, moves_floor, cancels, mutes, muted_before, AreBy}
+use Rattle.site_types.specs.Done.{Done, PointOff, in_force, moves_floor, cancels, mutes, muted_before, AreBy}
 use Rattle.coincidence_rules.specs.declared.finding.Finding.{Finding}
 use Rattle.coincidence_rules.specs.Applied.{MayBeDone, TellsLast}
 use Rattle.coincidence_rules.specs.Places.{numbered}
