@@ -1,10 +1,9 @@
 //! Answers in words, as their lines have them, with commas between.
 
-use anyhow::{Result, bail};
 use face_text::{Answers, MOST_ANSWERS, OpAnswer, OpAnswers, Reply};
 
 /// The answers of a tick that a text spells.
-pub(crate) fn answers_of(text: &str) -> Result<Answers> {
+pub(crate) fn answers_of(text: &str) -> Option<Answers> {
     let mut answers = Answers {
         ops: OpAnswers::new(),
         busy: [0; 8],
@@ -13,52 +12,46 @@ pub(crate) fn answers_of(text: &str) -> Result<Answers> {
     for part in text.split(", ") {
         if part == "store failed" {
             answers.failed = true;
-        } else if let Some(rest) = part.strip_prefix("op ") {
-            push_op(&mut answers.ops, rest)?;
-        } else if let Some((panel, count)) = part.split_once(" busy ") {
-            let Some(busy) = answers
-                .busy
-                .get_mut(panel.parse::<usize>()?.wrapping_sub(1))
-            else {
-                bail!("no panel: {panel}");
-            };
-            *busy = count.parse()?;
+        } else if let Some(answer) = part.strip_prefix("op ") {
+            push_op(&mut answers.ops, answer)?;
         } else {
-            bail!("no answer: {part}");
+            set_busy(&mut answers.busy, part)?;
         }
     }
-    Ok(answers)
+    Some(answers)
 }
 
-fn push_op(ops: &mut OpAnswers, text: &str) -> Result<()> {
-    let Some((number, reply)) = text.split_once(' ') else {
-        bail!("no answer: {text}");
-    };
+fn set_busy(busy: &mut [u64; 8], text: &str) -> Option<()> {
+    let (panel, count) = text.split_once(" busy ")?;
+    let panel: usize = panel.parse().ok()?;
+    *busy.get_mut(panel.wrapping_sub(1))? = count.parse().ok()?;
+    Some(())
+}
+
+fn push_op(ops: &mut OpAnswers, text: &str) -> Option<()> {
+    let (number, reply) = text.split_once(' ')?;
     if ops.as_slice().len() >= MOST_ANSWERS {
-        bail!("too many answers");
+        return None;
     }
     ops.push(OpAnswer {
-        number: number.parse()?,
+        number: number.parse().ok()?,
         reply: reply_of(reply)?,
     });
-    Ok(())
+    Some(())
 }
 
-fn reply_of(text: &str) -> Result<Reply> {
+fn reply_of(text: &str) -> Option<Reply> {
     match text {
-        "done" => Ok(Reply::Done),
-        "waiting" => Ok(Reply::Waiting),
-        "already" => Ok(Reply::Already),
-        "store" => Ok(Reply::Store),
-        _ => match text
-            .strip_prefix("denied needs ")
-            .and_then(|levels| levels.split_once(" has "))
-        {
-            Some((needs, has)) => Ok(Reply::Denied {
-                needs: needs.parse()?,
-                has: has.parse()?,
-            }),
-            None => bail!("no answer: {text}"),
-        },
+        "done" => Some(Reply::Done),
+        "waiting" => Some(Reply::Waiting),
+        "already" => Some(Reply::Already),
+        "store" => Some(Reply::Store),
+        _ => {
+            let (needs, has) = text.strip_prefix("denied needs ")?.split_once(" has ")?;
+            Some(Reply::Denied {
+                needs: needs.parse().ok()?,
+                has: has.parse().ok()?,
+            })
+        }
     }
 }

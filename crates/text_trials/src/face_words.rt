@@ -1,20 +1,19 @@
 //! Faces in words: `nothing`, `everything`, or parts with commas between, which name things by their numbers.
 
-use anyhow::{Result, bail};
 use face_text::Face;
 use site_types::{Buzzer, FaultSet, PointSet, with_bit_8, with_bit_32};
 
 /// The face of a panel that a text spells.
-pub(crate) fn face_of(panel: u8, text: &str) -> Result<Face> {
+pub(crate) fn face_of(panel: u8, text: &str) -> Option<Face> {
     match text {
-        "nothing" => Ok(Face::empty(panel)),
-        "everything" => Ok(whole_face(panel)),
+        "nothing" => Some(Face::empty(panel)),
+        "everything" => Some(whole_face(panel)),
         _ => {
             let mut face = Face::empty(panel);
             for part in text.split(", ") {
                 set_part(&mut face, part)?;
             }
-            Ok(face)
+            Some(face)
         }
     }
 }
@@ -49,10 +48,8 @@ fn whole_face(panel: u8) -> Face {
     }
 }
 
-fn set_part(face: &mut Face, part: &str) -> Result<()> {
-    let Some((word, value)) = part.split_once(' ') else {
-        bail!("no part of a face: {part}");
-    };
+fn set_part(face: &mut Face, part: &str) -> Option<()> {
+    let (word, value) = part.split_once(' ')?;
     match word {
         "zone" => set_zone(&mut face.zones, value),
         "first" => set_zone(&mut face.firsts, value),
@@ -64,21 +61,21 @@ fn set_part(face: &mut Face, part: &str) -> Result<()> {
         "test" => set_number(&mut face.test, value),
         "delays" => {
             face.delays_off = value == "off";
-            Ok(())
+            Some(())
         }
         "buzzer" => {
             face.buzzer = buzzer_of(value)?;
-            Ok(())
+            Some(())
         }
         "counter" => {
-            face.counter = value.parse()?;
-            Ok(())
+            face.counter = value.parse().ok()?;
+            Some(())
         }
         _ => set_fault(&mut face.faults, word, value),
     }
 }
 
-fn set_fault(faults: &mut FaultSet, word: &str, value: &str) -> Result<()> {
+fn set_fault(faults: &mut FaultSet, word: &str, value: &str) -> Option<()> {
     match word {
         "missing" => set_point(&mut faults.missing, value),
         "broken" => set_few(&mut faults.broken, value),
@@ -87,62 +84,54 @@ fn set_fault(faults: &mut FaultSet, word: &str, value: &str) -> Result<()> {
         "silent" => set_few(&mut faults.silent, value),
         "link" => set_few(&mut faults.links, value),
         "unconfirmed" => set_number(&mut faults.unconfirmed, value),
-        _ => bail!("no part of a face: {word}"),
+        _ => None,
     }
 }
 
-fn buzzer_of(value: &str) -> Result<Buzzer> {
+fn buzzer_of(value: &str) -> Option<Buzzer> {
     match value {
-        "off" => Ok(Buzzer::Off),
-        "fault" => Ok(Buzzer::Fault),
-        "fire" => Ok(Buzzer::Fire),
-        _ => bail!("no buzzer: {value}"),
+        "off" => Some(Buzzer::Off),
+        "fault" => Some(Buzzer::Fault),
+        "fire" => Some(Buzzer::Fire),
+        _ => None,
     }
 }
 
 // A number of 1 to 8.
-fn set_few(mask: &mut u8, value: &str) -> Result<()> {
-    match value.parse::<u8>() {
-        Ok(number) if 1 <= number && number <= 8 => {
-            *mask = with_bit_8(*mask, number - 1, true);
-            Ok(())
-        }
-        _ => bail!("no number of 1 to 8: {value}"),
+fn set_few(mask: &mut u8, value: &str) -> Option<()> {
+    let number: u8 = value.parse().ok()?;
+    if number < 1 || number > 8 {
+        return None;
     }
+    *mask = with_bit_8(*mask, number - 1, true);
+    Some(())
 }
 
 // A number of 1 to 32.
-fn set_number(mask: &mut u32, value: &str) -> Result<()> {
-    match value.parse::<u8>() {
-        Ok(number) if 1 <= number && number <= 32 => {
-            *mask = with_bit_32(*mask, number - 1, true);
-            Ok(())
-        }
-        _ => bail!("no number of 1 to 32: {value}"),
+fn set_number(mask: &mut u32, value: &str) -> Option<()> {
+    let number: u8 = value.parse().ok()?;
+    if number < 1 || number > 32 {
+        return None;
     }
+    *mask = with_bit_32(*mask, number - 1, true);
+    Some(())
 }
 
 // A panel and the number of a zone of it, as 2.3.
-fn set_zone(masks: &mut [u32; 8], value: &str) -> Result<()> {
-    let Some((panel, number)) = value.split_once('.') else {
-        bail!("no zone: {value}");
-    };
-    match masks.get_mut(panel.parse::<usize>()?.wrapping_sub(1)) {
-        Some(mask) => set_number(mask, number),
-        None => bail!("no panel: {panel}"),
-    }
+fn set_zone(masks: &mut [u32; 8], value: &str) -> Option<()> {
+    let (panel, number) = value.split_once('.')?;
+    let panel: usize = panel.parse().ok()?;
+    set_number(masks.get_mut(panel.wrapping_sub(1))?, number)
 }
 
 // A loop and an address on it, as 1.192.
-fn set_point(points: &mut PointSet, value: &str) -> Result<()> {
-    let Some((line, address)) = value.split_once('.') else {
-        bail!("no point: {value}");
-    };
-    match (line.parse::<u8>(), address.parse::<u8>()) {
-        (Ok(line), Ok(address)) if 1 <= line && line <= 4 && 1 <= address && address <= 192 => {
-            points.set(line, address, true);
-            Ok(())
-        }
-        _ => bail!("no point: {value}"),
+fn set_point(points: &mut PointSet, value: &str) -> Option<()> {
+    let (line, address) = value.split_once('.')?;
+    let line: u8 = line.parse().ok()?;
+    let address: u8 = address.parse().ok()?;
+    if line < 1 || line > 4 || address < 1 || address > 192 {
+        return None;
     }
+    points.set(line, address, true);
+    Some(())
 }

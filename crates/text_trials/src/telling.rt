@@ -41,7 +41,7 @@ pub(crate) fn tell_failing(rt: &HostRuntime, write: u64, site: &str, faces: &Fac
 
 pub(crate) fn tell_lists(rt: &HostRuntime, site: &str, panel: u8, face: &str) -> Result<()> {
     let site = site_in(rt, site)?;
-    let face = face_of(panel, face)?;
+    let face = face_in(panel, face)?;
     for (name, list) in LISTS {
         let mut out = sink(rt.alloc(), 0)?;
         write_list(&site, &face, list, &mut out)?;
@@ -57,15 +57,25 @@ pub(crate) fn tell_conditions(rt: &HostRuntime, panel: u8, face: &str) -> Result
         fault,
         disabled,
         test,
-    } = face_of(panel, face)?.conditions();
+    } = face_in(panel, face)?.conditions();
     println!(rt; "fire {fire}, fault {fault}, disabled {disabled}, test {test}")?;
     Ok(())
 }
 
 pub(crate) fn tell_answers(rt: &HostRuntime, answers: &str) -> Result<()> {
+    let Some(answers) = answers_of(answers) else {
+        bail!("no such answers");
+    };
     let mut out = sink(rt.alloc(), 0)?;
-    written(write_answers(&answers_of(answers)?, &mut out))?;
+    written(write_answers(&answers, &mut out))?;
     print_written(rt, out)
+}
+
+fn face_in(panel: u8, text: &str) -> Result<Face> {
+    match face_of(panel, text) {
+        Some(face) => Ok(face),
+        None => bail!("no such face: {text}"),
+    }
 }
 
 // A sink of which the write with this number fails, from 1.
@@ -77,8 +87,8 @@ fn sink(alloc: Global, failing: u64) -> Result<MemorySink> {
 }
 
 fn write_faces(site: &Site, faces: &Faces, out: &mut MemorySink) -> Result<()> {
-    let before = face_of(faces.panel, faces.before)?;
-    let after = face_of(faces.panel, faces.after)?;
+    let before = face_in(faces.panel, faces.before)?;
+    let after = face_in(faces.panel, faces.after)?;
     written(write_changes(site, &before, &after, out))
 }
 
