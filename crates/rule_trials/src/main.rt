@@ -1,7 +1,8 @@
-//! Trials of the rules themselves: whole records run by the definitions, through the plain slow program that computes them.
+//! Trials of the rules themselves: whole records run by the definitions, through the plain slow program that computes
+//! them.
 //!
-//! Each line of standard input is a case or a heading, which is empty or begins with `#`. The one kind of case, `run SITE RECORD`, prints the text
-//! of the record at that site. Each is the text that was worked out by hand.
+//! Each line of standard input is a case or a heading, which is empty or begins with `#`. The one kind of case, `run
+//! SITE RECORD`, prints the text of the record at that site. Each is the text that was worked out by hand.
 #![tactic(auto)]
 
 mod case;

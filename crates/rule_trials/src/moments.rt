@@ -7,7 +7,8 @@ use site_types::Site;
 use std::alloc::Global;
 use tick_units::{Order, Seat, Task};
 
-/// The moments of a record: its ticks, each with what befalls and then its turns, in the order that the record gives or else the canonical one.
+/// The moments of a record: its ticks, each with what befalls and then its turns, in the order that the record gives or
+/// else the canonical one.
 pub(crate) fn moments_of(alloc: Global, site: &Site, record: &str) -> Result<Vec<Moment>>
     requires { IsValid site.now }
 {

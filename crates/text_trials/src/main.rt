@@ -1,7 +1,8 @@
 //! Trials of texts: the lines of faces and answers, and texts read back.
 //!
-//! Each line of standard input is a case ([`case`] has their kinds) or a heading, which is empty or begins with `#`. What stands behind a case in the
-//! stored output was worked out by hand. What is read back is compared with a plain program that knows only the words of lines ([`plain_reader`]).
+//! Each line of standard input is a case ([`case`] has their kinds) or a heading, which is empty or begins with `#`.
+//! What stands behind a case in the stored output was worked out by hand. What is read back is compared with a plain
+//! program that knows only the words of lines ([`plain_reader`]).
 #![tactic(auto)]
 
 mod answer_words;

@@ -1,5 +1,6 @@
-//! A plain program that finds the first bad line of a text. It goes by the words of lines alone: it knows of a site only a page, which has the
-//! first line of its texts, and then what each panel may tell, in the order of its page and with what it is at before anything was told.
+//! A plain program that finds the first bad line of a text. It goes by the words of lines alone: it knows of a site
+//! only a page, which has the first line of its texts, and then what each panel may tell, in the order of its page and
+//! with what it is at before anything was told.
 
 use std::alloc::{AllocError, Global};
 
@@ -14,7 +15,8 @@ struct Slot<'a> {
 struct PlainReader<'a> {
     slots: Vec<Slot<'a>>,
     tick: u64,
-    // The part of a tick's lines in which the last one stands (none, pages, answers, busy panels, the store), and its place there.
+    // The part of a tick's lines in which the last one stands (none, pages, answers, busy panels, the store), and its
+    // place there.
     part: u8,
     place: u64,
     answers: u64,
