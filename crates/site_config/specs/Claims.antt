@@ -36,7 +36,10 @@ claims_from claim place (x ∷ rest) = claim place x ∷ claims_from claim (plac
 -- the claims of a draft in the order of the page, each with what is kept of its place
 abbrev pub claims_by : (ℕ → ℕ) → Draft → List Claim
 claims_by keep draft =
-    claims_from (λ place. zone_claim (keep place)) 0 draft.zones ++ claims_from (λ place. point_claim (keep place)) 0 draft.points ++ claims_from (λ place. output_claim (keep place)) 0 draft.outputs ++ claims_from (λ place. marker_claim (keep place)) 0 draft.markers
+    claims_from (λ place. zone_claim (keep place)) 0 draft.zones
+    ++ claims_from (λ place. point_claim (keep place)) 0 draft.points
+    ++ claims_from (λ place. output_claim (keep place)) 0 draft.outputs
+    ++ claims_from (λ place. marker_claim (keep place)) 0 draft.markers
 
 -- the claims of a draft, each with its place
 unfoldable pub claims_of : Draft → List Claim
