@@ -1,5 +1,5 @@
 -- What reports, events and turns make of a panel and of the system, whatever they stood for.
-use Rattle.std.specs.Prelude.{◌≡◌, ℕ, Bool, true, false, List, ◌∷◌, slice_get}
+use Rattle.std.specs.Prelude.{◌≡◌, ℕ, true, false, List, ◌∷◌, slice_get}
 use Rattle.tick_units.specs.declared.seat.Seat.{Seat}
 use Rattle.tick_units.specs.declared.task.Task.{Task}
 use Rattle.site_types.specs.declared.event.Event.{Event}
