@@ -11,7 +11,7 @@ use Rattle.site_types.specs.declared.site.Site.{Site}
 use Rattle.panel_rules.specs.Moments.{Moment, Began, Happened, Turned, IsRun, and_turns, tick_of}
 use Rattle.panel_core.specs.declared.parts.Parts.{Parts}
 use Rattle.panel_core.specs.declared.system.System.{System}
-use Rattle.panel_core.specs.Reports.{stands_at}
+use Rattle.panel_rules.specs.Reports.{is_on_panel}
 use Rattle.panel_core.specs.Stands.{PanelStands, StandsFor}
 
 -- ---- a panel
@@ -20,7 +20,7 @@ use Rattle.panel_core.specs.Stands.{PanelStands, StandsFor}
 abbrev pub HearsPoint : Parts → ℕ → PointState → Parts → Type 0
 HearsPoint old point state parts =
     (site : Site) (kept : Retained) (panel : ℕ) (before : List Moment)
-    → PanelStands site kept panel before old → stands_at panel (slice_get site.points point) ≡ true
+    → PanelStands site kept panel before old → is_on_panel panel (slice_get site.points point) ≡ true
     → PanelStands site kept panel (Happened (Point point state) ∷ before) parts
 
 -- a report came on a piece of cable of the panel

@@ -1,4 +1,3 @@
-pub mod Reports
 pub mod Lanes
 pub mod Turns
 pub mod Stands

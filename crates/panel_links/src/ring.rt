@@ -1,7 +1,8 @@
 ghost use Rattle.std.specs.Prelude.{◌≡◌, ◌+◌, ◌≤◌, ◌<◌, ◌==◌, ◌&&◌, [], ◌∷◌, List, ℕ, length, nat_le, slice_index_or};
 ghost use Rattle.std.specs.Prelude.{if◌then◌else◌};
 ghost use Rattle.site_types.specs.Bits.{mask_of};
-ghost use Rattle.panel_links.specs.Words.{Call, Linked, Took, IsHeard, IsNewest, OwnStampsRise, empty_word, group_of};
+ghost use Rattle.panel_links.specs.Words.{Call, Linked, Took, IsHeard, IsNewest, OwnStampsRise, group_of};
+ghost use Rattle.site_types.specs.Words.{empty_word};
 ghost use Rattle.panel_links.specs.Words.{left_of, right_of};
 ghost use Rattle.panel_links.specs.Kept.{kept_word, newest};
 ghost use Rattle.panel_links.specs.Frames.{after_frame, group_words};

@@ -25,7 +25,7 @@ use Rattle.panel_rules.specs.Counts.{taken_by_hold}
 use Rattle.panel_rules.specs.Zones.{held_answers}
 use Rattle.panel_rules.specs.Kept.{made_at}
 use Rattle.panel_rules.specs.Due.{reached_at}
-use Rattle.panel_rules.specs.Laid.{PointLies}
+use Rattle.panel_rules.proofs.LaidOut.{PointLies}
 use Rattle.panel_rules.specs.FaceLaws.{HasEnded}
 use Rattle.panel_rules.specs.OtherDeadlines.{IsAway, AwayIsMissing}
 use Rattle.panel_rules.proofs.Bools.{both, parts, not_true}

@@ -8,7 +8,8 @@ use Rattle.site_types.proofs.Masks.{has_bit-mask}
 use Rattle.panel_rules.specs.Moments.{Moment, Began, Happened, Turned, Kept, tick_of, IsPanel, IsRun, IsPast, present, later, up_to}
 use Rattle.panel_rules.specs.States.{is_up}
 use Rattle.panel_rules.specs.Ring.{links_between, link_on}
-use Rattle.panel_rules.specs.Kept.{carries, above, below, made_at, taken_over, kept_at, heard}
+use Rattle.panel_links.specs.Words.{carries, left_of, right_of}
+use Rattle.panel_rules.specs.Kept.{made_at, taken_over, kept_at, heard}
 use Rattle.panel_rules.specs.OtherDeadlines.{CutOffIsSilent}
 use Rattle.panel_rules.proofs.Bools.{both}
 use Rattle.panel_rules.proofs.Floors.{lt_to}
@@ -16,7 +17,7 @@ use Rattle.panel_rules.proofs.Turns.{past_on, tick_rises}
 use Rattle.panel_rules.proofs.Stays.{state_stays}
 use Rattle.panel_rules.proofs.Heard.{link_by_events}
 use Rattle.panel_rules.proofs.KeptWords.{made_is, heard_past, latest_by}
-use Rattle.panel_rules.proofs.Ways.{low, high, wraps, up_from, up_ends, up_step}
+use Rattle.panel_rules.proofs.Ways.{low, high, wraps, right_wraps, up_from, up_member, up_ends, up_step}
 use Rattle.panel_rules.proofs.OwnTick.{made_now}
 
 -- what is taken is one of the two, and nothing where the link is down
@@ -28,12 +29,13 @@ taken_at_most false carried one other n l k = l
 -- ---- the panels beyond the cuts
 
 -- one step further up
-above_step : (panels from step : ℕ) → IsPanel panels from → suc step < panels → above panels (up_from panels from step) ≡ up_from panels from (suc step)
+above_step : (panels from step : ℕ) → IsPanel panels from → suc step < panels → right_of panels (up_from panels from step) ≡ up_from panels from (suc step)
 above_step panels from step f l =
-    elim (wraps (from + step - 1) panels (omega (arith, f.1, l))) [
+    right_wraps panels (up_from panels from step) (up_member panels from step f (omega (arith, l)))
+    ∙ (elim (wraps (from + step - 1) panels (omega (arith, f.1, l))) [
       | low s e ↦ again ((from + step - 1) % panels) (omega (arith, s, e)) (inl (omega (arith, e, f.0)))
       | high s e b ↦ again ((from + step - 1) % panels) b (inr (omega (arith, e, f.0)))
-    ]
+    ])
   where
     again : (y : ℕ) → y < panels → (y + 1 ≡ from + step) ⊎ (y + panels + 1 ≡ from + step) → (y + 1) % panels + 1 ≡ (from + suc step - 1) % panels + 1
     again y small is =
@@ -108,7 +110,7 @@ module _ (panels source : ℕ) (s : IsPanel panels source) (whole : List Moment)
 
   -- a turn of Link of a panel beyond them
   turn : (who step : ℕ) (before : List Moment) → who ≡ up_from panels source step → IsPast (Turned who Link ∷ before) whole → one < step → step ≤ last → ((k : ℕ) → one < k → k ≤ last → heard panels (up_from panels source k) source before + 1 ≤ first)
-      → tick_of (taken_over (is_up (up_from panels source step) before) (carries panels (tick_of before) source) (taken_over (is_up (below panels (up_from panels source step)) before) (carries panels (tick_of before) source) (if up_from panels source step == source then made_at (up_from panels source step) before else kept_at panels (up_from panels source step) source before) (kept_at panels (below panels (up_from panels source step)) source before)) (kept_at panels (above panels (up_from panels source step)) source before)) + 1 ≤ first
+      → tick_of (taken_over (is_up (up_from panels source step) before) (carries panels (tick_of before) source) (taken_over (is_up (left_of panels (up_from panels source step)) before) (carries panels (tick_of before) source) (if up_from panels source step == source then made_at (up_from panels source step) before else kept_at panels (up_from panels source step) source before) (kept_at panels (left_of panels (up_from panels source step)) source before)) (kept_at panels (right_of panels (up_from panels source step)) source before)) + 1 ≤ first
   turn who step before is past a b ih =
       elim (leb_tells first (tick_of before)) [
         | inl h ↦ late h.1
@@ -131,24 +133,24 @@ module _ (panels source : ℕ) (s : IsPanel panels source) (whole : List Moment)
       mine : tick_of (if up_from panels source step == source then made_at (up_from panels source step) before else kept_at panels (up_from panels source step) source before) + 1 ≤ first
       mine = let e = ap (λ w. tick_of w) own in let h = ih step a b in omega (arith, e, h)
 
-      early : tick_of before < first → tick_of (taken_over (is_up (up_from panels source step) before) (carries panels (tick_of before) source) (taken_over (is_up (below panels (up_from panels source step)) before) (carries panels (tick_of before) source) (if up_from panels source step == source then made_at (up_from panels source step) before else kept_at panels (up_from panels source step) source before) (kept_at panels (below panels (up_from panels source step)) source before)) (kept_at panels (above panels (up_from panels source step)) source before)) + 1 ≤ first
+      early : tick_of before < first → tick_of (taken_over (is_up (up_from panels source step) before) (carries panels (tick_of before) source) (taken_over (is_up (left_of panels (up_from panels source step)) before) (carries panels (tick_of before) source) (if up_from panels source step == source then made_at (up_from panels source step) before else kept_at panels (up_from panels source step) source before) (kept_at panels (left_of panels (up_from panels source step)) source before)) (kept_at panels (right_of panels (up_from panels source step)) source before)) + 1 ≤ first
       early l =
-          let down = any (below panels (up_from panels source step)) in
-          let up = any (above panels (up_from panels source step)) in
+          let down = any (left_of panels (up_from panels source step)) in
+          let up = any (right_of panels (up_from panels source step)) in
           let e = ap (λ w. tick_of w) own in
           let self = any (up_from panels source step) in
-          let inner = taken_at_most (is_up (below panels (up_from panels source step)) before) (carries panels (tick_of before) source) (if up_from panels source step == source then made_at (up_from panels source step) before else kept_at panels (up_from panels source step) source before) (kept_at panels (below panels (up_from panels source step)) source before) (tick_of before) (omega (arith, e, self)) (λ u. down) in
-          let outer = taken_at_most (is_up (up_from panels source step) before) (carries panels (tick_of before) source) (taken_over (is_up (below panels (up_from panels source step)) before) (carries panels (tick_of before) source) (if up_from panels source step == source then made_at (up_from panels source step) before else kept_at panels (up_from panels source step) source before) (kept_at panels (below panels (up_from panels source step)) source before)) (kept_at panels (above panels (up_from panels source step)) source before) (tick_of before) inner (λ u. up) in
+          let inner = taken_at_most (is_up (left_of panels (up_from panels source step)) before) (carries panels (tick_of before) source) (if up_from panels source step == source then made_at (up_from panels source step) before else kept_at panels (up_from panels source step) source before) (kept_at panels (left_of panels (up_from panels source step)) source before) (tick_of before) (omega (arith, e, self)) (λ u. down) in
+          let outer = taken_at_most (is_up (up_from panels source step) before) (carries panels (tick_of before) source) (taken_over (is_up (left_of panels (up_from panels source step)) before) (carries panels (tick_of before) source) (if up_from panels source step == source then made_at (up_from panels source step) before else kept_at panels (up_from panels source step) source before) (kept_at panels (left_of panels (up_from panels source step)) source before)) (kept_at panels (right_of panels (up_from panels source step)) source before) (tick_of before) inner (λ u. up) in
           omega (arith, outer, l)
 
       -- what the panel below has comes only over a link that is up, and then it is beyond the first cut too
-      from_below : first ≤ tick_of before → is_up (below panels (up_from panels source step)) before ≡ true → heard panels (below panels (up_from panels source step)) source before + 1 ≤ first
+      from_below : first ≤ tick_of before → is_up (left_of panels (up_from panels source step)) before ≡ true → heard panels (left_of panels (up_from panels source step)) source before + 1 ≤ first
       from_below l up = go step a b refl up
         where
-          go : (k : ℕ) → one < k → k ≤ last → k ≡ step → is_up (below panels (up_from panels source step)) before ≡ true → heard panels (below panels (up_from panels source step)) source before + 1 ≤ first
+          go : (k : ℕ) → one < k → k ≤ last → k ≡ step → is_up (left_of panels (up_from panels source step)) before ≡ true → heard panels (left_of panels (up_from panels source step)) source before + 1 ≤ first
           go zero c d e u = absurd (omega (arith, c))
           go (suc k) c d e u =
-              let down : below panels (up_from panels source step) ≡ up_from panels source k = ap (λ x. below panels (up_from panels source x)) (sym e) ∙ up_step panels source k s (omega (arith, d, few)) in
+              let down : left_of panels (up_from panels source step) ≡ up_from panels source k = ap (λ x. left_of panels (up_from panels source x)) (sym e) ∙ up_step panels source k s (omega (arith, d, few)) in
               elim (eqb_tells k one) [
                 | inl t ↦ absurd (no_link (up_from panels source one) (up_from panels source step) before past' l one_down (ap (λ x. is_up (up_from panels source x) before) (sym t.1) ∙ ap (λ x. is_up x before) (sym down) ∙ u))
                 | inr t ↦ subst (λ q. heard panels q source before + 1 ≤ first) (sym down) (ih k (apart k t.1 c) (omega (arith, d)))
@@ -158,7 +160,7 @@ module _ (panels source : ℕ) (s : IsPanel panels source) (whole : List Moment)
               apart k n c = elim (leb_tells k one) [ inl h ↦ (let m = h.1 in absurd (n (omega (arith, m, c)))) | inr h ↦ h.1 ]
 
       -- the same of the panel above and the last cut
-      from_above : first ≤ tick_of before → is_up (up_from panels source step) before ≡ true → heard panels (above panels (up_from panels source step)) source before + 1 ≤ first
+      from_above : first ≤ tick_of before → is_up (up_from panels source step) before ≡ true → heard panels (right_of panels (up_from panels source step)) source before + 1 ≤ first
       from_above l up =
           elim (eqb_tells step last) [
             | inl t ↦ absurd (no_link (up_from panels source last) (up_from panels source step) before past' l last_down (ap (λ x. is_up (up_from panels source x) before) (sym t.1) ∙ up))
@@ -170,10 +172,10 @@ module _ (panels source : ℕ) (s : IsPanel panels source) (whole : List Moment)
           apart : (step ≡ last → ⊥) → step ≤ last → suc step ≤ last
           apart n c = elim (leb_tells last step) [ inl h ↦ (let m = h.1 in absurd (n (omega (arith, m, c)))) | inr h ↦ (let m = h.1 in omega (arith, m)) ]
 
-      late : first ≤ tick_of before → tick_of (taken_over (is_up (up_from panels source step) before) (carries panels (tick_of before) source) (taken_over (is_up (below panels (up_from panels source step)) before) (carries panels (tick_of before) source) (if up_from panels source step == source then made_at (up_from panels source step) before else kept_at panels (up_from panels source step) source before) (kept_at panels (below panels (up_from panels source step)) source before)) (kept_at panels (above panels (up_from panels source step)) source before)) + 1 ≤ first
+      late : first ≤ tick_of before → tick_of (taken_over (is_up (up_from panels source step) before) (carries panels (tick_of before) source) (taken_over (is_up (left_of panels (up_from panels source step)) before) (carries panels (tick_of before) source) (if up_from panels source step == source then made_at (up_from panels source step) before else kept_at panels (up_from panels source step) source before) (kept_at panels (left_of panels (up_from panels source step)) source before)) (kept_at panels (right_of panels (up_from panels source step)) source before)) + 1 ≤ first
       late l =
-          let inner = taken_at_most (is_up (below panels (up_from panels source step)) before) (carries panels (tick_of before) source) (if up_from panels source step == source then made_at (up_from panels source step) before else kept_at panels (up_from panels source step) source before) (kept_at panels (below panels (up_from panels source step)) source before) (first - 1) (let h = mine in omega (arith, h)) (λ u. (let h = from_below l u in omega (arith, h))) in
-          let outer = taken_at_most (is_up (up_from panels source step) before) (carries panels (tick_of before) source) (taken_over (is_up (below panels (up_from panels source step)) before) (carries panels (tick_of before) source) (if up_from panels source step == source then made_at (up_from panels source step) before else kept_at panels (up_from panels source step) source before) (kept_at panels (below panels (up_from panels source step)) source before)) (kept_at panels (above panels (up_from panels source step)) source before) (first - 1) inner (λ u. (let h = from_above l u in omega (arith, h))) in
+          let inner = taken_at_most (is_up (left_of panels (up_from panels source step)) before) (carries panels (tick_of before) source) (if up_from panels source step == source then made_at (up_from panels source step) before else kept_at panels (up_from panels source step) source before) (kept_at panels (left_of panels (up_from panels source step)) source before) (first - 1) (let h = mine in omega (arith, h)) (λ u. (let h = from_below l u in omega (arith, h))) in
+          let outer = taken_at_most (is_up (up_from panels source step) before) (carries panels (tick_of before) source) (taken_over (is_up (left_of panels (up_from panels source step)) before) (carries panels (tick_of before) source) (if up_from panels source step == source then made_at (up_from panels source step) before else kept_at panels (up_from panels source step) source before) (kept_at panels (left_of panels (up_from panels source step)) source before)) (kept_at panels (right_of panels (up_from panels source step)) source before) (first - 1) inner (λ u. (let h = from_above l u in omega (arith, h))) in
           omega (arith, outer, begins)
 
   -- beyond the two links nothing newer is heard

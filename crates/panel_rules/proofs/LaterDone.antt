@@ -6,7 +6,8 @@ use Rattle.tick_units.specs.declared.task.Task.{Task}
 use Rattle.tick_units.specs.declared.task.Task.TheVariants.{Poll, Decide, Supply, Desk, Hold, Link, Effect, Drive, Keep}
 use Rattle.site_types.specs.declared.retained.Retained.{Retained}
 use Rattle.site_types.specs.declared.site.Site.{Site}
-use Rattle.site_types.specs.Done.{Done, AreFrom}
+use Rattle.site_types.specs.Done.{Done}
+use Rattle.site_types.proofs.LaterDone.{AreFrom}
 use Rattle.coincidence_rules.proofs.Later.{in_alarm-later, zones_same}
 use Rattle.coincidence_rules.proofs.Seconds.{AreUpTo}
 use Rattle.panel_rules.specs.Answers.{answers}

@@ -9,6 +9,7 @@ pub mod Lags
 pub mod Stays
 pub mod Rounds
 pub mod Told
+pub mod Reports
 pub mod Floors
 pub mod Held
 pub mod Pairing
@@ -74,3 +75,4 @@ pub mod FewAnswers
 pub mod AnswersRise
 pub mod TimelineForms
 pub mod EventsOfSite
+pub mod LaidOut

@@ -1,11 +1,10 @@
 -- The run in two orders, computed.
 use Rattle.std.proofs.Common.{refl}
 use Rattle.panel_rules.specs.AlarmExamples.{GoesSlowly}
-use Rattle.site_types.specs.Bits.{mask_of}
+use Rattle.site_types.specs.Bits.{any_below, mask_of}
 use Rattle.coincidence_rules.specs.Places.{zones_where}
 use Rattle.loop_poller.specs.Asked.{asked_in}
 use Rattle.panel_conditions.specs.Points.{addresses_where, points_where}
-use Rattle.panel_conditions.specs.Shown.{any_below}
 use Rattle.panel_rules.specs.Outputs.{outputs_where}
 use Rattle.panel_rules.specs.Run.{tells_to}
 use Rattle.panel_rules.specs.RunExamples.{ZoneInBothOrders, CountInBothOrders, OutputInBothOrders, BuzzerInBothOrders, ResetInBothOrders}

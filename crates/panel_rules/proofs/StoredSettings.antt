@@ -14,8 +14,9 @@ use Rattle.site_types.specs.declared.zone.Zone.{Zone as ZonePlan}
 use Rattle.site_types.specs.declared.output.Output.{Output as OutputPlan}
 use Rattle.site_types.specs.declared.retained.Retained.{Retained}
 use Rattle.site_types.specs.declared.site.Site.{Site}
-use Rattle.site_types.specs.Changes.{IsPanelNumber, IsSized, HasOwnPlaces, KeepsInForce, changed, changed_by, item_change, point_change, zone_change, output_change, test_change, operation_change}
-use Rattle.site_types.specs.Done.{Done, Setting, is_kept_operation, operation_setting, AreBy}
+use Rattle.site_types.specs.Changes.{IsPanelNumber, IsSized, HasOwnPlaces, changed, changed_by, item_change, point_change, zone_change, output_change, test_change, operation_change}
+use Rattle.site_types.proofs.Keeping.{KeepsInForce}
+use Rattle.site_types.specs.Done.{Done, Setting, operation_setting, AreBy, is_kept_operation}
 use Rattle.site_types.specs.Events.{has_operands, has_item, is_some_with}
 use Rattle.site_types.specs.Valid.{IsValid}
 use Rattle.site_types.proofs.Changes.{can_apply, sized-changed, changed_by-append}

@@ -9,7 +9,7 @@ use Rattle.face_text.specs.declared.face.Face.{Face}
 use Rattle.face_text.specs.Timelines.{AreAnswers, HasAnswer, IsInForm, of_site}
 use Rattle.panel_rules.specs.Moments.{Moment, IsRun, IsPanel, up_to}
 use Rattle.panel_rules.specs.OperationLaws.{AreOfSite}
-use Rattle.panel_rules.specs.Timeline.{face_of, faces_of, is_told, step_of, timeline_of}
+use Rattle.panel_rules.specs.Timeline.{face_of, faces_of, is_told, step_of, text_of_run, timeline_of}
 
 -- there is one face for each panel, in the order of panels
 abbrev pub FacesAreByPanel : Type 0
@@ -46,3 +46,11 @@ ToldTicksTell =
 -- the timeline of such a run is in form
 abbrev pub TimelineIsInForm : Type 0
 TimelineIsInForm = (site : Site) (kept : Retained) (moments : List Moment) → CanBeTold site kept moments → IsInForm site (timeline_of site kept moments)
+
+-- the text of such a run tells its timeline: two runs of a site that have one text have one timeline
+abbrev pub TextsTellTimelines : Type 0
+TextsTellTimelines =
+    (site : Site) (kept other_kept : Retained) (moments others : List Moment)
+    → CanBeTold site kept moments → CanBeTold site other_kept others
+    → text_of_run site kept moments ≡ text_of_run site other_kept others
+    → timeline_of site kept moments ≡ timeline_of site other_kept others

@@ -6,9 +6,9 @@ pub mod StoringLaws
 pub mod Records
 pub mod Reached
 pub mod Answers
+pub mod Reports
 pub mod Counts
 pub mod Lanes
-pub mod Laid
 pub mod Zones
 pub mod Operations
 pub mod Batches

@@ -1,4 +1,4 @@
-ghost use Rattle.panel_rules.specs.FormLaws.{AnswersRise, CountersHaveAnEnd, FacesAreByPanel, FacesAreOfSite, TimelineIsInForm, ToldTicksTell};
+ghost use Rattle.panel_rules.specs.FormLaws.{AnswersRise, CountersHaveAnEnd, FacesAreByPanel, FacesAreOfSite, TextsTellTimelines, TimelineIsInForm, ToldTicksTell};
 
 /// There is one face for each panel, in the order of panels.
 pub fn faces_are_by_panel()
@@ -28,4 +28,9 @@ pub fn told_ticks_tell()
 /// **The timeline of a run is in form**: faces of all panels with things of the site alone, steps that rise and tell something, answers by number.
 pub fn timeline_is_in_form()
     ensures { TimelineIsInForm }
+{}
+
+/// The text of a run tells its timeline: two runs of a site that have one text have one timeline.
+pub fn texts_tell_timelines()
+    ensures { TextsTellTimelines }
 {}

@@ -41,8 +41,8 @@ pub use faces::{
     lone_zone_is_shown, shown_output_is_caused, shown_zone_is_caused,
 };
 pub use forms::{
-    answers_rise, counters_have_an_end, faces_are_by_panel, faces_are_of_site, timeline_is_in_form,
-    told_ticks_tell,
+    answers_rise, counters_have_an_end, faces_are_by_panel, faces_are_of_site,
+    texts_tell_timelines, timeline_is_in_form, told_ticks_tell,
 };
 pub use lanes::{lanes_hold_few, lanes_keep_their_tick, taken_by_the_next_tick};
 pub use markers::{one_solution, solution_solves};

@@ -57,7 +57,7 @@ ghost use Rattle.std.specs.List.{range_with_len};
 ghost use Rattle.site_types.specs.declared.retained.Retained.{Retained as RetainedOf};
 ghost use Rattle.site_types.specs.Done.{Done as DoneOf};
 ghost use Rattle.site_types.specs.Limits.{most_panels};
-ghost use Rattle.panel_links.specs.Words.{empty_word};
+ghost use Rattle.site_types.specs.Words.{empty_word};
 ghost use Rattle.panel_rules.specs.Faces.{shown_word};
 
 // The zones in alarm that a panel shows, by panel.

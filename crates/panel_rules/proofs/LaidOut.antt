@@ -4,8 +4,8 @@ use Rattle.site_types.specs.declared.point.Point.{Point}
 use Rattle.site_types.specs.declared.site.Site.{Site}
 use Rattle.site_types.specs.declared.zone.Zone.{Zone}
 use Rattle.site_types.specs.Profile.{last_address_of}
-use Rattle.panel_rules.specs.Moments.{IsPanel}
 use Rattle.loop_poller.specs.Asked.{point_at}
+use Rattle.panel_rules.specs.Moments.{IsPanel}
 use Rattle.panel_rules.specs.Zones.{panel_of_zone}
 
 -- a point stands alone at its address, within its loop's round, at the panel of its zone

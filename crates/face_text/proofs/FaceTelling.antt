@@ -1,18 +1,27 @@
 -- What changes make of the faces of a site: the laws on which reading a text rests, for one panel.
-use Rattle.std.specs.Prelude.{◌≡◌, ◌≢◌, ◌<◌, ◌==◌, ℕ, not, List, [], ◌∷◌, ◌++◌, filter, map}
 use Rattle.std.specs.List.{AllByRecursion, flat_map}
+use Rattle.std.specs.Prelude.{IsTrue, ℕ, ◌<◌, ◌≡◌, ◌≤◌, List, filter, map, not, ◌++◌, ◌==◌, ◌∷◌, ◌≢◌, []}
 use Rattle.site_types.specs.declared.site.Site.{Site}
 use Rattle.face_text.specs.declared.change.Change.{Change}
-use Rattle.face_text.specs.declared.change.Change.TheVariants.{Thing as ThingChange, Delays as DelaysChange, Buzzer as BuzzerChange, Counter as CounterChange}
+use Rattle.face_text.specs.declared.change.Change.TheVariants.{Buzzer as BuzzerChange, Counter as CounterChange, Delays as DelaysChange, Thing as ThingChange}
 use Rattle.face_text.specs.declared.face.Face.{Face}
 use Rattle.face_text.specs.Changes.{changes_text}
-use Rattle.face_text.specs.Entries.{IsChange, slot_of, slot_rank, value_of}
+use Rattle.face_text.specs.Entries.{slot_rank, IsChange, slot_of, value_of}
 use Rattle.face_text.specs.Faces.{empty_face}
-use Rattle.face_text.specs.Slots.{Slot, Thing, Delays, Sounding, Count, line_of, shows, slots, value_in}
-use Rattle.face_text.specs.Telling.{IsSameBehind, IsSlotOf, face_told}
+use Rattle.face_text.specs.Slots.{Count, Delays, HasPlace, Slot, Sounding, Thing, is_named, last_of, name_in, value_in, line_of, shows, slots}
+use Rattle.face_text.specs.Telling.{face_told}
 use Rattle.face_text.specs.Timelines.{IsFaceOf}
 
--- ---- the changes from one face to another
+-- the page of a panel has a slot: of a thing that the site has, or of delays, buzzer or counter
+abbrev pub IsSlotOf : Site → ℕ → Slot → Type 0
+IsSlotOf site panel (Thing group number) = HasPlace group × (1 ≤ number) × (number ≤ last_of group) × IsTrue (is_named (name_in site panel group number))
+IsSlotOf site panel Delays = Unit {0}
+IsSlotOf site panel Sounding = Unit {0}
+IsSlotOf site panel Count = Unit {0}
+
+-- two faces of a panel differ in no slot of its page behind a place of the page
+abbrev pub IsSameBehind : Site → ℕ → ℕ → Face → Face → Type 0
+IsSameBehind site panel rank one other = (slot : Slot) → IsSlotOf site panel slot → rank < slot_rank slot → value_in one slot ≡ value_in other slot
 
 -- the change that tells what a slot is in a face
 abbrev pub change_to : Face → Slot → Change
@@ -43,8 +52,6 @@ abbrev pub AreNews : ℕ → Face → List Change → Type 0
 AreNews rank face [] = Unit {0}
 AreNews rank face (change ∷ changes) =
     (rank < slot_rank (slot_of change)) × (value_in face (slot_of change) ≢ value_of change) × AreNews (slot_rank (slot_of change)) (face_told face change) changes
-
--- ---- the laws
 
 -- what a change tells is so afterwards, and nothing else of the page is otherwise
 pub record TellsThisAlone : Type 0 where
