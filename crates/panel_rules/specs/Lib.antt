@@ -2,7 +2,6 @@ pub mod Moments
 pub mod Latest
 pub mod States
 pub mod Storing
-pub mod StoringLaws
 pub mod Records
 pub mod Reached
 pub mod Answers
@@ -15,8 +14,6 @@ pub mod Batches
 pub mod Ring
 pub mod Kept
 pub mod Words
-pub mod HeardWords
-pub mod MarkerLaws
 pub mod Markers
 pub mod Outputs
 pub mod Faults
@@ -28,20 +25,5 @@ pub mod DueOutputs
 pub mod Caused
 pub mod CausedOutputs
 pub mod Laws
-pub mod OperationLaws
 pub mod WordLaws
 pub mod OutputLaws
-pub mod OutputDeadlines
-pub mod FaceLaws
-pub mod OtherDeadlines
-pub mod ShownOutputs
-pub mod ShownSettings
-pub mod TimelineLaws
-pub mod BatchLaws
-pub mod BatchFits
-pub mod ProfileLaws
-pub mod FormLaws
-pub mod Examples
-pub mod OutputExamples
-pub mod AlarmExamples
-pub mod RunExamples
