@@ -10,7 +10,8 @@ use Rattle.plain_panel.specs.declared.entering.Entering.{Entering}
 use Rattle.plain_panel.specs.Askings.{AsksSome, StandsForAsking}
 
 -- the entries of a panel of a site after a history, where some operations were done
-pub record StandsForEntering (site : Site) (kept : Retained) (done : List Done) (panel : ℕ) (history : List Moment) (entering : Entering) : Type 0 where
+pub record StandsForEntering (site : Site) (kept : Retained) (done : List Done) (panel : ℕ) (history :
+    List Moment) (entering : Entering) : Type 0 where
   pub own : entering.panel ≡ panel
   pub asks : StandsForAsking site panel history entering.asking
   pub latest : entering.held_at.0 ≡ latest_turn panel Hold history
@@ -23,7 +24,8 @@ EntersSome site entering = AsksSome site entering.asking
 -- those of some panels, by number from a first on
 abbrev pub AllEnter : Site → Retained → List Done → List Moment → ℕ → List Entering → Type 0
 AllEnter site kept done history first [] = Unit {0}
-AllEnter site kept done history first (entering ∷ rest) = StandsForEntering site kept done first history entering × AllEnter site kept done history (first + 1) rest
+AllEnter site kept done history first (entering ∷ rest) =
+    StandsForEntering site kept done first history entering × AllEnter site kept done history (first + 1) rest
 
 -- a panel with a place among some from 1 on
 abbrev pub IsAmong : List Entering → ℕ → Type 0
@@ -35,6 +37,7 @@ AllAsk site [] = Unit {0}
 AllAsk site (entering ∷ rest) = EntersSome site entering × AllAsk site rest
 
 -- those of all panels of the site
-pub record AreEntering (site : Site) (kept : Retained) (done : List Done) (history : List Moment) (panels : List Entering) : Type 0 where
+pub record AreEntering (site : Site) (kept : Retained) (done : List Done) (history : List Moment) (panels :
+    List Entering) : Type 0 where
   pub all : AllEnter site kept done history 1 panels
   pub count : length panels ≡ site.panels

@@ -15,7 +15,8 @@ use Rattle.plain_panel.specs.Desks.{StandsForDesk}
 use Rattle.plain_panel.specs.Standings.{StandsForStanding}
 
 -- the desk, what stands with the operations that it has done, and what is kept by then
-pub record StandsForKeeping (site : Site) (kept : Retained) (history : List Moment) (keeping : Keeping) : Type 0 where
+pub record StandsForKeeping (site : Site) (kept : Retained) (history : List Moment) (keeping : Keeping) :
+    Type 0 where
   pub desk : StandsForDesk site kept history keeping.desk
   pub standing : StandsForStanding site kept (operations site kept history).done history keeping.standing
   pub stored : keeping.stored ≡ kept_after site kept history

@@ -5,4 +5,5 @@ use Rattle.panel_rules.specs.Operations.{Request, Answered}
 
 -- as a timeline has it, for any site and whatever is kept
 abbrev pub answer_given : ℕ → List Answered → Request → Option Answered
-answer_given tick answers request = find (λ (a : Answered). (a.request.number == request.number) && (a.tick == tick)) answers
+answer_given tick answers request =
+    find (λ (a : Answered). (a.request.number == request.number) && (a.tick == tick)) answers

@@ -21,7 +21,10 @@ pub fn answers_now(
     answers: &[OpAnswered],
     tick: Tick,
 ) -> Result<Vec<OpAnswered>, NoMemory>
-    ensures { IfOk result (λ now. (site : SiteOf) (kept : RetainedOf) → map answered_of now.items ≡ filter_map (answer_in site kept tick.0 (all_answered answers.now)) (all_requests requests.now)) }
+    ensures { IfOk result (λ now. (site : SiteOf) (kept : RetainedOf)
+        → map answered_of now.items
+        ≡ filter_map (answer_in site kept tick.0 (all_answered answers.now))
+        (all_requests requests.now)) }
 {
     let mut now = Vec::new(alloc);
     for request in requests {
@@ -63,13 +66,15 @@ pub fn told(now: &[OpAnswered], failed: bool) -> Result<Answers, NoMemory>
 }
 
 ghost use Rattle.std.specs.Prelude.{◌==◌, ◌&&◌, ◌+◌, ◌<◌, ◌^◌, Some, if◌then◌else◌, option_map};
-ghost use Rattle.panel_rules.specs.Timeline.{busy_count as busy_count_of, is_busy as is_busy_reply, told_answer as told_answer_of, told_reply as told_reply_of};
+ghost use Rattle.panel_rules.specs.Timeline.{busy_count as busy_count_of, is_busy as is_busy_reply};
+ghost use Rattle.panel_rules.specs.Timeline.{told_answer as told_answer_of, told_reply as told_reply_of};
 ghost use Rattle.plain_panel.specs.Desks.{reply_of, request_of};
 ghost use Rattle.plain_panel.specs.Tellings.{answer_given};
 
 // The last answer to a request that was given in a tick.
 fn last_answer(request: &Request, answers: &[OpAnswered], tick: Tick) -> Option<OpAnswered>
-    ensures { option_map answered_of result ≡ answer_given tick.0 (all_answered answers.now) (request_of request.now) }
+    ensures { option_map answered_of result ≡ answer_given tick.0 (all_answered answers.now)
+        (request_of request.now) }
 {
     let mut found = None;
     for answered in answers {
@@ -84,7 +89,10 @@ fn found_after(
     answered: &OpAnswered,
     before: Option<OpAnswered>,
 ) -> Option<OpAnswered>
-    ensures { option_map answered_of result ≡ (if (answered.now.request.number == request.now.number) && (answered.now.tick.0 == tick.0) then Some (answered_of answered.now) else option_map answered_of before) }
+    ensures { option_map answered_of result
+        ≡ (if (answered.now.request.number == request.now.number)
+        && (answered.now.tick.0 == tick.0) then Some (answered_of answered.now) else option_map
+        answered_of before) }
 {
     if answered.request.number == request.number && answered.tick.0 == tick.0 {
         Some(*answered)
@@ -132,7 +140,8 @@ fn busy_count(panel: u8, now: &[OpAnswered]) -> u64
 
 fn count_after(panel: u8, answered: &OpAnswered, before: u64) -> u64
     requires { before + 1 < 2 ^ 64 }
-    ensures { result ≡ (if (answered.now.request.panel == panel) && is_busy_reply (reply_of answered.now.reply) then before + 1 else before) }
+    ensures { result ≡ (if (answered.now.request.panel == panel)
+        && is_busy_reply (reply_of answered.now.reply) then before + 1 else before) }
 {
     if answered.request.panel == panel && is_busy(answered.reply) {
         before + 1

@@ -47,7 +47,9 @@ impl Asking {
         tick: Tick,
     ) -> Result<(), NoMemory>
         requires { AsksSome site.now self.old }
-        ensures { OnOk result ((panel : ℕ) (history : List MomentOf) → StandsForAsking site.now panel history self.old → tick_of history ≡ tick.0 → StandsForAsking site.now panel (moment_of moment.now ∷ history) self.new) }
+        ensures { OnOk result ((panel : ℕ) (history : List MomentOf)
+            → StandsForAsking site.now panel history self.old → tick_of history ≡ tick.0
+            → StandsForAsking site.now panel (moment_of moment.now ∷ history) self.new) }
     {
         match *moment {
             Moment::Began | Moment::Kept { .. } => Ok(()),
@@ -61,7 +63,9 @@ impl Asking {
 
     /// The answers whose findings the panel's Hold has taken.
     pub fn held(&self) -> &[Answer]
-        ensures { (site : SiteOf) (panel : ℕ) (history : List MomentOf) → StandsForAsking site panel history self.now → result.now ≡ held_answers site panel history }
+        ensures { (site : SiteOf) (panel : ℕ) (history : List MomentOf)
+            → StandsForAsking site panel history self.now
+            → result.now ≡ held_answers site panel history }
     {
         let count = self.held.min(self.answers.len());
         self.answers.as_slice().split_at(count).0
@@ -70,7 +74,9 @@ impl Asking {
     // An event happened.
     fn tell(&mut self, site: &Site, event: &Event)
         requires { AsksSome site.now self.old }
-        ensures { (panel : ℕ) (history : List MomentOf) → StandsForAsking site.now panel history self.old → StandsForAsking site.now panel (HappenedOf event.now ∷ history) self.new }
+        ensures { (panel : ℕ) (history : List MomentOf)
+            → StandsForAsking site.now panel history self.old
+            → StandsForAsking site.now panel (HappenedOf event.now ∷ history) self.new }
     {
         match *event {
             Event::Point { point, state } => self.tell_point(site, point, state),
@@ -89,7 +95,10 @@ impl Asking {
 
     fn tell_point(&mut self, site: &Site, point: u16, state: PointState)
         requires { AsksSome site.now self.old }
-        ensures { (panel : ℕ) (history : List MomentOf) → StandsForAsking site.now panel history self.old → StandsForAsking site.now panel (HappenedOf (PointEvent point state) ∷ history) self.new }
+        ensures { (panel : ℕ) (history : List MomentOf)
+            → StandsForAsking site.now panel history self.old
+            → StandsForAsking site.now panel (HappenedOf (PointEvent point state) ∷ history)
+            self.new }
     {
         if stands_at(self.panel, site.points.get(point as usize)) {
             self.poller.set_point(point, state);
@@ -98,7 +107,10 @@ impl Asking {
 
     fn tell_piece(&mut self, site: &Site, panel: u8, line: u8, piece: u8, state: PieceState)
         requires { AsksSome site.now self.old }
-        ensures { (own : ℕ) (history : List MomentOf) → StandsForAsking site.now own history self.old → StandsForAsking site.now own (HappenedOf (CableEvent panel line piece state) ∷ history) self.new }
+        ensures { (own : ℕ) (history : List MomentOf)
+            → StandsForAsking site.now own history self.old
+            → StandsForAsking site.now own (HappenedOf (CableEvent panel line piece state)
+            ∷ history) self.new }
     {
         if panel == self.panel && line >= 1 && line <= 4 {
             self.poller.set_piece(line, piece, state);
@@ -115,7 +127,9 @@ impl Asking {
         tick: Tick,
     ) -> Result<(), NoMemory>
         requires { AsksSome site.now self.old }
-        ensures { OnOk result ((own : ℕ) (history : List MomentOf) → StandsForAsking site.now own history self.old → tick_of history ≡ tick.0 → StandsForAsking site.now own (TurnedOf panel task ∷ history) self.new) }
+        ensures { OnOk result ((own : ℕ) (history : List MomentOf)
+            → StandsForAsking site.now own history self.old → tick_of history ≡ tick.0
+            → StandsForAsking site.now own (TurnedOf panel task ∷ history) self.new) }
     {
         if panel != self.panel {
             return Ok(());
@@ -142,7 +156,9 @@ impl Asking {
     // The panel's Poll has its turn: it puts what the points answer.
     fn poll(&mut self, alloc: Global, site: &Site, tick: Tick) -> Result<(), NoMemory>
         requires { AsksSome site.now self.old }
-        ensures { OnOk result ((panel : ℕ) (history : List MomentOf) → StandsForAsking site.now panel history self.old → tick_of history ≡ tick.0 → StandsForAsking site.now panel (TurnedOf panel PollTask ∷ history) self.new) }
+        ensures { OnOk result ((panel : ℕ) (history : List MomentOf)
+            → StandsForAsking site.now panel history self.old → tick_of history ≡ tick.0
+            → StandsForAsking site.now panel (TurnedOf panel PollTask ∷ history) self.new) }
     {
         let mut lane: Lane<Answer> = Lane::new(alloc, 32, 32)?;
         self.poller.turn(tick, &mut lane);

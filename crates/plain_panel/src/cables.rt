@@ -39,7 +39,8 @@ pub(crate) fn shorted_loops(site: &Site, panel: u8, moments: &[Moment]) -> u8
 
 /// What is wrong with the cable of a loop of a panel; where there is no loop, nothing.
 fn line_status(site: &Site, panel: u8, line: u8, moments: &[Moment]) -> LineStatus
-    ensures { result ≡ status_on (loop_of site.now panel line) (λ piece. piece_of panel line piece (history moments.now)) }
+    ensures { result ≡ status_on (loop_of site.now panel line)
+        (λ piece. piece_of panel line piece (history moments.now)) }
 {
     match site.loop_of(panel, line) {
         Some(plan) => plan_status(plan, panel, line, moments),
@@ -48,7 +49,8 @@ fn line_status(site: &Site, panel: u8, line: u8, moments: &[Moment]) -> LineStat
 }
 
 fn plan_status(plan: &LoopPlan, panel: u8, line: u8, moments: &[Moment]) -> LineStatus
-    ensures { result ≡ status_with plan.now (λ piece. piece_of panel line piece (history moments.now)) }
+    ensures { result ≡ status_with plan.now
+        (λ piece. piece_of panel line piece (history moments.now)) }
 {
     if !was_reported(panel, line, moments) {
         return LineStatus::default();
@@ -62,7 +64,10 @@ fn plan_status(plan: &LoopPlan, panel: u8, line: u8, moments: &[Moment]) -> Line
 
 // Tells the cable of a loop what befalls the site.
 fn report(cable: &mut LoopLine, panel: u8, line: u8, moment: &Moment)
-    ensures { (plan : PlanOf) (before : List MomentOf) → CableStands plan (λ piece. piece_of panel line piece before) cable.old → CableStands plan (λ piece. piece_of panel line piece (moment_of moment.now ∷ before)) cable.new }
+    ensures { (plan : PlanOf) (before : List MomentOf)
+        → CableStands plan (λ piece. piece_of panel line piece before) cable.old
+        → CableStands plan (λ piece. piece_of panel line piece (moment_of moment.now ∷ before))
+        cable.new }
 {
     match *moment {
         Moment::Happened(event) => match event {
@@ -91,7 +96,8 @@ ghost use Rattle.plain_panel.specs.Reported.{tells_cable as tells_cable_so};
 
 // Whether anything was ever reported of the cable of a loop.
 fn was_reported(panel: u8, line: u8, moments: &[Moment]) -> bool
-    ensures { result ≡ list_any (λ moment. tells_cable_so panel line (moment_of moment)) moments.now }
+    ensures { result ≡ list_any (λ moment. tells_cable_so panel line (moment_of moment))
+        moments.now }
 {
     moments
         .iter()

@@ -27,7 +27,8 @@ pub struct Driving {
 impl Driving {
     /// Nothing has befallen.
     pub fn new(alloc: Global) -> Driving
-        ensures { (site : SiteOf) (facts : ℕ → List MomentOf → FactsOf) → DrivesFor site facts [] result }
+        ensures { (site : SiteOf) (facts : ℕ → List MomentOf → FactsOf)
+            → DrivesFor site facts [] result }
     {
         Driving {
             seen: Vec::new(alloc),
@@ -37,7 +38,10 @@ impl Driving {
     /// Takes the next moment. For a turn of Effect the facts are those of that turn, for others they are not looked at.
     pub fn step(&mut self, site: &Site, moment: &Moment, facts: &Facts) -> Result<(), NoMemory>
         requires { IsValid site.now }
-        ensures { IfOk result (λ _. (facts_of : ℕ → List MomentOf → FactsOf) (history : List MomentOf) → DrivesFor site.now facts_of history self.old → AreFactsOfTurn site.now facts_of history (moment_of moment.now) facts.now → DrivesFor site.now facts_of (moment_of moment.now ∷ history) self.new) }
+        ensures { IfOk result (λ _. (facts_of : ℕ → List MomentOf → FactsOf) (history :
+            List MomentOf) → DrivesFor site.now facts_of history self.old
+            → AreFactsOfTurn site.now facts_of history (moment_of moment.now) facts.now
+            → DrivesFor site.now facts_of (moment_of moment.now ∷ history) self.new) }
     {
         let tick = Tick(ticks(self.seen.as_slice()));
         self.seen.push(Seen::of(site, moment, tick, facts))?;
@@ -47,7 +51,9 @@ impl Driving {
     /// Whether an output is on after the latest turn of Drive of its panel.
     pub fn is_on(&self, site: &Site, kept: &Retained, done: &[Done], output: u16) -> bool
         requires { IsValid site.now }
-        ensures { (facts : ℕ → List MomentOf → FactsOf) (history : List MomentOf) → DrivesFor site.now facts history self.now → result ≡ is_on_in site.now facts kept.now (all_done done.now) output history }
+        ensures { (facts : ℕ → List MomentOf → FactsOf) (history : List MomentOf)
+            → DrivesFor site.now facts history self.now
+            → result ≡ is_on_in site.now facts kept.now (all_done done.now) output history }
     {
         is_on(site, kept, done, output, self.seen.as_slice())
     }
@@ -55,7 +61,9 @@ impl Driving {
     /// Whether an output was confirmed while it was on, and has been on since.
     pub fn is_confirmed(&self, site: &Site, kept: &Retained, done: &[Done], output: u16) -> bool
         requires { IsValid site.now }
-        ensures { (facts : ℕ → List MomentOf → FactsOf) (history : List MomentOf) → DrivesFor site.now facts history self.now → result ≡ is_confirmed_out site.now facts kept.now (all_done done.now) output history }
+        ensures { (facts : ℕ → List MomentOf → FactsOf) (history : List MomentOf)
+            → DrivesFor site.now facts history self.now
+            → result ≡ is_confirmed_out site.now facts kept.now (all_done done.now) output history }
     {
         is_confirmed(site, kept, done, output, self.seen.as_slice())
     }
@@ -63,7 +71,10 @@ impl Driving {
     /// Whether an output that asks for a confirmation has been on for too long without one.
     pub fn is_unconfirmed(&self, site: &Site, kept: &Retained, done: &[Done], output: u16) -> bool
         requires { IsValid site.now }
-        ensures { (facts : ℕ → List MomentOf → FactsOf) (history : List MomentOf) → DrivesFor site.now facts history self.now → result ≡ is_unconfirmed_in site.now facts kept.now (all_done done.now) output history }
+        ensures { (facts : ℕ → List MomentOf → FactsOf) (history : List MomentOf)
+            → DrivesFor site.now facts history self.now
+            → result ≡ is_unconfirmed_in site.now facts kept.now (all_done done.now) output
+            history }
     {
         is_unconfirmed(site, kept, done, output, self.seen.as_slice())
     }

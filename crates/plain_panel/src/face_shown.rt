@@ -33,7 +33,11 @@ pub fn face_of(
     requires valid { IsValid site.now }
     requires size { network.now.panels ≡ site.now.panels }
     requires panel { IsPanel site.now panel }
-    ensures { (before : List MomentOf) → StandsFor site.now kept.now (all_done done.now) before network.now → DrivesFor site.now (facts_of site.now kept.now (all_done done.now)) before driving.now → tick_of before ≡ tick.0 → result ≡ face_with site.now kept.now (all_done done.now) stored.now panel before }
+    ensures { (before : List MomentOf)
+        → StandsFor site.now kept.now (all_done done.now) before network.now
+        → DrivesFor site.now (facts_of site.now kept.now (all_done done.now)) before driving.now
+        → tick_of before ≡ tick.0
+        → result ≡ face_with site.now kept.now (all_done done.now) stored.now panel before }
 {
     Face {
         panel,
@@ -64,7 +68,10 @@ ghost use Rattle.panel_rules.specs.Faces.{shown_word};
 fn alarms_shown(network: &Network, site: &Site, panel: u8) -> [u32; 8]
     requires size { network.now.panels ≡ site.now.panels }
     requires panel { IsPanel site.now panel }
-    ensures { (kept : RetainedOf) (done : List DoneOf) (before : List MomentOf) → StandsFor site.now kept done before network.now → result ≡ map (λ (source : ℕ). (shown_word site.now kept done panel before source).alarm) (range_with_len 1 most_panels) }
+    ensures { (kept : RetainedOf) (done : List DoneOf) (before : List MomentOf)
+        → StandsFor site.now kept done before network.now
+        → result ≡ map (λ (source : ℕ). (shown_word site.now kept done panel before source).alarm)
+        (range_with_len 1 most_panels) }
 {
     [
         word_shown(network, site, panel, 1).alarm,
@@ -82,7 +89,10 @@ fn alarms_shown(network: &Network, site: &Site, panel: u8) -> [u32; 8]
 fn firsts_shown(network: &Network, site: &Site, panel: u8) -> [u32; 8]
     requires size { network.now.panels ≡ site.now.panels }
     requires panel { IsPanel site.now panel }
-    ensures { (kept : RetainedOf) (done : List DoneOf) (before : List MomentOf) → StandsFor site.now kept done before network.now → result ≡ map (λ (source : ℕ). (shown_word site.now kept done panel before source).first) (range_with_len 1 most_panels) }
+    ensures { (kept : RetainedOf) (done : List DoneOf) (before : List MomentOf)
+        → StandsFor site.now kept done before network.now
+        → result ≡ map (λ (source : ℕ). (shown_word site.now kept done panel before source).first)
+        (range_with_len 1 most_panels) }
 {
     [
         word_shown(network, site, panel, 1).first,
@@ -101,7 +111,9 @@ fn word_shown(network: &Network, site: &Site, panel: u8, source: u8) -> Word
     requires size { network.now.panels ≡ site.now.panels }
     requires panel { IsPanel site.now panel }
     requires source { 1 ≤ source }
-    ensures { (kept : RetainedOf) (done : List DoneOf) (before : List MomentOf) → StandsFor site.now kept done before network.now → result ≡ shown_word site.now kept done panel before source }
+    ensures { (kept : RetainedOf) (done : List DoneOf) (before : List MomentOf)
+        → StandsFor site.now kept done before network.now
+        → result ≡ shown_word site.now kept done panel before source }
 {
     if source <= site.panels {
         network.shown_word(panel, source)

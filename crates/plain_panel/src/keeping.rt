@@ -52,7 +52,9 @@ impl Keeping {
         requires stands { StandsForKeeping site.now kept.now (history before.now) self.old }
         requires ticks { tick_of (history before.now) ≡ tick.0 }
         requires all { with_it.now ≡ before.now ++ moment.now ∷ [] }
-        ensures { OnOk result (StandsForKeeping site.now kept.now (moment_of moment.now ∷ history before.now) self.new) }
+        ensures { OnOk result
+            (StandsForKeeping site.now kept.now (moment_of moment.now ∷ history before.now)
+            self.new) }
     {
         self.store_at(site, moment);
         self.go_on(alloc, site, kept, tick, before, moment, with_it)
@@ -71,11 +73,18 @@ impl Keeping {
     ) -> Result<(), NoMemory>
         requires valid { IsValid site.now }
         requires desk { StandsForDesk site.now kept.now (history before.now) self.old.desk }
-        requires standing { StandsForStanding site.now kept.now (operations site.now kept.now (history before.now)).done (history before.now) self.old.standing }
+        requires standing { StandsForStanding site.now kept.now
+            (operations site.now kept.now (history before.now)).done (history before.now)
+            self.old.standing }
         requires ticks { tick_of (history before.now) ≡ tick.0 }
         requires all { with_it.now ≡ before.now ++ moment.now ∷ [] }
-        ensures desk { OnOk result (StandsForDesk site.now kept.now (moment_of moment.now ∷ history before.now) self.new.desk) }
-        ensures standing { OnOk result (StandsForStanding site.now kept.now (operations site.now kept.now (moment_of moment.now ∷ history before.now)).done (moment_of moment.now ∷ history before.now) self.new.standing) }
+        ensures desk { OnOk result
+            (StandsForDesk site.now kept.now (moment_of moment.now ∷ history before.now)
+            self.new.desk) }
+        ensures standing { OnOk result
+            (StandsForStanding site.now kept.now
+            (operations site.now kept.now (moment_of moment.now ∷ history before.now)).done
+            (moment_of moment.now ∷ history before.now) self.new.standing) }
         ensures stored { self.new.stored ≡ self.old.stored }
     {
         let changed = self.desk.step(site, kept, tick, moment)?;
@@ -93,7 +102,8 @@ impl Keeping {
     fn store_at(&mut self, site: &Site, moment: &Moment)
         requires valid { IsValid site.now }
         requires placed { AllPlaced self.old.standing.panels.items }
-        ensures stored { self.new.stored ≡ (if is_storing (moment_of moment.now) then changed_by (changes_of site.now (all_requests self.old.desk.outcomes.waiting.items)) (changed_by (all_counted self.old.standing.panels.items) self.old.stored) else self.old.stored) }
+        ensures stored { self.new.stored
+            ≡ (if is_storing (moment_of moment.now) then changed_by (changes_of site.now (all_requests self.old.desk.outcomes.waiting.items)) (changed_by (all_counted self.old.standing.panels.items) self.old.stored) else self.old.stored) }
         ensures desk { self.new.desk ≡ self.old.desk }
         ensures standing { self.new.standing ≡ self.old.standing }
     {
@@ -107,7 +117,9 @@ impl Keeping {
     fn store(&mut self, site: &Site)
         requires valid { IsValid site.now }
         requires placed { AllPlaced self.old.standing.panels.items }
-        ensures stored { self.new.stored ≡ changed_by (changes_of site.now (all_requests self.old.desk.outcomes.waiting.items)) (changed_by (all_counted self.old.standing.panels.items) self.old.stored) }
+        ensures stored { self.new.stored
+            ≡ changed_by (changes_of site.now (all_requests self.old.desk.outcomes.waiting.items))
+            (changed_by (all_counted self.old.standing.panels.items) self.old.stored) }
         ensures desk { self.new.desk ≡ self.old.desk }
         ensures standing { self.new.standing ≡ self.old.standing }
     {

@@ -17,7 +17,10 @@ use site_types::{Retained, Site};
 /// The outputs of a panel that are on.
 pub fn outputs_on(driving: &Driving, site: &Site, kept: &Retained, done: &[Done], panel: u8) -> u32
     requires { IsValid site.now }
-    ensures { (facts : ℕ → List MomentOf → FactsOf) (history : List MomentOf) → DrivesFor site.now facts history driving.now → result ≡ outputs_where site.now panel (λ output. is_on site.now facts kept.now (all_done done.now) output history) }
+    ensures { (facts : ℕ → List MomentOf → FactsOf) (history : List MomentOf)
+        → DrivesFor site.now facts history driving.now
+        → result ≡ outputs_where site.now panel
+        (λ output. is_on site.now facts kept.now (all_done done.now) output history) }
 {
     let mut flags = [false; 256];
     for place in 0..site.outputs.as_slice().len() {
@@ -35,7 +38,10 @@ pub fn outputs_confirmed(
     panel: u8,
 ) -> u32
     requires { IsValid site.now }
-    ensures { (facts : ℕ → List MomentOf → FactsOf) (history : List MomentOf) → DrivesFor site.now facts history driving.now → result ≡ outputs_where site.now panel (λ output. is_confirmed_out site.now facts kept.now (all_done done.now) output history) }
+    ensures { (facts : ℕ → List MomentOf → FactsOf) (history : List MomentOf)
+        → DrivesFor site.now facts history driving.now
+        → result ≡ outputs_where site.now panel
+        (λ output. is_confirmed_out site.now facts kept.now (all_done done.now) output history) }
 {
     let mut flags = [false; 256];
     for place in 0..site.outputs.as_slice().len() {
@@ -53,7 +59,10 @@ pub fn outputs_unconfirmed(
     panel: u8,
 ) -> u32
     requires { IsValid site.now }
-    ensures { (facts : ℕ → List MomentOf → FactsOf) (history : List MomentOf) → DrivesFor site.now facts history driving.now → result ≡ outputs_where site.now panel (λ output. is_unconfirmed site.now facts kept.now (all_done done.now) output history) }
+    ensures { (facts : ℕ → List MomentOf → FactsOf) (history : List MomentOf)
+        → DrivesFor site.now facts history driving.now
+        → result ≡ outputs_where site.now panel
+        (λ output. is_unconfirmed site.now facts kept.now (all_done done.now) output history) }
 {
     let mut flags = [false; 256];
     for place in 0..site.outputs.as_slice().len() {

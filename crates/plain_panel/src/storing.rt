@@ -26,7 +26,10 @@ pub(crate) fn make_changes(site: &Site, waiting: &[Request], stored: &mut Retain
 // Makes the change of an operation, if it makes one.
 fn make_change_of(site: &Site, request: &Request, stored: &mut Retained)
     requires { IsValid site.now }
-    ensures { (rest : List ChangeOf) → changed_by (cons_option (operation_change site.now request.now.panel request.now.operation) rest) stored.old ≡ changed_by rest stored.new }
+    ensures { (rest : List ChangeOf)
+        → changed_by
+        (cons_option (operation_change site.now request.now.panel request.now.operation) rest)
+        stored.old ≡ changed_by rest stored.new }
 {
     match site.change_of(request.panel, &request.operation) {
         Some(change) => make_change(stored, &change),

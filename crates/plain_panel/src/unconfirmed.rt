@@ -25,7 +25,9 @@ pub(crate) fn is_unconfirmed(
     seen: &[Seen],
 ) -> bool
     requires { IsValid site.now }
-    ensures { (facts : ℕ → List MomentOf → FactsOf) (history : List MomentOf) → AreSeen site.now facts seen.now history → result ≡ is_unconfirmed_in site.now facts kept.now (all_done done.now) output history }
+    ensures { (facts : ℕ → List MomentOf → FactsOf) (history : List MomentOf)
+        → AreSeen site.now facts seen.now history
+        → result ≡ is_unconfirmed_in site.now facts kept.now (all_done done.now) output history }
 {
     asks_for_confirmation(site, output)
         && (has_lasted(site, kept, done, output, seen)
@@ -41,7 +43,9 @@ pub(crate) fn is_confirmed(
     seen: &[Seen],
 ) -> bool
     requires { IsValid site.now }
-    ensures { (facts : ℕ → List MomentOf → FactsOf) (history : List MomentOf) → AreSeen site.now facts seen.now history → result ≡ is_confirmed_out site.now facts kept.now (all_done done.now) output history }
+    ensures { (facts : ℕ → List MomentOf → FactsOf) (history : List MomentOf)
+        → AreSeen site.now facts seen.now history
+        → result ≡ is_confirmed_out site.now facts kept.now (all_done done.now) output history }
 {
     let confirmed = last_confirmation(output, seen);
     confirmed.0 > 0 && was_on_for(site, kept, done, output, 1, confirmed, seen)
@@ -50,7 +54,10 @@ pub(crate) fn is_confirmed(
 // Whether an output has been on for as long as a confirmation may take.
 fn has_lasted(site: &Site, kept: &Retained, done: &[Done], output: u16, seen: &[Seen]) -> bool
     requires { IsValid site.now }
-    ensures { (facts : ℕ → List MomentOf → FactsOf) (history : List MomentOf) → AreSeen site.now facts seen.now history → result ≡ has_lasted_in (routing_of site.now.format) (on_run site.now facts kept.now (all_done done.now) output history) }
+    ensures { (facts : ℕ → List MomentOf → FactsOf) (history : List MomentOf)
+        → AreSeen site.now facts seen.now history
+        → result ≡ has_lasted_in (routing_of site.now.format)
+        (on_run site.now facts kept.now (all_done done.now) output history) }
 {
     let limit = site.profile().routing();
     match latest_on(site, kept, done, output, seen) {

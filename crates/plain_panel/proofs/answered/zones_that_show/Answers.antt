@@ -17,15 +17,21 @@ overflow_add-mask c =
 pub loop-bit-preserved : goal.loop-bit-preserved
 loop-bit-preserved c =
     let test = zone_test c.args.sign c.args.site.now c.args.kept.now c.args.panel (all_done c.args.done.now) c.args.answers.now c.args.tick.0 in
-    let told = λ (value : Bool) (so : c.zone_shows.result ≡ value). zone_told c.args.site.now c.args.kept.now c.args.panel (all_done c.args.done.now) c.args.answers.now c.args.tick.0 c.args.sign c.loop-bit.bit c.zone_at-zone.result c.zone_shows.result value c.zone_at-zone.ensures c.zone_shows.ensures so in
+    let told = λ (value : Bool) (so : c.zone_shows.result ≡ value). zone_told c.args.site.now c.args.kept.now c.args.panel (all_done c.args.done.now)
+    c.args.answers.now c.args.tick.0 c.args.sign c.loop-bit.bit c.zone_at-zone.result c.zone_shows.result value c.zone_at-zone.ensures
+    c.zone_shows.ensures so in
     elim c.if-zone_shows.branch [
-      | then-zone_shows w ↦ rw w.mask-is (mask_on 32 c.loop-bit.bit c.loop-bit.mask test c.loop-bit-test.true c.loop-bit.invariant (told _ w.if-zone_shows.true))
+      | then-zone_shows w ↦
+          rw w.mask-is (mask_on 32 c.loop-bit.bit c.loop-bit.mask test c.loop-bit-test.true c.loop-bit.invariant (told _ w.if-zone_shows.true))
       | else-zone_shows w ↦ rw w.mask-is (mask_off c.loop-bit.bit c.loop-bit.mask test c.loop-bit.invariant (told _ w.if-zone_shows.false))
     ]
 
 pub loop-bit-init : goal.loop-bit-init
-loop-bit-init c = sym (mask_none (zone_test c.args.sign c.args.site.now c.args.kept.now c.args.panel (all_done c.args.done.now) c.args.answers.now c.args.tick.0))
+loop-bit-init c =
+    sym (mask_none (zone_test c.args.sign c.args.site.now c.args.kept.now c.args.panel (all_done c.args.done.now) c.args.answers.now c.args.tick.0))
 
 pub returns : goal.returns
 unfolding zones_where
-returns c = whole 32 c.loop-bit.bit c.loop-bit.mask (zone_test c.args.sign c.args.site.now c.args.kept.now c.args.panel (all_done c.args.done.now) c.args.answers.now c.args.tick.0) (omega arith) c.loop-bit.invariant
+returns c =
+    whole 32 c.loop-bit.bit c.loop-bit.mask (zone_test c.args.sign c.args.site.now c.args.kept.now c.args.panel (all_done c.args.done.now)
+    c.args.answers.now c.args.tick.0) (omega arith) c.loop-bit.invariant
