@@ -77,8 +77,8 @@ fresh_next order k x once at = not_true (is_among x (take k order)) (λ h.
 
 -- ---- marks
 
--- A marker is marked where a fact that changed is among its terms, or one of the first k markers that depends on such a fact; and only where
--- it depends on one itself.
+-- A marker is marked where a fact that changed is among its terms, or one of the first k markers that depends
+-- on such a fact; and only where it depends on one itself.
 pub record AreMarked (site : Site) (before after : Facts) (order : List ℕ) (k : ℕ) (marks : List Bool) : Type 0 where
   pub by_fact : (m : ℕ) → m < 256 → has_changed site before after m ≡ true → is_marked marks m ≡ true
   pub by_marker : (m other : ℕ) → m < 256 → has_term site m other ≡ true → is_among other (take k order) ≡ true
@@ -131,7 +131,8 @@ marked_still site before after order k x marks at w free = record {
 
 -- ---- counting
 
--- the markers that were evaluated are those of the first k that depend on a change, each once, and the steps rose by as many
+-- the markers that were evaluated are those of the first k that depend on a change, each once, and the steps
+-- rose by as many
 pub record AreEvaluated (site : Site) (before after : Facts) (order : List ℕ) (k start steps : ℕ) : Type 0 where
   pub members : List ℕ
   pub once : IsDistinct (λ x y. x == y) members

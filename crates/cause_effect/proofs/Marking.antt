@@ -138,7 +138,8 @@ fault_changed site valid before after bit (MarkerTerm other) is e h = let few = 
 
 -- ---- from the marks to the terms
 
--- a marker that is a user at a place has a term that looks at it; what holds of each such term holds of one of its terms
+-- a marker that is a user at a place has a term that looks at it; what holds of each such term holds of one
+-- of its terms
 user_term : (site : Site) → IsValid site → (lists : List (List ℕ)) (place m : ℕ) (test : Term → Bool) → AreUsersOf site lists
     → is_among m (users_at lists place) ≡ true →
     ((term : Term) → IsTerm site term → place ≡ place_of (input_of site term) → test term ≡ true)

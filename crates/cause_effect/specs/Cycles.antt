@@ -73,8 +73,7 @@ pub record IsFromLeast (round markers : List ℕ) : Type 0 where
   pub smallest : (m : ℕ) → is_among m round ≡ true → least ≤ m
 
 -- The cycle is the part of the walk between the two meetings of the marker that is met twice first, without
--- its second meeting. It is listed
--- in the order of the walk, from its least member onwards.
+-- its second meeting. It is listed in the order of the walk, from its least member onwards.
 pub record IsCycle (site : Site) (markers : List ℕ) : Type 0 where
   pub before : List ℕ
   pub round : List ℕ

@@ -1,4 +1,5 @@
--- An operation of another panel changes nothing of what this panel's answers mean, so that the part stands for the operations of the whole site.
+-- An operation of another panel changes nothing of what this panel's answers mean, so that the part stands
+-- for the operations of the whole site.
 use Rattle.std.proofs.Common.{◌≡◌, ◌≢◌, ℕ, suc, max, Bool, true, false, not, List, [], ◌∷◌, Option, Some, None, slice_get, ◌==◌, ◌&&◌, ◌||◌, nat_lt, if◌then◌else◌, refl, sym, ◌∙◌, ap, arith}
 use Rattle.std.proofs.lemmas.Bool.{eqb-true}
 use Rattle.std.proofs.lemmas.Bool.Decides.{nat_tests}

@@ -1,4 +1,5 @@
--- Whether an answer counts, the floor before it and the latest other answer, as the code reads them, are the definitions'.
+-- Whether an answer counts, the floor before it and the latest other answer, as the code reads them, are the
+-- definitions'.
 use Rattle.std.proofs.Common.{◌≡◌, ℕ, ◌≤◌, max, Bool, true, false, not, List, [], ◌∷◌, Option, Some, None, slice_get, get_or, ◌==◌, ◌&&◌, ◌||◌, nat_lt, if◌then◌else◌, refl, sym, ◌∙◌, ap, subst, arith}
 use Rattle.site_types.specs.declared.site.Site.{Site}
 use Rattle.site_types.specs.declared.zone.Zone.{Zone as ZonePlan}

@@ -9,7 +9,7 @@ use Rattle.site_types.specs.declared.point.Point.{Point as PointPlan}
 use Rattle.site_types.specs.declared.zone.Zone.{Zone as ZonePlan}
 use Rattle.site_types.specs.declared.retained.Retained.{Retained}
 use Rattle.site_types.specs.Done.{kept_point, kept_zone, kept_test}
-use Rattle.tick_units.specs.LastTicks.{never_done}
+use Rattle.tick_units.specs.LastTicks.{last_if, never_done}
 use Rattle.coincidence.specs.declared.recent.Sighting.{Sighting}
 use Rattle.coincidence.specs.declared.recent.Recent.{Recent}
 use Rattle.coincidence.specs.declared.point_watch.PointWatch.{PointWatch}
@@ -53,6 +53,16 @@ silent_then _ n = 0
 abbrev pub point_noted : Heard → Bool → Tick → Tick → PointWatch → PointWatch
 point_noted heard counted floor stamp watch =
     record watch { silent = silent_then heard watch.silent; run = run_then counted floor.0 stamp watch.run }
+
+-- a zone after it was disabled or enabled at a tick; a disabling moves its floor
+abbrev pub zone_switched : Bool → Tick → ZoneWatch → ZoneWatch
+zone_switched off at watch =
+    record watch { off = switch_after off at watch.off; moved = last_if off at watch.moved }
+
+-- a zone after its test began or ended at a tick; a test moves its floor
+abbrev pub zone_tested : Bool → Tick → ZoneWatch → ZoneWatch
+zone_tested on at watch =
+    record watch { test = switch_after on at watch.test; moved = last_if on at watch.moved }
 
 abbrev pub zone_noted : Bool → ℕ → Tick → ZoneWatch → ZoneWatch
 zone_noted pairs point stamp watch =

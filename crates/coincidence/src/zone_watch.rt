@@ -1,6 +1,6 @@
-ghost use Rattle.std.specs.Prelude.{◌≡◌, ◌<◌, ◌≤◌};
-ghost use Rattle.coincidence.specs.Parts.{zone_begun, zone_noted, switch_after};
-ghost use Rattle.tick_units.specs.LastTicks.{last_after, last_at, last_if};
+ghost use Rattle.std.specs.Prelude.{◌≡◌, ◌<◌};
+ghost use Rattle.coincidence.specs.Parts.{zone_begun, zone_noted, zone_switched, zone_tested};
+ghost use Rattle.tick_units.specs.LastTicks.{last_after, last_at};
 ghost use Rattle.coincidence_rules.specs.Kept.{bar};
 
 use crate::recent::Recent;
@@ -63,11 +63,7 @@ impl ZoneWatch {
 
     pub fn set_off(&mut self, off: bool, at: Tick)
         requires { self.old.off.since.0 < at.0 }
-        ensures { self.new ≡ record self.old {
-          off = switch_after off at self.old.off;
-          moved =
-              last_if off at self.old.moved;
-        } }
+        ensures { self.new ≡ zone_switched off at self.old }
     {
         self.off.set(off, at);
         if off {
@@ -77,11 +73,7 @@ impl ZoneWatch {
 
     pub fn set_test(&mut self, on: bool, at: Tick)
         requires { self.old.test.since.0 < at.0 }
-        ensures { self.new ≡ record self.old {
-          test = switch_after on at self.old.test;
-          moved =
-              last_if on at self.old.moved;
-        } }
+        ensures { self.new ≡ zone_tested on at self.old }
     {
         self.test.set(on, at);
         if on {

@@ -125,8 +125,8 @@ module _ (site : Site) (kept : Retained) (done : List Done) where
       (both_and (on_partner site zone (λ z. is_of site z point)) (second zone) (is_on_zone (λ y. is_of site y point) _ one far.0 of)
       (subst (λ z. second z ≡ true) far.1 has))
 
-  -- a test of pairs: what passes it is of the zone, counts, was not later, and is of another point; and of two answers of one stamp each passes with
-  -- the other
+  -- a test of pairs: what passes it is of the zone, counts, was not later, and is of another point; and of
+  -- two answers of one stamp each passes with the other
   pub record IsPairing (fits : Answer → Bool) (test : ℕ → Answer → Answer → Bool) : Type 0 where
     pub of_zone : (zone : ℕ) (a o : Answer) → test zone a o ≡ true → is_of site zone o.point ≡ true
     pub fits_too : (zone : ℕ) (a o : Answer) → fits a ≡ true → test zone a o ≡ true → fits o ≡ true

@@ -1,4 +1,5 @@
--- A zone is confirmed and released by all answers exactly where one of them, with those taken up to it, confirms or releases it.
+-- A zone is confirmed and released by all answers exactly where one of them, with those taken up to it,
+-- confirms or releases it.
 use Rattle.std.proofs.Common.{◌≡◌, ◌⊎◌, inl, inr, ℕ, suc, ◌+◌, ◌<◌, ◌≤◌, Bool, true, false, not, List, [], take}
 use Rattle.std.proofs.Common.{Option, Some, None, slice_get, ◌==◌, ◌&&◌, ◌||◌, nat_lt, nat_le, refl, sym, subst}
 use Rattle.std.proofs.Common.{arith}

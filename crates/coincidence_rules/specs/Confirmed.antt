@@ -1,6 +1,6 @@
 -- What confirms a zone: an answer that counts, with the other answers that its type of coincidence asks for.
--- Answers stand oldest first, and a
--- zone is confirmed at the stamp of the later of two answers, whichever of them stands first.
+-- Answers stand oldest first, and a zone is confirmed at the stamp of the later of two answers, whichever of
+-- them stands first.
 use Rattle.std.specs.Prelude.{ℕ, ◌+◌, Bool, false, not, List, Option, Some, None, slice_get, ◌==◌, ◌&&◌, ◌||◌, nat_lt}
 use Rattle.std.specs.Prelude.{nat_le}
 use Rattle.std.specs.List.{list_any, list_all}
@@ -58,12 +58,10 @@ is_verified site kept done answers verify zone answer =
     list_any (λ first. is_first_of_run site kept done verify zone answer first
     && counts_throughout site kept done answers answer.point first.stamp.0 answer.stamp.0) answers
 
--- what the zone's type asks of an answer of a detector that counts:
--- none and C, that it is of the zone; A, that it is of the zone and verified, or another detector of the zone
--- gave an answer that counts at most
+-- what the zone's type asks of an answer of a detector that counts: none and C, that it is of the zone; A,
+-- that it is of the zone and verified, or another detector of the zone gave an answer that counts at most
 -- `within` ticks before; B, that another detector gave one at most `within` ticks before, which no cancelling
--- undid, both of the zone or one of it
--- and one of its partner
+-- undid, both of the zone or one of it and one of its partner
 abbrev pub coincides : Site → Retained → List Done → List Answer → ℕ → Option Rule → Answer → Bool
 coincides site kept done answers zone None answer = false
 coincides site kept done answers zone (Some Plain) answer = is_of site zone answer.point

@@ -74,19 +74,22 @@ abbrev pub AreTheirSlots : Type 0
 AreTheirSlots = (site : Site) (panel : ℕ) (one other : Face) → IsFaceOf site panel one → IsFaceOf site panel other →
     ((slot : Slot) → IsSlotOf site panel slot → value_in one slot ≡ value_in other slot) → one ≡ other
 
--- one more change is one more line behind those of a face, it is the last place where the face differs from the one before, and it differs there
+-- one more change is one more line behind those of a face, it is the last place where the face differs from
+-- the one before, and it differs there
 pub record AddsItsLine (site : Site) (panel : ℕ) (before shown : Face) (change : Change) : Type 0 where
   pub text : changes_text site before (face_told shown change) ≡ changes_text site before shown ++ change_line site panel change
   pub behind : IsSameBehind site panel (slot_rank (slot_of change)) before (face_told shown change)
   pub differs : before ≢ face_told shown change
 
--- so it is for a change behind the place up to which a face may differ from the one before, that tells what isn't so yet
+-- so it is for a change behind the place up to which a face may differ from the one before, that tells what
+-- isn't so yet
 abbrev pub AddsOneLine : Type 0
 AddsOneLine = (site : Site) (panel rank : ℕ) (before shown : Face) (change : Change) → IsFaceOf site panel shown
     → IsSameBehind site panel rank before shown → IsChange site panel change →
     rank < slot_rank (slot_of change) → value_in shown (slot_of change) ≢ value_of change → AddsItsLine site panel before shown change
 
--- the changes from one face to another are such that may be told one after another, their lines are the text, and they lead there
+-- the changes from one face to another are such that may be told one after another, their lines are the text,
+-- and they lead there
 pub record LeadsThere (site : Site) (panel : ℕ) (before after : Face) : Type 0 where
   pub each : AllByRecursion (IsChange site panel) (changes_of site before after)
   pub news : AreNews 0 before (changes_of site before after)

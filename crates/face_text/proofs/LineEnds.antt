@@ -1,4 +1,5 @@
--- Line ends of a text: how many there are, what the first lines are, and that bytes up to a line end are parted in one way.
+-- Line ends of a text: how many there are, what the first lines are, and that bytes up to a line end are
+-- parted in one way.
 use Rattle.std.proofs.Common.{◌≡◌, ◌∙◌, ◌+◌, ◌<◌, ◌++◌, ℕ, zero, suc, Bool, true, false, List, [], ◌∷◌, get_or, drop, refl, sym, ap, arith}
 use Rattle.std.specs.Prelude.{◌==◌, if◌then◌else◌}
 use Rattle.face_text.specs.Reading.{first_lines, line_ends}

@@ -1,4 +1,5 @@
--- The faces of all panels while changes are told: each differs from what it was in no slot behind the last line's place.
+-- The faces of all panels while changes are told: each differs from what it was in no slot behind the last
+-- line's place.
 use Rattle.std.proofs.Common.{◌≡◌, ◌≢◌, ◌∙◌, ◌<◌, ◌≤◌, ◌+◌, ◌-◌, ◌*◌, ◌++◌, ◌==◌, ℕ, zero, suc, List, [], ◌∷◌, true, length, refl, sym, ap, subst, append_assoc, arith, get_or, set}
 use Rattle.std.specs.List.{flat_map}
 use Rattle.std.proofs.lemmas.List.{append-nil}

@@ -64,8 +64,8 @@ IsRefusal site text NoMemory = Unit {0}
 -- ---- line by line
 
 -- what the lines of a text have told so far: the opening and the ended steps, and the block of lines that is
--- being told, which is the opening's
--- where its tick is 0. `rank` is the place of the block's last line, 0 where it has none
+-- being told, which is the opening's where its tick is 0. `rank` is the place of the block's last line, 0
+-- where it has none
 pub record Told : Type 0 where
   pub opened : List Face
   pub steps : List Step
@@ -118,6 +118,11 @@ block_of told = record { tick = told.tick; faces = told.faces; answers = told.an
 
 abbrev pub steps_by : Told → List Step
 steps_by told = if told.tick.0 == 0 then told.steps else told.steps ++ block_of told ∷ []
+
+-- what is told once the block that is being told has become the opening or a step
+abbrev pub closed_block : Told → Told
+closed_block told =
+    record told { opened = opened_by told; steps = steps_by told; answers = no_answers }
 
 -- what is told after one more line, if the line may stand there; after the last line nothing is told on
 abbrev pub told_next : Told → Entry → Option Told

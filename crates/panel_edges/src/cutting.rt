@@ -1,6 +1,5 @@
-ghost use Rattle.std.specs.Prelude.{◌≡◌, ℕ, List, ◌∷◌, take, drop, slice_index, IfOk, OnOk};
-ghost use Rattle.panel_edges.specs.DiskLogs.{DoesAgain, calls_of, cut_by, cut_from, front_written};
-ghost use Rattle.panel_edges.specs.declared.disk_call.DiskCall.{DiskCall as CallOfLog};
+ghost use Rattle.std.specs.Prelude.{◌≡◌, take, drop, IfOk, OnOk};
+ghost use Rattle.panel_edges.specs.DiskLogs.{DoesAgain, calls_of, cut_by, front_written};
 
 use crate::disk_call::DiskCall;
 use crate::overwriting::overwrite;

@@ -1,4 +1,4 @@
-ghost use Rattle.std.specs.Prelude.{◌≡◌, ◌+◌, ◌≤◌, length, IfSome, OnErr, OnOk, ◌↔◌};
+ghost use Rattle.std.specs.Prelude.{◌+◌, ◌≤◌, length, IfSome, OnErr, OnOk, ◌↔◌};
 ghost use Rattle.panel_edges.specs.Crashes.{After, ElapsesIn, Follows, Only};
 ghost use Rattle.panel_edges.specs.Disks.{Becomes, Holds, Torn};
 ghost use Rattle.panel_edges.specs.Faults.{HasCause};

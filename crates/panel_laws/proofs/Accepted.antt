@@ -50,7 +50,8 @@ record IsDone (done : List Done) (d : Done) : Type 0 where
 more_done : (done : List Done) (e d : Done) → IsDone done d → IsDone (e ∷ done) d
 more_done done e d h = record { place = suc h.place; is = h.is }
 
--- an answer and what it stands for: what was done is there, and what could not be stored was in a tick whose turn of Keep failed
+-- an answer and what it stands for: what was done is there, and what could not be stored was in a tick whose
+-- turn of Keep failed
 record Stands (done : List Done) (failed : List ℕ) (a : Answered) : Type 0 where
   if_done : a.reply ≡ WasDone → IsDone done (done_in a.tick a.request)
   if_failed : a.reply ≡ Store → list_any (λ tick. tick == a.tick) failed ≡ true

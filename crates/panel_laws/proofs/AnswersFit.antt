@@ -1,5 +1,5 @@
--- What the answers of operations say: one that was denied needed level 2 to 4 and had less, and each that wasn't busy was among the first of its
--- panel and tick.
+-- What the answers of operations say: one that was denied needed level 2 to 4 and had less, and each that
+-- wasn't busy was among the first of its panel and tick.
 use Rattle.std.proofs.Common.{◌≡◌, ℕ, ◌≤◌, ◌<◌, ◌⊎◌, inl, inr, Bool, true, false, List, [], ◌∷◌, Option, Some, None, if◌then◌else◌, refl, sym, ◌∙◌, ap, subst, arith}
 use Rattle.std.specs.Prelude.{nat_le, nat_lt, option_map, slice_index_or}
 use Rattle.std.specs.List.{AllByRecursion}

@@ -1,4 +1,5 @@
--- At most 64 operations are answered by number in a tick: of each of at most eight panels four of the tick and four of the one before.
+-- At most 64 operations are answered by number in a tick: of each of at most eight panels four of the tick
+-- and four of the one before.
 use Rattle.std.proofs.Common.{◌≡◌, ◌≢◌, ℕ, zero, suc, ◌+◌, ◌-◌, ◌*◌, ◌≤◌, ◌==◌, ◌&&◌, ◌||◌, inl, inr, Bool, true}
 use Rattle.std.proofs.Common.{false, List, [], ◌∷◌, ◌++◌, length, Option, Some, None, slice_get, if◌then◌else◌, refl}
 use Rattle.std.proofs.Common.{sym, ◌∙◌, ap, arith}

@@ -1,4 +1,5 @@
--- Operations done in a tick or later change nothing of the entries up to it; and what becomes of operations at a moment is done in its tick.
+-- Operations done in a tick or later change nothing of the entries up to it; and what becomes of operations
+-- at a moment is done in its tick.
 use Rattle.std.proofs.Common.{◌≡◌, ◌∙◌, ◌≤◌, ◌+◌, ◌==◌, ◌&&◌, ◌++◌, ℕ, Bool, true, false, List, [], ◌∷◌, Option, Some, None, length, refl, ap, arith, if◌then◌else◌}
 use Rattle.std.specs.Prelude.{not}
 use Rattle.std.specs.List.{AllByRecursion}

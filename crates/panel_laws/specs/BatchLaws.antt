@@ -1,6 +1,5 @@
 -- What follows for the batches of Keep: an operation that is done is in one that was committed, and a counter
--- that was
--- cleared counts from 0.
+-- that was cleared counts from 0.
 use Rattle.std.specs.Prelude.{◌≡◌, ◌≤◌, ◌-◌, ◌==◌, ℕ, min, Bool, true, false, List, ◌∷◌, length, Some, slice_get}
 use Rattle.std.specs.List.{list_any}
 use Rattle.site_types.specs.declared.change.Change.{Change}
@@ -71,8 +70,7 @@ counted_since site kept panel past moments =
     - counted_entries site kept (operations site kept moments).done panel past
 
 -- the counter of a panel is what was counted since it was cleared, up to 999,999; the entries that the batch
--- that
--- cleared it counted were cleared with it
+-- that cleared it counted were cleared with it
 abbrev pub ClearedCountsFromZero : Type 0
 ClearedCountsFromZero =
     (site : Site) (kept : Retained) (moments : List Moment) (panel : ℕ) (before : List Moment)

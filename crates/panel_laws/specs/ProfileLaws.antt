@@ -1,6 +1,5 @@
 -- What the numbers of ticks of the profile promise, in each run of a valid site and whatever the order of
--- turns. The
--- rows on faults, on a reset and on outputs after the indication stand among the other deadlines.
+-- turns. The rows on faults, on a reset and on outputs after the indication stand among the other deadlines.
 use Rattle.std.specs.Prelude.{◌≡◌, ◌≤◌, ◌+◌, ◌-◌, ◌&&◌, ℕ, true, false, List, Some, slice_get}
 use Rattle.site_types.specs.declared.output.Output.{Output}
 use Rattle.site_types.specs.declared.retained.Retained.{Retained}
@@ -54,8 +53,7 @@ JoinedPanelsShow =
     → shows_zone (face_with site kept done stored panel moments) plan ≡ true
 
 -- a zone has signalled for the outputs of a panel: for the signal's ticks where it is the zone's own, for the
--- network's
--- where it was joined with that for the last of so many
+-- network's where it was joined with that for the last of so many
 pub data HasSignalledFor (site : Site) (kept : Retained) (done : List Done) (moments : List Moment)
     (zone panel : ℕ) :
     Type 0 where
@@ -90,8 +88,7 @@ SignalledOutputIsOn =
     → shows_output (face_with site kept done stored plan.panel moments) plan ≡ true
 
 -- a zone of type A in which a single detector signals is shown by its own panel once the zone's time, the
--- profile's
--- addition and the signal's ticks have passed since the detector began
+-- profile's addition and the signal's ticks have passed since the detector began
 abbrev pub SingleDetectorIsShown : Type 0
 SingleDetectorIsShown =
     (site : Site) (kept : Retained) (done : List Done) (stored : Retained) (moments : List Moment)
@@ -101,8 +98,7 @@ SingleDetectorIsShown =
     → shows_zone (face_with site kept done stored plan.panel moments) plan ≡ true
 
 -- after a disablement's ticks its setting is as the operation set it, and is shown so by its panel, until
--- another
--- operation on the setting is done
+-- another operation on the setting is done
 abbrev pub DisablementIsShown : Type 0
 DisablementIsShown =
     (site : Site) (kept : Retained) (stored : Retained) (moments : List Moment) (a : Answered) (setting :

@@ -10,8 +10,7 @@ use Rattle.panel_rules.specs.Faces.{face_with}
 use Rattle.panel_laws.specs.FaceLaws.{HasEnded, shows_output}
 
 -- an output without a delay is shown on in the face of its panel, where each word of that panel has asked for
--- it
--- through the profile's ticks of the output
+-- it through the profile's ticks of the output
 abbrev pub IndicatedOutputIsShown : Type 0
 IndicatedOutputIsShown =
     (site : Site) (kept : Retained) (done : List Done) (stored : Retained) (moments : List Moment) (output :

@@ -30,8 +30,7 @@ is_setting_at site panel (DelaysOff other) = other == panel
 is_setting_at site panel (Counter other) = other == panel
 
 -- the face of its panel shows a setting: the thing as disabled, the zone as in test, the delays as off; a
--- counter is
--- shown as a number, and never so
+-- counter is shown as a number, and never so
 abbrev pub shows_setting : Site → Face → Setting → Bool
 shows_setting site face (PointOff point) =
     is_some_with (λ (p : Point). has_point face.points_off p.line p.address) (slice_get site.points point)
@@ -63,8 +62,8 @@ pub record WasAccepted (site : Site) (kept : Retained) (moments : List Moment) (
       → list_any (λ failed. failed == tick) (failed_ticks moments) ≡ false
 
 -- from the second tick after an accepted operation on, the face of its panel shows the setting as the
--- operation set it,
--- until another operation on the setting is done: a disablement is shown, a test, and that delays are off
+-- operation set it, until another operation on the setting is done: a disablement is shown, a test, and that
+-- delays are off
 abbrev pub AcceptedIsShown : Type 0
 AcceptedIsShown =
     (site : Site) (kept : Retained) (stored : Retained) (moments : List Moment) (a : Answered) (setting :

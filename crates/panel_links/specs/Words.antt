@@ -39,8 +39,8 @@ pub record AreJoined (panels : ℕ) (before : List Call) (one other : ℕ) : Typ
       ⊎ ((other ≡ left_of panels one) × (is_up other before ≡ true))
 
 -- A chain of turns, each later than the one before, from a panel to another. The first is of the panel whose
--- word it is, and each next
--- one of a neighbour of the panel before, over a link that is up then, in a tick that carries that word.
+-- word it is, and each next one of a neighbour of the panel before, over a link that is up then, in a tick
+-- that carries that word.
 pub data Comes (panels from : ℕ) : ℕ → List Call → Word → Type 0 where
   begins : (tick : ℕ) (own : Word) (before : List Call)
       → Comes panels from from (Took tick from own ∷ before) own

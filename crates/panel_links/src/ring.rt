@@ -1,11 +1,11 @@
 ghost use Rattle.std.specs.Prelude.{◌≡◌, ◌+◌, ◌≤◌, ◌<◌, ◌==◌, ◌&&◌, [], ◌∷◌, List, ℕ, length, nat_le, slice_index_or};
 ghost use Rattle.std.specs.Prelude.{if◌then◌else◌};
 ghost use Rattle.site_types.specs.Bits.{mask_of};
-ghost use Rattle.panel_links.specs.Words.{Call, Linked, Took, IsHeard, IsNewest, OwnStampsRise, group_of};
+ghost use Rattle.panel_links.specs.Words.{Call, Linked, Took, IsHeard, IsNewest, OwnStampsRise};
 ghost use Rattle.site_types.specs.Words.{empty_word};
 ghost use Rattle.panel_links.specs.Words.{left_of, right_of};
 ghost use Rattle.panel_links.specs.Kept.{kept_word, newest};
-ghost use Rattle.panel_links.specs.Frames.{after_frame, group_words};
+ghost use Rattle.panel_links.specs.Frames.{after_frame, frame_of};
 
 use crate::frame::Frame;
 use site_types::{Word, mask_from_8};
@@ -124,12 +124,7 @@ impl Ring {
     /// What a panel sends over its links in a tick.
     pub fn frame(&self, from: u8, now: Tick) -> Frame
         requires { HasPanel self.now from }
-        ensures { result ≡ record {
-          from = from;
-          group = group_of self.now.panels now.0;
-          words =
-              group_words self.now.panels (group_of self.now.panels now.0) (kept_in self.now from);
-        } }
+        ensures { result ≡ frame_of self.now.panels (kept_in self.now from) from now.0 }
     {
         let group = if self.panels <= 4 || now.0 % 2 == 1 {
             0

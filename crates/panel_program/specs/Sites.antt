@@ -42,8 +42,7 @@ pub record IsNotBuilt (command : Command) (bytes : List ℕ) : Type 0 where
   pub missing : is_built_for command site ≡ false
 
 -- The site that bytes spell, or why they are refused: by the site's own refusals, then by a cycle, then for a
--- part that isn't built. Want of
--- memory is free.
+-- part that isn't built. Want of memory is free.
 abbrev pub Reads : Command → List ℕ → Result Site Stop → Type 0
 Reads command bytes (Ok site) = IsAtHand command bytes site
 Reads command bytes (Err (Refused refusal)) = IsRefusedBy site_finding bytes refusal

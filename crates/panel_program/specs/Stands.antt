@@ -27,7 +27,7 @@ use Rattle.panel_core.specs.Stands.{StandsFor as SystemStands}
 use Rattle.panel_program.specs.declared.run.Run.{Run}
 use Rattle.panel_program.specs.declared.run_end.RunEnd.{RunEnd}
 use Rattle.panel_program.specs.declared.run_end.RunEnd.TheVariants.{Ended, Refused, NotBuilt, TooManyBytes, ReadFault}
-use Rattle.panel_program.specs.Records.{Block, Progress, at_beginning, closed, after_line, progress_of, moments_in}
+use Rattle.panel_program.specs.Records.{Block, Progress, at_beginning, closed, after_line, new_block, progress_of, moments_in}
 use Rattle.panel_program.specs.Records.{is_built, is_built_event, built_lines, ticks_run}
 use Rattle.panel_program.specs.declared.taken.Taken.{Taken}
 use Rattle.panel_program.specs.Endings.{number_behind}
@@ -64,6 +64,13 @@ pub record StandsSome (run : Run) : Type 0 where
   pub site : Site
   pub p : Progress
   pub stands : Stands site p run
+
+-- a tick began behind those that were run, of which none was open
+abbrev pub OpensTick : ℕ → Run → Run → Type 0
+OpensTick tick old new =
+    (site : Site) (ticks : List TickBlock) → Stands site (record { run = ticks; block = None }) old
+    → tick ≡ length ticks + 1 → tick ≤ last_tick
+    → Stands site (record { run = ticks; block = Some (new_block site) }) new
 
 -- a tick is the next one
 abbrev pub IsNext : Line → ℕ → Type 0

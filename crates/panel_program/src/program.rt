@@ -2,8 +2,7 @@ ghost use Rattle.std.specs.Prelude.{◌≡◌, ◌≢◌, ◌⊎◌, [], IfSome,
 ghost use Rattle.cause_effect.specs.Stands.{IsPlanOf};
 ghost use Rattle.panel_edges.specs.Faults.{Rose};
 ghost use Rattle.panel_edges.specs.Shelves.{file_of};
-ghost use Rattle.panel_program.specs.Commands.{Answers, Draws, site_word};
-ghost use Rattle.panel_program.specs.Lines.{usage_line};
+ghost use Rattle.panel_program.specs.Commands.{Answers, AnswersTold, Draws, site_word};
 ghost use Rattle.panel_program.specs.Words.{command_of as command_by};
 ghost use Rattle.panel_program.specs.declared.command.Command.TheVariants.{Check as CheckCommand};
 ghost use Rattle.panel_program.specs.declared.command.Command.TheVariants.{Matrix as MatrixCommand};
@@ -36,11 +35,9 @@ pub fn panel<F: Shelf, S: Source, K: Sink>(
     input: &mut S,
     out: &mut K,
 ) -> Outcome
-    ensures answers { IfSome (F.files shelf.old)
-        (λ held.
-        IfSome (S.left input.old) (λ bytes. Answers (command_by (map string_bytes words.now))
-        (file_of (site_word (map string_bytes words.now)) held) bytes (K.written out.old)
-        (K.written out.new) result)) }
+    ensures answers { AnswersTold (command_by (map string_bytes words.now))
+        (site_word (map string_bytes words.now)) (F.files shelf.old) (S.left input.old)
+        (K.written out.old) (K.written out.new) result }
     ensures read { result.status ≡ 6 → Rose (F.faults shelf.old) (F.faults shelf.new)
         ⊎ Rose (S.read_faults input.old) (S.read_faults input.new) }
     ensures write { result.status ≡ 7 → Rose (K.write_faults out.old) (K.write_faults out.new) }
@@ -114,11 +111,8 @@ fn run<F: Shelf, S: Source, K: Sink>(
     input: &mut S,
     out: &mut K,
 ) -> Outcome
-    ensures answers { IfSome (F.files shelf.old)
-        (λ held.
-        IfSome (S.left input.old)
-        (λ bytes. Answers RunCommand (file_of name.now held) bytes (K.written out.old)
-        (K.written out.new) result)) }
+    ensures answers { AnswersTold RunCommand name.now (F.files shelf.old) (S.left input.old)
+        (K.written out.old) (K.written out.new) result }
     ensures read { result.status ≡ 6 → Rose (F.faults shelf.old) (F.faults shelf.new)
         ⊎ Rose (S.read_faults input.old) (S.read_faults input.new) }
     ensures write { result.status ≡ 7 → Rose (K.write_faults out.old) (K.write_faults out.new) }

@@ -1,21 +1,19 @@
-ghost use Rattle.std.specs.Prelude.{◌≡◌, ◌+◌, ◌≤◌, [], List, ℕ, Option, IfOk, OnErr, OnOk, false, None, Some, length};
+ghost use Rattle.std.specs.Prelude.{◌≡◌, ◌+◌, [], List, Option, IfOk, OnErr, OnOk, false, None, Some};
 ghost use Rattle.panel_core.specs.Stands.{HasPanel, MayTurnAll, StandsFor as SystemStands};
 ghost use Rattle.panel_edges.specs.Contents.{Grows, GrowsByFront};
 ghost use Rattle.panel_edges.specs.Faults.{HasCause};
-ghost use Rattle.panel_program.specs.Records.{Progress, after_line, at_beginning, closed, is_built_event, new_block};
+ghost use Rattle.panel_program.specs.Records.{Progress, at_beginning, closed, is_built_event};
 ghost use Rattle.panel_program.specs.Records.{with_order};
 ghost use Rattle.panel_program.specs.Stands.{MayClose, MayHappen as MayTell, MayTake, MayCome, Stands, StandsSome};
-ghost use Rattle.panel_program.specs.Stands.{Closes, Takes, TellsEvent, after_close, order_by};
+ghost use Rattle.panel_program.specs.Stands.{Closes, OpensTick, Takes, TellsEvent, after_close, order_by};
+ghost use Rattle.panel_core.specs.Changes.{MakesTurns};
 ghost use Rattle.panel_program.specs.Ticks.{text_of};
 ghost use Rattle.panel_program.specs.Writings.{Advances, Breaks};
 ghost use Rattle.panel_program.specs.Zones.{shown_after};
-ghost use Rattle.panel_rules.specs.Moments.{Moment, TickBlock, IsRun, and_turns};
+ghost use Rattle.panel_rules.specs.Moments.{Moment, IsRun};
 ghost use Rattle.tick_units.specs.Orders.{IsOrder};
-ghost use Rattle.tick_units.specs.Ticks.{last_tick};
 ghost use Rattle.site_types.specs.Changes.{nothing_retained};
-ghost use Rattle.site_types.specs.Events.{has_event};
 ghost use Rattle.site_types.specs.Valid.{IsValid};
-ghost use Rattle.site_types.specs.declared.retained.Retained.{Retained as RetainedOf};
 ghost use Rattle.site_types.specs.declared.site.Site.{Site as SiteOf};
 
 use crate::run_end::RunEnd;
@@ -129,10 +127,7 @@ impl Run {
     }
 
     fn begin(&mut self, tick: Tick)
-        ensures { (site : SiteOf) (ticks : List TickBlock)
-            → Stands site (record { run = ticks; block = None }) self.old
-            → tick.0 ≡ length ticks + 1 → tick.0 ≤ last_tick
-            → Stands site (record { run = ticks; block = Some (new_block site) }) self.new }
+        ensures { OpensTick tick.0 self.old self.new }
     {
         self.system.begin(tick);
         self.is_open = true;
@@ -215,11 +210,7 @@ fn is_built(event: &Event) -> bool
 // Each seat has its turn, in the order that was given, else in the canonical one.
 fn turn_all(system: &mut System, given: &Option<Order>, canonical: &Order)
     requires { MayTurnAll (order_by given.now canonical.now) system.old }
-    ensures { (site : SiteOf) (kept : RetainedOf) (before : List Moment)
-        → SystemStands site kept before system.old
-        → IsRun site.panels (and_turns false (order_by given.now canonical.now) before)
-        → SystemStands site kept (and_turns false (order_by given.now canonical.now) before)
-        system.new }
+    ensures { MakesTurns system.old (order_by given.now canonical.now) system.new }
 {
     match given {
         Some(order) => system.turns(order),

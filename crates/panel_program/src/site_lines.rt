@@ -4,7 +4,7 @@ ghost use Rattle.std.specs.Prelude.{◌≡◌, ◌≤◌, ◌+◌, ◌++◌, OnO
 ghost use Rattle.std.specs.Fmt.{signed_decimal};
 ghost use Rattle.panel_edges.specs.Contents.{Grows, GrowsByFront};
 ghost use Rattle.panel_edges.specs.Faults.{HasCause, Rose};
-ghost use Rattle.panel_program.specs.Refusals.{named_text, refusal_status, refusal_text, stop_status, stop_text};
+ghost use Rattle.panel_program.specs.Refusals.{named_text, range_text, refusal_status, refusal_text, stop_status, stop_text};
 ghost use Rattle.panel_program.specs.Writings.{Says};
 
 use crate::outcome::Outcome;
@@ -125,13 +125,9 @@ fn write_named<K: Sink>(word: &str, name: &str, detail: &str, out: &mut K) -> Re
 // A line with a key and a number behind it.
 fn write_range<K: Sink>(key: &str, number: i64, out: &mut K) -> Result<(), Failed>
     ensures ok { OnOk result
-        (Grows (K.written out.old) (K.written out.new)
-        (named_text (codes "refused site 5 ") key.now (codes " " ++ signed_decimal number
-        ++ codes "\n"))) }
+        (Grows (K.written out.old) (K.written out.new) (range_text key.now number)) }
     ensures err { OnErr result
-        (GrowsByFront (K.written out.old) (K.written out.new)
-        (named_text (codes "refused site 5 ") key.now (codes " " ++ signed_decimal number
-        ++ codes "\n"))) }
+        (GrowsByFront (K.written out.old) (K.written out.new) (range_text key.now number)) }
     ensures cause { HasCause (K.write_faults out.old) (K.write_faults out.new) result }
 {
     let detail = number_detail(number);

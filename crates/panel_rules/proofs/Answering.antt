@@ -1,4 +1,5 @@
--- Each operation is answered once: those that are asked for, and not open any more, are the ones answered and those that wait.
+-- Each operation is answered once: those that are asked for, and not open any more, are the ones answered and
+-- those that wait.
 use Rattle.std.proofs.Common.{◌≡◌, ℕ, zero, suc, ◌+◌, ◌≤◌, List, [], ◌∷◌, Option, Some, None, slice_get, inl, inr, Bool, refl, ap, arith}
 use Rattle.std.specs.List.{AllByRecursion}
 use Rattle.site_types.specs.declared.event.Event.TheVariants.{Op, Point, Cable, Supply, Link, Confirmed}

@@ -1,4 +1,5 @@
--- The facts on the numbers of ticks of a site's format that the rest rests on. The two formats are told apart here alone.
+-- The facts on the numbers of ticks of a site's format that the rest rests on. The two formats are told apart
+-- here alone.
 use Rattle.std.proofs.Common.{◌≡◌, ℕ, zero, suc, ◌+◌, ◌-◌, ◌*◌, ◌%◌, ◌≤◌, ◌<◌, ◌⊎◌, inl, inr, refl, sym, ◌∙◌, subst, arith, ◌/◌}
 use Rattle.std.specs.Prelude.{true, ◌==◌}
 use Rattle.std.proofs.lemmas.Bool.{eqb-true}

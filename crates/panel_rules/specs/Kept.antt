@@ -26,8 +26,7 @@ abbrev pub taken_over : Bool → Bool → List Moment → List Moment → List M
 taken_over up carried kept other = if up && carried then newer kept other else kept
 
 -- the word of a panel that another one keeps; its own word is the latest that it made before its latest turn
--- of Link. What the
--- panel on its left has is taken first
+-- of Link. What the panel on its left has is taken first
 abbrev pub kept_at : ℕ → ℕ → ℕ → List Moment → List Moment
 kept_at panels panel source [] = []
 kept_at panels panel source (Began ∷ before) = kept_at panels panel source before

@@ -19,8 +19,7 @@ abbrev pub IsUpTo : ℕ → ℕ → Answer → Type 0
 IsUpTo stamp point answer = (answer.stamp.0 < stamp) ⊎ ((answer.stamp.0 ≡ stamp) × (answer.point ≤ point))
 
 -- a part that decides for a panel, with the answers that lie before it and room for what it finds: no answer
--- came after the last one given, no operation
--- was done after the last one done
+-- came after the last one given, no operation was done after the last one done
 pub record IsReady (site : Site) (panel : ℕ) (decide : Decide) (answers : LaneState Answer) (findings :
     LaneState Finding) (stamp point at : ℕ) : Type 0 where
   pub valid : IsValid site

@@ -34,8 +34,7 @@ HasLog Ready cells file = (whole_bytes ≤ length file) × (cells ≡ 0)
 HasLog Open cells file = (slice_index file log_gate ≡ 1) × (whole_bytes ≤ length file)
 
 -- the cell behind the first ones holds these changes behind its gate, with the number behind another, and the
--- gate of
--- the cell after it is shut
+-- gate of the cell after it is shut
 pub record HoldsChanges (wide : Bool) (cells last : ℕ) (batch : List Change) (file : List ℕ) : Type 0 where
   pub next_number : number_at 8 (cell_place cells + 1) file ≡ last + 1
   pub form : wrong_in_cell wide (cell_place cells) file ≡ None
@@ -47,8 +46,7 @@ abbrev pub HoldsBatch : Journal → List ℕ → Type 0
 HoldsBatch journal file = HoldsChanges journal.wide journal.cells journal.number journal.attempt.items file
 
 -- The next cell. Where its gate may be open, what lies behind it has not the next number or holds the batch
--- last
--- attempted, so that any byte of the gate will do; else the gate is shut.
+-- last attempted, so that any byte of the gate will do; else the gate is shut.
 abbrev pub HasNext : Journal → List ℕ → Type 0
 HasNext journal file =
     MatchBool journal.cell_may_be_open
@@ -78,8 +76,7 @@ HoldsCopy journal file =
     HoldsState journal.wide (not journal.second) journal.cells journal.number journal.kept file
 
 -- The other slot. Where its gate may be open, it is behind the chosen one, or a move was begun and it holds
--- what is
--- kept, so that any byte of the gate will do; else the gate is shut.
+-- what is kept, so that any byte of the gate will do; else the gate is shut.
 abbrev pub HasOther : Journal → List ℕ → Type 0
 HasOther journal file =
     MatchBool journal.slot_may_be_open
@@ -106,8 +103,7 @@ pub record IsImage (journal : Journal) (file : List ℕ) : Type 0 where
   pub other : HasOther journal file
 
 -- What holds of an open journal whatever the disk: its state has room in a slot, its numbers have room in
--- theirs, and
--- it is torn unless all stands.
+-- theirs, and it is torn unless all stands.
 pub record IsSound (journal : Journal) : Type 0 where
   pub few : journal.cells ≤ 64
   pub keeps : IsKeepable journal.wide journal.kept
@@ -116,8 +112,7 @@ pub record IsSound (journal : Journal) : Type 0 where
       × (journal.moving ≡ false)
 
 -- A journal stands on its disk: it is sound, and each file that a crash may leave of an honest disk is an
--- image of
--- it.
+-- image of it.
 pub record Stands {D : Type 0} (honest : D → Type 0) (images : D → List ℕ → Type 0) (disk : D) (journal :
     Journal) : Type 0 where
   pub sound : IsSound journal
@@ -171,8 +166,7 @@ pub record StaysKept (old new : Journal) : Type 0 where
   pub same_torn : new.torn ≡ old.torn
 
 -- What is kept, the batch last attempted, the count of tries, the last number and the cells that count are as
--- they
--- were.
+-- they were.
 pub record KeepsAll (old new : Journal) : Type 0 where
   pub same_wide : new.wide ≡ old.wide
   pub same_digest : new.digest ≡ old.digest
@@ -203,8 +197,7 @@ abbrev pub MayLeaveOr : Journal → List Change → List ℕ → Type 0
 MayLeaveOr journal batch file = MayLeave journal file ⊎ OpensToKeptWith journal batch file
 
 -- A call has two parts: a crash at any moment up to some state of its disk leaves a file that has P, and from
--- that
--- state on one that has Q.
+-- that state on one that has Q.
 pub record LeavesInTurn {D : Type 0} (moment : D → ℕ) (left_since : D → ℕ → List ℕ → Type 0) (old new :
     D) (P Q : List ℕ → Type 0) : Type 0 where
   pub between : D

@@ -77,8 +77,7 @@ pub record IsNewJournal (wide : Bool) (digest : List ℕ) (journal : Journal) : 
   pub torn : journal.torn ≡ true
 
 -- A journal that was just opened: nothing was attempted with it, and it is whole exactly where the log gate
--- is open
--- and the gate of the next cell isn't.
+-- is open and the gate of the next cell isn't.
 pub record IsFresh (wide : Bool) (digest : List ℕ) (journal : Journal) : Type 0 where
   pub same_wide : journal.wide ≡ wide
   pub same_digest : journal.digest ≡ digest
@@ -88,8 +87,7 @@ pub record IsFresh (wide : Bool) (digest : List ℕ) (journal : Journal) : Type 
   pub whole : (journal.torn ≡ false) ↔ ((journal.log ≡ Open) × (journal.cell_may_be_open ≡ false))
 
 -- What opening makes of a file: an empty one becomes a new one, any other stays as it is, and the journal is
--- read
--- from what then stands.
+-- read from what then stands.
 pub record IsOpenedOn (wide : Bool) (digest : List ℕ) (journal : Journal) (old new : List ℕ) : Type 0 where
   pub made : length old ≡ 0 → IsNewFile digest nothing_retained new × IsNewJournal wide digest journal
   pub stays : 0 < length old → new ≡ old

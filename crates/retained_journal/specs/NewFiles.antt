@@ -10,8 +10,7 @@ abbrev pub IsBesideSlot : ℕ → Type 0
 IsBesideSlot place = ((log_gate ≤ place) × (place < 64)) ⊎ (970 ≤ place)
 
 -- The front alone: the mark, the digest of the site, and slot A, which is open, has number 1 and holds a
--- state. All
--- else is zero, so the log gate and slot B are shut.
+-- state. All else is zero, so the log gate and slot B are shut.
 pub record IsNewFile (digest : List ℕ) (state : Retained) (file : List ℕ) : Type 0 where
   pub size : length file ≡ front_bytes
   pub bytes : AreBytes file

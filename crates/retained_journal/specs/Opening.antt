@@ -17,8 +17,7 @@ abbrev pub is_open : ℕ → List ℕ → Bool
 is_open at file = slice_index file at == 1
 
 -- The chosen slot is the open one, or of two the one with the greater number, with equal numbers slot A. This
--- is
--- whether it is slot B.
+-- is whether it is slot B.
 abbrev pub is_second : List ℕ → Bool
 is_second file =
     is_open 1024 file && (not (is_open 64 file) || nat_lt (slot_number 64 file) (slot_number 1024 file))
@@ -28,8 +27,7 @@ abbrev pub chosen_place : List ℕ → ℕ
 chosen_place file = slot_place (is_second file)
 
 -- the cells are looked at where the log gate is open: the first ones that are open and numbered in order
--- behind the
--- chosen slot count
+-- behind the chosen slot count
 abbrev pub counted : List ℕ → ℕ
 counted file =
     if is_open log_gate file

@@ -1,6 +1,5 @@
 -- What opening, creating, mending and committing leave: of the journal, of its file, and of the files that a
--- crash
--- may leave.
+-- crash may leave.
 use Rattle.std.specs.Prelude.{◌≡◌, ◌≢◌, ◌⊎◌, ◌+◌, ◌<◌, ◌≤◌, ◌^◌, ℕ, Bool, true, false, not, List, length, Option}
 use Rattle.std.specs.Prelude.{IfSome}
 use Rattle.panel_edges.specs.Crashes.{LeavesOnly}
@@ -12,7 +11,7 @@ use Rattle.retained_journal.specs.declared.create_refusal.CreateRefusal.TheVaria
 use Rattle.retained_journal.specs.declared.journal.Journal.{Journal}
 use Rattle.retained_journal.specs.declared.open_refusal.OpenRefusal.{OpenRefusal}
 use Rattle.retained_journal.specs.declared.open_refusal.OpenRefusal.TheVariants.{DiskFault}
-use Rattle.retained_journal.specs.Images.{IsEarly, LeavesInTurn, MayLeave, OpensToKept, OpensToKeptOrWith}
+use Rattle.retained_journal.specs.Images.{IsEarly, LeavesInTurn, MayCount, MayLeave, OpensToKept, OpensToKeptOrWith}
 use Rattle.retained_journal.specs.Opening.{Empty, Opens, Refuses, chosen_place, counted, opened}
 use Rattle.retained_journal.specs.Slots.{slot_number}
 
@@ -89,11 +88,19 @@ HasKept batch old new = (new.kept ≡ changed_by batch old.kept) × (new.torn �
     × (new.attempt.items ≡ batch)
 
 -- A batch was not kept: the journal is torn and keeps what it kept. The batch was attempted, or the mending
--- before it
--- failed.
+-- before it failed.
 abbrev pub HasFailed : List Change → Journal → Journal → Type 0
 HasFailed batch old new =
     (new.kept ≡ old.kept) × (new.torn ≡ true) × ((new.attempt.items ≡ batch) ⊎ (new.attempt ≡ old.attempt))
+
+-- no cell counts, unless the log gate was open; of the journal only what is known of the log gate and of the next cell's gate changed
+abbrev pub HasPreparedCells : Journal → Journal → Type 0
+HasPreparedCells old new =
+    MayCount new.log × (new ≡ record old { log = new.log; cell_may_be_open = new.cell_may_be_open })
+
+-- no move is left over; of the journal only what is known of the other slot's gate changed
+abbrev pub HasEndedMove : Journal → Journal → Type 0
+HasEndedMove old new = new ≡ record old { slot_may_be_open = new.slot_may_be_open; moving = false }
 
 -- one commit more was tried, which gave at most two numbers
 abbrev pub HasTried : Journal → Journal → Type 0
@@ -102,8 +109,7 @@ HasTried old new =
     × (new.number ≤ old.number + 2)
 
 -- The batch that was attempted before may be left until the mending has ended, and the new one only from then
--- on: the
--- mending failed, or the call had both parts.
+-- on: the mending failed, or the call had both parts.
 abbrev pub LeavesEachInTurn :
     {D : Type 0} → (D → ℕ) → (D → ℕ → List ℕ → Type 0) → D → D → Journal → List Change → Journal → Type 0
 LeavesEachInTurn moment left_since before after old batch new =

@@ -29,8 +29,7 @@ BeginsReplay wide at front replay =
     }
 
 -- What becomes of a replay with the bytes of the next cell: it ends where the cell doesn't count, is refused
--- where a
--- byte is out of its form, and else goes on with the changes of the cell.
+-- where a byte is out of its form, and else goes on with the changes of the cell.
 abbrev pub TakesCell : Replay → List ℕ → Result Bool OpenRefusal → Replay → Type 0
 TakesCell old cell (Ok false) new =
     (is_next (old.number + 1) 0 cell ≡ false) × (new ≡ record old { is_next_open = slice_index cell 0 == 1 })

@@ -1,6 +1,6 @@
 //! The steps of a journal on its disk: one write with its sync each.
 
-ghost use Rattle.std.specs.Prelude.{◌≡◌, ◌+◌, ◌<◌, ◌≤◌, ℕ, List, true, false, not, IsTrue, OnErr, OnOk, ◌↔◌};
+ghost use Rattle.std.specs.Prelude.{◌≡◌, ◌+◌, ◌<◌, ◌≤◌, ℕ, List, true, false, IsTrue, OnErr, OnOk, ◌↔◌};
 ghost use Rattle.panel_edges.specs.Crashes.{LeavesOnly};
 ghost use Rattle.panel_edges.specs.Faults.{HasCause};
 
@@ -15,10 +15,11 @@ impl Journal {
     ghost use Rattle.std.specs.Prelude.{◌*◌, ◌^◌, IfSome};
     ghost use Rattle.panel_edges.specs.Disks.{Becomes};
     ghost use Rattle.site_types.specs.Changes.{changed_by};
-    ghost use Rattle.retained_journal.specs.Batches.{CanMakeAll, IsBatch};
+    ghost use Rattle.retained_journal.specs.Batches.{IsBatch};
+    ghost use Rattle.retained_journal.specs.Outcomes.{HasEndedMove, HasPreparedCells};
     ghost use Rattle.retained_journal.specs.Images.{HasRoom, HasRoomForTwo, HasZeros, HoldsBatch, HoldsCopy, KeepsAll};
     ghost use Rattle.retained_journal.specs.Images.{MayCount, OpensToKeptOrAttempt, SameFront, Stands, StaysKept};
-    ghost use Rattle.retained_journal.specs.Images.{StaysSo, next_of, other_of};
+    ghost use Rattle.retained_journal.specs.Images.{StaysSo, other_of};
     ghost use Rattle.retained_journal.specs.Outcomes.{HasAppended, HasMoved};
 
     // Where the other slot begins.
@@ -231,11 +232,7 @@ impl Journal {
     pub(crate) fn prepare_cells<D: Disk>(&mut self, disk: &mut D) -> Result<(), Failed>
         requires { Stands D.honest D.images disk.old self.old }
         ensures stands { Stands D.honest D.images disk.new self.new }
-        ensures ok { OnOk result (MayCount self.new.log
-            × (self.new ≡ record self.old {
-              log = self.new.log;
-              cell_may_be_open = self.new.cell_may_be_open;
-            })) }
+        ensures ok { OnOk result (HasPreparedCells self.old self.new) }
         ensures err { OnErr result (self.new ≡ self.old) }
         ensures moments { D.honest disk.old → HasRoom self.old →
             LeavesOnly D.moment D.left_since disk.old disk.new (OpensToKeptOrAttempt self.old) }
@@ -253,10 +250,7 @@ impl Journal {
     pub(crate) fn end_move<D: Disk>(&mut self, disk: &mut D) -> Result<(), Failed>
         requires { Stands D.honest D.images disk.old self.old }
         ensures stands { Stands D.honest D.images disk.new self.new }
-        ensures ok { OnOk result (self.new ≡ record self.old {
-          slot_may_be_open = self.new.slot_may_be_open;
-          moving = false;
-        }) }
+        ensures ok { OnOk result (HasEndedMove self.old self.new) }
         ensures err { OnErr result (self.new ≡ self.old) }
         ensures moments { D.honest disk.old → HasRoom self.old →
             LeavesOnly D.moment D.left_since disk.old disk.new (OpensToKeptOrAttempt self.old) }

@@ -1,5 +1,5 @@
--- The claims of a draft with what is kept of their places: the first that is made twice is the same, and where each list is short they are the claims
--- themselves.
+-- The claims of a draft with what is kept of their places: the first that is made twice is the same, and
+-- where each list is short they are the claims themselves.
 use Rattle.std.proofs.Common.{◌≡◌, ◌≤◌, ◌+◌, ◌++◌, ◌||◌, ℕ, List, [], ◌∷◌, Bool, true, false, Option, Some, None, is_some, length, refl, ap, ◌∙◌, arith, if◌then◌else◌}
 use Rattle.std.specs.Str.{bytes_eq}
 use Rattle.site_types.specs.declared.named.Thing.{Thing}

@@ -1,6 +1,5 @@
 -- The draft that a document spells: the records of a site with names where a site has places. It is the
--- document's, field by field,
--- where nothing is absent, of a wrong kind, unknown or out of range.
+-- document's, field by field, where nothing is absent, of a wrong kind, unknown or out of range.
 use Rattle.std.specs.Prelude.{ℕ, ℤ, List, [], ◌∷◌, ◌++◌, Option, Some, None, Bool, false, nat_lt, option_to_list}
 use Rattle.std.specs.Prelude.{option_map, if◌then◌else◌}
 use Rattle.std.specs.Result.{result_ok}

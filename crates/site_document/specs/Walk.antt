@@ -1,6 +1,6 @@
 -- A site file looked at in passes: each pass looks at the table of the whole file first, then at loops,
--- zones, points, outputs and markers,
--- each list in its order and the keys of each table in alphabetical order.
+-- zones, points, outputs and markers, each list in its order and the keys of each table in alphabetical
+-- order.
 use Rattle.std.specs.Prelude.{ℕ, ◌+◌, List, [], ◌∷◌, Option, Some, None}
 use Rattle.toml.specs.Data.{Data, string, integer, float, boolean, datetime, array, table, Items, no_items, item}
 use Rattle.toml.specs.Data.{Members}

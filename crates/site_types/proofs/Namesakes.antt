@@ -1,4 +1,5 @@
--- Of the things of one kind at most one has a name, so what is kept of a name is what is kept of the thing that is found by it.
+-- Of the things of one kind at most one has a name, so what is kept of a name is what is kept of the thing
+-- that is found by it.
 use Rattle.std.proofs.Common.{◌≡◌, ◌↔◌, ℕ, Bool, true, false, List, get_or, Some, None, slice_get, ◌&&◌, refl, sym, ◌∙◌, ap}
 use Rattle.std.specs.List.{list_any}
 use Rattle.std.specs.Prelude.{option_map}
