@@ -217,12 +217,14 @@ asked_finds : (site : Site) (panel : ℕ) (before : List Moment) (place point : 
     (tick_of before) (line_at place) (address_at site.format (tick_of before) place) point)
 unfolding places
 asked_finds site panel before place point known few h =
-    subst (λ xs. IsFound xs (answer_of site panel (λ p. state_of p before) (λ line piece. piece_of panel line piece before) (tick_of before) (line_at place) (address_at site.format (tick_of before) place) point))
+    subst (λ xs. IsFound xs (answer_of site panel (λ p. state_of p before) (λ line piece. piece_of panel line piece before) (tick_of before)
+    (line_at place) (address_at site.format (tick_of before) place) point))
     (sym (asked_in_places site panel (λ p. state_of p before) (λ line piece. piece_of panel line piece before) (tick_of before) known))
     (found_in (answer_at site panel (λ p. state_of p before) (λ line piece. piece_of panel line piece before) (tick_of before)) (range_with_len 0 32)
     place place _
     (range_get 0 32 place few ∙ ap Some (omega arith))
-    (ap (option_map (answer_of site panel (λ p. state_of p before) (λ line piece. piece_of panel line piece before) (tick_of before) (line_at place) (address_at site.format (tick_of before) place))) h))
+    (ap (option_map (answer_of site panel (λ p. state_of p before) (λ line piece. piece_of panel line piece before) (tick_of before) (line_at place)
+    (address_at site.format (tick_of before) place))) h))
 
 -- an answer of a point with a stamp is there
 pub record IsAnswered (xs : List Answer) (point tick : ℕ) : Type 0 where
