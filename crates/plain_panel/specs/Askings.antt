@@ -6,7 +6,7 @@ use Rattle.site_types.specs.declared.point.Point.{Point as PointPlan}
 use Rattle.site_types.specs.declared.site.Site.{Site}
 use Rattle.loop_poller.specs.Calls.{Call, Reported, Cabled}
 use Rattle.loop_poller.specs.Stands.{StandsFor}
-use Rattle.panel_rules.specs.Moments.{Moment, Began, Happened, Turned, Kept}
+use Rattle.panel_rules.specs.Moments.{Moment, Began, Happened, Turned, Kept, tick_of}
 use Rattle.panel_rules.specs.Answers.{answers}
 use Rattle.panel_rules.specs.Counts.{taken_by_decide, taken_by_hold}
 use Rattle.plain_panel.specs.declared.asking.Asking.{Asking}
@@ -47,3 +47,15 @@ pub record AsksSome (site : Site) (asking : Asking) : Type 0 where
   pub panel : ℕ
   pub history : List Moment
   pub stands : StandsForAsking site panel history asking
+
+-- a moment more stands in the answers, whatever the panel and what befell before
+abbrev pub Hears : Site → Moment → Asking → Asking → Type 0
+Hears site moment earlier later =
+    (panel : ℕ) (history : List Moment) → StandsForAsking site panel history earlier
+    → StandsForAsking site panel (moment ∷ history) later
+
+-- the same in a tick
+abbrev pub HearsIn : Site → ℕ → Moment → Asking → Asking → Type 0
+HearsIn site tick moment earlier later =
+    (panel : ℕ) (history : List Moment) → StandsForAsking site panel history earlier → tick_of history ≡ tick
+    → StandsForAsking site panel (moment ∷ history) later

@@ -7,6 +7,7 @@ pub mod Halves
 pub mod Histories
 pub mod Keepings
 pub mod Network
+pub mod Outputs
 pub mod Reported
 pub mod Settings
 pub mod Signs

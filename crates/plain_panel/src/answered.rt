@@ -77,7 +77,9 @@ pub(crate) fn zones_that_show(
     answers: &[Answer],
     tick: Tick,
 ) -> u32
-    ensures { result ≡ zones_where site.now panel (λ (zone : ℕ). is_shown sign site.now kept.now (all_done done.now) answers.now zone tick.0) }
+    ensures { result ≡ zones_where site.now panel
+        (λ (zone : ℕ).
+        is_shown sign site.now kept.now (all_done done.now) answers.now zone tick.0) }
 {
     let mut mask = 0;
     for bit in 0..32u8 {

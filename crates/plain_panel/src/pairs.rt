@@ -22,7 +22,9 @@ pub(crate) fn has_pair(
     zone: usize,
     answer: &Answer,
 ) -> bool
-    ensures { result ≡ pairs_up site.now zone answer.now.point (λ (near : ℕ). list_any (is_uncancelled_by site.now kept.now (all_done done.now) within near answer.now) answers.now) }
+    ensures { result ≡ pairs_up site.now zone answer.now.point (λ (near : ℕ).
+        list_any (is_uncancelled_by site.now kept.now (all_done done.now) within near answer.now)
+        answers.now) }
 {
     let partner = partner_at(site, zone);
     let own = has_uncancelled(site, kept, done, answers, within, zone, answer);

@@ -7,6 +7,7 @@ ghost use Rattle.panel_rules.specs.Markers.{Facts as FactsOf};
 ghost use Rattle.panel_rules.specs.Moments.{Moment as MomentOf};
 ghost use Rattle.panel_rules.specs.Outputs.{is_requested as is_requested_in, is_requested_by_hand as is_requested_by_hand_in, on_output, panel_of_output as panel_in, released_at_drive as released_at_drive_in, released_at_effect as released_at_effect_in};
 ghost use Rattle.plain_panel.specs.Drives.{AreSeen, AreZones};
+ghost use Rattle.plain_panel.specs.Outputs.{TellsOf};
 
 use crate::seen::Seen;
 use crate::turns::before_latest;
@@ -37,7 +38,7 @@ fn is_true(site: &Site, output: u16, values: &Values) -> bool
 /// Whether the latest turn of Effect requests an output.
 pub(crate) fn is_requested(site: &Site, output: u16, seen: &[Seen]) -> bool
     requires { IsValid site.now }
-    ensures { (facts : ℕ → List MomentOf → FactsOf) (history : List MomentOf) → AreSeen site.now facts seen.now history → result ≡ is_requested_in site.now facts output history }
+    ensures { TellsOf site.now seen.now (λ facts. is_requested_in site.now facts output) result }
 {
     match before_latest(panel_of_output(site, output), Task::Effect, seen) {
         None => false,
@@ -48,7 +49,7 @@ pub(crate) fn is_requested(site: &Site, output: u16, seen: &[Seen]) -> bool
 /// Whether the latest turn of Effect requests an output by hand.
 pub(crate) fn is_requested_by_hand(site: &Site, output: u16, seen: &[Seen]) -> bool
     requires { IsValid site.now }
-    ensures { (facts : ℕ → List MomentOf → FactsOf) (history : List MomentOf) → AreSeen site.now facts seen.now history → result ≡ is_requested_by_hand_in site.now facts output history }
+    ensures { TellsOf site.now seen.now (λ facts. is_requested_by_hand_in site.now facts output) result }
 {
     match before_latest(panel_of_output(site, output), Task::Effect, seen) {
         None => false,

@@ -116,11 +116,11 @@ impl Standing {
 }
 
 ghost use Rattle.site_types.specs.Valid.{IsPanel};
-ghost use Rattle.std.specs.Prelude.{ℕ, MatchOption};
-ghost use Rattle.tick_units.specs.declared.task.Task.TheVariants.{Effect as EffectTask, Hold as HoldTask};
-ghost use Rattle.panel_rules.specs.Moments.{Moment as MomentOf, Turned as TurnedOf};
+ghost use Rattle.std.specs.Prelude.{MatchOption};
+ghost use Rattle.tick_units.specs.declared.task.Task.TheVariants.{Hold as HoldTask};
+ghost use Rattle.panel_rules.specs.Moments.{Moment as MomentOf};
 ghost use Rattle.panel_rules.specs.Run.{facts_of};
-ghost use Rattle.plain_panel.specs.Drives.{AreFacts, DrivesFor};
+ghost use Rattle.plain_panel.specs.Drives.{AreFacts, AreFactsOfTurn, DrivesFor};
 ghost use Rattle.plain_panel.specs.Enterings.{AreEntering};
 ghost use Rattle.plain_panel.specs.Network.{IsNotHold, StandsFor};
 
@@ -145,7 +145,9 @@ fn holder(moment: &Moment) -> Option<u8>
 // The facts of an Effect turn, where a moment is one.
 fn facts_now(network: &Network, site: &Site, moment: &Moment) -> Facts
     requires { network.now.panels ≡ site.now.panels }
-    ensures { (kept : RetainedOf) (done : List DoneOf) (before : List MomentOf) → IsValid site.now → StandsFor site.now kept done before network.now → (panel : ℕ) → IsPanel site.now panel → moment_of moment.now ≡ TurnedOf panel EffectTask → AreFacts site.now (facts_of site.now kept done panel before) result }
+    ensures { (kept : RetainedOf) (done : List DoneOf) (before : List MomentOf) → IsValid site.now
+        → StandsFor site.now kept done before network.now → AreFactsOfTurn site.now
+        (facts_of site.now kept done) before (moment_of moment.now) result }
 {
     match *moment {
         Moment::Turned { panel, .. } => facts_at(network, site, panel),

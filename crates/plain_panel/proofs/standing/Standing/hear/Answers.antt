@@ -37,6 +37,6 @@ pub returns-in-None : goal.returns-in-None
 returns-in-None c =
     record {
       panels = refl;
-      network = c.step.ensures.stands c.args.site.now c.args.kept.now (all_done c.args.done.now) (history c.args.before.now) c.requires.network (sym c.requires.ticks) c.in-None.ensures;
+      network = c.step.ensures.stands c.in-None.ensures c.args.site.now c.args.kept.now (all_done c.args.done.now) (history c.args.before.now) c.requires.network (sym c.requires.ticks);
       driving = refl;
     }
