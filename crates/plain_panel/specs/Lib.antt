@@ -10,8 +10,8 @@ pub mod Network
 pub mod Outputs
 pub mod Reported
 pub mod Settings
-pub mod Signs
 pub mod Standings
 pub mod Storing
 pub mod Tellings
 pub mod Timelines
+pub mod ZoneStates

@@ -7,11 +7,11 @@ ghost use Rattle.site_types.specs.Valid.{IsValid};
 ghost use Rattle.panel_rules.specs.Moments.{Moment as MomentOf, tick_of};
 ghost use Rattle.plain_panel.specs.Histories.{all_done, moment_of};
 
-use crate::answered::zones_that_show;
+use crate::answered::zones_in_state;
 use crate::asking::Asking;
 use crate::done::Done;
 use crate::moment::Moment;
-use crate::sign::Sign;
+use crate::zone_state::ZoneState;
 use site_types::{Answer, Retained, Site};
 use std::alloc::Global;
 use tick_units::{NoMemory, Task, Tick};
@@ -159,7 +159,7 @@ fn is_in_fire(
 ) -> bool
     ensures { result ≡ holds_fire_alarm site.now kept.now (all_done done.now) tick.0 answers.now panel }
 {
-    zones_that_show(Sign::Alarm, site, kept, panel, done, answers, tick) != 0
+    zones_in_state(ZoneState::Alarm, site, kept, panel, done, answers, tick) != 0
 }
 
 // What was not so is so now.

@@ -42,7 +42,6 @@ mod retained;
 mod seen;
 mod setting;
 mod settings_shown;
-mod sign;
 mod solved;
 mod standing;
 mod storing;
@@ -52,6 +51,7 @@ mod ticking;
 mod turns;
 mod unconfirmed;
 mod watched;
+mod zone_state;
 
 pub use alarm::{is_by_hand, is_first, is_in_alarm, is_released};
 pub use answered::{answered_faults, answered_word};
