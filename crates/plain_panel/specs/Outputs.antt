@@ -7,8 +7,11 @@ use Rattle.site_types.specs.Done.{Done, override_done_in}
 use Rattle.marker_table.specs.declared.facts.Facts.{Facts as Masks}
 use Rattle.panel_rules.specs.Markers.{Facts}
 use Rattle.panel_rules.specs.Moments.{Moment, Turned, tick_of}
-use Rattle.panel_rules.specs.Outputs.{delay_of, is_silenced, panel_of_output}
+use Rattle.panel_rules.specs.Faults.{is_unconfirmed}
+use Rattle.panel_rules.specs.Outputs.{delay_of, is_confirmed_out, is_on, is_silenced, panel_of_output}
 use Rattle.plain_panel.specs.declared.driving.Driving.{Driving}
+use Rattle.plain_panel.specs.declared.output_state.OutputState.{OutputState}
+use Rattle.plain_panel.specs.declared.output_state.OutputState.TheVariants.{On, Confirmed, Unconfirmed}
 use Rattle.plain_panel.specs.declared.seen.Seen.{Seen}
 use Rattle.plain_panel.specs.Drives.{AreFactsOfTurn, AreSeen, DrivesFor, IsSeen}
 
@@ -40,6 +43,12 @@ module _ (site : Site) (output tick : ℕ) where
   abbrev pub ends_delay : List Done → ℕ → Bool
   ends_delay done first =
       nat_le (first + delay_of site output) tick || override_done_in (panel_of_output site output) first tick done
+
+-- an output is in a state after a history
+abbrev pub is_in_state : OutputState → Site → (ℕ → List Moment → Facts) → Retained → List Done → ℕ → List Moment → Bool
+is_in_state On site facts kept done output history = is_on site facts kept done output history
+is_in_state Confirmed site facts kept done output history = is_confirmed_out site facts kept done output history
+is_in_state Unconfirmed site facts kept done output history = is_unconfirmed site facts kept done output history
 
 -- what is kept of a moment in a tick, where masks are the facts if it is a turn of Effect
 abbrev pub IsSeenAt : Site → Moment → ℕ → Masks → Seen → Type 0

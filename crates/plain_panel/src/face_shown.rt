@@ -10,7 +10,8 @@ ghost use Rattle.plain_panel.specs.Standings.{TellsFace};
 use crate::done::Done;
 use crate::driving::Driving;
 use crate::network::Network;
-use crate::output_masks::{outputs_confirmed, outputs_on};
+use crate::output_masks::outputs_in;
+use crate::output_state::OutputState;
 use crate::setting::{Setting, in_force};
 use crate::settings_shown::{outputs_off, points_off, zones_in_test, zones_off};
 use face_text::Face;
@@ -38,8 +39,8 @@ pub fn face_of(
         zones: alarms_shown(network, site, panel),
         firsts: firsts_shown(network, site, panel),
         faults: network.faults(panel),
-        outputs: outputs_on(driving, site, kept, done, panel),
-        confirmed: outputs_confirmed(driving, site, kept, done, panel),
+        outputs: outputs_in(OutputState::On, driving, site, kept, done, panel),
+        confirmed: outputs_in(OutputState::Confirmed, driving, site, kept, done, panel),
         points_off: points_off(site, kept, panel, done, tick),
         zones_off: zones_off(site, kept, panel, done, tick),
         outputs_off: outputs_off(site, kept, panel, done, tick),

@@ -12,7 +12,8 @@ use crate::entering::Entering;
 use crate::entering_panels::{all_new, held_at, step_all};
 use crate::moment::Moment;
 use crate::network::Network;
-use crate::output_masks::outputs_unconfirmed;
+use crate::output_masks::outputs_in;
+use crate::output_state::OutputState;
 use crate::ticking::tick_after;
 use marker_table::Facts;
 use site_types::{Retained, Site};
@@ -106,7 +107,8 @@ impl Standing {
         match holder(moment) {
             None => self.network.step(tick, moment),
             Some(panel) => {
-                let unconfirmed = outputs_unconfirmed(&self.driving, site, kept, done, panel);
+                let state = OutputState::Unconfirmed;
+                let unconfirmed = outputs_in(state, &self.driving, site, kept, done, panel);
                 let held = held_at(&self.panels, panel);
                 self.network
                     .hold(site, kept, done, before, tick, panel, held, unconfirmed);

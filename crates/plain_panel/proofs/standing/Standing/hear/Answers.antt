@@ -29,7 +29,7 @@ returns-in-Some c =
           (λ is.
           let last : panel ≤ length c.deref.result.now = omega (arith, is.1, c.requires.panels.count, ap length c.deref.ensures.value) in
           c.held_at-held.ensures site kept done (Turned panel Hold ∷ before) all (is.0, last))
-          (λ is. c.outputs_unconfirmed-unconfirmed.ensures (facts_of site kept done) (Turned panel Hold ∷ before) drives));
+          (λ is. c.outputs_in-unconfirmed.ensures (facts_of site kept done) (Turned panel Hold ∷ before) drives));
       driving = refl;
     }
 
