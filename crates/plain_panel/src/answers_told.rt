@@ -30,7 +30,8 @@ pub fn answers_now(
     Ok(now)
 }
 
-/// The answers of a tick as they are told, and whether Keep's turn failed. More than 64 of them find no room.
+/// The answers of a tick as they are told, and whether Keep's turn failed. For more than 64 answers told by their number it
+/// says that memory is wanted. No run has more: they were taken in the tick or the one before, four of a panel in each.
 pub fn told(now: &[OpAnswered], failed: bool) -> Result<Answers, NoMemory>
     ensures { IfOk result (λ answers. answers ≡ told_by (map answered_of now.now) failed) }
 {
