@@ -3,7 +3,7 @@ use Rattle.std.proofs.Common.{◌≡◌, ◌≤◌, ◌<◌, ◌==◌, ◌+◌, 
 use Rattle.std.specs.Prelude.{slice_get, slice_index_or}
 use Rattle.std.specs.List.{list_any}
 use Rattle.std.proofs.lemmas.Bool.{cases_lt}
-use Rattle.site_types.specs.Bits.{has_bit}
+use Rattle.site_types.specs.Bits.{any_below, has_bit}
 use Rattle.site_types.specs.Valid.{IsValid, IsTerm}
 use Rattle.site_types.specs.declared.site.Site.{Site}
 use Rattle.site_types.specs.declared.zone.Zone.{Zone}
@@ -17,9 +17,15 @@ use Rattle.marker_table.specs.Table.{zone_index, input_of}
 use Rattle.marker_table.proofs.Rows.{item_at}
 use Rattle.cause_effect.specs.Changes.{differ, is_changed, has_changed}
 use Rattle.cause_effect.specs.Cycles.{is_among, terms_of}
-use Rattle.cause_effect.specs.Users.{place_of, looks_at, users_at, AreUsersOf, any_below, uses_bit, uses_word, uses_panel}
+use Rattle.cause_effect.specs.Users.{place_of, looks_at, users_at, AreUsersOf, uses_bit, uses_word}
 use Rattle.cause_effect.proofs.Truths.{and_first, and_second, any_at, equal_number, number_is, one_passes, or_left, or_right, same_bool}
 use Rattle.cause_effect.proofs.Using.{or_more}
+
+-- a zone of a panel, or its call points, differ and have the marker among their users
+abbrev pub uses_panel : List (List ℕ) → Facts → Facts → ℕ → ℕ → Bool
+uses_panel lists before after m panel =
+    uses_word lists (32 * panel) (slice_index_or before.zones panel 0) (slice_index_or after.zones panel 0) m ||
+    uses_word lists (256 + 32 * panel) (slice_index_or before.manual panel 0) (slice_index_or after.manual panel 0) m
 
 -- ---- a test below a number
 

@@ -10,9 +10,11 @@
 //! changed, directly or through markers, and no other. How many it evaluated the counter says, exactly (`specs/Changes`); that there is one such
 //! number stands at [`one_number_of_changes`], and what it is in small cases at [`changes_of_written_cases`].
 //!
-//! [`compile`] alone takes memory. It looks at each term at most once for each marker of the site. [`Plan::solve`] looks at each term once,
-//! [`Plan::requests`] at each output twice. [`Plan::solve_changed`] compares the facts, and where they differ looks at a mark for each marker,
-//! at the terms of the markers that it evaluates, and at most once more at each of these terms to set the marks.
+//! [`compile`] alone takes memory. What the calls cost no clause says, but for the markers that
+//! [`Plan::solve_changed`] evaluates. As they are written, [`compile`] looks at each term at most once for each marker
+//! of the site, [`Plan::solve`] goes over the order of the markers once, and [`Plan::requests`] looks at each output
+//! twice. [`Plan::solve_changed`] compares the facts, and where they differ looks at a mark for each marker, at the
+//! terms of the markers that it evaluates, and at most once more at each of these terms to set the marks.
 #![tactic(auto)]
 
 mod arranged;

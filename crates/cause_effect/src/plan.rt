@@ -24,7 +24,7 @@ pub struct Plan {
 }
 
 impl Plan {
-    /// The one solution over facts, from scratch: every marker is evaluated once.
+    /// The one solution over facts, from scratch.
     pub fn solve(&self, facts: &Facts, values: &mut Values)
         ensures { (site : SiteOf) → IsPlanOf site self.now → IsSolution site facts.now (values_of values.new) }
     {

@@ -1,5 +1,5 @@
 -- What is kept after an operation stands for one more operation.
-use Rattle.std.proofs.Common.{◌≡◌, ◌≢◌, ◌⊎◌, inl, inr, ℕ, suc, ◌<◌, ◌≤◌, max, Bool, true, false, not, List, [], ◌∷◌, length, Option, Some, None, slice_get, get_or, ◌==◌, ◌&&◌, ◌||◌, nat_lt, if◌then◌else◌, refl, sym, ◌∙◌, ap, subst, arith}
+use Rattle.std.proofs.Common.{◌≡◌, ◌≢◌, ℕ, suc, ◌<◌, ◌≤◌, Bool, true, false, not, List, [], ◌∷◌, length, Option, Some, None, slice_get, get_or, ◌==◌, ◌&&◌, ◌||◌, nat_lt, if◌then◌else◌, refl, sym, ◌∙◌, ap, subst, arith}
 use Rattle.std.proofs.lemmas.Bool.Decides.{nat_tests}
 use Rattle.tick_units.specs.declared.tick.Tick.{Tick}
 use Rattle.tick_units.specs.declared.switch.Switch.{Switch}
@@ -10,17 +10,16 @@ use Rattle.site_types.specs.declared.answer.Answer.{Answer}
 use Rattle.site_types.specs.declared.rule.Rule.{Rule}
 use Rattle.site_types.specs.declared.retained.Retained.{Retained}
 use Rattle.site_types.specs.declared.operation.Operation.{Operation}
-use Rattle.site_types.specs.Done.{Done, Setting, PointOff, ZoneOff, InTest, is_on, value_set, in_force, latest_before, floor_before, cancels, AreBy}
-use Rattle.site_types.proofs.Done.{lt_tells, lt_true, blocked-later, floor-yet}
+use Rattle.site_types.specs.Done.{Done, Setting, PointOff, ZoneOff, InTest, is_on, value_set, in_force, floor_before, cancels, AreBy}
+use Rattle.site_types.proofs.Done.{lt_true, blocked-later, floor-yet}
 use Rattle.coincidence_rules.specs.Counted.{is_alarm, is_counted}
 use Rattle.coincidence_rules.specs.Places.{is_of, is_detector}
 use Rattle.coincidence_rules.specs.Kept.{run_then, run_of, latest_besides, is_type_C, may_pair}
-use Rattle.tick_units.specs.declared.last_done.LastDone.{LastDone}
 use Rattle.coincidence.specs.declared.point_watch.PointWatch.{PointWatch}
 use Rattle.coincidence.specs.declared.zone_watch.ZoneWatch.{ZoneWatch}
 use Rattle.coincidence.specs.declared.decide.Decide.{Decide}
 use Rattle.coincidence.specs.Parts.{switch_after}
-use Rattle.tick_units.specs.LastTicks.{last_after, last_if}
+use Rattle.tick_units.specs.LastTicks.{last_if}
 use Rattle.coincidence.specs.Stands.{resets, moves, set_in, TellsSetting, WatchesPoint, WatchesZone, IsOwnZone, DecidesFor}
 use Rattle.coincidence_rules.proofs.LastDone.{told_last}
 use Rattle.coincidence_rules.specs.Applied.{NoneIn, TellsLast}

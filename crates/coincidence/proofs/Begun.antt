@@ -5,7 +5,7 @@ use Rattle.site_types.specs.declared.site.Site.{Site}
 use Rattle.site_types.specs.declared.point.Point.{Point as PointPlan}
 use Rattle.site_types.specs.declared.zone.Zone.{Zone as ZonePlan}
 use Rattle.site_types.specs.declared.retained.Retained.{Retained}
-use Rattle.site_types.specs.Done.{Done, Setting, PointOff, ZoneOff, InTest, at_opening, kept_point, kept_zone, kept_test}
+use Rattle.site_types.specs.Done.{Setting, PointOff, ZoneOff, InTest, at_opening, kept_point, kept_zone, kept_test}
 use Rattle.site_types.specs.Valid.{IsValid}
 use Rattle.coincidence_rules.proofs.LastDone.{told_never}
 use Rattle.coincidence_rules.specs.Missing.{latest_of, begins_silent}

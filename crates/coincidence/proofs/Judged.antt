@@ -10,7 +10,6 @@ use Rattle.site_types.specs.declared.operation.Operation.TheVariants.{Mute, Over
 use Rattle.site_types.specs.Done.{Done, PointOff, ZoneOff, in_force, latest_before, is_of_panel, is_floor, moves_floor, floor_before, cancelled_before, is_zone_blocked, AreBy}
 use Rattle.coincidence_rules.specs.Counted.{is_alarm, is_counted}
 use Rattle.coincidence_rules.specs.Kept.{bar, after, may_pair, latest_besides, second_of}
-use Rattle.tick_units.specs.declared.last_done.LastDone.{LastDone}
 use Rattle.coincidence.specs.declared.point_watch.PointWatch.{PointWatch}
 use Rattle.coincidence.specs.declared.zone_watch.ZoneWatch.{ZoneWatch}
 use Rattle.coincidence.specs.declared.decide.Decide.{Decide}

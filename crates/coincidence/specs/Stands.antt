@@ -11,7 +11,7 @@ use Rattle.site_types.specs.declared.item.Item.{Item}
 use Rattle.site_types.specs.declared.item.Item.TheVariants.{Zone}
 use Rattle.site_types.specs.declared.operation.Operation.{Operation}
 use Rattle.site_types.specs.declared.operation.Operation.TheVariants.{Reset, Disable, Enable, Test}
-use Rattle.site_types.specs.Done.{Done, Setting, PointOff, ZoneOff, InTest, is_on, in_force, latest_before, floor_before, cancels, AreBy}
+use Rattle.site_types.specs.Done.{Done, Setting, PointOff, ZoneOff, InTest, is_on, in_force, floor_before, cancels, AreBy}
 use Rattle.coincidence_rules.specs.Applied.{TellsLast}
 use Rattle.coincidence_rules.specs.Counted.{is_counted}
 use Rattle.coincidence_rules.specs.Missing.{latest_of, begins_silent}

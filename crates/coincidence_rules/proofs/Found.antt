@@ -11,8 +11,12 @@ use Rattle.coincidence_rules.specs.Places.{is_of, is_detector, partner_of, on_zo
 use Rattle.coincidence_rules.specs.Counted.{is_counted}
 use Rattle.coincidence_rules.specs.Confirmed.{is_second, is_near, is_uncancelled}
 use Rattle.coincidence_rules.specs.InOrder.{AreInOrder}
-use Rattle.coincidence_rules.specs.Found.{any_found}
 use Rattle.coincidence_rules.proofs.Lists.{and_both, both_and, or_either, or_left, or_right, any_place, place_any, take_get}
+
+-- some answer passes a test with those taken up to it, itself the last
+abbrev pub any_found : (List Answer → Answer → Bool) → List Answer → List Answer → Bool
+any_found test before [] = false
+any_found test before (answer ∷ answers) = test (before ++ answer ∷ []) answer || any_found test (before ++ answer ∷ []) answers
 
 -- an answer at a place, which passes a test with those up to it
 pub record Passes (test : List Answer → Answer → Bool) (answers : List Answer) : Type 0 where

@@ -13,7 +13,7 @@ use Rattle.coincidence_rules.specs.Counted.{is_counted}
 use Rattle.coincidence_rules.specs.Confirmed.{confirms}
 use Rattle.coincidence_rules.specs.Alarm.{calls, releases}
 use Rattle.coincidence_rules.specs.Findings.{finding_among, findings_after, findings_of}
-use Rattle.coincidence_rules.specs.Found.{any_found}
+use Rattle.coincidence_rules.proofs.Found.{any_found}
 use Rattle.coincidence_rules.specs.InOrder.{AreInOrder}
 use Rattle.coincidence_rules.specs.Wired.{IsWired}
 use Rattle.coincidence_rules.proofs.FoundZones.{found_is, confirms_is_found, releases_is_found}

@@ -14,9 +14,8 @@ use Rattle.coincidence_rules.specs.Counted.{is_counted}
 use Rattle.coincidence_rules.specs.Confirmed.{is_second, is_near, is_uncancelled, is_between, is_first_of_run, counts_throughout, is_verified, coincides, is_by_call_point, confirms}
 use Rattle.coincidence_rules.specs.Alarm.{calls, has_second, releases_by, releases}
 use Rattle.coincidence_rules.specs.InOrder.{AreInOrder}
-use Rattle.coincidence_rules.specs.Found.{any_found}
 use Rattle.coincidence_rules.proofs.Lists.{and_both, both_and, or_either, or_left, or_right, same_test, any_place, place_any, all_place, place_all, get_take, take_get}
-use Rattle.coincidence_rules.proofs.Found.{passes_from, from_passes, AreLinked, turned_link, pair_from, from_link, Paired, paired, pairing_second, pairing_near, pairing_uncancelled, detected}
+use Rattle.coincidence_rules.proofs.Found.{passes_from, from_passes, AreLinked, turned_link, pair_from, from_link, Paired, paired, pairing_second, pairing_near, pairing_uncancelled, detected, any_found}
 
 -- an answer of a stamp that passes a test with those up to it
 pub record PassesAt (test : List Answer → Answer → Bool) (answers : List Answer) (stamp : ℕ) : Type 0 where

@@ -7,7 +7,8 @@ use Rattle.site_types.specs.declared.answer.Answer.{Answer}
 use Rattle.site_types.specs.declared.rule.Rule.{Rule}
 use Rattle.site_types.specs.declared.rule.Rule.TheVariants.{Plain, A, B, C}
 use Rattle.site_types.specs.declared.retained.Retained.{Retained}
-use Rattle.site_types.specs.Done.{Done, floor_before, cancelled_before, AreFrom}
+use Rattle.site_types.specs.Done.{Done, floor_before, cancelled_before}
+use Rattle.site_types.proofs.LaterDone.{AreFrom}
 use Rattle.site_types.proofs.Done.{blocked-later, floor-later, cancelled-later}
 use Rattle.site_types.proofs.Masks.{mask_same}
 use Rattle.coincidence_rules.specs.declared.finding.Finding.{Finding}

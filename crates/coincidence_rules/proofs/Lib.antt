@@ -10,3 +10,4 @@ pub mod FoundFindings
 pub mod ValidWired
 pub mod Later
 pub mod LastDone
+pub mod ConfirmedStamps

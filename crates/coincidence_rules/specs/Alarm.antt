@@ -1,5 +1,5 @@
 -- Which zones are in alarm, in alarm by hand, and released, by the answers taken and the operations done before a tick.
-use Rattle.std.specs.Prelude.{ℕ, Bool, List, Option, Some, slice_get, ◌&&◌, ◌||◌, nat_lt}
+use Rattle.std.specs.Prelude.{◌≡◌, ◌<◌, ℕ, Bool, true, List, Option, Some, slice_get, ◌&&◌, ◌||◌, nat_lt}
 use Rattle.std.specs.List.{list_any}
 use Rattle.site_types.specs.declared.site.Site.{Site}
 use Rattle.site_types.specs.declared.answer.Answer.{Answer}
@@ -9,7 +9,7 @@ use Rattle.site_types.specs.declared.retained.Retained.{Retained}
 use Rattle.site_types.specs.Done.{Done, floor_before}
 use Rattle.coincidence_rules.specs.Places.{rule_of, pairs_up}
 use Rattle.coincidence_rules.specs.Counted.{is_counted}
-use Rattle.coincidence_rules.specs.Confirmed.{is_second, is_by_call_point, confirms}
+use Rattle.coincidence_rules.specs.Confirmed.{is_second, is_by_call_point, confirms, is_confirmed_at}
 
 -- an answer after the last floor of the zone before a tick passes the test
 abbrev pub since_floor : Site → List Done → List Answer → ℕ → ℕ → (Answer → Bool) → Bool
@@ -18,6 +18,13 @@ since_floor site done answers zone tick test = list_any (λ answer. nat_lt (floo
 -- the zone is in alarm: it was confirmed at a stamp after its floor
 abbrev pub is_in_alarm : Site → Retained → List Done → List Answer → ℕ → ℕ → Bool
 is_in_alarm site kept done answers zone tick = since_floor site done answers zone tick (confirms site kept done answers zone)
+
+-- a zone is in alarm at a tick exactly where it was confirmed at some stamp after its last floor before that tick
+pub record InAlarmWhereConfirmed : Type 0 where
+  pub confirmed : (site : Site) (kept : Retained) (done : List Done) (answers : List Answer) (zone tick : ℕ) → is_in_alarm site kept done answers zone tick ≡ true
+      → (stamp : ℕ) × (floor_before site zone tick done < stamp) × (is_confirmed_at site kept done answers zone stamp ≡ true)
+  pub in_alarm : (site : Site) (kept : Retained) (done : List Done) (answers : List Answer) (zone tick stamp : ℕ) → floor_before site zone tick done < stamp
+      → is_confirmed_at site kept done answers zone stamp ≡ true → is_in_alarm site kept done answers zone tick ≡ true
 
 -- the answer counts and is of a manual call point of the zone
 abbrev pub calls : Site → Retained → List Done → ℕ → Answer → Bool

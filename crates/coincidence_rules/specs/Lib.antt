@@ -8,5 +8,5 @@ pub mod Findings
 pub mod InOrder
 pub mod Applied
 pub mod Kept
-pub mod Found
 pub mod Wired
+pub mod Laws

@@ -12,4 +12,4 @@ mod finding;
 mod laws;
 
 pub use finding::Finding;
-pub use laws::findings_tell;
+pub use laws::{findings_tell, in_alarm_where_confirmed};

@@ -15,8 +15,8 @@ use Rattle.face_text.specs.declared.op_answer.OpAnswer.{OpAnswer}
 use Rattle.face_text.specs.declared.timeline.Timeline.{Timeline}
 use Rattle.face_text.specs.Answers.{answers_text}
 use Rattle.face_text.specs.Entries.{IsEntry, entry_line, rank_of, slot_of, value_of}
-use Rattle.face_text.specs.Reading.{IsRead, MayGoOn, Told, comes_next, entries_text, face_at, is_in_tick, is_news, may_close, no_answers, opened_by, steps_by, timeline_told, told_after, told_next, told_text}
-use Rattle.face_text.specs.ReadSoFar.{AreEntries}
+use Rattle.face_text.specs.Reading.{IsRead, MayGoOn, Told, comes_next, face_at, is_in_tick, is_news, may_close, no_answers, opened_by, steps_by, timeline_told, told_next}
+use Rattle.face_text.proofs.ReadSoFar.{AreEntries, entries_text, told_after, told_text}
 use Rattle.face_text.specs.Slots.{value_in}
 use Rattle.face_text.specs.Telling.{face_told}
 use Rattle.face_text.specs.Timelines.{empty_faces, end_line, faces_text, opening_line, steps_text, tick_line}

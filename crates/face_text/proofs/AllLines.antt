@@ -9,9 +9,9 @@ use Rattle.face_text.specs.declared.change.Change.{Change}
 use Rattle.face_text.specs.declared.face.Face.{Face}
 use Rattle.face_text.specs.Changes.{changes_text}
 use Rattle.face_text.specs.Entries.{IsChange, slot_of, slot_rank, value_of}
-use Rattle.face_text.specs.FaceTelling.{AreNews, ChangesLeadThere, change_line, change_to, changes_in, face_after}
 use Rattle.face_text.specs.Slots.{Slot, Thing, Delays, Sounding, Count, line_of, number_of_truth, slots, value_in}
-use Rattle.face_text.specs.Telling.{IsSlotOf, face_told}
+use Rattle.face_text.specs.Telling.{face_told}
+use Rattle.face_text.proofs.FaceTelling.{AreNews, ChangesLeadThere, IsSlotOf, change_line, change_to, changes_in, face_after}
 use Rattle.face_text.specs.Timelines.{IsFaceOf}
 use Rattle.face_text.proofs.FaceForm.{keeps_form}
 use Rattle.face_text.proofs.OneMoreLine.{apart_ranks, line_in, text_is}

@@ -3,9 +3,8 @@ use Rattle.std.proofs.Common.{◌≡◌, ◌∙◌, ◌+◌, ◌++◌, ℕ, suc,
 use Rattle.site_types.specs.declared.site.Site.{Site}
 use Rattle.face_text.specs.declared.entry.Entry.{Entry}
 use Rattle.face_text.specs.Entries.{entry_line}
-use Rattle.face_text.specs.EntryLines.{IsOneLine}
-use Rattle.face_text.specs.Reading.{entries_text, first_lines, line_ends}
-use Rattle.face_text.specs.ReadSoFar.{AreEntries}
+use Rattle.face_text.specs.Reading.{first_lines, line_ends}
+use Rattle.face_text.proofs.ReadSoFar.{AreEntries, IsOneLine, entries_text}
 use Rattle.face_text.specs.Timelines.{opening_line}
 use Rattle.face_text.proofs.LineEnds.{first_lines-line, line_ends-line}
 use Rattle.face_text.proofs.EntryLaws.{entry_line-one, opening_line-one}

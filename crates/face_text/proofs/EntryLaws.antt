@@ -9,7 +9,8 @@ use Rattle.site_types.specs.declared.site.Site.{Site}
 use Rattle.site_types.specs.Valid.{IsValid}
 use Rattle.face_text.specs.declared.entry.Entry.{Entry}
 use Rattle.face_text.specs.Entries.{IsEntry, entry_line}
-use Rattle.face_text.specs.EntryLines.{IsLineOf, IsOneLine}
+use Rattle.face_text.specs.EntryLines.{IsLineOf}
+use Rattle.face_text.proofs.ReadSoFar.{IsOneLine}
 use Rattle.face_text.specs.Spelled.{entry_spelled}
 use Rattle.face_text.specs.Timelines.{opening_line}
 use Rattle.face_text.proofs.Joined.{ends_joined, joined}

@@ -10,7 +10,7 @@ use Rattle.site_types.specs.declared.buzzer.Buzzer.{Buzzer}
 use Rattle.site_types.specs.declared.fault_set.FaultSet.{FaultSet}
 use Rattle.site_types.specs.declared.point_set.PointSet.{PointSet}
 use Rattle.site_types.specs.declared.site.Site.{Site}
-use Rattle.site_types.specs.Bits.{has_bit, has_point, mask_of, with_bit, with_point}
+use Rattle.site_types.specs.Bits.{has_bit, has_point, mask_of, no_set, with_bit, with_point}
 use Rattle.site_types.proofs.Masks.{has_bit-zero}
 use Rattle.face_text.specs.declared.change.Change.{Change}
 use Rattle.face_text.specs.declared.change.Change.TheVariants.{Thing as ThingChange, Delays as DelaysChange, Buzzer as BuzzerChange, Counter as CounterChange}
@@ -18,8 +18,8 @@ use Rattle.face_text.specs.declared.face.Face.{Face}
 use Rattle.face_text.specs.declared.group.Group.{Group}
 use Rattle.face_text.specs.declared.group.Group.TheVariants.{Zones, Firsts, Missing, Broken, Shorted, Supplies, Silent, Links, Unconfirmed, Outputs, Confirmed, PointsOff, ZonesOff, OutputsOff, Tests}
 use Rattle.face_text.specs.Entries.{IsChange}
-use Rattle.face_text.specs.FaceTelling.{KeepsForm}
-use Rattle.face_text.specs.Faces.{empty_face, no_points}
+use Rattle.face_text.proofs.FaceTelling.{KeepsForm}
+use Rattle.face_text.specs.Faces.{empty_face}
 use Rattle.face_text.specs.Slots.{HasPlace, is_named, last_of, name_in}
 use Rattle.face_text.specs.Telling.{face_told, with_bit_of_panel, with_thing}
 use Rattle.face_text.specs.Timelines.{IsFaceOf, kept_points, of_site}
@@ -165,17 +165,17 @@ none_by_panel names =
     let none : get_or (replicate 8 0) (q - 1) 0 ≡ 0 = get_or-replicate 8 (q - 1) 0 0 (omega (arith, low, high)) in
     none ∙ none_of 32 (names q) (get_or (replicate 8 0) (q - 1) 0) none)
 
-no_points_kept : (site : Site) (panel : ℕ) (group : ℕ → Group) → no_points.loops ≡ map (λ line. mask_of 96 (λ k. named site panel (group line) (1 + k) && has_point no_points line (1 + k)) ∷ mask_of 96 (λ k. named site panel (group line) (97 + k) && has_point no_points line (97 + k)) ∷ []) (range_with_len 1 4)
-no_points_kept site panel group = loops_kept (λ line address. named site panel (group line) address) no_points (holds_none (λ line address. named site panel (group line) address))
+no_points_kept : (site : Site) (panel : ℕ) (group : ℕ → Group) → no_set.loops ≡ map (λ line. mask_of 96 (λ k. named site panel (group line) (1 + k) && has_point no_set line (1 + k)) ∷ mask_of 96 (λ k. named site panel (group line) (97 + k) && has_point no_set line (97 + k)) ∷ []) (range_with_len 1 4)
+no_points_kept site panel group = loops_kept (λ line address. named site panel (group line) address) no_set (holds_none (λ line address. named site panel (group line) address))
 
 none_is_kept : (site : Site) (panel : ℕ) → empty_face panel ≡ of_site site (empty_face panel)
 none_is_kept site panel =
     let face = empty_face panel in
     let kept = of_site site face in
     faces_from face kept refl (none_by_panel (λ q n. named site panel (Zones q) n)) (none_by_panel (λ q n. named site panel (Firsts q) n))
-    (faults_from face.faults kept.faults (points_from no_points kept.faults.missing (no_points_kept site panel Missing)) (none_of 4 (named site panel Broken) 0 refl) (none_of 4 (named site panel Shorted) 0 refl)
+    (faults_from face.faults kept.faults (points_from no_set kept.faults.missing (no_points_kept site panel Missing)) (none_of 4 (named site panel Broken) 0 refl) (none_of 4 (named site panel Shorted) 0 refl)
     (none_of 4 (named site panel Supplies) 0 refl) (none_of 8 (named site panel Silent) 0 refl) (none_of 8 (named site panel Links) 0 refl) (none_of 32 (named site panel Unconfirmed) 0 refl))
-    (none_of 32 (named site panel Outputs) 0 refl) (none_of 32 (named site panel Confirmed) 0 refl) (points_from no_points kept.points_off (no_points_kept site panel PointsOff))
+    (none_of 32 (named site panel Outputs) 0 refl) (none_of 32 (named site panel Confirmed) 0 refl) (points_from no_set kept.points_off (no_points_kept site panel PointsOff))
     (none_of 32 (named site panel ZonesOff) 0 refl) (none_of 32 (named site panel OutputsOff) 0 refl) (none_of 32 (named site panel Tests) 0 refl) refl refl refl
 
 pub keeps_form : KeepsForm

@@ -7,9 +7,9 @@ use Rattle.face_text.specs.declared.entry.Entry.{Entry}
 use Rattle.face_text.specs.declared.entry.Entry.TheVariants.{End as EndEntry}
 use Rattle.face_text.specs.declared.timeline.Timeline.{Timeline}
 use Rattle.face_text.specs.Entries.{IsEntry, entry_line}
-use Rattle.face_text.specs.EntryLines.{IsLineOf, IsOneLine}
-use Rattle.face_text.specs.Reading.{IsBadLine, IsRead, MayGoOn, Told, entries_text, first_lines, line_ends, nothing_told, timeline_told, told_after, told_next, told_text}
-use Rattle.face_text.specs.ReadSoFar.{AreEntries, IsReadSoFar, IsRefused}
+use Rattle.face_text.specs.EntryLines.{IsLineOf}
+use Rattle.face_text.specs.Reading.{IsBadLine, IsRead, MayGoOn, Told, first_lines, line_ends, nothing_told, timeline_told, told_next}
+use Rattle.face_text.proofs.ReadSoFar.{AreEntries, IsOneLine, IsReadSoFar, IsRefused, entries_text, told_after, told_text}
 use Rattle.face_text.specs.Timelines.{IsInForm, empty_faces, end_line, faces_text, opening_line, steps_text, text_of}
 use Rattle.face_text.proofs.Accepted.{all_told, ended_told, goes_on, goes_on_before}
 use Rattle.face_text.proofs.LineEnds.{first_lines-line}

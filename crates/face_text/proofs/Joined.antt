@@ -3,7 +3,7 @@ use Rattle.std.proofs.Common.{◌≡◌, ◌∙◌, ◌++◌, ℕ, zero, suc, tr
 use Rattle.std.specs.Prelude.{◌==◌, if◌then◌else◌}
 use Rattle.std.specs.List.{list_all}
 use Rattle.std.proofs.lemmas.Bool.{and_parts, leb-true, ne_eqb}
-use Rattle.face_text.specs.Fields.{after_space, before_space, field}
+use Rattle.site_types.specs.Fields.{after_space, before_space, field}
 use Rattle.face_text.specs.Reading.{line_ends}
 use Rattle.face_text.proofs.LineEnds.{line_ends-append}
 use Rattle.face_text.proofs.Plain.{are_plain, is_plain}

@@ -6,10 +6,9 @@ use Rattle.std.proofs.lemmas.List.{get_or-replicate}
 use Rattle.std.proofs.lemmas.Bool.{cases_lt}
 use Rattle.std.proofs.lemmas.Bool.Decides.{eqb_tells}
 use Rattle.site_types.specs.declared.point_set.PointSet.{PointSet}
-use Rattle.site_types.specs.Bits.{IsPlace, bit_of, half_of, has_bit, has_point, mask_of, with_bit, with_point}
+use Rattle.site_types.specs.Bits.{IsPlace, bit_of, half_of, has_bit, has_point, mask_of, no_set, with_bit, with_point}
 use Rattle.site_types.proofs.ChangedBits.{half_small, set-other}
 use Rattle.site_types.proofs.Masks.{has_bit-mask, has_bit-zero, mask_below, mask_from_bits}
-use Rattle.face_text.specs.Faces.{no_points}
 use Rattle.face_text.proofs.KeptMasks.{at_number, by_number, with_bit_below}
 use Rattle.face_text.proofs.ToldValues.{HasHalves}
 
@@ -123,11 +122,11 @@ module _ (named : ℕ → ℕ → Bool) where
 
   -- ---- no point
 
-  none_at : (line half : ℕ) → 1 ≤ line → line ≤ 4 → half < 2 → get_or (loop_of no_points line) half 0 ≡ 0
+  none_at : (line half : ℕ) → 1 ≤ line → line ≤ 4 → half < 2 → get_or (loop_of no_set line) half 0 ≡ 0
   none_at line half low high small =
       ap (λ l. get_or l half 0) (get_or-replicate 4 (line - 1) (0 ∷ 0 ∷ []) [] (omega (arith, low, high))) ∙ get_or-replicate 2 half 0 0 small
 
-  pub holds_none : HoldsNamed no_points
+  pub holds_none : HoldsNamed no_set
   holds_none =
       record {
         sizes = record {

@@ -7,8 +7,8 @@ use Rattle.face_text.specs.declared.entry.Entry.{Entry}
 use Rattle.face_text.specs.declared.entry.Entry.TheVariants.{End as EndEntry}
 use Rattle.face_text.specs.declared.timeline.Timeline.{Timeline}
 use Rattle.face_text.specs.Entries.{IsEntry, entry_line}
-use Rattle.face_text.specs.Reading.{Told, entries_text, nothing_told, timeline_told, told_after, told_next}
-use Rattle.face_text.specs.ReadSoFar.{AreEntries}
+use Rattle.face_text.specs.Reading.{Told, nothing_told, timeline_told, told_next}
+use Rattle.face_text.proofs.ReadSoFar.{AreEntries, entries_text, told_after}
 use Rattle.face_text.specs.Timelines.{IsInForm, opening_line, text_of}
 use Rattle.face_text.proofs.Accepted.{after_more}
 use Rattle.face_text.proofs.Runs.{IsTold, is_told}

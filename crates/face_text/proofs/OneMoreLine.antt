@@ -8,9 +8,9 @@ use Rattle.face_text.specs.declared.change.Change.TheVariants.{Thing as ThingCha
 use Rattle.face_text.specs.declared.face.Face.{Face}
 use Rattle.face_text.specs.Changes.{changes_text}
 use Rattle.face_text.specs.Entries.{IsChange, slot_of, slot_rank, value_of}
-use Rattle.face_text.specs.FaceTelling.{AddsItsLine, AddsOneLine, change_line}
 use Rattle.face_text.specs.Slots.{Slot, line_of, slots, value_in}
-use Rattle.face_text.specs.Telling.{IsSameBehind, IsSlotOf, face_told}
+use Rattle.face_text.specs.Telling.{face_told}
+use Rattle.face_text.proofs.FaceTelling.{AddsItsLine, AddsOneLine, IsSameBehind, IsSlotOf, change_line}
 use Rattle.face_text.specs.Timelines.{IsFaceOf}
 use Rattle.face_text.proofs.FaceForm.{keeps_form}
 use Rattle.face_text.proofs.PageOrder.{IsAmong, RiseBetween, among_behind, slot_there, slots_are, slots_rise}

@@ -7,7 +7,7 @@ use Rattle.face_text.specs.declared.group.Group.{Group}
 use Rattle.face_text.specs.declared.group.Group.TheVariants.{Zones, Firsts, Missing, Broken, Shorted, Supplies, Silent, Links, Unconfirmed, Outputs, Confirmed, PointsOff, ZonesOff, OutputsOff, Tests}
 use Rattle.face_text.specs.Entries.{group_rank, slot_rank}
 use Rattle.face_text.specs.Slots.{HasPlace, Slot, Thing, Delays, Sounding, Count, is_named, last_of, name_in, page, slots, slots_of}
-use Rattle.face_text.specs.Telling.{IsSlotOf}
+use Rattle.face_text.proofs.FaceTelling.{IsSlotOf}
 use Rattle.face_text.proofs.Pages.{all_have}
 
 -- ---- rising places

@@ -16,7 +16,8 @@ use Rattle.face_text.specs.declared.timeline.Timeline.{Timeline}
 use Rattle.face_text.specs.Entries.{IsEntry}
 use Rattle.face_text.specs.EntryLines.{IsLineOf, IsParted, ReadsEntry}
 use Rattle.face_text.specs.Reading.{IsBadLine, IsRead, IsRefusal, Told, line_ends, nothing_told, timeline_told, told_next}
-use Rattle.face_text.specs.ReadSoFar.{HasPlaceOf, IsEndOf, IsReadSoFar, Turns}
+use Rattle.face_text.specs.ReadSoFar.{HasPlaceOf, IsEndOf, Turns}
+use Rattle.face_text.proofs.ReadSoFar.{IsReadSoFar}
 use Rattle.face_text.specs.Timelines.{opening_line}
 use Rattle.face_text.proofs.FirstBad.{bad_behind_end, bad_first, bad_first_unended, bad_refused, bad_unended, begun_reading, read_on, read_to_end, told_form}
 use Rattle.face_text.proofs.ToldPages.{few_panels}

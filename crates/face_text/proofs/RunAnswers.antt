@@ -8,8 +8,8 @@ use Rattle.face_text.specs.declared.answers.Answers.{Answers}
 use Rattle.face_text.specs.declared.entry.Entry.{Entry}
 use Rattle.face_text.specs.declared.entry.Entry.TheVariants.{Answer as AnswerEntry, Busy as BusyEntry, StoreFailed}
 use Rattle.face_text.specs.declared.op_answer.OpAnswer.{OpAnswer}
-use Rattle.face_text.specs.Reading.{Told, told_after, told_next}
-use Rattle.face_text.specs.ReadSoFar.{AreEntries}
+use Rattle.face_text.specs.Reading.{Told, told_next}
+use Rattle.face_text.proofs.ReadSoFar.{AreEntries, told_after}
 use Rattle.face_text.specs.Timelines.{AreAnswers, AreOpAnswers}
 use Rattle.face_text.proofs.RunChanges.{entries_join, leads_first, leads_on}
 

@@ -11,11 +11,11 @@ use Rattle.face_text.specs.declared.entry.Entry.TheVariants.{Change as ChangeEnt
 use Rattle.face_text.specs.declared.face.Face.{Face}
 use Rattle.face_text.specs.Entries.{IsChange, slot_of, slot_rank, value_of}
 use Rattle.face_text.specs.Faces.{empty_face}
-use Rattle.face_text.specs.FaceTelling.{AreNews, changes_of, face_after}
-use Rattle.face_text.specs.Reading.{Told, face_at, told_after, told_next}
+use Rattle.face_text.proofs.FaceTelling.{AreNews, changes_of, face_after}
+use Rattle.face_text.specs.Reading.{Told, face_at, told_next}
+use Rattle.face_text.proofs.ReadSoFar.{AreEntries, told_after}
 use Rattle.face_text.specs.Slots.{value_in}
 use Rattle.face_text.specs.Telling.{face_told}
-use Rattle.face_text.specs.ReadSoFar.{AreEntries}
 use Rattle.face_text.proofs.Accepted.{after_more}
 use Rattle.face_text.proofs.ToldPages.{ArePages, rank_is_small}
 use Rattle.face_text.proofs.AllLines.{changes_lead_there}

@@ -10,8 +10,8 @@ use Rattle.face_text.specs.declared.entry.Entry.TheVariants.{Tick as TickEntry}
 use Rattle.face_text.specs.declared.face.Face.{Face}
 use Rattle.face_text.specs.declared.step.Step.{Step}
 use Rattle.face_text.specs.declared.timeline.Timeline.{Timeline}
-use Rattle.face_text.specs.Reading.{Told, entries_text, may_close, no_answers, nothing_told, opened_by, steps_by, timeline_told, told_after, told_next}
-use Rattle.face_text.specs.ReadSoFar.{AreEntries}
+use Rattle.face_text.specs.Reading.{Told, may_close, no_answers, nothing_told, opened_by, steps_by, timeline_told, told_next}
+use Rattle.face_text.proofs.ReadSoFar.{AreEntries, entries_text, told_after}
 use Rattle.face_text.specs.Timelines.{AreAnswers, AreFaces, AreSteps, HasAnswer, IsInForm, empty_faces, end_line, opening_line, text_of}
 use Rattle.face_text.proofs.Accepted.{all_told, ended_told, or_second, zero_or_more}
 use Rattle.face_text.proofs.RunAnswers.{answer_entries, answer_entries_are, answers_lead}

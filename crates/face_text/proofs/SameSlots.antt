@@ -8,9 +8,8 @@ use Rattle.site_types.proofs.Masks.{mask_same}
 use Rattle.face_text.specs.declared.face.Face.{Face}
 use Rattle.face_text.specs.declared.group.Group.{Group}
 use Rattle.face_text.specs.declared.group.Group.TheVariants.{Zones, Firsts, Missing, Broken, Shorted, Supplies, Silent, Links, Unconfirmed, Outputs, Confirmed, PointsOff, ZonesOff, OutputsOff, Tests}
-use Rattle.face_text.specs.FaceTelling.{AreTheirSlots}
 use Rattle.face_text.specs.Slots.{HasPlace, Slot, Thing, Delays, Sounding, Count, last_of, number_of_buzzer, number_of_truth, shows, value_in}
-use Rattle.face_text.specs.Telling.{IsSlotOf}
+use Rattle.face_text.proofs.FaceTelling.{AreTheirSlots, IsSlotOf}
 use Rattle.face_text.specs.Timelines.{kept_of, kept_points, of_site}
 use Rattle.face_text.proofs.FaceForm.{faces_from, faults_from, named, points_from}
 use Rattle.face_text.proofs.KeptMasks.{same_by_number}

@@ -8,9 +8,8 @@ use Rattle.face_text.specs.declared.entry.Entry.{Entry}
 use Rattle.face_text.specs.declared.entry.Entry.TheVariants.{End as EndEntry}
 use Rattle.face_text.specs.declared.timeline.Timeline.{Timeline}
 use Rattle.face_text.specs.Entries.{IsEntry, entry_line}
-use Rattle.face_text.specs.EntryLines.{IsOneLine}
-use Rattle.face_text.specs.Reading.{Told, entries_text, nothing_told, timeline_told, told_after}
-use Rattle.face_text.specs.ReadSoFar.{AreEntries}
+use Rattle.face_text.specs.Reading.{Told, nothing_told, timeline_told}
+use Rattle.face_text.proofs.ReadSoFar.{AreEntries, IsOneLine, entries_text, told_after}
 use Rattle.face_text.specs.ReadingLaws.{TextsAreTheirOwn}
 use Rattle.face_text.specs.Timelines.{IsInForm, end_line, opening_line, text_of}
 use Rattle.face_text.proofs.LineEnds.{same_line}

@@ -2,7 +2,7 @@
 use Rattle.std.proofs.Common.{◌≡◌, ◌<◌, ◌≤◌, ◌+◌, ◌-◌, ◌∙◌, ℕ, zero, suc, Bool, true, false, List, [], ◌∷◌, refl, sym, ap, length, get_or, take, drop, arith}
 use Rattle.std.specs.Prelude.{◌==◌, if◌then◌else◌}
 use Rattle.std.proofs.lemmas.Bool.{eq-eqb, ne_eqb}
-use Rattle.face_text.specs.Fields.{after_space, before_space, field}
+use Rattle.site_types.specs.Fields.{after_space, before_space, field}
 
 -- the first space is at a place
 pub at_space : (text : List ℕ) (k : ℕ) → k < length text → ((j : ℕ) → j < k → get_or text j 0 ≡ 32 → ⊥) → get_or text k 0 ≡ 32 → length (before_space text) ≡ k

@@ -20,7 +20,7 @@ use Rattle.face_text.specs.declared.reply.Reply.{Reply}
 use Rattle.face_text.specs.declared.reply.Reply.TheVariants.{Done, Denied, Waiting, Already, Store}
 use Rattle.face_text.specs.Answers.{reply_words}
 use Rattle.face_text.specs.Entries.{IsChange, IsEntry, counted_line, entry_line, slot_of, value_of}
-use Rattle.face_text.specs.Fields.{field}
+use Rattle.site_types.specs.Fields.{field}
 use Rattle.face_text.specs.Slots.{buzzer_line, buzzer_word, counter_line, delays_line, is_named, line_of, name_in, number_of_buzzer, number_of_truth}
 use Rattle.face_text.specs.Spelled.{answer_spelled, by_panel, denied_spelled, number_below, panel_spelled, plain_spelled, reply_spelled, sound_of, truth_of}
 use Rattle.face_text.specs.Timelines.{IsReply}

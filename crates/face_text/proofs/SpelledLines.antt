@@ -14,7 +14,7 @@ use Rattle.face_text.specs.declared.entry.Entry.TheVariants.{Change as ChangeEnt
 use Rattle.face_text.specs.declared.group.Group.{Group}
 use Rattle.face_text.specs.declared.group.Group.TheVariants.{Zones, Firsts, Missing, Broken, Shorted, Supplies, Silent, Links, Unconfirmed, Outputs, Confirmed, PointsOff, ZonesOff, OutputsOff, Tests}
 use Rattle.face_text.specs.Entries.{entry_line, slot_of}
-use Rattle.face_text.specs.Fields.{field}
+use Rattle.site_types.specs.Fields.{field}
 use Rattle.face_text.specs.Slots.{kind_of, last_of, line_of, line_of_thing, name_in, number_of_truth, on_word, word_of}
 use Rattle.face_text.specs.Spelled.{by_panel, entry_spelled, number_below, panel_spelled, thing_spelled, told_of, truth_of, truth_place}
 use Rattle.face_text.proofs.Joined.{HasFields, fields_of, joined}

@@ -9,8 +9,8 @@ use Rattle.face_text.specs.declared.face.Face.{Face}
 use Rattle.face_text.specs.declared.op_answer.OpAnswer.{OpAnswer}
 use Rattle.face_text.specs.Answers.{answer_line, answers_text, failed_text}
 use Rattle.face_text.specs.Entries.{IsChange, IsEntry, counted_line, rank_of, slot_of, slot_rank, value_of}
-use Rattle.face_text.specs.EntryLines.{IsOneLine}
-use Rattle.face_text.specs.FaceTelling.{change_line}
+use Rattle.face_text.proofs.ReadSoFar.{IsOneLine}
+use Rattle.face_text.proofs.FaceTelling.{change_line}
 use Rattle.face_text.specs.Reading.{face_at}
 use Rattle.face_text.specs.Slots.{value_in}
 use Rattle.face_text.specs.Telling.{face_told}

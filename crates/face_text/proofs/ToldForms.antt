@@ -11,7 +11,8 @@ use Rattle.face_text.specs.declared.face.Face.{Face}
 use Rattle.face_text.specs.declared.step.Step.{Step}
 use Rattle.face_text.specs.Answers.{answers_text}
 use Rattle.face_text.specs.Faces.{empty_face}
-use Rattle.face_text.specs.Reading.{Told, block_of, faces_behind, may_close, no_answers, nothing_told, opened_by, steps_by, told_text}
+use Rattle.face_text.specs.Reading.{Told, block_of, may_close, no_answers, nothing_told, opened_by, steps_by}
+use Rattle.face_text.proofs.ReadSoFar.{faces_behind, told_text}
 use Rattle.face_text.specs.Timelines.{AreAnswers, AreFaces, AreSteps, HasAnswer, IsFaceOf, empty_faces, faces_text, opening_line, step_text, steps_text, tick_line}
 use Rattle.face_text.proofs.ToldAnswers.{answered_or_not, answers_are, nothing_answered, nothing_answered_text}
 use Rattle.face_text.proofs.ToldBlocks.{IsBlock, block_text}

@@ -13,9 +13,9 @@ use Rattle.face_text.specs.declared.group.Group.TheVariants.{Zones, Firsts, Miss
 use Rattle.face_text.specs.Changes.{change_of, changes_text}
 use Rattle.face_text.specs.Entries.{IsChange, group_rank, slot_of, slot_rank, value_of}
 use Rattle.face_text.specs.Slots.{HasPlace, Slot, last_of, slots, value_in}
-use Rattle.face_text.specs.Telling.{IsSameBehind, face_told}
+use Rattle.face_text.specs.Telling.{face_told}
+use Rattle.face_text.proofs.FaceTelling.{AddsItsLine, IsSameBehind, change_line}
 use Rattle.face_text.specs.Timelines.{IsFaceOf, faces_text}
-use Rattle.face_text.specs.FaceTelling.{AddsItsLine, change_line}
 use Rattle.face_text.proofs.FaceForm.{keeps_form}
 use Rattle.face_text.proofs.OneMoreLine.{adds_one_line}
 

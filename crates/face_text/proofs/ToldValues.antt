@@ -14,9 +14,9 @@ use Rattle.face_text.specs.declared.face.Face.{Face}
 use Rattle.face_text.specs.declared.group.Group.{Group}
 use Rattle.face_text.specs.declared.group.Group.TheVariants.{Zones, Firsts, Missing, Broken, Shorted, Supplies, Silent, Links, Unconfirmed, Outputs, Confirmed, PointsOff, ZonesOff, OutputsOff, Tests}
 use Rattle.face_text.specs.Entries.{IsChange, slot_of, value_of}
-use Rattle.face_text.specs.FaceTelling.{TellsThisAlone}
 use Rattle.face_text.specs.Slots.{HasPlace, Slot, Thing, Delays, Sounding, Count, last_of, number_of_buzzer, number_of_truth, shows, value_in}
-use Rattle.face_text.specs.Telling.{IsPlaced, IsSlotOf, face_told, with_thing}
+use Rattle.face_text.specs.Telling.{IsPlaced, face_told, with_thing}
+use Rattle.face_text.proofs.FaceTelling.{IsSlotOf, TellsThisAlone}
 use Rattle.face_text.specs.Timelines.{IsFaceOf, kept_of, kept_points, of_site}
 
 -- a set of points has four loops of two numbers each

@@ -7,14 +7,10 @@ use Rattle.site_types.specs.declared.buzzer.Buzzer.{Buzzer}
 use Rattle.site_types.specs.declared.buzzer.Buzzer.TheVariants.{Off, Fault, Fire}
 use Rattle.site_types.specs.declared.fault_set.FaultSet.{FaultSet}
 use Rattle.site_types.specs.declared.point_set.PointSet.{PointSet}
+use Rattle.site_types.specs.Words.{no_faults}
+use Rattle.site_types.specs.Bits.{no_set}
 use Rattle.face_text.specs.declared.conditions.Conditions.{Conditions}
 use Rattle.face_text.specs.declared.face.Face.{Face}
-
-abbrev pub no_points : PointSet
-no_points = record { loops = replicate 4 (replicate 2 0) }
-
-abbrev pub no_faults : FaultSet
-no_faults = record { missing = no_points; broken = 0; shorted = 0; supply = 0; silent = 0; links = 0; unconfirmed = 0 }
 
 -- a face without zone, fault, output or setting: buzzer off, delays on, counter 0
 abbrev pub empty_face : ℕ → Face
@@ -26,7 +22,7 @@ empty_face panel =
       faults = no_faults;
       outputs = 0;
       confirmed = 0;
-      points_off = no_points;
+      points_off = no_set;
       zones_off = 0;
       outputs_off = 0;
       test = 0;

@@ -1,7 +1,5 @@
 -- How a text is read, line by line, and which line of a text is the first bad one.
 use Rattle.std.specs.Prelude.{◌≡◌, ◌≢◌, ◌⊎◌, ◌<◌, ◌≤◌, ◌-◌, ◌==◌, ◌&&◌, ◌||◌, ℕ, zero, suc, Bool, true, false, not, List, [], ◌∷◌, ◌++◌, Option, Some, None, length, replicate, slice_index_or, slice_set, nat_le, nat_lt, if◌then◌else◌}
-use Rattle.std.specs.List.{flat_map}
-use Rattle.std.specs.Option.{option_and_then}
 use Rattle.site_types.specs.declared.site.Site.{Site}
 use Rattle.tick_units.specs.declared.tick.Tick.{Tick}
 use Rattle.face_text.specs.declared.answers.Answers.{Answers}
@@ -13,11 +11,11 @@ use Rattle.face_text.specs.declared.step.Step.{Step}
 use Rattle.face_text.specs.declared.text_refusal.TextRefusal.{TextRefusal}
 use Rattle.face_text.specs.declared.text_refusal.TextRefusal.TheVariants.{BadLine, NoMemory}
 use Rattle.face_text.specs.declared.timeline.Timeline.{Timeline}
-use Rattle.face_text.specs.Entries.{entry_line, rank_of, slot_of, value_of}
+use Rattle.face_text.specs.Entries.{rank_of, slot_of, value_of}
 use Rattle.face_text.specs.Faces.{empty_face}
 use Rattle.face_text.specs.Slots.{value_in}
 use Rattle.face_text.specs.Telling.{face_told}
-use Rattle.face_text.specs.Timelines.{IsInForm, empty_faces, faces_text, opening_line, step_text, steps_text, text_of}
+use Rattle.face_text.specs.Timelines.{IsInForm, empty_faces, text_of}
 
 -- ---- which texts are read, and the first bad line
 
@@ -130,27 +128,6 @@ told_next told (TickEntry tick) =
     else None
 told_next told (EndEntry tick) = None
 
--- what is told after some lines
-abbrev pub told_after : Told → List Entry → Option Told
-told_after told [] = Some told
-told_after told (entry ∷ entries) = option_and_then (λ next. told_after next entries) (told_next told entry)
-
 -- the timeline that is told where the last line names this tick, if that line may stand there
 abbrev pub timeline_told : Told → Tick → Option Timeline
 timeline_told told last = if may_close told && nat_le told.tick.0 last.0 then Some (record { opened = opened_by told; steps = steps_by told; last = last }) else None
-
--- the faces behind some steps
-abbrev pub faces_behind : List Face → List Step → List Face
-faces_behind faces [] = faces
-faces_behind faces (step ∷ steps) = faces_behind step.faces steps
-
--- the text of what is told so far
-abbrev pub told_text : Site → Told → List ℕ
-told_text site told =
-    opening_line site
-    ++ (if told.tick.0 == 0 then faces_text site (empty_faces site) told.faces
-    else (faces_text site (empty_faces site) told.opened ++ steps_text site told.opened told.steps ++ step_text site (faces_behind told.opened told.steps) (block_of told)))
-
--- the lines of some entries
-abbrev pub entries_text : Site → List Entry → List ℕ
-entries_text site entries = flat_map (entry_line site) entries

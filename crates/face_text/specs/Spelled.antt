@@ -20,7 +20,7 @@ use Rattle.face_text.specs.declared.group.Group.TheVariants.{Zones, Firsts, Miss
 use Rattle.face_text.specs.declared.numbered.Numbered.{Numbered}
 use Rattle.face_text.specs.declared.reply.Reply.{Reply}
 use Rattle.face_text.specs.declared.reply.Reply.TheVariants.{Done, Denied, Waiting, Already, Store}
-use Rattle.face_text.specs.Fields.{field}
+use Rattle.site_types.specs.Fields.{field}
 
 -- ---- numbers and words
 

@@ -1,15 +1,13 @@
 -- How a change turns a face.
-use Rattle.std.specs.Prelude.{◌≡◌, ◌-◌, ◌<◌, ◌≤◌, ℕ, Bool, not, List, slice_index, slice_set, IsTrue}
+use Rattle.std.specs.Prelude.{◌-◌, ◌≤◌, ℕ, Bool, not, List, slice_index, slice_set}
 use Rattle.std.specs.Int.{w8, w32}
-use Rattle.site_types.specs.declared.site.Site.{Site}
 use Rattle.site_types.specs.Bits.{with_bit, with_point}
 use Rattle.face_text.specs.declared.change.Change.{Change}
 use Rattle.face_text.specs.declared.change.Change.TheVariants.{Thing as ThingChange, Delays as DelaysChange, Buzzer as BuzzerChange, Counter as CounterChange}
 use Rattle.face_text.specs.declared.face.Face.{Face}
 use Rattle.face_text.specs.declared.group.Group.{Group}
 use Rattle.face_text.specs.declared.group.Group.TheVariants.{Zones, Firsts, Missing, Broken, Shorted, Supplies, Silent, Links, Unconfirmed, Outputs, Confirmed, PointsOff, ZonesOff, OutputsOff, Tests}
-use Rattle.face_text.specs.Entries.{slot_rank}
-use Rattle.face_text.specs.Slots.{HasPlace, Slot, Thing, Delays, Sounding, Count, is_named, last_of, name_in, value_in}
+use Rattle.face_text.specs.Slots.{HasPlace, Slot, Thing, Delays, Sounding, Count, last_of}
 
 -- the masks of panels with one bit set or cleared
 abbrev pub with_bit_of_panel : List ℕ → ℕ → ℕ → Bool → List ℕ
@@ -46,14 +44,3 @@ IsPlaced (Thing group number) = HasPlace group × (1 ≤ number) × (number ≤ 
 IsPlaced Delays = Unit {0}
 IsPlaced Sounding = Unit {0}
 IsPlaced Count = Unit {0}
-
--- the page of a panel has a slot: of a thing that the site has, or of delays, buzzer or counter
-abbrev pub IsSlotOf : Site → ℕ → Slot → Type 0
-IsSlotOf site panel (Thing group number) = HasPlace group × (1 ≤ number) × (number ≤ last_of group) × IsTrue (is_named (name_in site panel group number))
-IsSlotOf site panel Delays = Unit {0}
-IsSlotOf site panel Sounding = Unit {0}
-IsSlotOf site panel Count = Unit {0}
-
--- two faces of a panel differ in no slot of its page behind a place of the page
-abbrev pub IsSameBehind : Site → ℕ → ℕ → Face → Face → Type 0
-IsSameBehind site panel rank one other = (slot : Slot) → IsSlotOf site panel slot → rank < slot_rank slot → value_in one slot ≡ value_in other slot

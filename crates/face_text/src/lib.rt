@@ -51,8 +51,6 @@ mod reading;
 mod reply;
 mod step;
 mod telling;
-#[cfg(test)]
-mod tests;
 mod text_refusal;
 mod thing_reading;
 mod timeline;

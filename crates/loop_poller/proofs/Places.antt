@@ -1,15 +1,32 @@
 -- The answers of a tick are those from its 32 places.
 use Rattle.std.proofs.Common.{◌≡◌, ℕ, zero, suc, ◌+◌, ◌*◌, ◌%◌, ◌<◌, ◌≤◌, [], ◌∷◌, ◌++◌, length, Option, refl, sym, ◌∙◌, ap, arith, append-nil}
-use Rattle.std.specs.List.{cons_option, filter_map, flat_map, range_with_len}
 use Rattle.std.proofs.lemmas.List.Concat.{flat_map-append}
 use Rattle.std.proofs.lemmas.List.Elements.{filter_map-append}
+use Rattle.std.specs.List.{cons_option, filter_map, flat_map, range_with_len}
+use Rattle.std.specs.Prelude.{List, option_map, ◌/◌}
+use Rattle.site_types.specs.declared.answer.Answer.{Answer}
 use Rattle.site_types.specs.declared.point_state.PointState.{PointState}
 use Rattle.site_types.specs.declared.site.Site.{Site}
 use Rattle.site_types.specs.Profile.{round_of}
 use Rattle.isolators.specs.Reach.{Cable}
-use Rattle.loop_poller.specs.Asked.{answer_from, asked_in, asked_on}
-use Rattle.loop_poller.specs.Places.{address_at, answer_at, line_at, places}
+use Rattle.loop_poller.specs.Asked.{answer_from, asked_in, asked_on, answer_of, point_at}
 use Rattle.loop_poller.proofs.Windows.{asked_window, found_few, group_of, is_asked_here, length-range, range-more, range-split}
+
+abbrev pub line_at : ℕ → ℕ
+line_at place = place / 8 + 1
+
+abbrev pub address_at : ℕ → ℕ → ℕ → ℕ
+address_at format tick place = 8 * (tick % round_of format) + place % 8 + 1
+
+-- the answer from a place of a tick, where there is a point
+abbrev pub answer_at : Site → ℕ → (ℕ → PointState) → (ℕ → Cable) → ℕ → ℕ → Option Answer
+answer_at site panel points cables tick place =
+    let line = line_at place in
+    let address = address_at site.format tick place in
+    option_map (answer_of site panel points cables tick line address) (point_at site panel line address)
+
+unfoldable pub places : List ℕ
+places = range_with_len 0 32
 
 -- two stretches of numbers that give the same one by one
 shifted : {X : Type 0} (f g : ℕ → Option X) (a b n : ℕ) → ((i : ℕ) → i < n → g (a + i) ≡ f (b + i)) → filter_map g (range_with_len a n) ≡ filter_map f (range_with_len b n)

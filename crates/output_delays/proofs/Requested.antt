@@ -7,20 +7,18 @@ use Rattle.tick_units.specs.declared.tick.Tick.{Tick}
 use Rattle.site_types.specs.declared.requests.Requests.{Requests}
 use Rattle.site_types.specs.declared.site.Site.{Site}
 use Rattle.site_types.specs.Bits.{has_bit}
+use Rattle.tick_units.proofs.Earliest.{earliest_more}
 use Rattle.output_delays.specs.declared.timer.Timer.{Timer}
-use Rattle.output_delays.specs.Kept.{IsFalling}
 use Rattle.output_delays.specs.Overrides.{last_before}
-use Rattle.output_delays.specs.Runs.{Call, Turned, are_active, began, delay_of, earliest, is_over, is_through, overrides_of, request_ticks}
-use Rattle.output_delays.specs.Stands.{first_of, places, since, timer_of}
+use Rattle.output_delays.specs.Runs.{Call, Turned, are_active, began, delay_of, is_over, is_through, overrides_of, request_ticks}
+use Rattle.output_delays.specs.Stands.{since, timer_of}
+use Rattle.tick_units.specs.Earliest.{IsFalling, earliest, earliest_of}
+use Rattle.site_types.specs.Limits.{output_bits}
 use Rattle.output_delays.specs.Timers.{is_holding, is_since, turned_by}
 use Rattle.output_delays.proofs.Latest.{any_is}
-use Rattle.output_delays.proofs.Listed.{any_at, passes}
+use Rattle.tick_units.proofs.Listed.{any_at, passes}
 
 -- ---- timers
-
-earliest_turn : (now : Tick) (ticks : List ℕ) → Some (unwrap_or (first_of ticks) now) ≡ first_of (now.0 ∷ ticks)
-earliest_turn now [] = refl
-earliest_turn now (tick ∷ ticks) = refl
 
 since_turned : (now : Tick) (requests : Requests) (k : ℕ) (calls : List Call) →
     (if has_bit requests.asked k then Some (unwrap_or (since (k + 1) calls) now) else None) ≡ since (k + 1) (Turned now.0 requests ∷ calls)
@@ -28,8 +26,8 @@ since_turned now requests k calls =
     let at : k + 1 - 1 ≡ k = omega arith in
     rw at (go (has_bit requests.asked k))
   where
-    go : (b : Bool) → (if b then Some (unwrap_or (since (k + 1) calls) now) else None) ≡ first_of (if b then now.0 ∷ request_ticks (k + 1) calls else [])
-    go true = earliest_turn now (request_ticks (k + 1) calls)
+    go : (b : Bool) → (if b then Some (unwrap_or (since (k + 1) calls) now) else None) ≡ earliest_of (if b then now.0 ∷ request_ticks (k + 1) calls else [])
+    go true = earliest_more now (request_ticks (k + 1) calls)
     go false = refl
 
 -- a timer after a turn
@@ -52,8 +50,8 @@ timer_place site panel calls k timer = go (delay_of site panel (k + 1) == 0)
 
 -- the outputs that are held back, by the list of timers
 pub held_timers : (site : Site) (panel : ℕ) (calls : List Call) (now : Tick) (overridden : Option Tick) (k : ℕ) → k < 32 →
-    list_any (λ timer. (timer.place == k) && is_holding now overridden timer) (filter_map (timer_of site panel calls) places) ≡ passes (is_holding now overridden) (timer_of site panel calls k)
-unfolding places
+    list_any (λ timer. (timer.place == k) && is_holding now overridden timer) (filter_map (timer_of site panel calls) output_bits) ≡ passes (is_holding now overridden) (timer_of site panel calls k)
+unfolding output_bits
 held_timers site panel calls now overridden k small =
     any_at (timer_of site panel calls) (λ timer. timer.place) (is_holding now overridden) (λ j timer e. timer_place site panel calls j timer e) k 32 small
 
@@ -78,7 +76,7 @@ by_cases false false true = refl
 by_cases false false false = refl
 
 let_through : (asked manual none : Bool) (k delay : ℕ) (now : Tick) (overridden : Option Tick) (ticks : List ℕ) →
-    (asked && not (passes (is_holding now overridden) (if none then None else Some (record { place = k; delay = delay; since = first_of (if asked then now.0 ∷ ticks else []) })) && not manual))
+    (asked && not (passes (is_holding now overridden) (if none then None else Some (record { place = k; delay = delay; since = earliest_of (if asked then now.0 ∷ ticks else []) })) && not manual))
     ≡ (asked && (manual || (not true || (none || (nat_le delay (now.0 - earliest now.0 ticks) || is_since (earliest now.0 ticks) overridden)))))
 let_through false manual none k delay now overridden ticks = refl
 let_through true true true k delay now overridden ticks = refl

@@ -5,6 +5,8 @@ use Rattle.site_types.specs.declared.output.Output.{Output}
 use Rattle.site_types.specs.declared.requests.Requests.{Requests}
 use Rattle.site_types.specs.declared.site.Site.{Site}
 use Rattle.site_types.specs.Bits.{has_bit}
+use Rattle.tick_units.specs.Earliest.{earliest}
+use Rattle.site_types.specs.Things.{numbered_output}
 use Rattle.output_delays.specs.Overrides.{is_any_in}
 
 -- what befell: a turn of a tick with what was asked for at it, an override done in a tick, or the delays turned on or off
@@ -13,17 +15,13 @@ pub data Call : Type 0 where
   Overrode : ℕ → Call
   Switched : Bool → Call
 
--- the output of a panel with a number
-abbrev pub output_of : Site → ℕ → ℕ → Option Output
-output_of site panel number = find (λ output. (output.panel == panel) && (output.number == number)) site.outputs
-
 abbrev pub delay_in : Option Output → ℕ
 delay_in None = 0
 delay_in (Some output) = output.delay
 
 -- the delay of an output of a panel; an output that isn't there has none
 abbrev pub delay_of : Site → ℕ → ℕ → ℕ
-delay_of site panel number = delay_in (output_of site panel number)
+delay_of site panel number = delay_in (numbered_output site panel number)
 
 -- whether an output was asked for at a turn, and by hand: the bit of its number
 abbrev pub is_asked : ℕ → Requests → Bool
@@ -38,11 +36,6 @@ request_ticks number [] = []
 request_ticks number (Turned tick requests ∷ calls) = if is_asked number requests then tick ∷ request_ticks number calls else []
 request_ticks number (Overrode tick ∷ calls) = request_ticks number calls
 request_ticks number (Switched active ∷ calls) = request_ticks number calls
-
--- the earliest of the ticks that follow a tick, the latest first
-abbrev pub earliest : ℕ → List ℕ → ℕ
-earliest tick [] = tick
-earliest tick (before ∷ ticks) = earliest before ticks
 
 -- the tick of the turn at which the unbroken request began that stands at a turn in a tick
 abbrev pub began : ℕ → ℕ → List Call → ℕ

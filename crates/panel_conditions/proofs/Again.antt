@@ -11,7 +11,7 @@ use Rattle.site_types.specs.declared.retained.Retained.{Retained}
 use Rattle.site_types.specs.declared.buzzer.Buzzer.{Buzzer}
 use Rattle.site_types.specs.declared.fault_set.FaultSet.{FaultSet}
 use Rattle.site_types.specs.declared.word.Word.{Word}
-use Rattle.site_types.specs.Bits.{has_bit}
+use Rattle.site_types.specs.Bits.{any_below, has_bit}
 use Rattle.site_types.specs.Done.{Done, AreBy}
 use Rattle.coincidence_rules.specs.declared.finding.Finding.{Finding}
 use Rattle.panel_conditions.specs.declared.hold.Hold.{Hold}
@@ -23,7 +23,7 @@ use Rattle.panel_conditions.specs.declared.sign.Sign.TheVariants.{Alarm, Manual,
 use Rattle.panel_conditions.specs.Parts.{later_tick, points_at, points_shown, signs_at}
 use Rattle.tick_units.specs.LastTicks.{last_at}
 use Rattle.panel_conditions.specs.PointSets.{set_without}
-use Rattle.panel_conditions.specs.Shown.{any_below, has_more, has_more_points, is_in_fire_alarm, is_news, on_lines, sounds}
+use Rattle.panel_conditions.specs.Shown.{has_more, has_more_points, is_in_fire_alarm, is_news, on_lines, sounds}
 use Rattle.panel_conditions.specs.Stands.{HoldsFor, IsUnchanged, ShownStays, TakesFindings, Watches, entries_then, faults_now, newly_then, nothing_shown, shown_at, shown_now, shown_then, word_with}
 use Rattle.panel_conditions.specs.Turns.{HoldTurn, latest_tick}
 use Rattle.panel_conditions.specs.Words.{faults_at, has_fault, word_after, word_at}

@@ -14,7 +14,8 @@ use Rattle.panel_conditions.specs.declared.zone_watch.ZoneWatch.{ZoneWatch}
 use Rattle.panel_conditions.specs.declared.asked.Asked.{Asked}
 use Rattle.panel_conditions.specs.declared.asked.Asked.TheVariants.{Disabled, ZoneDisabled, OfZone}
 use Rattle.panel_conditions.specs.declared.points.Points.{Points}
-use Rattle.panel_conditions.specs.PointSets.{loop_address, no_set, put_at}
+use Rattle.panel_conditions.specs.PointSets.{loop_address, put_at}
+use Rattle.site_types.specs.Bits.{no_set}
 use Rattle.panel_conditions.specs.Points.{points_where}
 use Rattle.panel_conditions.specs.Missing.{zone_is_off}
 use Rattle.panel_conditions.specs.Parts.{is_asked, is_so, points_from}

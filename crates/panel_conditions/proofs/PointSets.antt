@@ -7,11 +7,11 @@ use Rattle.std.proofs.lemmas.Bool.Decides.{eqb_tells}
 use Rattle.std.proofs.lemmas.Nat.{pow_below, or_lt, and_le_l}
 use Rattle.site_types.specs.declared.site.Site.{Site}
 use Rattle.site_types.specs.declared.point_set.PointSet.{PointSet}
-use Rattle.site_types.specs.Bits.{IsPlace, has_bit, mask_of, half_of, bit_of, with_bit, with_point}
+use Rattle.site_types.specs.Bits.{IsPlace, has_bit, mask_of, half_of, bit_of, with_bit, with_point, no_set}
 use Rattle.site_types.proofs.Masks.{mask_below, has_bit-mask, mask_from_bits, mask_same, mask_empty, has_bit-or, has_bit-and, has_bit-not, with_bit-same, with_bit-other}
 use Rattle.site_types.proofs.Done.{lt_tells}
 use Rattle.panel_conditions.specs.Points.{addressed, on_point, addresses_where, points_where}
-use Rattle.panel_conditions.specs.PointSets.{no_set, either_set, set_without}
+use Rattle.panel_conditions.specs.PointSets.{either_set, set_without}
 
 -- ---- masks of 96 bits
 

@@ -1,17 +1,14 @@
 -- What is kept of operations tells of one more.
-use Rattle.std.proofs.Common.{◌≡◌, ◌⊎◌, inl, inr, ℕ, ◌<◌, ◌≤◌, max, Bool, true, false, List, [], ◌∷◌, ◌&&◌, nat_lt, if◌then◌else◌, refl, sym, ◌∙◌, ap, subst, arith}
+use Rattle.std.proofs.Common.{◌≡◌, inl, inr, ℕ, ◌<◌, ◌≤◌, Bool, true, false, List, [], ◌∷◌, ◌&&◌, nat_lt, if◌then◌else◌, refl, sym, ◌∙◌, ap, subst, arith}
 use Rattle.tick_units.specs.declared.tick.Tick.{Tick}
 use Rattle.site_types.specs.declared.site.Site.{Site}
 use Rattle.site_types.specs.declared.point_set.PointSet.{PointSet}
-use Rattle.site_types.specs.Done.{Done, latest_before, AreBy}
+use Rattle.site_types.specs.Done.{Done, AreBy}
 use Rattle.site_types.proofs.Done.{lt_tells, lt_true, lt_false}
-use Rattle.tick_units.specs.declared.last_done.LastDone.{LastDone}
 use Rattle.panel_conditions.specs.declared.point_switch.PointSwitch.{PointSwitch}
 use Rattle.panel_conditions.specs.Parts.{points_from, switch_points}
-use Rattle.tick_units.specs.LastTicks.{last_at, last_if, never_done}
 use Rattle.panel_conditions.specs.Points.{points_where}
 use Rattle.panel_conditions.specs.Stands.{TellsPoints}
-use Rattle.coincidence_rules.specs.Applied.{TellsLast}
 use Rattle.panel_conditions.proofs.Yet.{points_same}
 
 -- ---- sets of points

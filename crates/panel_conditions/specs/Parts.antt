@@ -104,6 +104,11 @@ sign_mask First signs = signs.first
 abbrev pub sign_at : Sign → ℕ → List ZoneWatch → ℕ
 sign_at sign tick watches = mask_of 32 (λ k. watch_shows sign tick (slice_get watches k))
 
+-- the mask of a sign drawn anew for the zones to look at, as it was for all others
+abbrev pub drawn_mask : Sign → ℕ → List ZoneWatch → ℕ → ℕ → ℕ
+drawn_mask sign tick watches look before =
+    mask_of 32 (λ k. if has_bit look k then watch_shows sign tick (slice_get watches k) else has_bit before k)
+
 -- what zones show at a tick
 abbrev pub signs_at : ℕ → List ZoneWatch → Signs
 signs_at tick watches = record { alarm = sign_at Alarm tick watches; manual = sign_at Manual tick watches; released = sign_at Released tick watches; first = sign_at First tick watches }

@@ -6,10 +6,6 @@ use Rattle.site_types.specs.declared.point_set.PointSet.{PointSet}
 use Rattle.site_types.specs.Bits.{with_point}
 use Rattle.panel_conditions.specs.declared.loop_address.LoopAddress.{LoopAddress}
 
--- no point
-abbrev pub no_set : PointSet
-no_set = record { loops = replicate 4 (replicate 2 0) }
-
 -- the loop and address of a point, if it is of the panel
 abbrev pub loop_address : ℕ → Point → Option LoopAddress
 loop_address panel p = if p.panel == panel then Some (record { line = p.line; address = p.address }) else None

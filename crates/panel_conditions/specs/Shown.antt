@@ -8,15 +8,10 @@ use Rattle.site_types.specs.declared.buzzer.Buzzer.TheVariants.{Off, Fault, Fire
 use Rattle.site_types.specs.declared.fault_set.FaultSet.{FaultSet}
 use Rattle.site_types.specs.declared.point_set.PointSet.{PointSet}
 use Rattle.site_types.specs.declared.word.Word.{Word}
-use Rattle.site_types.specs.Bits.{has_bit}
+use Rattle.site_types.specs.Bits.{any_below, has_bit}
 use Rattle.site_types.specs.Done.{Done, muted_before}
 use Rattle.panel_conditions.specs.Turns.{HoldTurn, latest_tick}
 use Rattle.panel_conditions.specs.Words.{faults_after, word_after}
-
--- some number below a bound passes the test
-unfoldable pub any_below : ℕ → (ℕ → Bool) → Bool
-any_below zero test = false
-any_below (suc n) test = any_below n test || test n
 
 -- one mask, of so many bits, has a bit that the other hasn't
 abbrev pub has_more : ℕ → ℕ → ℕ → Bool

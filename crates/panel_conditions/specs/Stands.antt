@@ -1,5 +1,5 @@
 -- The part that holds stands for the operations done and the turns made.
-use Rattle.std.specs.Prelude.{◌≡◌, ◌≢◌, ◌<◌, ◌≤◌, ◌+◌, ◌-◌, ◌^◌, min, max, ℕ, zero, suc, Bool, true, false, not, List, [], ◌∷◌, ◌++◌, Option, Some, None, length, map, slice_get, ◌&&◌, nat_lt, if◌then◌else◌}
+use Rattle.std.specs.Prelude.{◌≡◌, ◌<◌, ◌≤◌, ◌+◌, ◌-◌, ◌^◌, min, max, ℕ, zero, suc, Bool, false, not, List, [], ◌∷◌, ◌++◌, Option, Some, None, length, map, slice_get, ◌&&◌, nat_lt, if◌then◌else◌}
 use Rattle.tick_units.specs.declared.tick.Tick.{Tick}
 use Rattle.site_types.specs.declared.site.Site.{Site}
 use Rattle.site_types.specs.declared.point.Point.{Point as PointPlan}
@@ -12,9 +12,9 @@ use Rattle.site_types.specs.declared.fault_set.FaultSet.{FaultSet}
 use Rattle.site_types.specs.declared.buzzer.Buzzer.TheVariants.{Off}
 use Rattle.site_types.specs.declared.word.Word.{Word}
 use Rattle.site_types.specs.declared.operation.Operation.{Operation}
-use Rattle.site_types.specs.Bits.{IsPlace, has_bit}
+use Rattle.site_types.specs.Bits.{IsPlace, has_bit, no_set}
 use Rattle.site_types.specs.Changes.{IsPanelNumber, IsNumber, HasOwnPlaces}
-use Rattle.site_types.specs.Done.{Done, Setting, PointOff, is_on, operation_setting, in_force, latest_before, moves_floor, cancels, mutes, muted_before, AreBy}
+use Rattle.site_types.specs.Done.{Done, PointOff, in_force, moves_floor, cancels, mutes, muted_before, AreBy}
 use Rattle.coincidence_rules.specs.declared.finding.Finding.{Finding}
 use Rattle.coincidence_rules.specs.Applied.{MayBeDone, TellsLast}
 use Rattle.coincidence_rules.specs.Places.{numbered}
@@ -27,14 +27,15 @@ use Rattle.panel_conditions.specs.declared.points.Points.{Points}
 use Rattle.panel_conditions.specs.declared.shown.Shown.{Shown}
 use Rattle.panel_conditions.specs.declared.hold.Hold.{Hold}
 use Rattle.panel_conditions.specs.declared.outside.Outside.{Outside}
-use Rattle.panel_conditions.specs.PointSets.{loop_address, no_set, set_without}
+use Rattle.panel_conditions.specs.PointSets.{loop_address, set_without}
 use Rattle.panel_conditions.specs.declared.signs.Signs.{Signs}
 use Rattle.panel_conditions.specs.Parts.{points_at, points_shown, is_asked, watch_shows, sign_mask}
 use Rattle.tick_units.specs.LastTicks.{last_at, never_done}
 use Rattle.panel_conditions.specs.Points.{points_where}
 use Rattle.panel_conditions.specs.Turns.{HoldTurn, findings_taken, latest_tick, AreRising}
 use Rattle.panel_conditions.specs.Missing.{missing_found, zone_is_off}
-use Rattle.panel_conditions.specs.Words.{empty_word, no_faults, has_fault, word_at, faults_at, word_after, faults_after}
+use Rattle.panel_conditions.specs.Words.{has_fault, word_at, faults_at, word_after, faults_after}
+use Rattle.site_types.specs.Words.{empty_word, no_faults}
 use Rattle.panel_conditions.specs.Shown.{is_news, is_in_fire_alarm, sounds, last_news, buzzer_after, entries_after}
 
 -- ---- at first

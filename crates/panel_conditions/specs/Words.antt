@@ -8,6 +8,7 @@ use Rattle.site_types.specs.declared.word.Word.{Word}
 use Rattle.site_types.specs.Done.{Done}
 use Rattle.coincidence_rules.specs.declared.finding.Finding.{Finding}
 use Rattle.coincidence_rules.specs.Places.{zones_where}
+use Rattle.site_types.specs.Words.{empty_word, no_faults}
 use Rattle.panel_conditions.specs.declared.outside.Outside.{Outside}
 use Rattle.panel_conditions.specs.Points.{points_where}
 use Rattle.panel_conditions.specs.Turns.{HoldTurn, findings_taken}
@@ -54,12 +55,6 @@ word_at site panel done taken tick fault =
       first = zones_where site panel (λ zone. first_found site done taken zone tick);
       fault = fault;
     }
-
-abbrev pub no_faults : FaultSet
-no_faults = record { missing = record { loops = replicate 4 (replicate 2 0) }; broken = 0; shorted = 0; supply = 0; silent = 0; links = 0; unconfirmed = 0 }
-
-abbrev pub empty_word : Word
-empty_word = record { stamp = record { 0 = 0 }; alarm = 0; manual = 0; released = 0; first = 0; fault = false }
 
 -- the faults shown after these turns
 abbrev pub faults_after : Site → Retained → ℕ → List Done → List HoldTurn → FaultSet

@@ -1,5 +1,5 @@
 ghost use Rattle.std.specs.Prelude.{◌≡◌, ◌≢◌, ◌⊎◌, ◌-◌, ◌++◌, ◌∷◌, ℕ, Bool, List, true, map, slice_get, slice_index, IfOk, Some, option_copied};
-ghost use Rattle.site_types.specs.Bits.{has_bit};
+ghost use Rattle.site_types.specs.Bits.{has_bit, no_set};
 ghost use Rattle.site_types.specs.Valid.{IsValid};
 ghost use Rattle.site_types.specs.declared.site.Site.{Site as SitePlan};
 ghost use Rattle.site_types.specs.declared.retained.Retained.{Retained as Kept};
@@ -154,7 +154,7 @@ ghost use Rattle.std.specs.Prelude.{[], length};
 ghost use Rattle.site_types.specs.Changes.{HasOwnPlaces, IsNumber, IsPanelNumber};
 ghost use Rattle.site_types.specs.Bits.{IsPlace};
 ghost use Rattle.site_types.specs.Done.{kept_point, kept_zone};
-ghost use Rattle.panel_conditions.specs.PointSets.{loop_address, no_set};
+ghost use Rattle.panel_conditions.specs.PointSets.{loop_address};
 ghost use Rattle.panel_conditions.specs.Points.{points_where};
 ghost use Rattle.panel_conditions.specs.Parts.{is_asked, is_so as is_so_of};
 ghost use Rattle.panel_conditions.specs.Stands.{AreZoneSets, HasPlaces, HasZoneNumber};

@@ -22,11 +22,12 @@ use Rattle.loop_poller.specs.Calls.{Call, Reported, Cabled}
 use Rattle.loop_poller.specs.Stands.{StandsFor as PollsFor}
 use Rattle.panel_rules.specs.Moments.{Moment, Happened, IsPanel}
 use Rattle.panel_rules.proofs.Bools.{parts as both_parts, at_any}
+use Rattle.panel_rules.proofs.Reports.{is_line}
 use Rattle.panel_rules.proofs.Told.{eq_true}
 use Rattle.panel_rules.proofs.Floors.{lt_from}
 use Rattle.panel_core.specs.declared.parts.Parts.{Parts}
 use Rattle.panel_core.specs.declared.system.System.{System}
-use Rattle.panel_core.specs.Reports.{stands_at, and_report, reports}
+use Rattle.panel_rules.specs.Reports.{and_report, is_on_panel, reports}
 use Rattle.panel_core.specs.Stands.{PanelStands, StandsFor}
 use Rattle.panel_core.proofs.Panels.{get_set, panel_at}
 
@@ -34,13 +35,13 @@ use Rattle.panel_core.proofs.Panels.{get_set, panel_at}
 told : (site : Site) (kept : Retained) (panel : ℕ) (before : List Moment) (parts : Parts) (poller : Poller) (event : Event) → PanelStands site kept panel before parts → PollsFor site panel (and_report site panel event (reports site panel before)) poller → PanelStands site kept panel (Happened event ∷ before) (record parts { poller = poller })
 told site kept panel before parts poller event h p = record { member = h.member; polls = p; answers = h.answers; decides = h.decides; findings = h.findings; holds = h.holds }
 
-pub after_point : (site : Site) (kept : Retained) (panel : ℕ) (before : List Moment) (parts : Parts) (poller : Poller) (point : ℕ) (state : PointState) → PanelStands site kept panel before parts → stands_at panel (slice_get site.points point) ≡ true → PollsFor site panel (Reported point state ∷ reports site panel before) poller → PanelStands site kept panel (Happened (Point point state) ∷ before) (record parts { poller = poller })
+pub after_point : (site : Site) (kept : Retained) (panel : ℕ) (before : List Moment) (parts : Parts) (poller : Poller) (point : ℕ) (state : PointState) → PanelStands site kept panel before parts → is_on_panel panel (slice_get site.points point) ≡ true → PollsFor site panel (Reported point state ∷ reports site panel before) poller → PanelStands site kept panel (Happened (Point point state) ∷ before) (record parts { poller = poller })
 after_point site kept panel before parts poller point state h at p =
     told site kept panel before parts poller (Point point state) h (subst (λ b. PollsFor site panel (if b then Reported point state ∷ reports site panel before else reports site panel before) poller) (sym at) p)
 
-pub after_piece : (site : Site) (kept : Retained) (panel : ℕ) (before : List Moment) (parts : Parts) (poller : Poller) (line piece : ℕ) (state : PieceState) → PanelStands site kept panel before parts → PollsFor site panel (Cabled line piece state ∷ reports site panel before) poller → PanelStands site kept panel (Happened (Cable panel line piece state) ∷ before) (record parts { poller = poller })
-after_piece site kept panel before parts poller line piece state h p =
-    told site kept panel before parts poller (Cable panel line piece state) h (subst (λ b. PollsFor site panel (if b then Cabled line piece state ∷ reports site panel before else reports site panel before) poller) (sym (eq_true panel panel refl)) p)
+pub after_piece : (site : Site) (kept : Retained) (panel : ℕ) (before : List Moment) (parts : Parts) (poller : Poller) (line piece : ℕ) (state : PieceState) → 1 ≤ line → line ≤ 4 → PanelStands site kept panel before parts → PollsFor site panel (Cabled line piece state ∷ reports site panel before) poller → PanelStands site kept panel (Happened (Cable panel line piece state) ∷ before) (record parts { poller = poller })
+after_piece site kept panel before parts poller line piece state low high h p =
+    told site kept panel before parts poller (Cable panel line piece state) h (subst (λ b. PollsFor site panel (if b then Cabled line piece state ∷ reports site panel before else reports site panel before) poller) (sym (ap (λ b. b && (nat_le 1 line && nat_le line 4)) (eq_true panel panel refl) ∙ is_line line low high)) p)
 
 -- a panel that an event doesn't concern
 untold : (site : Site) (kept : Retained) (panel : ℕ) (before : List Moment) (parts : Parts) (event : Event) → PanelStands site kept panel before parts → and_report site panel event (reports site panel before) ≡ reports site panel before → PanelStands site kept panel (Happened event ∷ before) parts
@@ -63,7 +64,7 @@ stands_after_point site kept before system plan point state parts h one is p =
                 subst (λ n. PanelStands site kept n (Happened (Point point state) ∷ before) q) same (subst (λ r. PanelStands site kept plan.panel (Happened (Point point state) ∷ before) r) (sym g.1) p))
             | inr g ↦
                 (let apart : (plan.panel == (place + 1)) ≡ false = not_there plan.panel (place + 1) (λ e. g.0 (omega (arith, e))) in
-                let away : stands_at (place + 1) (slice_get site.points point) ≡ false = ap (stands_at (place + 1)) is ∙ apart in
+                let away : is_on_panel (place + 1) (slice_get site.points point) ≡ false = ap (is_on_panel (place + 1)) is ∙ apart in
                 untold site kept (place + 1) before q (Point point state) (h.each place q g.1) (ap (λ b. if b then Reported point state ∷ reports site (place + 1) before else reports site (place + 1) before) away))
           ]);
     }
@@ -82,7 +83,7 @@ stands_after_piece site kept before system panel line piece state parts h one p 
                 subst (λ n. PanelStands site kept n (Happened (Cable panel line piece state) ∷ before) q) same (subst (λ r. PanelStands site kept panel (Happened (Cable panel line piece state) ∷ before) r) (sym g.1) p))
             | inr g ↦
                 (let apart : (panel == (place + 1)) ≡ false = not_there panel (place + 1) (λ e. g.0 (omega (arith, e))) in
-                untold site kept (place + 1) before q (Cable panel line piece state) (h.each place q g.1) (ap (λ b. if b then Cabled line piece state ∷ reports site (place + 1) before else reports site (place + 1) before) apart))
+                untold site kept (place + 1) before q (Cable panel line piece state) (h.each place q g.1) (ap (λ b. if b && (nat_le 1 line && nat_le line 4) then Cabled line piece state ∷ reports site (place + 1) before else reports site (place + 1) before) apart))
           ]);
     }
 
@@ -127,14 +128,14 @@ piece_line site panel line piece valid h =
 pub record PointRead (site : Site) (point : ℕ) (plan : PointPlan) : Type 0 where
   pub is : slice_get site.points point ≡ Some plan
   pub member : IsPanel site.panels plan.panel
-  pub there : stands_at plan.panel (slice_get site.points point) ≡ true
+  pub there : is_on_panel plan.panel (slice_get site.points point) ≡ true
 
 pub point_read : (site : Site) (kept : Retained) (before : List Moment) (system : System) (point : ℕ) (state : PointState) (points : List PointPlan) (plan : PointPlan) → StandsFor site kept before system → has_event site (Point point state) ≡ true → points ≡ system.site.points → plan ≡ get_or points point plan → PointRead site point plan
 point_read site kept before system point state points plan h has same read =
     let within = lt_from point (length site.points) has in
     let e : points ≡ site.points = same ∙ ap (λ (s : Site). s.points) h.same in
     let at = slice_get_read site.points (length site.points) point plan refl within (read ∙ ap (λ xs. get_or xs point plan) e) in
-    record { is = at; member = (point_at site h.valid point plan at).panel; there = ap (stands_at plan.panel) at ∙ eq_true plan.panel plan.panel refl }
+    record { is = at; member = (point_at site h.valid point plan at).panel; there = ap (is_on_panel plan.panel) at ∙ eq_true plan.panel plan.panel refl }
 
 -- the panel at a place of the system
 pub panel_read : (site : Site) (kept : Retained) (before : List Moment) (system : System) (panel : ℕ) (parts : Parts) → StandsFor site kept before system → IsPanel site.panels panel → parts ≡ get_or system.panels.items (panel - 1) parts → PanelStands site kept panel before parts

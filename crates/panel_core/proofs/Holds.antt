@@ -1,6 +1,6 @@
 -- What a turn of Hold takes and is told.
 use mathlib.Core.Path.{fun_ext}
-use Rattle.std.proofs.Common.{◌≡◌, ℕ, zero, suc, ◌+◌, ◌<◌, List, [], ◌∷◌, ◌++◌, take, inl, inr, Bool, false, refl, sym, ◌∙◌, ap, subst, arith}
+use Rattle.std.proofs.Common.{◌≡◌, ℕ, zero, suc, ◌+◌, ◌<◌, ◌≤◌, List, [], ◌∷◌, ◌++◌, take, inl, inr, Bool, false, refl, sym, ◌∙◌, ap, subst, arith}
 use Rattle.std.specs.Prelude.{slice_index_or}
 use Rattle.std.proofs.lemmas.Bool.Decides.{eqb_tells}
 use Rattle.tick_units.specs.Lane.{LaneState, after_turn, turn_count}
@@ -26,12 +26,13 @@ use Rattle.panel_rules.specs.Counts.{taken_by_hold}
 use Rattle.panel_rules.proofs.Turns.{turn_lag}
 use Rattle.panel_rules.proofs.Told.{eq_true}
 use Rattle.panel_core.specs.declared.parts.Parts.{Parts}
-use Rattle.panel_core.specs.Reports.{reports}
-use Rattle.panel_core.specs.Lanes.{finding_lane, seen}
+use Rattle.panel_rules.specs.States.{piece_of}
+use Rattle.panel_rules.specs.Reports.{reports}
+use Rattle.panel_core.specs.Lanes.{finding_lane}
 use Rattle.panel_core.specs.Turns.{outside_of, outside_at, hold_turn, hold_turns}
 use Rattle.panel_core.specs.Stands.{PanelStands}
-use Rattle.panel_core.proofs.Reports.{cable_told}
-use Rattle.panel_core.proofs.Steps.{held_findings, seen_more, seen_after_decide, decided_after_poll}
+use Rattle.panel_rules.proofs.Reports.{cable_told, is_line}
+use Rattle.panel_core.proofs.Steps.{held_findings, seen_more, seen_after_decide, decided_after_poll, seen}
 
 -- four flags as the bits of four loops
 four : (test : ℕ → Bool) (a b c d : Bool) → a ≡ test 1 → b ≡ test 2 → c ≡ test 3 → d ≡ test 4 → (k : ℕ) → k < 4 → slice_index_or (a ∷ b ∷ c ∷ d ∷ []) k false ≡ test (k + 1)
@@ -49,8 +50,20 @@ outside_is site panel cables one two three four' broken shorted a b c d x y =
     ∙ ap (λ n. (let o : Outside = record { supply = 0; broken = mask_of 4 (λ k. (status_on (loop_of site panel (k + 1)) (cables (k + 1))).broken); shorted = n; silent = 0; links = 0; unconfirmed = 0 } in o)) shorts
 
 -- what the poller was told of the cables is what they are at
-outside_told : (site : Site) (panel : ℕ) (before : List Moment) → outside_of site panel (told_cable (reports site panel before)) ≡ outside_at site panel before
-outside_told site panel before = ap (outside_of site panel) (fun_ext (λ line. fun_ext (λ piece. cable_told site panel line piece before)))
+module _ (site : Site) (panel : ℕ) (before : List Moment) where
+  abbrev cables_told : ℕ → Cable
+  cables_told = told_cable (reports site panel before)
+
+  abbrev cables_stood : ℕ → Cable
+  cables_stood line piece = piece_of panel line piece before
+
+  same_cables : (line : ℕ) → 1 ≤ line → line ≤ 4 → cables_told line ≡ cables_stood line
+  same_cables line low high = fun_ext (λ piece. cable_told site panel line piece before (is_line line low high))
+
+  outside_told : outside_of site panel (told_cable (reports site panel before)) ≡ outside_at site panel before
+  outside_told =
+      ap (λ n. (let o : Outside = record { supply = 0; broken = n; shorted = mask_of 4 (λ k. (status_on (loop_of site panel (k + 1)) (cables_told (k + 1))).shorted); silent = 0; links = 0; unconfirmed = 0 } in o)) (mask_same 4 (λ k. (status_on (loop_of site panel (k + 1)) (cables_told (k + 1))).broken) (λ k. (status_on (loop_of site panel (k + 1)) (cables_stood (k + 1))).broken) (λ k small. ap (λ c. (status_on (loop_of site panel (k + 1)) c).broken) (same_cables (k + 1) (omega arith) (omega (arith, small)))))
+      ∙ ap (λ n. (let o : Outside = record { supply = 0; broken = mask_of 4 (λ k. (status_on (loop_of site panel (k + 1)) (cables_stood (k + 1))).broken); shorted = n; silent = 0; links = 0; unconfirmed = 0 } in o)) (mask_same 4 (λ k. (status_on (loop_of site panel (k + 1)) (cables_told (k + 1))).shorted) (λ k. (status_on (loop_of site panel (k + 1)) (cables_stood (k + 1))).shorted) (λ k small. ap (λ c. (status_on (loop_of site panel (k + 1)) c).shorted) (same_cables (k + 1) (omega arith) (omega (arith, small)))))
 
 own_turn : (site : Site) (kept : Retained) (done : List Done) (panel : ℕ) (before : List Moment) → hold_turns site kept done panel (Turned panel Hold ∷ before) ≡ hold_turn site kept done panel before ∷ hold_turns site kept done panel before
 own_turn site kept done panel before = rw (eq_true panel panel refl) refl

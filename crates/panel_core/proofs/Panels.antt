@@ -14,7 +14,7 @@ use Rattle.panel_core.specs.Turns.{hold_turns}
 use Rattle.panel_rules.specs.Moments.{Moment, Began, Turned, Kept, turn_of, IsPanel, tick_of}
 use Rattle.panel_rules.specs.Answers.{asked}
 use Rattle.panel_core.specs.declared.parts.Parts.{Parts}
-use Rattle.panel_core.specs.Reports.{reports}
+use Rattle.panel_rules.specs.Reports.{reports}
 use Rattle.panel_core.specs.Lanes.{answer_lane, finding_lane, decided}
 use Rattle.std.proofs.lemmas.Bool.Decides.{eqb_tells}
 use Rattle.std.proofs.Math.ListN.{set, length-set}
@@ -26,7 +26,7 @@ use Rattle.tick_units.proofs.Canonical.{IsPanelSeat, Contains-canonical_seats-ca
 use Rattle.panel_core.specs.declared.system.System.{System}
 use Rattle.panel_core.specs.Stands.{PanelStands, StandsFor}
 use Rattle.panel_rules.proofs.Places.{get_either}
-use Rattle.panel_core.proofs.Reports.{asked_told}
+use Rattle.panel_rules.proofs.Reports.{asked_told}
 use Rattle.panel_core.proofs.Steps.{polled, decided_after_poll, findings_after_poll}
 
 pub after_poll : (site : Site) (kept : Retained) (panel : ℕ) (before : List Moment) (parts : Parts) (lane : LaneState Answer) (now : ℕ) → PanelStands site kept panel before parts → now ≡ tick_of before → lane ≡ with_put parts.answers (asked_in site panel (told_point (reports site panel before)) (told_cable (reports site panel before)) now) → PanelStands site kept panel (Turned panel Poll ∷ before) (record parts { answers = lane })

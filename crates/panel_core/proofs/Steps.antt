@@ -12,8 +12,13 @@ use Rattle.panel_rules.specs.Answers.{answers, asked}
 use Rattle.panel_rules.specs.Counts.{answer_count, taken_by_decide, taken_by_hold}
 use Rattle.panel_rules.proofs.Counts.{decide_behind, hold_behind}
 use Rattle.panel_rules.proofs.Told.{eq_true}
-use Rattle.panel_core.specs.Lanes.{decided, answer_lane, found, finding_lane, seen}
+use Rattle.panel_core.specs.Lanes.{decided, answer_lane, found, finding_lane}
 use Rattle.panel_core.proofs.Fronts.{front_more, found_more, found_count}
+use Rattle.coincidence_rules.specs.declared.finding.Finding.{Finding}
+
+-- the findings that it has taken
+abbrev pub seen : Site → Retained → List Done → ℕ → List Moment → List Finding
+seen site kept done panel before = take (taken_by_hold site panel before) (found site kept done panel before)
 
 -- the same lane by its parts
 lane_is : {X : Type 0} (items items' : List X) (put put' taken taken' : ℕ) → items ≡ items' → put ≡ put' → taken ≡ taken' → (let l : LaneState X = record { items = items; put = put; taken = taken; quota = 32; capacity = 64 } in l) ≡ (let l : LaneState X = record { items = items'; put = put'; taken = taken'; quota = 32; capacity = 64 } in l)

@@ -34,9 +34,9 @@ use Rattle.panel_rules.specs.Counts.{taken_by_decide, taken_by_hold}
 use Rattle.panel_rules.specs.Zones.{held_answers, holds_alarm, holds_first}
 use Rattle.panel_rules.proofs.Counts.{hold_behind}
 use Rattle.panel_rules.proofs.Order.{answers_in_order}
-use Rattle.panel_core.specs.Lanes.{decided, found, seen}
+use Rattle.panel_core.specs.Lanes.{decided, found}
 use Rattle.panel_core.specs.Turns.{hold_turns}
-use Rattle.panel_core.proofs.Steps.{found_length}
+use Rattle.panel_core.proofs.Steps.{found_length, seen}
 use Rattle.panel_core.proofs.Takes.{order_front}
 use Rattle.panel_core.proofs.Holds.{turns_seen, turns_tick}
 

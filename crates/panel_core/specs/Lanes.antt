@@ -36,7 +36,3 @@ found site kept done panel before = findings_of site kept panel done (decided si
 abbrev pub finding_lane : Site → Retained → List Done → ℕ → List Moment → LaneState Finding
 finding_lane site kept done panel before =
     record { items = drop (taken_by_hold site panel before) (found site kept done panel before); put = taken_by_decide site panel before; taken = taken_by_hold site panel before; quota = 32; capacity = 64 }
-
--- the findings that it has taken
-abbrev pub seen : Site → Retained → List Done → ℕ → List Moment → List Finding
-seen site kept done panel before = take (taken_by_hold site panel before) (found site kept done panel before)

@@ -15,7 +15,7 @@ use Rattle.panel_conditions.specs.Stands.{HoldsFor}
 use Rattle.panel_rules.specs.Moments.{Moment, Turned, IsRun, IsPanel, and_turns, tick_of}
 use Rattle.panel_core.specs.declared.parts.Parts.{Parts}
 use Rattle.panel_core.specs.declared.system.System.{System}
-use Rattle.panel_core.specs.Reports.{reports}
+use Rattle.panel_rules.specs.Reports.{reports}
 use Rattle.panel_core.specs.Lanes.{answer_lane, finding_lane, decided}
 use Rattle.panel_core.specs.Turns.{hold_turns}
 

@@ -2,7 +2,8 @@
 use Rattle.std.proofs.Common.{◌≡◌, ◌⊎◌, inl, inr, ℕ, ◌<◌, ◌≤◌, nat_lt, Bool, true, false, List, [], ◌∷◌, if◌then◌else◌, ◌==◌, ◌&&◌, refl, sym, ◌∙◌, ap, subst, arith, ⊎_elim}
 use Rattle.std.proofs.lemmas.Bool.{and_parts, cases_Bool, cases_eq, eq-eqb, lt-ltb, ltb-false, ltb-true, ne_eqb}
 use Rattle.site_types.specs.declared.word.Word.{Word}
-use Rattle.panel_links.specs.Words.{AreJoined, Call, Comes, IsNewest, Linked, OwnStampsRise, Took, begins, carries, empty_word, is_up, lasts, left_of, own_stamp, passes, right_of}
+use Rattle.panel_links.specs.Words.{AreJoined, Call, Comes, IsNewest, Linked, OwnStampsRise, Took, begins, carries, is_up, lasts, left_of, own_stamp, passes, right_of}
+use Rattle.site_types.specs.Words.{empty_word}
 use Rattle.panel_links.specs.Kept.{after_turn, after_word, comes_over, kept_word, newest}
 
 -- the newer of two words is one of them, and neither is newer than it

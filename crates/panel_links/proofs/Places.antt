@@ -4,7 +4,8 @@ use Rattle.std.proofs.lemmas.Bool.{and_left, and_right, cases_Bool, cases_eq, eq
 use Rattle.std.proofs.lemmas.Grind.{get_or-set_at}
 use Rattle.std.proofs.lemmas.List.{get_or-set_other}
 use Rattle.site_types.specs.declared.word.Word.{Word}
-use Rattle.panel_links.specs.Words.{carries, empty_word, group_of}
+use Rattle.panel_links.specs.Words.{carries, group_of}
+use Rattle.site_types.specs.Words.{empty_word}
 use Rattle.panel_links.specs.Kept.{after_word, newest}
 use Rattle.panel_links.specs.Frames.{after_frame, group_words, word_in}
 

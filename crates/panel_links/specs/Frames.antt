@@ -1,7 +1,7 @@
 -- The frame that a panel sends over a link in a tick, and what its receiver keeps.
 use Rattle.std.specs.Prelude.{ℕ, ◌+◌, ◌-◌, ◌*◌, ◌/◌, ◌%◌, ◌==◌, ◌&&◌, nat_le, List, [], ◌∷◌, slice_index_or, if◌then◌else◌}
 use Rattle.site_types.specs.declared.word.Word.{Word}
-use Rattle.panel_links.specs.Words.{empty_word}
+use Rattle.site_types.specs.Words.{empty_word}
 use Rattle.panel_links.specs.Kept.{newest}
 
 -- the word at a place of a group, 0 to 3: that of a panel, or the empty one where there is no panel

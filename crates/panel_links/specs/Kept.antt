@@ -1,7 +1,8 @@
 -- What each panel keeps of each other one, turn by turn.
 use Rattle.std.specs.Prelude.{ℕ, ◌==◌, ◌&&◌, nat_lt, Bool, List, [], ◌∷◌, if◌then◌else◌}
 use Rattle.site_types.specs.declared.word.Word.{Word}
-use Rattle.panel_links.specs.Words.{Call, Linked, Took, carries, empty_word, is_up, left_of, right_of}
+use Rattle.panel_links.specs.Words.{Call, Linked, Took, carries, is_up, left_of, right_of}
+use Rattle.site_types.specs.Words.{empty_word}
 
 -- the newer of two words by stamp; of two of one stamp the first, which is the one that was kept
 abbrev pub newest : Word → Word → Word

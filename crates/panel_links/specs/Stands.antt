@@ -2,7 +2,8 @@
 use Rattle.std.specs.Prelude.{◌≡◌, ℕ, ◌-◌, ◌≤◌, ◌&&◌, ◌||◌, ◌==◌, nat_le, nat_lt, not, Bool, false, List, [], slice_index_or}
 use Rattle.site_types.specs.declared.word.Word.{Word}
 use Rattle.panel_links.specs.declared.ring.Ring.{Ring}
-use Rattle.panel_links.specs.Words.{Call, empty_word, is_up, left_of}
+use Rattle.panel_links.specs.Words.{Call, is_up, left_of}
+use Rattle.site_types.specs.Words.{empty_word}
 use Rattle.panel_links.specs.Kept.{kept_word}
 
 -- a number of the ring's panels

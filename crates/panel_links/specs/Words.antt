@@ -1,15 +1,12 @@
 -- How the words of panels go round a ring.
 use Rattle.std.specs.Prelude.{◌≡◌, ◌⊎◌, ℕ, ◌+◌, ◌-◌, ◌/◌, ◌%◌, ◌<◌, ◌≤◌, ◌==◌, nat_le, Bool, true, false, List, [], ◌∷◌, if◌then◌else◌}
 use Rattle.site_types.specs.declared.word.Word.{Word}
+use Rattle.site_types.specs.Words.{empty_word}
 
 -- what befalls the ring: a link goes up or down, or a panel has its turn in a tick, in which it has made a word of its own; lists of these have the newest first
 pub data Call : Type 0 where
   Linked : (link : ℕ) → (up : Bool) → Call
   Took : (tick panel : ℕ) → (own : Word) → Call
-
--- the word of a panel of which nothing was heard
-abbrev pub empty_word : Word
-empty_word = record { stamp = record { 0 = 0 }; alarm = 0; manual = 0; released = 0; first = 0; fault = false }
 
 -- whether a link is up, by its last report; at the start it is
 abbrev pub is_up : ℕ → List Call → Bool

@@ -32,7 +32,9 @@ abbrev pub Runs : List ℕ → Option (List ℕ) → Option (List ℕ) → Outco
 Runs bytes old new outcome (Ok site) = Ran site bytes old new outcome
 Runs bytes old new outcome (Err stop) = Tells (stop_status stop) (stop_text stop) old new outcome
 
--- the matrix tells which outputs each zone asks for, or why there is no site; where memory ran out it tells nothing
+-- The matrix tells which outputs each zone asks for, or why there is no site. Where memory ran out it ends with
+-- status 9 and has written nothing. When memory is ample no clause can say, so this alone allows an answer of 9 for
+-- every site: trials ask for it with ample memory.
 abbrev pub Draws : Option (List ℕ) → Option (List ℕ) → Outcome → Result Site Stop → Type 0
 Draws old new outcome (Ok site) = RanNothing old new outcome ⊎ ((text : List ℕ) × IsMatrix site text × Tells 0 text old new outcome)
 Draws old new outcome (Err stop) = Tells (stop_status stop) (stop_text stop) old new outcome

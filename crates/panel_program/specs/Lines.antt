@@ -2,14 +2,6 @@
 use Rattle.std.specs.Prelude.{ℕ, List, ◌++◌, length, codes, decimal}
 use Rattle.site_types.specs.declared.site.Site.{Site}
 
--- the first line of a run
-abbrev pub opening_line : Site → List ℕ
-opening_line site = codes "site " ++ site.name.bytes ++ codes " panels " ++ decimal site.panels ++ codes "\n"
-
--- the line above what changed in a tick
-abbrev pub tick_line : ℕ → List ℕ
-tick_line tick = codes "tick " ++ decimal tick ++ codes "\n"
-
 -- the counts of an accepted site
 abbrev pub counts_line : Site → List ℕ
 counts_line site =

@@ -3,7 +3,7 @@ use Rattle.std.specs.Prelude.{◌+◌, ℕ, List, [], ◌∷◌, ◌++◌, lengt
 use Rattle.site_types.specs.declared.site.Site.{Site}
 use Rattle.panel_rules.specs.Moments.{TickBlock, moments}
 use Rattle.panel_program.specs.declared.shown.Shown.{Shown}
-use Rattle.panel_program.specs.Lines.{opening_line, tick_line}
+use Rattle.face_text.specs.Timelines.{opening_line, tick_line}
 use Rattle.panel_program.specs.Zones.{shown_after, nothing_shown, is_same, changes_text}
 
 -- what is written before the first tick: the site, and what its panel shows at opening

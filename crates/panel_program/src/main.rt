@@ -14,8 +14,6 @@
 //! for a run.
 #![tactic(auto)]
 
-#[cfg(test)]
-mod cause_tests;
 mod command;
 mod cycle_lines;
 mod last_lines;
@@ -26,8 +24,6 @@ mod matrix;
 mod outcome;
 #[cfg(test)]
 mod outside_tests;
-#[cfg(test)]
-mod played;
 mod program;
 mod reading;
 mod run;
@@ -37,8 +33,6 @@ mod shown;
 mod site_lines;
 mod stop;
 mod taken;
-#[cfg(test)]
-mod tests;
 mod usage;
 mod writing;
 

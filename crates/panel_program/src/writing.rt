@@ -4,7 +4,7 @@ ghost use Rattle.std.specs.Prelude.{◌≡◌, ◌≤◌, ◌++◌, length, OnEr
 ghost use Rattle.face_text.specs.Holding.{Puts};
 ghost use Rattle.panel_edges.specs.Contents.{Grows, GrowsByFront};
 ghost use Rattle.panel_edges.specs.Faults.{HasCause};
-ghost use Rattle.panel_program.specs.Lines.{opening_line as opening_words};
+ghost use Rattle.face_text.specs.Timelines.{opening_line as opening_words};
 ghost use Rattle.panel_program.specs.Ticks.{tick_text};
 ghost use Rattle.panel_program.specs.Zones.{changes_text, nothing_shown};
 

@@ -5,7 +5,7 @@ use Rattle.std.proofs.lemmas.Bool.Decides.{leb_tells}
 use Rattle.site_types.specs.Limits.{most_loops}
 use Rattle.site_types.specs.Profile.{last_address_of}
 use Rattle.loop_poller.specs.Asked.{answer_from}
-use Rattle.loop_poller.proofs.Places.{asked_in_places, asked_few}
+use Rattle.loop_poller.proofs.Places.{asked_in_places, asked_few, line_at, address_at, answer_at, places}
 use Rattle.site_types.specs.declared.site.Site.{Site}
 use Rattle.site_types.specs.declared.answer.Answer.{Answer}
 use Rattle.site_types.specs.declared.point_state.PointState.{PointState}
@@ -14,7 +14,6 @@ use Rattle.panel_rules.proofs.Places.{found_from, range_got}
 use Rattle.panel_rules.specs.Moments.{Moment, tick_of}
 use Rattle.panel_rules.specs.States.{state_of, piece_of}
 use Rattle.loop_poller.specs.Asked.{answer_of, asked_in, point_at}
-use Rattle.loop_poller.specs.Places.{answer_at, places, line_at, address_at}
 use Rattle.panel_rules.specs.Answers.{asked}
 
 pub length-range : (a n : ℕ) → length (range_with_len a n) ≡ n

@@ -1,35 +1,36 @@
 -- How old a word is that comes over a way of links that were up.
-use Rattle.std.proofs.Common.{◌≡◌, ℕ, zero, suc, ◌+◌, ◌*◌, ◌%◌, ◌≤◌, ◌<◌, ◌||◌, List, [], ◌∷◌, inl, inr, Bool, true, false, not, if◌then◌else◌, refl, sym, ◌∙◌, ap, subst, arith}
-use Rattle.std.specs.Prelude.{nat_le}
+use Rattle.std.proofs.Common.{◌≡◌, ℕ, zero, suc, ◌+◌, ◌-◌, ◌*◌, ◌/◌, ◌%◌, ◌≤◌, ◌<◌, ◌==◌, List, [], ◌∷◌, inl, inr, Bool, true, false, if◌then◌else◌, refl, sym, ◌∙◌, ap, subst, arith}
 use Rattle.std.proofs.lemmas.Bool.Decides.{eqb_tells, leb_tells}
 use Rattle.tick_units.specs.declared.task.Task.TheVariants.{Hold, Link}
 use Rattle.panel_rules.specs.Moments.{Moment, Began, Happened, Turned, Kept, tick_of, has_turned, IsPanel, IsRun, IsPast, present, later, up_to, latest_turn}
 use Rattle.panel_rules.specs.States.{is_up}
-use Rattle.panel_rules.specs.Kept.{is_odd, carries, above, below, heard}
+use Rattle.panel_links.specs.Words.{carries, left_of, right_of}
+use Rattle.panel_rules.specs.Kept.{heard}
 use Rattle.panel_rules.proofs.Turns.{turn_lag, one_back, run_tail, past_on, owed_turn}
 use Rattle.panel_rules.proofs.Stays.{ByEvents, state_stays}
 use Rattle.panel_rules.proofs.Told.{eq_true}
 use Rattle.panel_rules.proofs.KeptWords.{heard_next, takes_above, takes_below, own_heard}
 
-odd_turns : (tick : ℕ) → is_odd (tick + 1) ≡ not (is_odd tick)
-odd_turns tick =
-    elim (eqb_tells (tick % 2) 1) [
-      | inl h ↦ (elim (eqb_tells ((tick + 1) % 2) 1) [ inl g ↦ absurd (omega (arith, h.1, g.1)) | inr g ↦ g.0 ∙ sym (ap not h.0) ])
-      | inr h ↦ (elim (eqb_tells ((tick + 1) % 2) 1) [ inl g ↦ g.0 ∙ sym (ap not h.0) | inr g ↦ absurd (omega (arith, h.1, g.1)) ])
-    ]
-
 -- of two ticks one after the other one carries a panel's word
-carries_again : (panels tick source : ℕ) → carries panels (tick + 1) source ≡ false → carries panels tick source ≡ true
-carries_again panels tick source h = go (nat_le panels 4) (nat_le source 4) (is_odd tick) (is_odd (tick + 1)) (odd_turns tick) h
+carries_again : (panels tick source : ℕ) → panels ≤ 8 → IsPanel panels source → carries panels (tick + 1) source ≡ false → carries panels tick source ≡ true
+carries_again panels tick source few s h =
+    elim (leb_tells panels 4) [
+      | inl all ↦ (let small : (source - 1) / 4 ≡ 0 = (let a = all.1 in omega (arith, a, s.1)) in rw (all.0, small) refl)
+      | inr more ↦ rw more.0
+          (elim (eqb_tells ((source - 1) / 4) ((tick + 1) % 2)) [
+            | inl now ↦ now.0
+            | inr apart ↦ absurd (not_next (other apart.1) (ap (λ b. ((source - 1) / 4) == (if b then 0 else (tick + 1 + 1) % 2)) (sym more.0) ∙ h))
+          ])
+    ]
   where
-    go : (few low odd next : Bool) → next ≡ not odd → (few || (if low then next else not next)) ≡ false → (few || (if low then odd else not odd)) ≡ true
-    go true low odd next e h = cc
-    go false true true next e h = refl
-    go false true false true e h = cc
-    go false true false false e h = cc
-    go false false false next e h = refl
-    go false false true true e h = cc
-    go false false true false e h = cc
+    small : (source - 1) / 4 ≤ 1
+    small = omega (arith, s.1, few)
+
+    other : ((source - 1) / 4 ≡ (tick + 1) % 2 → ⊥) → (source - 1) / 4 ≡ (tick + 1 + 1) % 2
+    other apart = omega (arith, apart, small)
+
+    not_next : (source - 1) / 4 ≡ (tick + 1 + 1) % 2 → (((source - 1) / 4) == ((tick + 1 + 1) % 2)) ≡ false → ⊥
+    not_next same unlike = elim (eqb_tells ((source - 1) / 4) ((tick + 1 + 1) % 2)) [ inl t ↦ (let e = t.0 in cc) | inr t ↦ t.1 same ]
 
 -- how old a word may be after so many links, in a tick that carries it and in one that doesn't
 abbrev pub lag : ℕ → Bool → ℕ
@@ -43,8 +44,8 @@ lag_few (suc steps) false = omega arith
 
 -- one panel takes from another over a link
 pub data IsStep (panels from to link : ℕ) : Type 0 where
-  downward : above panels to ≡ from → link ≡ to → IsStep panels from to link
-  upward : below panels to ≡ from → link ≡ from → IsStep panels from to link
+  downward : right_of panels to ≡ from → link ≡ to → IsStep panels from to link
+  upward : left_of panels to ≡ from → link ≡ from → IsStep panels from to link
 
 step_takes : (panels source from to link : ℕ) (before : List Moment) → IsStep panels from to link → is_up link before ≡ true → carries panels (tick_of before) source ≡ true → heard panels from source before ≤ heard panels to source (Turned to Link ∷ before)
 step_takes panels source from to link before (downward a l) up carried =
@@ -55,7 +56,7 @@ step_takes panels source from to link before (upward b l) up carried =
 pub link_by_events : (link : ℕ) → ByEvents (λ before. is_up link before)
 link_by_events link = record { began = λ before. refl; turned = λ panel task before. refl; kept = λ failed before. refl }
 
-module _ (panels source : ℕ) (whole : List Moment) (run : IsRun panels whole) (way link : ℕ → ℕ) (last : ℕ) (begins : way 0 ≡ source) (steps : (j : ℕ) → j < last → IsStep panels (way j) (way (suc j)) (link j)) (members : (j : ℕ) → j ≤ last → IsPanel panels (way j)) where
+module _ (panels source : ℕ) (few : panels ≤ 8) (whole : List Moment) (run : IsRun panels whole) (way link : ℕ → ℕ) (last : ℕ) (begins : way 0 ≡ source) (steps : (j : ℕ) → j < last → IsStep panels (way j) (way (suc j)) (link j)) (members : (j : ℕ) → j ≤ last → IsPanel panels (way j)) where
   -- the links of the first steps were up in the ticks that count, seen from a tick
   abbrev WereUp : ℕ → ℕ → ℕ → Type 0
   WereUp j tick age = (i y : ℕ) → i < j → 1 ≤ y → y ≤ tick → tick + 1 < y + age → is_up (link i) (up_to y whole) ≡ true
@@ -110,7 +111,7 @@ module _ (panels source : ℕ) (whole : List Moment) (run : IsRun panels whole) 
       go true e were' = elim (leb_tells 1 (tick_of before)) [ inl o ↦ from_neighbour e o.1 were' | inr o ↦ omega (arith, o.1) ]
       go false e were' =
           let t = latest_turn (way (suc j)) Link before in
-          let carried : carries panels t source ≡ true = carries_again panels t source (ap (λ x. carries panels x source) was ∙ e) in
+          let carried : carries panels t source ≡ true = carries_again panels t source few (subst (IsPanel panels) begins (members 0 (omega arith))) (ap (λ x. carries panels x source) was ∙ e) in
           let next = heard_next panels (way (suc j)) source (Turned (way (suc j)) Link) before in
           let before_that : WereUp (suc j) t (lag (suc j) true) → t ≤ heard panels (way (suc j)) source before + lag (suc j) true = subst (λ c. WereUp (suc j) t (lag (suc j) c) → t ≤ heard panels (way (suc j)) source before + lag (suc j) c) carried inner in
           let held = before_that (λ i y less begin end recent. were' i y less begin (omega (arith, end, was)) (omega (arith, recent, was))) in

@@ -17,7 +17,7 @@ use Rattle.loop_poller.specs.Asked.{heard_of, is_asked}
 use Rattle.panel_rules.specs.Answers.{answers}
 use Rattle.panel_rules.specs.Counts.{taken_by_hold}
 use Rattle.panel_rules.specs.Zones.{held_answers, panel_of_zone}
-use Rattle.panel_rules.specs.Laid.{PointLies, IsLaidOut}
+use Rattle.panel_rules.proofs.LaidOut.{IsLaidOut, PointLies}
 use Rattle.panel_rules.specs.Due.{SignalsAt}
 use Rattle.panel_rules.proofs.Bools.{both, not_true}
 use Rattle.panel_rules.proofs.Places.{get_take}

@@ -18,7 +18,7 @@ use Rattle.panel_rules.specs.Moments.{Moment, tick_of, IsPanel, IsRun, IsPast, l
 use Rattle.panel_rules.specs.Answers.{answers}
 use Rattle.panel_rules.specs.Counts.{taken_by_hold}
 use Rattle.panel_rules.specs.Zones.{held_answers, panel_of_zone, holds_alarm, holds_by_hand, holds_released}
-use Rattle.panel_rules.specs.Laid.{IsLaidOut}
+use Rattle.panel_rules.proofs.LaidOut.{IsLaidOut}
 use Rattle.panel_rules.specs.Due.{NoFloor, NoCancelling, SignalsAt, TwoHeld, CallPointSignals, PointSignals, DetectorSignals, DetectorsSignal, PairSignals, SecondSignals, Signals, by_call_point, by_one, by_itself, by_two, by_pair, SignalsOut, by_signal, by_hand, by_second}
 use Rattle.panel_rules.proofs.Bools.{both, parts, either_left, either_right, not_true, any_at, all_by}
 use Rattle.panel_rules.proofs.Places.{take_get}

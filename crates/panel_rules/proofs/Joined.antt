@@ -32,7 +32,7 @@ module _ (panels : ℕ) (moments past : List Moment) (run : IsRun panels moments
       let h = links_between panels from to in
       let short = links_few panels from to f t in
       let ends = up_ends panels from to f t in
-      let claim = heard_by_way panels from moments run (up_from panels from) (link_on panels from) h (up_begins panels from f) (λ j less. upward (up_step panels from j f (omega (arith, less, short))) refl) (λ j less. up_member panels from j f (omega (arith, less, short))) past is_past in
+      let claim = heard_by_way panels from few moments run (up_from panels from) (link_on panels from) h (up_begins panels from f) (λ j less. upward (up_step panels from j f (omega (arith, less, short))) refl) (λ j less. up_member panels from j f (omega (arith, less, short))) past is_past in
       let at : ((i y : ℕ) → i < h → 1 ≤ y → y ≤ latest_turn to Link past → latest_turn to Link past < y + 2 * h → is_up (link_on panels from i) (up_to y moments) ≡ true) → latest_turn to Link past ≤ heard panels to from past + (2 * h + 1) = subst (λ p. ((i y : ℕ) → i < h → 1 ≤ y → y ≤ latest_turn p Link past → latest_turn p Link past < y + 2 * h → is_up (link_on panels from i) (up_to y moments) ≡ true) → latest_turn p Link past ≤ heard panels p from past + (2 * h + 1)) ends claim in
       let held = at (λ i y less one end late. up i y less (omega (arith, late, recent, short, few)) (omega (arith, end, l))) in
       omega (arith, held, short, few)
@@ -42,7 +42,7 @@ module _ (panels : ℕ) (moments past : List Moment) (run : IsRun panels moments
       let h = links_between panels to from in
       let short = links_few panels to from t f in
       let ends = down_ends panels from to f t in
-      let claim = heard_by_way panels from moments run (down_from panels from) (λ j. down_from panels from (suc j)) h (down_begins panels from f) (λ j less. downward (down_step panels from j f (omega (arith, less, short))) refl) (λ j less. down_member panels from j f (omega (arith, less, short))) past is_past in
+      let claim = heard_by_way panels from few moments run (down_from panels from) (λ j. down_from panels from (suc j)) h (down_begins panels from f) (λ j less. downward (down_step panels from j f (omega (arith, less, short))) refl) (λ j less. down_member panels from j f (omega (arith, less, short))) past is_past in
       let at : ((i y : ℕ) → i < h → 1 ≤ y → y ≤ latest_turn to Link past → latest_turn to Link past < y + 2 * h → is_up (down_from panels from (suc i)) (up_to y moments) ≡ true) → latest_turn to Link past ≤ heard panels to from past + (2 * h + 1) = subst (λ p. ((i y : ℕ) → i < h → 1 ≤ y → y ≤ latest_turn p Link past → latest_turn p Link past < y + 2 * h → is_up (down_from panels from (suc i)) (up_to y moments) ≡ true) → latest_turn p Link past ≤ heard panels p from past + (2 * h + 1)) ends claim in
       let held =
       at (λ i y less one end late. subst (λ k. is_up k (up_to y moments) ≡ true) (down_links panels from to i f t less) (up (h - i - 1) y (omega (arith, less)) (omega (arith, late, recent, short, few)) (omega (arith, end, l)))) in

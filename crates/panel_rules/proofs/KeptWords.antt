@@ -7,7 +7,8 @@ use Rattle.tick_units.specs.declared.task.Task.TheVariants.{Hold, Link}
 use Rattle.site_types.proofs.Done.{lt_tells}
 use Rattle.panel_rules.specs.Moments.{Moment, Began, Happened, Turned, Kept, tick_of, is_turn, IsPast, present, later, latest_turn, before_turn}
 use Rattle.panel_rules.specs.States.{is_up}
-use Rattle.panel_rules.specs.Kept.{carries, above, below, made_at, newer, taken_over, kept_at, heard}
+use Rattle.panel_links.specs.Words.{carries, left_of, right_of}
+use Rattle.panel_rules.specs.Kept.{made_at, newer, taken_over, kept_at, heard}
 use Rattle.panel_rules.proofs.Turns.{from_start}
 use Rattle.panel_rules.proofs.Told.{eq_true}
 
@@ -100,8 +101,8 @@ kept_is panels panel source (Turned other Link ∷ before) =
           rw t.0
           (word_on source (Turned other Link) before _ (latest_rises source Hold (Turned other Link) before)
           (taken_is source before (is_up panel before) (carries panels (tick_of before) source) _ _
-          (taken_is source before (is_up (below panels panel) before) (carries panels (tick_of before) source) _ _ (own_is panels panel source before (kept_is panels panel source before)) (kept_is panels (below panels panel) source before))
-          (kept_is panels (above panels panel) source before)))
+          (taken_is source before (is_up (left_of panels panel) before) (carries panels (tick_of before) source) _ _ (own_is panels panel source before (kept_is panels panel source before)) (kept_is panels (left_of panels panel) source before))
+          (kept_is panels (right_of panels panel) source before)))
       | inr t ↦ rw t.0 (word_on source (Turned other Link) before _ (latest_rises source Hold (Turned other Link) before) (kept_is panels panel source before))
     ]
 kept_is panels panel source (Turned other task ∷ before) = word_on source (Turned other task) before _ (latest_rises source Hold (Turned other task) before) (kept_is panels panel source before)
@@ -152,8 +153,8 @@ heard_next panels panel source (Turned other Link) before =
     elim (eqb_tells other panel) [
       | inl t ↦
           (let first = own_keeps panels panel source before in
-          let second = taken_keeps (is_up (below panels panel) before) (carries panels (tick_of before) source) (if panel == source then made_at panel before else kept_at panels panel source before) (kept_at panels (below panels panel) source before) in
-          let third = taken_keeps (is_up panel before) (carries panels (tick_of before) source) (taken_over (is_up (below panels panel) before) (carries panels (tick_of before) source) (if panel == source then made_at panel before else kept_at panels panel source before) (kept_at panels (below panels panel) source before)) (kept_at panels (above panels panel) source before) in
+          let second = taken_keeps (is_up (left_of panels panel) before) (carries panels (tick_of before) source) (if panel == source then made_at panel before else kept_at panels panel source before) (kept_at panels (left_of panels panel) source before) in
+          let third = taken_keeps (is_up panel before) (carries panels (tick_of before) source) (taken_over (is_up (left_of panels panel) before) (carries panels (tick_of before) source) (if panel == source then made_at panel before else kept_at panels panel source before) (kept_at panels (left_of panels panel) source before)) (kept_at panels (right_of panels panel) source before) in
           rw t.0 (omega (arith, first, second, third)))
       | inr t ↦ rw t.0 (omega arith)
     ]
@@ -165,17 +166,17 @@ heard_rises panels panel source past moments present = omega arith
 heard_rises panels panel source past moments (later moment before h) = omega (arith, heard_rises panels panel source past before h, heard_next panels panel source moment before)
 
 -- at its turn of Link a panel takes what its neighbours have, and keeps its own word
-pub takes_below : (panels panel source : ℕ) (before : List Moment) → is_up (below panels panel) before ≡ true → carries panels (tick_of before) source ≡ true → heard panels (below panels panel) source before ≤ heard panels panel source (Turned panel Link ∷ before)
+pub takes_below : (panels panel source : ℕ) (before : List Moment) → is_up (left_of panels panel) before ≡ true → carries panels (tick_of before) source ≡ true → heard panels (left_of panels panel) source before ≤ heard panels panel source (Turned panel Link ∷ before)
 takes_below panels panel source before up carried =
-    let one = taken_over (is_up (below panels panel) before) (carries panels (tick_of before) source) (if panel == source then made_at panel before else kept_at panels panel source before) (kept_at panels (below panels panel) source before) in
-    let first = taken_takes (is_up (below panels panel) before) (carries panels (tick_of before) source) (if panel == source then made_at panel before else kept_at panels panel source before) (kept_at panels (below panels panel) source before) up carried in
-    let second = taken_keeps (is_up panel before) (carries panels (tick_of before) source) one (kept_at panels (above panels panel) source before) in
+    let one = taken_over (is_up (left_of panels panel) before) (carries panels (tick_of before) source) (if panel == source then made_at panel before else kept_at panels panel source before) (kept_at panels (left_of panels panel) source before) in
+    let first = taken_takes (is_up (left_of panels panel) before) (carries panels (tick_of before) source) (if panel == source then made_at panel before else kept_at panels panel source before) (kept_at panels (left_of panels panel) source before) up carried in
+    let second = taken_keeps (is_up panel before) (carries panels (tick_of before) source) one (kept_at panels (right_of panels panel) source before) in
     rw (eq_true panel panel refl) (omega (arith, first, second))
 
-pub takes_above : (panels panel source : ℕ) (before : List Moment) → is_up panel before ≡ true → carries panels (tick_of before) source ≡ true → heard panels (above panels panel) source before ≤ heard panels panel source (Turned panel Link ∷ before)
+pub takes_above : (panels panel source : ℕ) (before : List Moment) → is_up panel before ≡ true → carries panels (tick_of before) source ≡ true → heard panels (right_of panels panel) source before ≤ heard panels panel source (Turned panel Link ∷ before)
 takes_above panels panel source before up carried =
-    let one = taken_over (is_up (below panels panel) before) (carries panels (tick_of before) source) (if panel == source then made_at panel before else kept_at panels panel source before) (kept_at panels (below panels panel) source before) in
-    let second = taken_takes (is_up panel before) (carries panels (tick_of before) source) one (kept_at panels (above panels panel) source before) up carried in
+    let one = taken_over (is_up (left_of panels panel) before) (carries panels (tick_of before) source) (if panel == source then made_at panel before else kept_at panels panel source before) (kept_at panels (left_of panels panel) source before) in
+    let second = taken_takes (is_up panel before) (carries panels (tick_of before) source) one (kept_at panels (right_of panels panel) source before) up carried in
     rw (eq_true panel panel refl) (omega (arith, second))
 
 -- a panel has its own word of the tick of its latest turn of Link, or of the one before
@@ -187,8 +188,8 @@ own_heard panels panel (Turned other Link ∷ before) =
     elim (eqb_tells other panel) [
       | inl t ↦
           (let own = made_tick panel before in
-          let second = taken_keeps (is_up (below panels panel) before) (carries panels (tick_of before) panel) (made_at panel before) (kept_at panels (below panels panel) panel before) in
-          let third = taken_keeps (is_up panel before) (carries panels (tick_of before) panel) (taken_over (is_up (below panels panel) before) (carries panels (tick_of before) panel) (made_at panel before) (kept_at panels (below panels panel) panel before)) (kept_at panels (above panels panel) panel before) in
+          let second = taken_keeps (is_up (left_of panels panel) before) (carries panels (tick_of before) panel) (made_at panel before) (kept_at panels (left_of panels panel) panel before) in
+          let third = taken_keeps (is_up panel before) (carries panels (tick_of before) panel) (taken_over (is_up (left_of panels panel) before) (carries panels (tick_of before) panel) (made_at panel before) (kept_at panels (left_of panels panel) panel before)) (kept_at panels (right_of panels panel) panel before) in
           rw (t.0, eq_true panel panel refl) (omega (arith, own, second, third)))
       | inr t ↦ rw t.0 (own_heard panels panel before)
     ]

@@ -8,7 +8,7 @@ use Rattle.site_types.specs.declared.point.Point.{Point}
 use Rattle.site_types.specs.Valid.{IsValid, point_key}
 use Rattle.site_types.proofs.ValidSites.{point_at as point_is, zone_of_point, partner_of_zone}
 use Rattle.panel_rules.specs.Zones.{panel_of}
-use Rattle.panel_rules.specs.Laid.{PointLies, IsLaidOut}
+use Rattle.panel_rules.proofs.LaidOut.{IsLaidOut, PointLies}
 use Rattle.panel_rules.proofs.Bools.{both, parts}
 use Rattle.panel_rules.proofs.Floors.{lt_to}
 use Rattle.panel_rules.proofs.Told.{position_got, eq_true}

@@ -13,7 +13,7 @@ use Rattle.coincidence_rules.specs.InOrder.{AreInOrder}
 use Rattle.panel_rules.specs.Moments.{Moment, Began, Happened, Turned, Kept, tick_of, has_turned, IsPanel, IsRun}
 use Rattle.panel_rules.specs.States.{state_of, piece_of}
 use Rattle.loop_poller.specs.Asked.{asked_in, point_at}
-use Rattle.loop_poller.specs.Places.{answer_at, places, line_at, address_at}
+use Rattle.loop_poller.proofs.Places.{address_at, answer_at, line_at, places}
 use Rattle.panel_rules.specs.Answers.{answers, asked}
 use Rattle.panel_rules.proofs.Places.{get_either, IsBehind, found_from, range_got}
 use Rattle.panel_rules.proofs.Asked.{asked_now, answered_at, by_places}

@@ -1,7 +1,7 @@
 -- What the answers of a panel tell, and that each asking is answered.
 use Rattle.std.proofs.Common.{◌≡◌, ℕ, ◌+◌, ◌-◌, ◌*◌, ◌/◌, ◌%◌, ◌≤◌, ◌<◌, ◌==◌, List, [], ◌∷◌, ◌++◌, length, Option, Some, slice_get, get_or, option_map, inl, inr, Bool, true, false, refl, sym, ◌∙◌, ap, subst, arith}
 use mathlib.Core.Path.{fun_ext}
-use Rattle.loop_poller.proofs.Places.{asked_in_places}
+use Rattle.loop_poller.proofs.Places.{address_at, answer_at, asked_in_places, line_at, places}
 use Rattle.std.specs.List.{position, range_with_len}
 use Rattle.std.proofs.lemmas.Bool.{eqb-true}
 use Rattle.std.proofs.lemmas.Bool.Decides.{eqb_tells}
@@ -19,11 +19,10 @@ use Rattle.panel_rules.specs.Moments.{Moment, Began, Happened, Turned, Kept, tic
 use Rattle.panel_rules.specs.States.{state_of, piece_of}
 use Rattle.loop_poller.specs.Asked.{is_asked, answer_of, point_at, is_reached_on, heard_of}
 use Rattle.site_types.specs.Things.{loop_of}
-use Rattle.loop_poller.specs.Places.{answer_at, places, line_at, address_at}
 use Rattle.panel_rules.specs.Reached.{is_point_reached}
 use Rattle.panel_rules.specs.Answers.{answers, asked}
 use Rattle.panel_rules.specs.Due.{reached_at}
-use Rattle.panel_rules.specs.Laid.{PointLies}
+use Rattle.panel_rules.proofs.LaidOut.{PointLies}
 use Rattle.panel_rules.proofs.Bools.{parts}
 use Rattle.panel_rules.proofs.Places.{get_either, get_behind, get_front, IsFound, found_in, range_get}
 use Rattle.panel_rules.proofs.Asked.{asked_from}

@@ -1,5 +1,5 @@
 -- What befalls a site, one thing after another. In a list of moments the newest stands first.
-use Rattle.std.specs.Prelude.{◌≡◌, ℕ, ◌+◌, ◌-◌, ◌≤◌, ◌==◌, ◌&&◌, nat_le, Bool, true, false, List, [], ◌∷◌, drop, length, if◌then◌else◌}
+use Rattle.std.specs.Prelude.{◌≡◌, ℕ, ◌+◌, ◌≤◌, ◌==◌, ◌&&◌, nat_le, Bool, true, false, List, [], ◌∷◌, if◌then◌else◌}
 use Rattle.tick_units.specs.declared.seat.Seat.{Seat}
 use Rattle.tick_units.specs.declared.task.Task.{Task}
 use Rattle.tick_units.specs.declared.task.Task.TheVariants.{Keep}
@@ -92,10 +92,6 @@ and_turns failed (seat ∷ seats) before = and_turns failed seats (turn_of faile
 abbrev pub moments : List TickBlock → List Moment
 moments [] = []
 moments (tick ∷ ticks) = and_turns tick.failed tick.order (and_events tick.events (Began ∷ moments ticks))
-
--- a record up to a tick
-abbrev pub until : ℕ → List TickBlock → List TickBlock
-until tick ticks = drop (length ticks - tick) ticks
 
 -- a history up to the end of a tick
 abbrev pub up_to : ℕ → List Moment → List Moment

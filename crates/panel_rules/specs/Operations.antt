@@ -1,5 +1,5 @@
 -- Operations that are asked for, the one answer of each, what waits for Keep, and what is done. What is done in a tick is in force from the next tick on.
-use Rattle.std.specs.Prelude.{ℕ, ◌+◌, ◌==◌, ◌&&◌, ◌||◌, not, nat_le, nat_lt, Bool, true, false, List, [], ◌∷◌, ◌++◌, length, filter, Option, Some, None, option_map, if◌then◌else◌}
+use Rattle.std.specs.Prelude.{ℕ, ◌+◌, ◌==◌, ◌&&◌, ◌||◌, nat_le, nat_lt, Bool, false, List, [], ◌∷◌, ◌++◌, length, filter, Option, Some, None, option_map, if◌then◌else◌}
 use Rattle.std.specs.List.{list_any, fold}
 use Rattle.tick_units.specs.declared.task.Task.TheVariants.{Desk}
 use Rattle.site_types.specs.declared.event.Event.{Event}
@@ -10,6 +10,7 @@ use Rattle.site_types.specs.declared.site.Site.{Site}
 use Rattle.site_types.specs.Done.{Done, Setting, Counter, in_force, is_on, is_setting, operation_setting, value_set}
 use Rattle.site_types.specs.Limits.{most_operations}
 use Rattle.access_levels.specs.Levels.{level_of, needed_by}
+use Rattle.face_text.specs.Faces.{same_truth}
 use Rattle.panel_rules.specs.Moments.{Moment, Began, Happened, Turned, Kept, tick_of}
 
 -- an operation that is asked for: its number over the run, its tick and panel, how many operations of the panel came earlier in the tick, the level of its code
@@ -74,10 +75,6 @@ no_operations = record { waiting = []; answers = []; done = [] }
 -- an earlier operation on the setting was accepted, did not fail to be stored, and is not yet in force: it waits for Keep, or was done in this very tick
 abbrev pub is_unsettled : Setting → ℕ → Operations → Bool
 is_unsettled setting tick so_far = list_any (λ (r : Request). is_setting setting (setting_asked r)) so_far.waiting || list_any (λ (d : Done). is_on setting d && nat_le tick d.tick) so_far.done
-
-abbrev pub same_truth : Bool → Bool → Bool
-same_truth true value = value
-same_truth false value = not value
 
 -- the setting has the value already; of a counter this is never said
 abbrev pub stands_so : Site → Retained → Setting → ℕ → Bool → List Done → Bool

@@ -79,9 +79,6 @@ module _ (site : Site) (facts : ℕ → List Moment → Facts) where
   abbrev pub is_asked : ℕ → List Moment → Bool
   is_asked output moments = made_latest false (panel_of_output site output) Drive (is_requested output) moments
 
-  abbrev pub is_asked_by_hand : ℕ → List Moment → Bool
-  is_asked_by_hand output moments = made_latest false (panel_of_output site output) Drive (is_requested_by_hand output) moments
-
   -- the ticks of the present unbroken run of turns of Drive at which it was asked, the latest first
   abbrev pub asked_run : ℕ → List Moment → List ℕ
   asked_run output [] = []

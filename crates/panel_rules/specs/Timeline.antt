@@ -5,14 +5,13 @@ use Rattle.site_types.specs.declared.retained.Retained.{Retained}
 use Rattle.site_types.specs.declared.site.Site.{Site}
 use Rattle.site_types.specs.Limits.{most_panels}
 use Rattle.face_text.specs.declared.answers.Answers.{Answers}
-use Rattle.face_text.specs.declared.conditions.Conditions.{Conditions}
 use Rattle.face_text.specs.declared.face.Face.{Face}
 use Rattle.face_text.specs.declared.op_answer.OpAnswer.{OpAnswer}
 use Rattle.face_text.specs.declared.reply.Reply.{Reply}
 use Rattle.face_text.specs.declared.reply.Reply.TheVariants.{Done, Denied, Waiting, Already, Store}
 use Rattle.face_text.specs.declared.step.Step.{Step}
 use Rattle.face_text.specs.declared.timeline.Timeline.{Timeline}
-use Rattle.face_text.specs.Faces.{conditions_of, same_faces}
+use Rattle.face_text.specs.Faces.{same_faces}
 use Rattle.face_text.specs.Timelines.{text_of}
 use Rattle.panel_rules.specs.Moments.{Moment, Began, Happened, Turned, Kept, tick_of, up_to}
 use Rattle.panel_rules.specs.Operations.{Request, Answered, Reply as ReplyOf, Busy, Denied as DeniedTo, Waiting as Waits, Already as StandsSo, Store as NotStored, WasDone, requests, operations}
@@ -101,7 +100,3 @@ module _ (site : Site) (kept : Retained) where
   -- the text of the run
   abbrev pub text_of_run : List Moment → List ℕ
   text_of_run moments = text_of site (timeline_of moments)
-
-  -- the conditions that a panel is in
-  abbrev pub conditions_at : ℕ → List Moment → Conditions
-  conditions_at panel moments = conditions_of (face_of panel moments)

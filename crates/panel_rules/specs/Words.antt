@@ -8,7 +8,8 @@ use Rattle.site_types.specs.declared.site.Site.{Site}
 use Rattle.site_types.specs.declared.word.Word.{Word}
 use Rattle.site_types.specs.Done.{Done}
 use Rattle.panel_conditions.specs.Answered.{answered_word}
-use Rattle.panel_links.specs.Words.{Call, Linked, Took, empty_word}
+use Rattle.panel_links.specs.Words.{Call, Linked, Took}
+use Rattle.site_types.specs.Words.{empty_word}
 use Rattle.panel_rules.specs.Moments.{Moment, Began, Happened, Turned, Kept, tick_of, up_to}
 use Rattle.panel_rules.specs.Zones.{held_answers}
 use Rattle.panel_rules.specs.Kept.{made_at, kept_at}

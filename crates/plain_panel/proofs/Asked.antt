@@ -16,8 +16,9 @@ use Rattle.panel_rules.specs.Moments.{Moment, Happened, Turned, tick_of}
 use Rattle.panel_rules.specs.Answers.{answers, asked}
 use Rattle.panel_rules.proofs.Told.{eq_true}
 use Rattle.plain_panel.specs.declared.asking.Asking.{Asking}
-use Rattle.plain_panel.specs.Askings.{StandsForAsking, is_at, reports}
-use Rattle.plain_panel.proofs.Reports.{asked_told, is_line}
+use Rattle.plain_panel.specs.Askings.{StandsForAsking}
+use Rattle.panel_rules.specs.Reports.{is_on_panel, reports}
+use Rattle.panel_rules.proofs.Reports.{asked_told, is_line}
 
 -- what lies in a lane that was empty, and what a turn of its taker moves
 pub record WasAsked (xs : List Answer) (lane after : LaneState Answer) : Type 0 where
@@ -52,9 +53,9 @@ module _ (site : Site) (panel : ℕ) (history : List Moment) (asking after : Ask
         taken = same_held ∙ s.taken;
       }
 
-  pub after_point : (point : ℕ) (state : PointState) (found : Option PointPlan) (own : Bool) → after.panel ≡ asking.panel → after.answers ≡ asking.answers → after.decided ≡ asking.decided → after.held ≡ asking.held → found ≡ slice_get site.points point → own ≡ is_at asking.panel found → own ≡ true → StandsFor site panel (Reported point state ∷ reports site panel history) after.poller → StandsForAsking site panel (Happened (Point point state) ∷ history) after
+  pub after_point : (point : ℕ) (state : PointState) (found : Option PointPlan) (own : Bool) → after.panel ≡ asking.panel → after.answers ≡ asking.answers → after.decided ≡ asking.decided → after.held ≡ asking.held → found ≡ slice_get site.points point → own ≡ is_on_panel asking.panel found → own ≡ true → StandsFor site panel (Reported point state ∷ reports site panel history) after.poller → StandsForAsking site panel (Happened (Point point state) ∷ history) after
   after_point point state found own same_panel same_answers same_decided same_held found_is own_is so told =
-      let at : is_at panel (slice_get site.points point) ≡ true = rw (← s.own_panel, ← found_is) (sym own_is ∙ so) in
+      let at : is_on_panel panel (slice_get site.points point) ≡ true = rw (← s.own_panel, ← found_is) (sym own_is ∙ so) in
       record {
         own_panel = same_panel ∙ s.own_panel;
         told = rw at told;

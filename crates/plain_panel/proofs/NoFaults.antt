@@ -22,7 +22,7 @@ use Rattle.supply_monitor.specs.Supply.{is_shown, kind_at, shown_mask}
 use Rattle.coincidence_rules.specs.Missing.{is_missing}
 use Rattle.panel_conditions.specs.Missing.{is_off}
 use Rattle.panel_conditions.specs.Points.{addressed, addresses_where, on_point, points_where}
-use Rattle.panel_conditions.specs.Words.{no_faults}
+use Rattle.site_types.specs.Words.{no_faults}
 use Rattle.panel_links.specs.Stands.{is_link_of}
 use Rattle.panel_rules.specs.Kept.{heard}
 use Rattle.panel_rules.specs.States.{is_up}

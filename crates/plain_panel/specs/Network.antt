@@ -16,7 +16,7 @@ use Rattle.site_types.specs.Valid.{IsPanel as IsPanelOf}
 use Rattle.supply_monitor.specs.Supply.{shown_mask}
 use Rattle.panel_conditions.specs.declared.outside.Outside.{Outside}
 use Rattle.panel_conditions.specs.Shown.{is_news}
-use Rattle.panel_conditions.specs.Words.{empty_word, no_faults}
+use Rattle.site_types.specs.Words.{empty_word, no_faults}
 use Rattle.panel_links.specs.Stands.{StandsFor as RingStandsFor}
 use Rattle.panel_rules.specs.Moments.{Moment as MomentOf, Happened as HappenedOf, Turned as TurnedOf, IsPanel, tick_of}
 use Rattle.panel_rules.specs.States.{is_up}

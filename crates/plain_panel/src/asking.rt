@@ -158,7 +158,7 @@ ghost use Rattle.tick_units.specs.declared.task.Task.TheVariants.{Poll as PollTa
 ghost use Rattle.site_types.specs.declared.event.Event.TheVariants.{Point as PointEvent, Cable as CableEvent};
 ghost use Rattle.site_types.specs.declared.site.Site.{Site as SiteOf};
 ghost use Rattle.panel_rules.specs.Moments.{Happened as HappenedOf, Turned as TurnedOf};
-ghost use Rattle.plain_panel.specs.Askings.{is_at as is_at_panel};
+ghost use Rattle.panel_rules.specs.Reports.{is_on_panel as is_at_panel};
 
 // Whether there is a point, and it is of the panel.
 fn stands_at(panel: u8, point: Option<&Point>) -> bool

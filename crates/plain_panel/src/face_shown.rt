@@ -55,7 +55,7 @@ ghost use Rattle.std.specs.Prelude.{◌≤◌};
 ghost use Rattle.site_types.specs.declared.retained.Retained.{Retained as RetainedOf};
 ghost use Rattle.site_types.specs.declared.word.Word.{Word as WordOf};
 ghost use Rattle.site_types.specs.Done.{Done as DoneOf};
-ghost use Rattle.panel_links.specs.Words.{empty_word};
+ghost use Rattle.site_types.specs.Words.{empty_word};
 ghost use Rattle.panel_rules.specs.Faces.{shown_word};
 
 // The zones in alarm that a panel shows, by panel.

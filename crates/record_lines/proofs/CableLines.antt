@@ -11,7 +11,8 @@ use Rattle.site_types.specs.declared.loop_plan.LoopPlan.{LoopPlan}
 use Rattle.site_types.specs.declared.event.Event.TheVariants.{Cable}
 use Rattle.site_types.specs.declared.piece_state.PieceState.{PieceState}
 use Rattle.record_lines.specs.Events.{cable_of, has_numbers, is_number, octet_of}
-use Rattle.record_lines.specs.Fields.{field, field_count}
+use Rattle.record_lines.specs.Fields.{field_count}
+use Rattle.site_types.specs.Fields.{field}
 use Rattle.record_lines.specs.Forms.{form_of}
 use Rattle.record_lines.specs.Printed.{event_text, joined, piece_state_word}
 use Rattle.record_lines.specs.Words.{piece_state_of}

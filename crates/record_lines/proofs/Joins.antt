@@ -5,7 +5,8 @@ use Rattle.std.specs.List.{list_all}
 use Rattle.std.proofs.lemmas.Bool.{and_from, and_parts, le-leb, leb-true, ne_eqb, not-true, not_from_false}
 use Rattle.std.proofs.lemmas.List.Folds.{list_all-append}
 use Rattle.std.proofs.lemmas.List.Sums.{sum_by-append}
-use Rattle.record_lines.specs.Fields.{after_space, each_field, field, space_count}
+use Rattle.record_lines.specs.Fields.{each_field, space_count}
+use Rattle.site_types.specs.Fields.{after_space, field}
 use Rattle.record_lines.specs.Lines.{is_printable, refusal_within}
 use Rattle.record_lines.specs.Printed.{joined}
 use Rattle.record_lines.specs.declared.why.Why.TheVariants.{NotAscii}

@@ -17,7 +17,8 @@ use Rattle.site_types.specs.declared.named.Thing.TheVariants.{Point as PointThin
 use Rattle.site_types.specs.declared.operation.Operation.{Operation}
 use Rattle.site_types.specs.declared.operation.Operation.TheVariants.{Mute, Override, Silence, Resound, Reset, Cancel as CancelZone, Disable as DisableItem, Enable as EnableItem, Test as TestZone, Untest as UntestZone, Delays, Clear}
 use Rattle.record_lines.specs.Events.{code_in, event_view, item_of, label_view, labelled, op_of, operation_of, output_in, point_in, zone_in}
-use Rattle.record_lines.specs.Fields.{field, field_count}
+use Rattle.record_lines.specs.Fields.{field_count}
+use Rattle.site_types.specs.Fields.{field}
 use Rattle.record_lines.specs.Forms.{action_of, form_of, is_code_field, named_action_of, plain_action_of, zone_action_of}
 use Rattle.record_lines.specs.Printed.{action_fields, code_text, event_text, item_fields, joined, name_text, on_word}
 use Rattle.record_lines.specs.ReadBack.{IsCode}

@@ -17,7 +17,8 @@ use Rattle.tick_units.proofs.Canonical.{IsPanelSeat, Contains-canonical_seats-ca
 use Rattle.tick_units.proofs.Faults.{order_fault-none}
 use Rattle.tick_units.proofs.OrderLaws.{length-order}
 use Rattle.tick_units.proofs.Sound.{sound_from_order}
-use Rattle.record_lines.specs.Fields.{after_space, each_field, field, field_count, space_count}
+use Rattle.record_lines.specs.Fields.{each_field, field_count, space_count}
+use Rattle.site_types.specs.Fields.{after_space, field}
 use Rattle.record_lines.specs.Forms.{form_of, is_seat}
 use Rattle.record_lines.specs.Judged.{order_line, ordered}
 use Rattle.record_lines.specs.Printed.{joined, line_text, seat_text}

@@ -10,7 +10,8 @@ use Rattle.site_types.specs.declared.event.Event.TheVariants.{Point, Confirmed}
 use Rattle.site_types.specs.declared.named.Thing.TheVariants.{Point as PointThing, Output as OutputThing}
 use Rattle.site_types.specs.declared.point_state.PointState.{PointState}
 use Rattle.record_lines.specs.Events.{event_of, output_in, point_in}
-use Rattle.record_lines.specs.Fields.{field, field_count}
+use Rattle.record_lines.specs.Fields.{field_count}
+use Rattle.site_types.specs.Fields.{field}
 use Rattle.record_lines.specs.Forms.{form_of}
 use Rattle.record_lines.specs.Printed.{event_text, joined, name_text, point_state_word}
 use Rattle.record_lines.specs.Words.{point_state_of}

@@ -5,7 +5,8 @@ use Rattle.std.proofs.lemmas.Slice.Eq.{bytes_eq-Decides}
 use Rattle.std.proofs.lemmas.List.{append-nil}
 use Rattle.std.proofs.lemmas.Bool.{eq-eqb, ne_eqb}
 use Rattle.tick_units.specs.declared.seat.Seat.{Seat}
-use Rattle.record_lines.specs.Fields.{before_space, after_space, field, each_field}
+use Rattle.record_lines.specs.Fields.{each_field}
+use Rattle.site_types.specs.Fields.{after_space, before_space, field}
 use Rattle.record_lines.specs.Seats.{seat_of, seats_of}
 
 -- the first space is at a place

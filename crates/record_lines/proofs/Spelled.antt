@@ -8,7 +8,8 @@ use Rattle.site_types.specs.declared.site.Site.{Site}
 use Rattle.site_types.proofs.Spelling.{decimal-number_of, number_parts}
 use Rattle.tick_units.specs.Ticks.{last_tick}
 use Rattle.tick_units.specs.declared.seat.Seat.{Seat}
-use Rattle.record_lines.specs.Fields.{after_space, each_field, field, field_count, space_count}
+use Rattle.record_lines.specs.Fields.{each_field, field_count, space_count}
+use Rattle.site_types.specs.Fields.{after_space, field}
 use Rattle.record_lines.specs.Forms.{is_seat}
 use Rattle.record_lines.specs.Judged.{SpellsOrder, SpellsTick, judged, judged_as, line_view, order_after, order_line, order_with, ordered, tick_as}
 use Rattle.record_lines.specs.Printed.{joined}

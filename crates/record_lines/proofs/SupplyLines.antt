@@ -9,7 +9,8 @@ use Rattle.site_types.specs.declared.site.Site.{Site}
 use Rattle.site_types.specs.declared.event.Event.TheVariants.{Supply, Link}
 use Rattle.site_types.specs.declared.supply_kind.SupplyKind.{SupplyKind}
 use Rattle.record_lines.specs.Events.{link_of, supply_of}
-use Rattle.record_lines.specs.Fields.{field, field_count}
+use Rattle.record_lines.specs.Fields.{field_count}
+use Rattle.site_types.specs.Fields.{field}
 use Rattle.record_lines.specs.Forms.{form_of}
 use Rattle.record_lines.specs.Printed.{bad_word, event_text, joined, supply_word, up_word}
 use Rattle.record_lines.specs.Words.{is_bad_of, is_up_of, supply_kind_of}

@@ -5,7 +5,8 @@ use Rattle.std.proofs.lemmas.Bool.{cond-false, lt-leb}
 use Rattle.site_types.specs.declared.site.Site.{Site}
 use Rattle.tick_units.specs.Ticks.{last_tick}
 use Rattle.tick_units.specs.declared.tick.Tick.{Tick}
-use Rattle.record_lines.specs.Fields.{field, field_count}
+use Rattle.site_types.specs.Fields.{field}
+use Rattle.record_lines.specs.Fields.{field_count}
 use Rattle.record_lines.specs.Judged.{tick_as}
 use Rattle.record_lines.specs.Printed.{joined, line_text}
 use Rattle.record_lines.specs.declared.form.Form.TheVariants.{Tick as TickForm}

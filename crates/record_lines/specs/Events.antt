@@ -16,7 +16,8 @@ use Rattle.site_types.specs.declared.piece_state.PieceState.{PieceState}
 use Rattle.site_types.specs.declared.supply_kind.SupplyKind.{SupplyKind}
 use Rattle.site_types.specs.declared.event.Event.{Event}
 use Rattle.site_types.specs.declared.event.Event.TheVariants.{Point, Cable, Supply, Link, Confirmed, Op}
-use Rattle.record_lines.specs.Fields.{field, space_count, after_space, each_field}
+use Rattle.record_lines.specs.Fields.{space_count, each_field}
+use Rattle.site_types.specs.Fields.{after_space, field}
 use Rattle.record_lines.specs.Seats.{is_numbered}
 use Rattle.record_lines.specs.declared.form.Form.{Form}
 use Rattle.record_lines.specs.declared.form.Form.TheVariants.{Tick as TickForm, Point as PointForm, Cable as CableForm, Supply as SupplyForm, Link as LinkForm, Routing as RoutingForm, Op as OpForm, Order as OrderForm, End as EndForm}

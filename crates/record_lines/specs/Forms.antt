@@ -3,7 +3,8 @@ use Rattle.std.specs.Prelude.{◌==◌, ◌&&◌, ◌||◌, ℕ, Bool, false, na
 use Rattle.std.specs.Option.{option_and_then}
 use Rattle.site_types.specs.Names.{is_code}
 use Rattle.site_types.specs.declared.operation.Operation.TheVariants.{Mute, Override, Silence, Resound, Reset, Delays, Clear}
-use Rattle.record_lines.specs.Fields.{field, field_count, space_count, after_space, each_field}
+use Rattle.record_lines.specs.Fields.{field_count, space_count, each_field}
+use Rattle.site_types.specs.Fields.{after_space, field}
 use Rattle.record_lines.specs.Words.{point_state_of, piece_state_of, supply_kind_of, is_bad_of, is_up_of, is_on_of, kind_of, task_of}
 use Rattle.record_lines.specs.declared.form.Form.{Form}
 use Rattle.record_lines.specs.declared.form.Form.TheVariants.{Tick, Point, Cable, Supply, Link, Routing, Op, Order, End}

@@ -2,6 +2,7 @@
 use Rattle.std.specs.Prelude.{◌+◌, ◌-◌, ◌^◌, ◌==◌, ◌&&◌, ◌++◌, ℕ, zero, suc, Bool, true, false, nat_le, min, List, [], ◌∷◌, Option, Some, None, Result, Ok, Err, if◌then◌else◌}
 use Rattle.std.specs.List.{fold}
 use Rattle.site_types.specs.declared.site.Site.{Site}
+use Rattle.site_types.specs.Limits.{line_bytes}
 use Rattle.record_lines.specs.Judged.{judged}
 use Rattle.record_lines.specs.declared.line.Line.{Line}
 use Rattle.record_lines.specs.declared.line.Line.TheVariants.{Tick, Event, Order, End}
@@ -45,7 +46,7 @@ refusal_within (suc room) (byte ∷ rest) = if is_printable byte then refusal_wi
 
 -- a line has at most 512 bytes, each printable
 abbrev pub byte_refusal : List ℕ → Option Why
-byte_refusal text = refusal_within 512 text
+byte_refusal text = refusal_within line_bytes text
 
 -- ---- lines are read in turn
 

@@ -6,7 +6,7 @@ use Rattle.tick_units.specs.declared.task.Task.{Task}
 use Rattle.tick_units.specs.declared.seat.Seat.{Seat}
 use Rattle.tick_units.specs.declared.order_fault.BadOrder.{BadOrder}
 use Rattle.tick_units.specs.declared.order_fault.BadOrder.TheVariants.{Repeated, Missing, Strange}
-use Rattle.record_lines.specs.Fields.{before_space, after_space}
+use Rattle.site_types.specs.Fields.{after_space, before_space}
 use Rattle.record_lines.specs.Words.{task_of}
 use Rattle.record_lines.specs.declared.why.Why.{Why}
 use Rattle.record_lines.specs.declared.why.Why.TheVariants.{BadOrder as RefusedOrder}

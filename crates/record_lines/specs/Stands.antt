@@ -2,6 +2,7 @@
 use Rattle.std.specs.Prelude.{◌≡◌, ◌⊎◌, ◌+◌, ◌<◌, ◌≤◌, ◌++◌, ℕ, List, [], ◌∷◌, true, false, take, length, Option, Some, None, Ok, Err}
 use Rattle.std.specs.List.{list_all}
 use Rattle.site_types.specs.declared.site.Site.{Site}
+use Rattle.site_types.specs.Limits.{line_bytes}
 use Rattle.record_lines.specs.Judged.{judged, line_view}
 use Rattle.record_lines.specs.Lines.{Reading, byte_refusal, cut, ends_with, is_printable, lines_read, next_number, reading_of, stands_behind}
 use Rattle.record_lines.specs.declared.line.Line.{Line}
@@ -69,14 +70,14 @@ pub record Keeps (old : LineReader) (piece : List ℕ) (count : ℕ) (reader : L
   pub within : count ≤ length piece
   pub text : reader.text.items ≡ old.text.items ++ take count piece
   pub printable : list_all is_printable (take count piece) ≡ true
-  pub room : length reader.text.items ≤ 512
+  pub room : length reader.text.items ≤ line_bytes
   pub stands : reader.standing ≡ old.standing
   pub counts : reader.number ≡ old.number
   pub over : reader.over ≡ old.over
 
 -- the byte can't be kept: the line has no room for it, or it isn't printable
 abbrev pub Stops : LineReader → ℕ → Type 0
-Stops reader byte = (512 ≤ length reader.text.items) ⊎ (is_printable byte ≡ false)
+Stops reader byte = (line_bytes ≤ length reader.text.items) ⊎ (is_printable byte ≡ false)
 
 -- the answer is a line or a refusal
 abbrev pub EndsLine : Step → Type 0

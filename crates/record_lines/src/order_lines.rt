@@ -1,7 +1,8 @@
 //! The line that gives a tick its order.
 
 ghost use Rattle.std.specs.Prelude.{◌≡◌, ◌≤◌, IfOk, IfSome, length, true};
-ghost use Rattle.record_lines.specs.Fields.{after_space as behind_space, each_field, space_count as spaces_in};
+ghost use Rattle.record_lines.specs.Fields.{each_field, space_count as spaces_in};
+ghost use Rattle.site_types.specs.Fields.{after_space as behind_space};
 ghost use Rattle.record_lines.specs.Forms.{is_seat as is_seat_field};
 ghost use Rattle.record_lines.specs.Judged.{SpellsOrder, SpellsSeat};
 ghost use Rattle.site_types.specs.Numbers.{number_of};

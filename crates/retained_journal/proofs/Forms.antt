@@ -78,13 +78,18 @@ right_byte wide at file place none = go (is_in_form wide (slice_index file at) p
     go true is e = is
     go false is e = absurd (cc)
 
+-- the kind of a change in which no byte is wrong
+pub kind_at : (wide : Bool) (at : ℕ) (file : List ℕ) → wrong_in_change wide at file ≡ None → (1 ≤ slice_index file at) × (slice_index file at ≤ 7)
+kind_at wide at file none =
+    kind_within wide (slice_index file at)
+    (subst (λ (k : ℕ). is_in_form wide (slice_index file at) 0 (slice_index file k) ≡ true) (add-zero at) (right_byte wide at file 0 (none_each (wrong_byte wide at file) 8 none 0 (omega arith))))
+
 pub can_apply_at : (wide : Bool) (at : ℕ) (file : List ℕ) → wrong_in_change wide at file ≡ None → CanApply (change_at at file)
 unfolding change_at
 can_apply_at wide at file none =
     let kind = slice_index file at in
     let each = none_each (wrong_byte wide at file) 8 none in
-    let first = subst (λ (k : ℕ). is_in_form wide kind 0 (slice_index file k) ≡ true) (add-zero at) (right_byte wide at file 0 (each 0 (omega arith))) in
-    let in_range = kind_within wide kind first in
+    let in_range = kind_at wide at file none in
     one_to_seven (CanMake wide) (can_point wide) (can_zone wide) (can_output wide) (can_delays wide) (can_count wide) (can_clear wide) (can_test wide) kind in_range.0 in_range.1
     (slice_index file (at + 1)) (slice_index file (at + 2)) (slice_index file (at + 3)) _ _
     (right_byte wide at file 1 (each 1 (omega arith))) (right_byte wide at file 2 (each 2 (omega arith))) (right_byte wide at file 3 (each 3 (omega arith)))

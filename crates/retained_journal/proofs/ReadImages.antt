@@ -27,11 +27,11 @@ passed_if : (b : Bool) (r : OpenRefusal) → (if b then None else Some r) ≡ No
 passed_if true r h = refl
 passed_if false r h = absurd (cc)
 
-none_damaged : (file : List ℕ) (found : Option ℕ) → damaged file found ≡ None → found ≡ None
+pub none_damaged : (file : List ℕ) (found : Option ℕ) → damaged file found ≡ None → found ≡ None
 none_damaged file None h = refl
 none_damaged file (Some at) h = absurd (cc)
 
-both_none : (a b : Option OpenRefusal) → first_of (a ∷ b ∷ []) ≡ None → (a ≡ None) × (b ≡ None)
+pub both_none : (a b : Option OpenRefusal) → first_of (a ∷ b ∷ []) ≡ None → (a ≡ None) × (b ≡ None)
 both_none None None h = (refl, refl)
 both_none None (Some x) h = absurd (cc)
 both_none (Some x) b h = absurd (cc)

@@ -20,7 +20,8 @@ change_by kind panel line number last entries =
 -- the change that stands at a place
 unfoldable pub change_at : ℕ → List ℕ → Change
 change_at at file =
-    change_by (slice_index file at) (slice_index file (at + 1)) (slice_index file (at + 2)) (slice_index file (at + 3)) (slice_index file (at + 7)) (number_at 4 (at + 4) file)
+    change_by (slice_index file at) (slice_index file (at + 1)) (slice_index file (at + 2)) (slice_index file (at + 3))
+    (slice_index file (at + 7)) (number_at 4 (at + 4) file)
 
 -- so many changes from a place on
 unfoldable pub changes_at : ℕ → ℕ → List ℕ → List Change
@@ -56,7 +57,8 @@ is_in_form wide kind place byte =
 
 -- a byte of a change, where it is out of its form
 abbrev pub wrong_byte : Bool → ℕ → List ℕ → ℕ → Option ℕ
-wrong_byte wide at file place = if is_in_form wide (slice_index file at) place (slice_index file (at + place)) then None else Some (at + place)
+wrong_byte wide at file place =
+    if is_in_form wide (slice_index file at) place (slice_index file (at + place)) then None else Some (at + place)
 
 -- the first byte of a change that is out of its form
 abbrev pub wrong_in_change : Bool → ℕ → List ℕ → Option ℕ
@@ -69,7 +71,9 @@ cell_count at file = slice_index file (at + 9)
 -- the first byte of a cell that is out of its form: the number of changes, then the changes in order
 unfoldable pub wrong_in_cell : Bool → ℕ → List ℕ → Option ℕ
 wrong_in_cell wide at file =
-    if is_within 1 most_changes (cell_count at file) then first_in (λ k. wrong_in_change wide (at + 10 + 8 * k) file) (cell_count at file) else Some (at + 9)
+    if is_within 1 most_changes (cell_count at file)
+    then first_in (λ k. wrong_in_change wide (at + 10 + 8 * k) file) (cell_count at file)
+    else Some (at + 9)
 
 -- the changes of a cell
 abbrev pub cell_changes : ℕ → List ℕ → List Change

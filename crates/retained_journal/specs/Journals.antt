@@ -11,7 +11,8 @@ use Rattle.retained_journal.specs.Slots.{slot_number}
 
 -- the gate of the next cell is open, where the log gate is and there is a next cell
 abbrev pub is_next_open : List ℕ → Bool
-is_next_open file = is_open log_gate file && (nat_lt (counted file) most_cells && is_open (cell_place (counted file)) file)
+is_next_open file =
+    is_open log_gate file && (nat_lt (counted file) most_cells && is_open (cell_place (counted file)) file)
 
 -- the slot and the cells that count were read
 pub record IsReplayOf (wide : Bool) (file : List ℕ) (replay : Replay) : Type 0 where
@@ -72,7 +73,8 @@ pub record IsNewJournal (wide : Bool) (digest : List ℕ) (journal : Journal) : 
   pub moving : journal.moving ≡ false
   pub torn : journal.torn ≡ true
 
--- A journal that was just opened: nothing was attempted with it, and it is whole exactly where the log gate is open and the gate of the next cell isn't.
+-- A journal that was just opened: nothing was attempted with it, and it is whole exactly where the log gate is open
+-- and the gate of the next cell isn't.
 pub record IsFresh (wide : Bool) (digest : List ℕ) (journal : Journal) : Type 0 where
   pub same_wide : journal.wide ≡ wide
   pub same_digest : journal.digest ≡ digest
@@ -81,7 +83,8 @@ pub record IsFresh (wide : Bool) (digest : List ℕ) (journal : Journal) : Type 
   pub moving : journal.moving ≡ false
   pub whole : (journal.torn ≡ false) ↔ ((journal.log ≡ Open) × (journal.cell_may_be_open ≡ false))
 
--- What opening makes of a file: an empty one becomes a new one, any other stays as it is, and the journal is read from what then stands.
+-- What opening makes of a file: an empty one becomes a new one, any other stays as it is, and the journal is read
+-- from what then stands.
 pub record IsOpenedOn (wide : Bool) (digest : List ℕ) (journal : Journal) (old new : List ℕ) : Type 0 where
   pub made : length old ≡ 0 → IsNewFile digest nothing_retained new × IsNewJournal wide digest journal
   pub stays : 0 < length old → new ≡ old

@@ -9,7 +9,8 @@ use Rattle.retained_journal.specs.Slots.{HasNarrowPoints, retained_at, slot_numb
 abbrev pub IsBesideSlot : ℕ → Type 0
 IsBesideSlot place = ((log_gate ≤ place) × (place < 64)) ⊎ (970 ≤ place)
 
--- The front alone: the mark, the digest of the site, and slot A, which is open, has number 1 and holds a state. All else is zero, so the log gate and slot B are shut.
+-- The front alone: the mark, the digest of the site, and slot A, which is open, has number 1 and holds a state. All
+-- else is zero, so the log gate and slot B are shut.
 pub record IsNewFile (digest : List ℕ) (state : Retained) (file : List ℕ) : Type 0 where
   pub size : length file ≡ front_bytes
   pub bytes : AreBytes file
@@ -24,3 +25,9 @@ pub record IsNewFile (digest : List ℕ) (state : Retained) (file : List ℕ) : 
 pub record BecomesNew (digest : List ℕ) (state : Retained) (old new : List ℕ) : Type 0 where
   pub empty : length old ≡ 0
   pub made : IsNewFile digest state new
+
+-- there is one new file of a site and a state
+abbrev pub OneNewFile : Type 0
+OneNewFile =
+    (digest : List ℕ) (state : Retained) (file other : List ℕ)
+    → IsNewFile digest state file → IsNewFile digest state other → file ≡ other

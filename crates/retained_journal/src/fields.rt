@@ -72,7 +72,8 @@ pub(crate) fn put(bytes: &mut [u8], at: usize, piece: &[u8])
     ensures size { length bytes.new ≡ length bytes.old }
     ensures are_bytes { AreBytes bytes.new }
     ensures inside { Agrees (length piece.now) bytes.new at piece.now 0 }
-    ensures outside { (i : ℕ) → (i < at) ⊎ (at + length piece.now ≤ i) → slice_index bytes.new i ≡ slice_index bytes.old i }
+    ensures outside { (i : ℕ) → (i < at) ⊎ (at + length piece.now ≤ i) →
+        slice_index bytes.new i ≡ slice_index bytes.old i }
 {
     bytes[at..at + piece.len()].copy_from_slice(piece);
 }

@@ -9,9 +9,10 @@ use Rattle.site_types.specs.Changes.{IsNumber}
 use Rattle.site_types.proofs.Masks.{mask_from_bits, mask_same}
 use Rattle.routing_outputs.specs.Confirmations.{Call, Turned, is_watched, with_confirmation, run_of, has_confirmation, ticks_of, spans, state_of}
 use Rattle.routing_outputs.specs.Lines.{is_late}
-use Rattle.routing_outputs.specs.Stands.{line_of, is_running, places}
+use Rattle.routing_outputs.specs.Stands.{line_of, is_running}
+use Rattle.site_types.specs.Limits.{output_bits}
 use Rattle.routing_outputs.proofs.Bits.{bit_is}
-use Rattle.routing_outputs.proofs.Listed.{any_at}
+use Rattle.tick_units.proofs.Listed.{any_at}
 use Rattle.routing_outputs.proofs.Runs.{confirmed_other, confirmed_on, confirmed_off, late_turned, line_place, state_by, state_is}
 
 module _ (site : Site) (panel limit : ℕ) (calls : List Call) where
@@ -27,8 +28,8 @@ module _ (site : Site) (panel limit : ℕ) (calls : List Call) where
 
   -- the bits of those that are late, by the list of lines
   pub late_lines : (now : Tick) (k : ℕ) → k < 32 → (before : List Call) (on : ℕ) → calls ≡ Turned now.0 on ∷ before →
-      list_any (λ line. (line.place == k) && is_late now limit line) (filter_map (line_of site panel calls) places) ≡ late_at k
-  unfolding places
+      list_any (λ line. (line.place == k) && is_late now limit line) (filter_map (line_of site panel calls) output_bits) ≡ late_at k
+  unfolding output_bits
   late_lines now k small before on is =
       any_at (line_of site panel calls) (λ line. line.place) (is_late now limit) (λ j line e. line_place site panel calls j line e) k 32 small
       ∙ rw is (late_turned site panel limit before now on k)

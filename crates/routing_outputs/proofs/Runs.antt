@@ -5,28 +5,26 @@ use Rattle.std.proofs.lemmas.Bool.{eq-eqb}
 use Rattle.tick_units.specs.declared.tick.Tick.{Tick}
 use Rattle.site_types.specs.declared.site.Site.{Site}
 use Rattle.site_types.specs.Bits.{has_bit}
+use Rattle.tick_units.proofs.Earliest.{earliest_more}
 use Rattle.routing_outputs.specs.declared.line.Line.{Line}
 use Rattle.routing_outputs.specs.declared.routing_state.RoutingState.{RoutingState}
 use Rattle.routing_outputs.specs.declared.routing_state.RoutingState.TheVariants.{Idle, Waiting, Confirmed as IsConfirmed, Unconfirmed}
 use Rattle.routing_outputs.specs.Confirmations.{Call, Turned, Confirmed, is_watched, is_on, with_confirmation, run_of, has_confirmation, ticks_of, spans, state_in, is_confirmed, is_unconfirmed}
 use Rattle.routing_outputs.specs.Lines.{turned_by, is_late, is_late_since}
-use Rattle.routing_outputs.specs.Stands.{first_of, since, line_of, is_running}
+use Rattle.routing_outputs.specs.Stands.{since, line_of, is_running}
+use Rattle.tick_units.specs.Earliest.{earliest_of}
 use Rattle.routing_outputs.proofs.Bits.{and_true, and_false}
-use Rattle.routing_outputs.proofs.Listed.{passes}
+use Rattle.tick_units.proofs.Listed.{passes}
 
 -- ---- a turn
-
-earliest_turn : (now : Tick) (ticks : List ℕ) → Some (unwrap_or (first_of ticks) now) ≡ first_of (now.0 ∷ ticks)
-earliest_turn now [] = refl
-earliest_turn now (tick ∷ ticks) = refl
 
 since_turned : (now : Tick) (on k : ℕ) (calls : List Call) → (if has_bit on k then Some (unwrap_or (since (k + 1) calls) now) else None) ≡ since (k + 1) (Turned now.0 on ∷ calls)
 since_turned now on k calls =
     let at : k + 1 - 1 ≡ k = omega arith in
     rw at (go (has_bit on k))
   where
-    go : (b : Bool) → (if b then Some (unwrap_or (since (k + 1) calls) now) else None) ≡ first_of (ticks_of (if b then Turned now.0 on ∷ run_of (k + 1) calls else []))
-    go true = earliest_turn now (ticks_of (run_of (k + 1) calls))
+    go : (b : Bool) → (if b then Some (unwrap_or (since (k + 1) calls) now) else None) ≡ earliest_of (ticks_of (if b then Turned now.0 on ∷ run_of (k + 1) calls else []))
+    go true = earliest_more now (ticks_of (run_of (k + 1) calls))
     go false = refl
 
 -- a line after a turn
@@ -50,7 +48,7 @@ pub late_turned : (site : Site) (panel limit : ℕ) (calls : List Call) (now : T
     passes (is_late now limit) (line_of site panel (Turned now.0 on ∷ calls) k) ≡ (is_watched site panel (k + 1) && spans limit (ticks_of (run_of (k + 1) (Turned now.0 on ∷ calls))))
 late_turned site panel limit calls now on k = go (is_watched site panel (k + 1))
   where
-    by : (b : Bool) → is_late_since now limit (first_of (ticks_of (if b then Turned now.0 on ∷ run_of (k + 1) calls else []))) ≡ spans limit (ticks_of (if b then Turned now.0 on ∷ run_of (k + 1) calls else []))
+    by : (b : Bool) → is_late_since now limit (earliest_of (ticks_of (if b then Turned now.0 on ∷ run_of (k + 1) calls else []))) ≡ spans limit (ticks_of (if b then Turned now.0 on ∷ run_of (k + 1) calls else []))
     by true = refl
     by false = refl
 
@@ -96,7 +94,7 @@ on_confirmed w number run = ap (λ b. w && b) (still_running number run)
 -- a line after a confirmation is as before
 pub line_confirmed : (site : Site) (panel number : ℕ) (calls : List Call) (k : ℕ) → line_of site panel calls k ≡ line_of site panel (Confirmed number ∷ calls) k
 line_confirmed site panel number calls k =
-    ap (λ s. if is_watched site panel (k + 1) then Some (record { place = k; since = first_of s }) else None) (sym (same_ticks number (run_of (k + 1) calls)))
+    ap (λ s. if is_watched site panel (k + 1) then Some (record { place = k; since = earliest_of s }) else None) (sym (same_ticks number (run_of (k + 1) calls)))
 
 pub late_confirmed : (w : Bool) (limit number k : ℕ) (calls : List Call) →
     (w && spans limit (ticks_of (run_of (k + 1) calls))) ≡ (w && spans limit (ticks_of (run_of (k + 1) (Confirmed number ∷ calls))))

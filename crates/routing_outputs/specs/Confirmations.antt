@@ -5,6 +5,8 @@ use Rattle.site_types.specs.declared.output.Output.{Output}
 use Rattle.site_types.specs.declared.site.Site.{Site}
 use Rattle.site_types.specs.Bits.{has_bit}
 use Rattle.site_types.specs.Events.{is_confirming}
+use Rattle.tick_units.specs.Earliest.{earliest}
+use Rattle.site_types.specs.Things.{numbered_output}
 use Rattle.routing_outputs.specs.declared.routing_state.RoutingState.{RoutingState}
 use Rattle.routing_outputs.specs.declared.routing_state.RoutingState.TheVariants.{Idle, Waiting, Confirmed as IsConfirmed, Unconfirmed}
 
@@ -13,17 +15,13 @@ pub data Call : Type 0 where
   Turned : ℕ → ℕ → Call
   Confirmed : ℕ → Call
 
--- the output of a panel with a number
-abbrev pub output_of : Site → ℕ → ℕ → Option Output
-output_of site panel number = find (λ output. (output.panel == panel) && (output.number == number)) site.outputs
-
 abbrev pub is_confirming_output : Option Output → Bool
 is_confirming_output None = false
 is_confirming_output (Some output) = is_confirming output.kind
 
 -- whether a panel has a routing or protection output with this number
 abbrev pub is_watched : Site → ℕ → ℕ → Bool
-is_watched site panel number = is_confirming_output (output_of site panel number)
+is_watched site panel number = is_confirming_output (numbered_output site panel number)
 
 -- whether an output was on after a turn: the bit of its number in the mask
 abbrev pub is_on : ℕ → ℕ → Bool
@@ -53,11 +51,6 @@ abbrev pub ticks_of : List Call → List ℕ
 ticks_of [] = []
 ticks_of (Turned tick on ∷ calls) = tick ∷ ticks_of calls
 ticks_of (Confirmed other ∷ calls) = ticks_of calls
-
--- the earliest of the ticks that follow a tick, the latest first
-abbrev pub earliest : ℕ → List ℕ → ℕ
-earliest tick [] = tick
-earliest tick (before ∷ ticks) = earliest before ticks
 
 -- the latest of some ticks, the latest first, lies at least the limit after the earliest
 abbrev pub spans : ℕ → List ℕ → Bool

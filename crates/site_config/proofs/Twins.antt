@@ -75,7 +75,7 @@ zone_number_of a b e = cc e
 zone_places : (j k : ℕ) → Zone j ≡ Zone k → j ≡ k
 zone_places j k e = cc e
 
-zones_apart : (draft : Draft) → twice_in draft ≡ None → (j k : ℕ) (a b : DraftZone) → slice_get draft.zones j ≡ Some a → slice_get draft.zones k ≡ Some b
+pub zones_apart : (draft : Draft) → twice_in draft ≡ None → (j k : ℕ) (a b : DraftZone) → slice_get draft.zones j ≡ Some a → slice_get draft.zones k ≡ Some b
     → a.panel ∷ a.number ∷ [] ≡ b.panel ∷ b.number ∷ [] → j ≡ k
 zones_apart draft once j k a b at bt e =
     let q : List ℕ = 1 ∷ a.panel ∷ 0 ∷ a.number ∷ [] in
@@ -90,7 +90,7 @@ point_number_of a b e = cc e
 point_places : (j k : ℕ) → Point j ≡ Point k → j ≡ k
 point_places j k e = cc e
 
-points_apart : (draft : Draft) → twice_in draft ≡ None → (j k : ℕ) (a b : DraftPoint) → slice_get draft.points j ≡ Some a → slice_get draft.points k ≡ Some b
+pub points_apart : (draft : Draft) → twice_in draft ≡ None → (j k : ℕ) (a b : DraftPoint) → slice_get draft.points j ≡ Some a → slice_get draft.points k ≡ Some b
     → a.panel ∷ a.line ∷ a.address ∷ [] ≡ b.panel ∷ b.line ∷ b.address ∷ [] → j ≡ k
 points_apart draft once j k a b at bt e =
     let q : List ℕ = 2 ∷ a.panel ∷ a.line ∷ a.address ∷ [] in
@@ -104,7 +104,7 @@ output_number_of a b e = cc e
 output_places : (j k : ℕ) → Output j ≡ Output k → j ≡ k
 output_places j k e = cc e
 
-outputs_apart : (draft : Draft) → twice_in draft ≡ None → (j k : ℕ) (a b : DraftOutput) → slice_get draft.outputs j ≡ Some a → slice_get draft.outputs k ≡ Some b
+pub outputs_apart : (draft : Draft) → twice_in draft ≡ None → (j k : ℕ) (a b : DraftOutput) → slice_get draft.outputs j ≡ Some a → slice_get draft.outputs k ≡ Some b
     → a.panel ∷ a.number ∷ [] ≡ b.panel ∷ b.number ∷ [] → j ≡ k
 outputs_apart draft once j k a b at bt e =
     let q : List ℕ = 3 ∷ a.panel ∷ 0 ∷ a.number ∷ [] in

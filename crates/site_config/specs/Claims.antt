@@ -1,5 +1,5 @@
 -- The names and numbers that the zones, points, outputs and markers of a draft claim, in the order of the page, and the first that is claimed twice.
-use Rattle.std.specs.Prelude.{ℕ, ◌+◌, ◌||◌, ◌&&◌, ◌==◌, List, [], ◌∷◌, ◌++◌, Bool, false, Option, Some, None, is_some, codes, if◌then◌else◌}
+use Rattle.std.specs.Prelude.{ℕ, ◌+◌, ◌||◌, ◌&&◌, ◌==◌, List, [], ◌∷◌, ◌++◌, min, Bool, false, Option, Some, None, is_some, codes, if◌then◌else◌}
 use Rattle.std.specs.List.{list_any}
 use Rattle.std.specs.Str.{bytes_eq}
 use Rattle.site_types.specs.declared.loop_plan.LoopPlan.{LoopPlan}
@@ -33,10 +33,21 @@ abbrev pub claims_from : {X : Type 0} → (ℕ → X → Claim) → ℕ → List
 claims_from claim place [] = []
 claims_from claim place (x ∷ rest) = claim place x ∷ claims_from claim (place + 1) rest
 
--- the claims of a draft in the order of the page
+-- the claims of a draft in the order of the page, each with what is kept of its place
+abbrev pub claims_by : (ℕ → ℕ) → Draft → List Claim
+claims_by keep draft =
+    claims_from (λ place. zone_claim (keep place)) 0 draft.zones
+    ++ claims_from (λ place. point_claim (keep place)) 0 draft.points
+    ++ claims_from (λ place. output_claim (keep place)) 0 draft.outputs
+    ++ claims_from (λ place. marker_claim (keep place)) 0 draft.markers
+
+-- the claims of a draft, each with its place
 unfoldable pub claims_of : Draft → List Claim
-claims_of draft =
-    claims_from zone_claim 0 draft.zones ++ claims_from point_claim 0 draft.points ++ claims_from output_claim 0 draft.outputs ++ claims_from marker_claim 0 draft.markers
+claims_of draft = claims_by (λ place. place) draft
+
+-- what two bytes keep of a place: past the greatest number that they hold, that number
+abbrev pub kept_place : ℕ → ℕ
+kept_place place = min place 65535
 
 -- what a name stands for by the claims made, the latest first
 abbrev pub thing_named : List Claim → List ℕ → Option Thing

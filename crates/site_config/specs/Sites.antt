@@ -1,5 +1,5 @@
 -- What is wrong in a document, and the site that it spells where nothing is.
-use Rattle.std.specs.Prelude.{◌≡◌, ℕ, List, Option, map}
+use Rattle.std.specs.Prelude.{◌≡◌, ℕ, List, None, Option, map}
 use Rattle.toml.specs.Data.{Members}
 use Rattle.site_types.specs.declared.site.Site.{Site}
 use Rattle.site_document.specs.declared.draft.Draft.{Draft}
@@ -24,6 +24,12 @@ draft_finding draft =
 -- what is wrong in a document: its keys and values first
 unfoldable pub site_finding : Members → Option Refusal
 site_finding doc = or_later (finding doc) (draft_finding (draft_of doc))
+
+-- the draft is that of a document in whose keys and values nothing is wrong
+pub record IsOfClean (draft : Draft) : Type 0 where
+  pub document : Members
+  pub clean : finding document ≡ None
+  pub spelled : draft ≡ draft_of document
 
 -- the site that a draft spells: its parts with places in place of names, and the list of its names
 pub record IsPlaced (draft : Draft) (site : Site) : Type 0 where

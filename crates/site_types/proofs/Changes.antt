@@ -16,7 +16,8 @@ use Rattle.site_types.specs.declared.operation.Operation.{Operation}
 use Rattle.site_types.specs.declared.operation.Operation.TheVariants.{Mute, Override, Silence, Resound, Reset, Cancel, Disable, Enable, Test as SetTest, Untest, Delays as SetDelays, Clear as ClearCounter}
 use Rattle.site_types.specs.Bits.{IsPlace, has_bit, with_bit, with_point}
 use Rattle.site_types.specs.Done.{Done, Setting, PointOff, ZoneOff, OutputOff, InTest, DelaysOff, Counter, no_points, same_setting, IsSetting, is_setting, is_on, operation_setting, value_set, at_opening, kept_point, kept_zone, kept_output, kept_test, is_kept_operation}
-use Rattle.site_types.specs.Changes.{IsPanelNumber, CanApply, item_change, changed, changed_by, point_change, zone_change, output_change, test_change, operation_change, change_of, IsSized, AreCounters, HasOwnPlaces}
+use Rattle.site_types.specs.Changes.{IsPanelNumber, CanApply, item_change, changed, changed_by, point_change, zone_change, output_change, test_change, operation_change, IsSized, AreCounters, HasOwnPlaces}
+use Rattle.site_types.proofs.Keeping.{change_of}
 use Rattle.site_types.specs.Limits.{greatest_count}
 use Rattle.site_types.proofs.Masks.{with_bit-same, with_bit-other}
 use Rattle.site_types.proofs.ChangedBits.{number-same, number-other, point-same, point-other}

@@ -7,7 +7,8 @@ use Rattle.site_types.specs.declared.point.Point.{Point}
 use Rattle.site_types.specs.declared.retained.Retained.{Retained}
 use Rattle.site_types.specs.declared.item.Item.{Item}
 use Rattle.site_types.specs.declared.operation.Operation.TheVariants.{Enable}
-use Rattle.site_types.specs.Done.{Done, Setting, PointOff, ZoneOff, OutputOff, InTest, DelaysOff, Counter, same_setting, is_on, is_override, override_done_in, silence_then, silence_before, value_set, in_force, latest_before, moves_floor, floor_before, cancels, cancelled_before, mutes, muted_before, is_zone_blocked, is_blocked, AreFrom, AreBy}
+use Rattle.site_types.specs.Done.{Done, Setting, PointOff, ZoneOff, OutputOff, InTest, DelaysOff, Counter, same_setting, is_on, is_override, override_done_in, silence_then, silence_before, value_set, in_force, latest_before, moves_floor, floor_before, cancels, cancelled_before, mutes, muted_before, is_zone_blocked, is_blocked, AreBy}
+use Rattle.site_types.proofs.LaterDone.{AreFrom}
 
 pub lt_tells : (a b : ℕ) → ((nat_lt a b ≡ true) × (a < b)) ⊎ ((nat_lt a b ≡ false) × (b ≤ a))
 lt_tells a b = tells (nat_lt a b) refl

@@ -4,8 +4,9 @@ use Rattle.site_types.specs.declared.site.Site.{Site}
 use Rattle.site_types.specs.declared.retained.Retained.{Retained}
 use Rattle.site_types.specs.declared.change.Change.{Change}
 use Rattle.site_types.specs.declared.change.Change.TheVariants.{Count}
-use Rattle.site_types.specs.Done.{Done, Setting, is_setting, is_on, is_kept_operation, value_set, in_force, AreBy}
-use Rattle.site_types.specs.Changes.{IsPanelNumber, changed, change_of, IsSized, HasOwnPlaces, KeepsInForce}
+use Rattle.site_types.specs.Done.{Done, Setting, is_setting, is_on, value_set, in_force, AreBy, is_kept_operation}
+use Rattle.site_types.specs.Changes.{IsPanelNumber, changed, IsSized, HasOwnPlaces}
+use Rattle.site_types.proofs.Keeping.{KeepsInForce, change_of}
 use Rattle.site_types.proofs.Changes.{kept-change, counted-setting, not_kept}
 use Rattle.site_types.proofs.Done.{in_force-then}
 

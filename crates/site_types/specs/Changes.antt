@@ -1,5 +1,5 @@
 -- What a change makes of what is retained, and the change that an operation makes.
-use Rattle.std.specs.Prelude.{◌≡◌, ◌<◌, length, replicate, ℕ, ◌+◌, ◌-◌, ◌≤◌, min, Bool, true, false, not, List, [], ◌∷◌, Option, Some, None, slice_get, slice_index, slice_index_or, slice_set}
+use Rattle.std.specs.Prelude.{◌≡◌, ◌<◌, length, replicate, ℕ, ◌+◌, ◌-◌, ◌≤◌, min, Bool, true, false, not, List, [], ◌∷◌, Option, Some, None, is_some, slice_get, slice_index, slice_index_or, slice_set}
 use Rattle.std.specs.Int.{w8, w32}
 use Rattle.site_types.specs.declared.site.Site.{Site}
 use Rattle.site_types.specs.declared.point.Point.{Point as PointPlan}
@@ -13,7 +13,8 @@ use Rattle.site_types.specs.declared.item.Item.TheVariants.{Point as ThePoint, Z
 use Rattle.site_types.specs.declared.operation.Operation.{Operation}
 use Rattle.site_types.specs.declared.operation.Operation.TheVariants.{Disable, Enable, Test as SetTest, Untest, Delays as SetDelays, Clear as ClearCounter}
 use Rattle.site_types.specs.Bits.{IsPlace, with_bit, with_point}
-use Rattle.site_types.specs.Done.{Done, Setting, IsSetting, at_opening, in_force, no_points}
+use Rattle.site_types.specs.Done.{is_kept_operation, no_points, operation_setting}
+use Rattle.site_types.specs.Events.{has_operands}
 use Rattle.site_types.specs.Limits.{greatest_count}
 
 -- a panel that has a place in what is retained
@@ -97,8 +98,10 @@ operation_change site panel (SetDelays on) = Some (Delays panel (not on))
 operation_change site panel ClearCounter = Some (Clear panel)
 operation_change site panel _ = None
 
-abbrev pub change_of : Site → Done → Option Change
-change_of site d = operation_change site d.panel d.operation
+-- what is kept over a power cut: an operation of a panel changes what is retained, and is on a setting, exactly where it is one of those that are kept
+pub record KeptAreChanges : Type 0 where
+  pub changes : (site : Site) (panel : ℕ) (operation : Operation) → has_operands site panel operation ≡ true → is_kept_operation operation ≡ is_some (operation_change site panel operation)
+  pub settings : (panel : ℕ) (operation : Operation) → is_kept_operation operation ≡ is_some (operation_setting panel operation)
 
 -- each list of what is retained is as long as in the data
 pub record IsSized (kept : Retained) : Type 0 where
@@ -122,7 +125,3 @@ pub record HasOwnPlaces (site : Site) : Type 0 where
   pub points_apart : (i j : ℕ) (p q : PointPlan) → slice_get site.points i ≡ Some p → slice_get site.points j ≡ Some q → p.panel ≡ q.panel → p.line ≡ q.line → p.address ≡ q.address → i ≡ j
   pub zones_apart : (i j : ℕ) (y z : ZonePlan) → slice_get site.zones i ≡ Some y → slice_get site.zones j ≡ Some z → y.panel ≡ z.panel → y.number ≡ z.number → i ≡ j
   pub outputs_apart : (i j : ℕ) (n o : OutputPlan) → slice_get site.outputs i ≡ Some n → slice_get site.outputs j ≡ Some o → n.panel ≡ o.panel → n.number ≡ o.number → i ≡ j
-
--- each setting is kept with the value that is in force at x, after what was done since a site was opened
-abbrev pub KeepsInForce : Site → Retained → List Done → ℕ → Retained → Type 0
-KeepsInForce site opened done x kept = (setting : Setting) → IsSetting setting → at_opening site kept setting ≡ in_force site opened setting x done

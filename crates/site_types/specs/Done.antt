@@ -72,6 +72,7 @@ is_kept_operation (Delays on) = true
 is_kept_operation Clear = true
 is_kept_operation _ = false
 
+-- no point by default
 abbrev pub no_points : PointSet
 no_points = record { loops = [] }
 
@@ -193,11 +194,6 @@ is_zone_blocked site kept done (Some p) x = in_force site kept (ZoneOff p.zone) 
 -- whether at x a point is disabled, or its zone is disabled or in test
 abbrev pub is_blocked : Site → Retained → List Done → ℕ → ℕ → Bool
 is_blocked site kept done point x = in_force site kept (PointOff point) x done || is_zone_blocked site kept done (slice_get site.points point) x
-
--- each was done at x or later
-abbrev pub AreFrom : ℕ → List Done → Type 0
-AreFrom x [] = Unit {0}
-AreFrom x (d ∷ ds) = (x ≤ d.tick) × AreFrom x ds
 
 -- each was done by this tick
 abbrev pub AreBy : ℕ → List Done → Type 0

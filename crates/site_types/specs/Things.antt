@@ -28,6 +28,10 @@ thing_in (named ∷ rest) name = if bytes_eq named.name.bytes name then Some nam
 abbrev pub thing_named : Site → List ℕ → Option Thing
 thing_named site name = thing_in site.names name
 
+-- the output of a panel with a number
+abbrev pub numbered_output : Site → ℕ → ℕ → Option OutputOf
+numbered_output site panel number = find (λ (output : OutputOf). (output.panel == panel) && (output.number == number)) site.outputs
+
 -- the loop of a panel with a number
 abbrev pub loop_of : Site → ℕ → ℕ → Option LoopPlan
 loop_of site panel line = find (λ (plan : LoopPlan). (plan.panel == panel) && (plan.line == line)) site.loops

@@ -16,6 +16,9 @@
 //! Three things stand here alone in the whole repository: single bits of masks (`has_bit_32`, `with_bit_32`, `mask_from_32` and their kin for 8
 //! and 128 bits, `PointSet`), the numbers of ticks that go by a site's format (`Profile`), and the forms of names, codes and numbers
 //! (`read_name`, `read_code`, `read_number`).
+//!
+//! [`sections_hold`] and [`kept_are_changes`] are laws: their contracts say which addresses a section holds and which operations are kept over a
+//! power cut, and they do nothing.
 #![tactic(auto)]
 
 mod answer;
@@ -33,6 +36,7 @@ mod fault_set;
 mod heard;
 mod item;
 mod label;
+mod laws;
 mod limits;
 mod lookup;
 mod loop_plan;
@@ -73,6 +77,7 @@ pub use fault_set::FaultSet;
 pub use heard::Heard;
 pub use item::Item;
 pub use label::Label;
+pub use laws::{kept_are_changes, sections_hold};
 pub use limits::{
     GREATEST_COUNT, LINE_BYTES, MOST_CODES, MOST_LOOPS, MOST_MARKERS, MOST_OPERATIONS,
     MOST_OUTPUTS, MOST_PANELS, MOST_TERMS, MOST_ZONES, NAME_BYTES, SITE_BYTES,

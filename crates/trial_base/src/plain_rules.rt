@@ -2,8 +2,7 @@
 
 use coincidence::Finding;
 use site_types::{Answer, Heard, Item, Operation, Rule, Site, Zone, with_bit_32};
-use std::alloc::Global;
-use std::test::Fail;
+use std::alloc::{AllocError, Global};
 
 /// An operation that was done in a tick, in force from the next tick on.
 #[derive(Clone, Copy)]
@@ -74,7 +73,7 @@ pub struct PlainRules<'a> {
 
 impl<'a> PlainRules<'a> {
     /// What each answer means among those that were given up to it, itself the last.
-    pub fn judge_all(&self, alloc: Global, answers: &[Answer]) -> Result<Vec<Judged>, Fail> {
+    pub fn judge_all(&self, alloc: Global, answers: &[Answer]) -> Result<Vec<Judged>, AllocError> {
         let mut among: Vec<Seen> = Vec::new(alloc);
         let mut judged = Vec::new(alloc);
         for answer in answers {

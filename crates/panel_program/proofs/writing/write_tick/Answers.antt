@@ -1,7 +1,7 @@
 use Rattle.std.proofs.Common.{◌≡◌, ◌∙◌, ◌++◌, [], false, if◌then◌else◌, ap, subst, sym}
 use Rattle.std.specs.Prelude.{OnErr}
 use Rattle.panel_edges.specs.Contents.{GrowsByFront}
-use Rattle.panel_program.specs.Lines.{tick_line}
+use Rattle.face_text.specs.Timelines.{tick_line}
 use Rattle.panel_program.specs.Ticks.{tick_text}
 use Rattle.panel_program.specs.Zones.{changes_text, is_same}
 use Rattle.panel_program.proofs.writing.write_tick.Goals as goal

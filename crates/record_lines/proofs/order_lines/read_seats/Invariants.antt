@@ -1,5 +1,5 @@
 use Rattle.std.proofs.Common.{◌≡◌, ◌-◌, ◌++◌, length}
-use Rattle.record_lines.specs.Fields.{after_space}
+use Rattle.site_types.specs.Fields.{after_space}
 use Rattle.record_lines.specs.Seats.{seats_of}
 use Rattle.record_lines.proofs.order_lines.read_seats.Given as goal
 

@@ -1,8 +1,8 @@
 use Rattle.std.proofs.Common.{◌≡◌, ◌||◌, ◌&&◌, ◌+◌, true, false, Bool, ap, ◌∙◌, arith}
-use Rattle.site_types.specs.Bits.{has_bit}
+use Rattle.site_types.specs.Bits.{any_below, has_bit}
 use Rattle.cause_effect.specs.Changes.{differ}
 use Rattle.cause_effect.specs.Cycles.{is_among}
-use Rattle.cause_effect.specs.Users.{any_below, is_marked, uses_bit, users_at}
+use Rattle.cause_effect.specs.Users.{is_marked, uses_bit, users_at}
 use Rattle.cause_effect.proofs.Marking.{below_none, bit_more}
 use Rattle.cause_effect.proofs.Using.{differ_is, or_none}
 use Rattle.cause_effect.proofs.users.Users.mark_word.Goals as goal

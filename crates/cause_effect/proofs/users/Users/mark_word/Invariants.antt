@@ -1,5 +1,6 @@
 use Rattle.std.proofs.Common.{◌≡◌, ◌<◌, ◌||◌, ℕ}
-use Rattle.cause_effect.specs.Users.{any_below, is_marked, uses_bit}
+use Rattle.cause_effect.specs.Users.{is_marked, uses_bit}
+use Rattle.site_types.specs.Bits.{any_below}
 use Rattle.cause_effect.proofs.users.Users.mark_word.Given as goal
 
 abbrev pub invariant-loop-bit : goal.invariant-loop-bit

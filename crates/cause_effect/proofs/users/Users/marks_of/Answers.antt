@@ -1,6 +1,7 @@
 use Rattle.std.proofs.Common.{◌≡◌, ◌||◌, sym, ap, ◌∙◌, arith}
-use Rattle.cause_effect.specs.Users.{any_below, uses_panel, uses_word}
-use Rattle.cause_effect.proofs.Marking.{below_none, facts_mark, panel_more}
+use Rattle.cause_effect.specs.Users.{uses_word}
+use Rattle.site_types.specs.Bits.{any_below}
+use Rattle.cause_effect.proofs.Marking.{below_none, facts_mark, panel_more, uses_panel}
 use Rattle.cause_effect.proofs.Solving.{none_true}
 use Rattle.cause_effect.proofs.users.Users.marks_of.Goals as goal
 

@@ -1,8 +1,9 @@
 use Rattle.std.proofs.Common.{◌≡◌, ◌<◌, ◌++◌, [], ◌∷◌, None, append-nil, refl, sym, ◌∙◌, ap, arith}
 use Rattle.std.proofs.lemmas.Grind.{common_steps}
 use Rattle.std.specs.List.{cons_option, filter_map, range_with_len}
-use Rattle.output_delays.specs.Stands.{places, timer_of}
-use Rattle.output_delays.proofs.Listed.{found_more}
+use Rattle.output_delays.specs.Stands.{timer_of}
+use Rattle.site_types.specs.Limits.{output_bits}
+use Rattle.tick_units.proofs.Listed.{found_more}
 use Rattle.output_delays.proofs.Requested.{timer_delayed, timer_undelayed}
 use Rattle.output_delays.proofs.Steps.{one_more_placed}
 use Rattle.output_delays.proofs.delays.Delays.new.Goals as goal
@@ -39,7 +40,7 @@ loop-place-preserved c =
     ]
 
 pub returns : goal.returns
-unfolding places
+unfolding output_bits
 returns c =
     let site = c.args.site.now in
     let panel = c.args.panel in

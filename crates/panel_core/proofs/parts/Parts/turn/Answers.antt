@@ -6,7 +6,7 @@ use Rattle.panel_core.proofs.Panels.{after_idle, after_poll}
 use Rattle.panel_core.proofs.Rooms.{room_for_poll, room_for_decide}
 use Rattle.panel_core.proofs.Takes.{can_take, after_decide}
 use Rattle.panel_core.proofs.Holds.{after_hold}
-use Rattle.panel_core.specs.Reports.{reports}
+use Rattle.panel_rules.specs.Reports.{reports}
 use Rattle.panel_core.specs.Turns.{hold_turns}
 use Rattle.panel_core.proofs.parts.Parts.turn.Goals as goal
 

@@ -1,7 +1,7 @@
 use Rattle.std.proofs.Common.{◌++◌, subst}
 use Rattle.site_types.specs.Changes.{nothing_retained}
 use Rattle.panel_edges.specs.Contents.{Grows, GrowsByFront}
-use Rattle.panel_program.specs.Lines.{opening_line}
+use Rattle.face_text.specs.Timelines.{opening_line}
 use Rattle.panel_program.specs.Records.{at_beginning, moments_in}
 use Rattle.panel_program.specs.Zones.{changes_text, nothing_shown}
 use Rattle.panel_program.proofs.Written.{on_ok, on_err}

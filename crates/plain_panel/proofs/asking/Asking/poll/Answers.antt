@@ -4,7 +4,7 @@ use Rattle.site_types.specs.declared.answer.Answer.{Answer}
 use Rattle.loop_poller.specs.Asked.{asked_in}
 use Rattle.loop_poller.specs.Calls.{told_cable, told_point}
 use Rattle.loop_poller.proofs.Places.{asked_few}
-use Rattle.plain_panel.specs.Askings.{reports}
+use Rattle.panel_rules.specs.Reports.{reports}
 use Rattle.plain_panel.proofs.Asked.{after_poll, all_moved, is_known}
 use Rattle.plain_panel.proofs.asking.Asking.poll.Goals as goal
 

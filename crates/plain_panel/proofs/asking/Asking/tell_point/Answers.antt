@@ -1,5 +1,5 @@
 use Rattle.std.proofs.Common.{refl}
-use Rattle.plain_panel.specs.Askings.{reports}
+use Rattle.panel_rules.specs.Reports.{reports}
 use Rattle.plain_panel.proofs.Asked.{after_point}
 use Rattle.plain_panel.proofs.asking.Asking.tell_point.Goals as goal
 

@@ -4,9 +4,10 @@ use Rattle.std.specs.List.{cons_option, filter_map, range_with_len}
 use Rattle.site_types.specs.Bits.{mask_of}
 use Rattle.site_types.proofs.Masks.{mask_same}
 use Rattle.routing_outputs.specs.Confirmations.{is_watched}
-use Rattle.routing_outputs.specs.Stands.{line_of, places}
+use Rattle.routing_outputs.specs.Stands.{line_of}
+use Rattle.site_types.specs.Limits.{output_bits}
 use Rattle.routing_outputs.proofs.Bits.{and_false, none_set}
-use Rattle.routing_outputs.proofs.Listed.{found_more}
+use Rattle.tick_units.proofs.Listed.{found_more}
 use Rattle.routing_outputs.proofs.Runs.{line_watched, line_unwatched}
 use Rattle.routing_outputs.proofs.Steps.{one_more_placed}
 use Rattle.routing_outputs.proofs.routing.Routing.new.Goals as goal
@@ -51,7 +52,7 @@ loop-place-preserved c =
     ]
 
 pub returns : goal.returns
-unfolding places
+unfolding output_bits
 returns c =
     let site = c.args.site.now in
     let panel = c.args.panel in

@@ -1,5 +1,0 @@
-use Rattle.panel_rules.proofs.BatchesFit.{changes_have_places as law}
-use Rattle.panel_rules.proofs.batches.changes_have_places.Goals as goal
-
-pub returns : goal.returns
-returns c = law

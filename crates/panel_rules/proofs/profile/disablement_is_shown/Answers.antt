@@ -1,5 +1,0 @@
-use Rattle.panel_rules.proofs.ProfileRows.{disablement_shown as law}
-use Rattle.panel_rules.proofs.profile.disablement_is_shown.Goals as goal
-
-pub returns : goal.returns
-returns c = law

@@ -1,5 +1,0 @@
-use Rattle.panel_rules.proofs.ProfileRows.{joined_shown as law}
-use Rattle.panel_rules.proofs.profile.joined_panels_show.Goals as goal
-
-pub returns : goal.returns
-returns c = law

@@ -1,5 +1,0 @@
-use Rattle.panel_rules.proofs.ProfileRows.{network_sum as law}
-use Rattle.panel_rules.proofs.profile.network_is_the_sum.Goals as goal
-
-pub returns : goal.returns
-returns c = law

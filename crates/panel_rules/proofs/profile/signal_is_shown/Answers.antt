@@ -1,5 +1,0 @@
-use Rattle.panel_rules.proofs.ProfileRows.{signal_shown as law}
-use Rattle.panel_rules.proofs.profile.signal_is_shown.Goals as goal
-
-pub returns : goal.returns
-returns c = law

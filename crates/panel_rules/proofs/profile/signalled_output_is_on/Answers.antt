@@ -1,5 +1,0 @@
-use Rattle.panel_rules.proofs.ProfileRows.{signalled_on as law}
-use Rattle.panel_rules.proofs.profile.signalled_output_is_on.Goals as goal
-
-pub returns : goal.returns
-returns c = law

@@ -1,5 +1,0 @@
-use Rattle.panel_rules.proofs.SettingsShow.{accepted_shown as law}
-use Rattle.panel_rules.proofs.shown_settings.accepted_is_shown.Goals as goal
-
-pub returns : goal.returns
-returns c = law

@@ -1,5 +1,0 @@
-use Rattle.panel_rules.proofs.KeepFaults.{sound_turn as law}
-use Rattle.panel_rules.proofs.storing.sound_turns_succeed.Goals as goal
-
-pub returns : goal.returns
-returns c = law

@@ -1,5 +1,0 @@
-use Rattle.panel_rules.proofs.HeardWords.{heard_is_stamp as law}
-use Rattle.panel_rules.proofs.words.heard_is_stamp.Goals as goal
-
-pub returns : goal.returns
-returns c = law
