@@ -5,7 +5,8 @@ use Rattle.site_types.specs.Bits.{any_below, has_bit}
 use Rattle.site_types.specs.declared.site.Site.{Site}
 use Rattle.site_types.specs.declared.term.Term.{Term}
 use Rattle.marker_table.specs.declared.input.Input.{Input}
-use Rattle.marker_table.specs.declared.input.Input.TheVariants.{Zone as ZoneInput, Manual as ManualInput, Fault as FaultInput, Marker as MarkerInput}
+use Rattle.marker_table.specs.declared.input.Input.TheVariants.{Zone as ZoneInput, Manual as ManualInput}
+use Rattle.marker_table.specs.declared.input.Input.TheVariants.{Fault as FaultInput, Marker as MarkerInput}
 use Rattle.marker_table.specs.Table.{input_of}
 use Rattle.cause_effect.specs.Cycles.{is_among, terms_of}
 use Rattle.cause_effect.specs.Changes.{differ}
@@ -39,7 +40,8 @@ is_marked marks m = slice_index_or marks m false
 
 -- a bit that differs in two masks of 32 has the marker among its users, the first bit's being at this place
 abbrev pub uses_bit : List (List ℕ) → ℕ → ℕ → ℕ → ℕ → ℕ → Bool
-uses_bit lists first before after m bit = differ (has_bit before bit) (has_bit after bit) && is_among m (users_at lists (first + bit))
+uses_bit lists first before after m bit = differ (has_bit before bit) (has_bit after bit)
+    && is_among m (users_at lists (first + bit))
 
 abbrev pub uses_word : List (List ℕ) → ℕ → ℕ → ℕ → ℕ → Bool
 uses_word lists first before after m = any_below 32 (uses_bit lists first before after m)

@@ -1,5 +1,7 @@
 -- What is kept after an operation stands for one more operation.
-use Rattle.std.proofs.Common.{◌≡◌, ◌≢◌, ℕ, suc, ◌<◌, ◌≤◌, Bool, true, false, not, List, [], ◌∷◌, length, Option, Some, None, slice_get, get_or, ◌==◌, ◌&&◌, ◌||◌, nat_lt, if◌then◌else◌, refl, sym, ◌∙◌, ap, subst, arith}
+use Rattle.std.proofs.Common.{◌≡◌, ◌≢◌, ℕ, suc, ◌<◌, ◌≤◌, Bool, true, false, not, List, [], ◌∷◌, length, Option, Some}
+use Rattle.std.proofs.Common.{None, slice_get, get_or, ◌==◌, ◌&&◌, ◌||◌, nat_lt, if◌then◌else◌, refl, sym, ◌∙◌, ap}
+use Rattle.std.proofs.Common.{subst, arith}
 use Rattle.std.proofs.lemmas.Bool.Decides.{nat_tests}
 use Rattle.tick_units.specs.declared.tick.Tick.{Tick}
 use Rattle.tick_units.specs.declared.switch.Switch.{Switch}
@@ -57,10 +59,13 @@ module _ (at : Tick) (panel : ℕ) (operation : Operation) where
   }
 
 module _ (site : Site) (kept : Retained) (done : List Done) (at : Tick) (panel : ℕ) (operation : Operation) (by' : AreBy at.0 done) where
-  tells_then : (setting : Setting) (switch : Switch) → (is_on setting (done_now at panel operation) ≡ true → switch.since.0 < at.0) → TellsSetting site kept setting done switch → TellsSetting site kept setting (done_now at panel operation ∷ done) (switch_then at panel operation setting switch)
+  tells_then : (setting : Setting) (switch : Switch) → (is_on setting (done_now at panel operation) ≡ true → switch.since.0 < at.0)
+      → TellsSetting site kept setting done switch
+      → TellsSetting site kept setting (done_now at panel operation ∷ done) (switch_then at panel operation setting switch)
   tells_then setting switch before h = go (is_on setting (done_now at panel operation)) refl
     where
-      go : (b : Bool) → is_on setting (done_now at panel operation) ≡ b → TellsSetting site kept setting (done_now at panel operation ∷ done) (if b then switch_after (value_set operation) at switch else switch)
+      go : (b : Bool) → is_on setting (done_now at panel operation) ≡ b
+          → TellsSetting site kept setting (done_now at panel operation ∷ done) (if b then switch_after (value_set operation) at switch else switch)
       go false e = record {
         at = λ x since. ap (λ b. if b && nat_lt at.0 x then value_set operation else in_force site kept setting x done) e ∙ h.at x since;
         since = h.since ∙ sym (ap (λ b. if b then at.0 else set_in setting done) e);
@@ -69,33 +74,46 @@ module _ (site : Site) (kept : Retained) (done : List Done) (at : Tick) (panel :
         at = λ x since.
             let earlier = before e in
             let later : switch.since.0 < x = omega (arith, earlier, since) in
-            let was : in_force site kept setting x done ≡ switch.now = h.at x (omega (arith, later)) ∙ ap (λ b. if b then switch.now else switch.was) (lt_true switch.since.0 x later) in
-            ap (λ b. if b && nat_lt at.0 x then value_set operation else in_force site kept setting x done) e ∙ ap (λ b. if nat_lt at.0 x then value_set operation else b) was;
+            let was : in_force site kept setting x done ≡ switch.now =
+            h.at x (omega (arith, later)) ∙ ap (λ b. if b then switch.now else switch.was) (lt_true switch.since.0 x later) in
+            ap (λ b. if b && nat_lt at.0 x then value_set operation else in_force site kept setting x done) e ∙ ap
+            (λ b. if nat_lt at.0 x then value_set operation else b) was;
         since = sym (ap (λ b. if b then at.0 else set_in setting done) e);
       }
 
   -- what the answers taken up to the tick meant is what they meant
   counted_yet : (a : Answer) → a.stamp.0 ≤ at.0 → is_counted site kept (done_now at panel operation ∷ done) a ≡ is_counted site kept done a
-  counted_yet a le = ap (λ b. is_alarm a.heard && not b) (blocked-later site kept a.point a.stamp.0 ((done_now at panel operation) ∷ []) done (le, tt))
+  counted_yet a le =
+      ap (λ b. is_alarm a.heard && not b) (blocked-later site kept a.point a.stamp.0 ((done_now at panel operation) ∷ []) done (le, tt))
 
   run_yet : (zone point : ℕ) (first : Option Tick) (taken : List Answer) → ((k : ℕ) (a : Answer) → slice_get taken k ≡ Some a → a.stamp.0 ≤ at.0)
-      → run_of (is_counted site kept done) (λ x. floor_before site zone x done) point first taken ≡ run_of (is_counted site kept (done_now at panel operation ∷ done)) (λ x. floor_before site zone x (done_now at panel operation ∷ done)) point first taken
+      → run_of (is_counted site kept done) (λ x. floor_before site zone x done) point first taken
+      ≡ run_of (is_counted site kept (done_now at panel operation ∷ done)) (λ x. floor_before site zone x (done_now at panel operation ∷ done))
+      point first taken
   run_yet zone point first [] late = refl
   run_yet zone point first (x ∷ xs) late =
       let le = late 0 x refl in
-      run_yet zone point (if x.point == point then run_then (is_counted site kept done x) (floor_before site zone x.stamp.0 done) x.stamp first else first) xs (λ k a is. late (suc k) a is)
+      run_yet zone point (if x.point == point then run_then (is_counted site kept done x) (floor_before site zone x.stamp.0 done) x.stamp first else
+      first) xs (λ k a is. late (suc k) a is)
       ∙ ap (λ b. run_of (is_counted site kept (done_now at panel operation ∷ done)) (λ y. floor_before site zone y (done_now at panel operation ∷ done)) point (if x.point == point then run_then b (floor_before site zone x.stamp.0 done) x.stamp first else first) xs) (sym (counted_yet x le))
       ∙ ap (λ n. run_of (is_counted site kept (done_now at panel operation ∷ done)) (λ y. floor_before site zone y (done_now at panel operation ∷ done)) point (if x.point == point then run_then (is_counted site kept (done_now at panel operation ∷ done) x) n x.stamp first else first) xs) (sym (floor-yet site zone x.stamp.0 (done_now at panel operation) done le))
 
-  besides_yet : (zone : ℕ) (rule : Rule) (point : ℕ) (stamp : Option Tick) (taken : List Answer) → ((k : ℕ) (a : Answer) → slice_get taken k ≡ Some a → a.stamp.0 ≤ at.0)
-      → latest_besides (may_pair site kept done zone rule) point stamp taken ≡ latest_besides (may_pair site kept (done_now at panel operation ∷ done) zone rule) point stamp taken
+  besides_yet : (zone : ℕ) (rule : Rule) (point : ℕ) (stamp : Option Tick) (taken : List Answer)
+      → ((k : ℕ) (a : Answer) → slice_get taken k ≡ Some a → a.stamp.0 ≤ at.0)
+      → latest_besides (may_pair site kept done zone rule) point stamp taken
+      ≡ latest_besides (may_pair site kept (done_now at panel operation ∷ done) zone rule) point stamp taken
   besides_yet zone rule point stamp [] late = refl
   besides_yet zone rule point stamp (x ∷ xs) late =
-      besides_yet zone rule point (if may_pair site kept done zone rule x && not (x.point == point) then Some x.stamp else stamp) xs (λ k a is. late (suc k) a is)
-      ∙ ap (λ b. latest_besides (may_pair site kept (done_now at panel operation ∷ done) zone rule) point (if (is_of site zone x.point && (b && (is_type_C rule || is_detector site x.point))) && not (x.point == point) then Some x.stamp else stamp) xs) (sym (counted_yet x (late 0 x refl)))
+      besides_yet zone rule point (if may_pair site kept done zone rule x && not (x.point == point) then Some x.stamp else stamp) xs
+      (λ k a is. late (suc k) a is)
+      ∙ ap (λ b. latest_besides (may_pair site kept (done_now at panel operation ∷ done) zone rule) point
+      (if (is_of site zone x.point && (b && (is_type_C rule || is_detector site x.point))) && not (x.point == point) then Some x.stamp else stamp)
+      xs) (sym (counted_yet x (late 0 x refl)))
 
-  module _ (taken : List Answer) (late : (k : ℕ) (a : Answer) → slice_get taken k ≡ Some a → a.stamp.0 ≤ at.0) (before : (setting : Setting) → is_on setting (done_now at panel operation) ≡ true → set_in setting done < at.0) where
-    point_stands : (place : ℕ) (point : PointPlan) (watch : PointWatch) → WatchesPoint site kept done taken place point watch → WatchesPoint site kept (done_now at panel operation ∷ done) taken place point (point_then at panel operation place watch)
+  module _ (taken : List Answer) (late : (k : ℕ) (a : Answer) → slice_get taken k ≡ Some a → a.stamp.0 ≤ at.0) (before : (setting : Setting)
+      → is_on setting (done_now at panel operation) ≡ true → set_in setting done < at.0) where
+    point_stands : (place : ℕ) (point : PointPlan) (watch : PointWatch) → WatchesPoint site kept done taken place point watch
+        → WatchesPoint site kept (done_now at panel operation ∷ done) taken place point (point_then at panel operation place watch)
     point_stands place point watch h = record {
       zone = h.zone;
       manual = h.manual;
@@ -105,7 +123,8 @@ module _ (site : Site) (kept : Retained) (done : List Done) (at : Tick) (panel :
       run = h.run ∙ run_yet point.zone place None taken late;
     }
 
-    zone_stands : (place : ℕ) (zone : ZonePlan) (watch : ZoneWatch) → WatchesZone site kept done taken place zone watch → WatchesZone site kept (done_now at panel operation ∷ done) taken place zone (zone_then at panel operation place watch)
+    zone_stands : (place : ℕ) (zone : ZonePlan) (watch : ZoneWatch) → WatchesZone site kept done taken place zone watch
+        → WatchesZone site kept (done_now at panel operation ∷ done) taken place zone (zone_then at panel operation place watch)
     zone_stands place zone watch h = record {
       number = h.number;
       rule = h.rule;
@@ -122,8 +141,11 @@ pub record IsAfter (at : Tick) (panel : ℕ) (operation : Operation) (old next :
   pub same_panel : next.panel ≡ old.panel
   pub point_count : length next.points.items ≡ length old.points.items
   pub zone_count : length next.zones.items ≡ length old.zones.items
-  pub points : (place : ℕ) (watch : PointWatch) → slice_get next.points.items place ≡ Some watch → (was : PointWatch) × (slice_get old.points.items place ≡ Some was) × (watch ≡ record was { off = if is_on (PointOff place) (done_now at panel operation) then switch_after (value_set operation) at was.off else was.off })
-  pub zones : (place : ℕ) (watch : ZoneWatch) → slice_get next.zones.items place ≡ Some watch → (was : ZoneWatch) × (slice_get old.zones.items place ≡ Some was)
+  pub points : (place : ℕ) (watch : PointWatch) → slice_get next.points.items place ≡ Some watch
+      → (was : PointWatch) × (slice_get old.points.items place ≡ Some was)
+      × (watch ≡ record was { off = if is_on (PointOff place) (done_now at panel operation) then switch_after (value_set operation) at was.off else was.off })
+  pub zones : (place : ℕ) (watch : ZoneWatch) → slice_get next.zones.items place ≡ Some watch
+      → (was : ZoneWatch) × (slice_get old.zones.items place ≡ Some was)
       × (watch ≡ record was {
         off = if is_on (ZoneOff place) (done_now at panel operation) then switch_after (value_set operation) at was.off else was.off;
         test = if is_on (InTest place) (done_now at panel operation) then switch_after (value_set operation) at was.test else was.test;
@@ -132,10 +154,12 @@ pub record IsAfter (at : Tick) (panel : ℕ) (operation : Operation) (old next :
       })
   pub reset : next.reset ≡ last_if (resets panel (done_now at panel operation)) at old.reset
 
-pub stands_after : (site : Site) (kept : Retained) (panel : ℕ) (done : List Done) (taken : List Answer) (old next : Decide) (at : Tick) (operation : Operation) → DecidesFor site kept panel done taken old → MayApply site panel done taken operation at.0
+pub stands_after : (site : Site) (kept : Retained) (panel : ℕ) (done : List Done) (taken : List Answer) (old next : Decide) (at : Tick) (operation :
+    Operation) → DecidesFor site kept panel done taken old → MayApply site panel done taken operation at.0
     → IsAfter at panel operation old next → DecidesFor site kept panel (done_now at panel operation ∷ done) taken next
 stands_after site kept panel done taken old next at operation stands may after =
-    let before = λ (setting : Setting) (e : is_on setting (done_now at panel operation) ≡ true). set_before at.0 setting done may.next.from_one may.next.since (may.next.once setting e) in
+    let before = λ (setting : Setting) (e : is_on setting (done_now at panel operation) ≡ true).
+    set_before at.0 setting done may.next.from_one may.next.since (may.next.once setting e) in
     record {
       wired = stands.wired;
       at = after.same_panel ∙ stands.at;
@@ -143,11 +167,17 @@ stands_after site kept panel done taken old next at operation stands may after =
       zone_count = after.zone_count ∙ stands.zone_count;
       points = λ place watch point there is own.
           let was = after.points place watch there in
-          subst (WatchesPoint site kept (done_now at panel operation ∷ done) taken place point) (sym was.2) (point_stands site kept done at panel operation may.next.since taken may.late before place point was.0 (stands.points place was.0 point was.1 is own));
+          subst (WatchesPoint site kept (done_now at panel operation ∷ done) taken place point) (sym was.2)
+          (point_stands site kept done at panel operation may.next.since taken may.late before place point was.0
+          (stands.points place was.0 point was.1 is own));
       zones = λ place watch zone there is own.
           let was = after.zones place watch there in
-          subst (WatchesZone site kept (done_now at panel operation ∷ done) taken place zone) (sym was.2) (zone_stands site kept done at panel operation may.next.since taken may.late before place zone was.0 (stands.zones place was.0 zone was.1 is own));
-      reset = subst (TellsLast (resets panel) (done_now at panel operation ∷ done)) (sym after.reset) (told_last (resets panel) (done_now at panel operation) done at old.reset _ refl refl may.next.since stands.reset);
+          subst (WatchesZone site kept (done_now at panel operation ∷ done) taken place zone) (sym was.2)
+          (zone_stands site kept done at panel operation may.next.since taken may.late before place zone was.0
+          (stands.zones place was.0 zone was.1 is own));
+      reset =
+          subst (TellsLast (resets panel) (done_now at panel operation ∷ done)) (sym after.reset)
+          (told_last (resets panel) (done_now at panel operation) done at old.reset _ refl refl may.next.since stands.reset);
       order = stands.order;
       own = stands.own;
     }
@@ -159,19 +189,29 @@ eq_false : (a b : ℕ) → a ≢ b → (a == b) ≡ false
 eq_false a b h = grind (arith, nat_tests)
 
 -- a switch was last set before the tick
-pub zone_since : {site : Site} {kept : Retained} {panel : ℕ} {done : List Done} {taken : List Answer} {decide : Decide} → DecidesFor site kept panel done taken decide → (operation : Operation) (at : Tick) → MayApply site panel done taken operation at.0
+pub zone_since : {site : Site} {kept : Retained} {panel : ℕ} {done : List Done} {taken : List Answer} {decide : Decide}
+    → DecidesFor site kept panel done taken decide → (operation : Operation) (at : Tick) → MayApply site panel done taken operation at.0
     → (place : ℕ) → IsOwnZone site panel place → (watch : ZoneWatch) → watch ≡ get_or decide.zones.items place watch
-    → ((is_on (ZoneOff place) (done_now at panel operation) ≡ true) → watch.off.since.0 < at.0) × ((is_on (InTest place) (done_now at panel operation) ≡ true) → watch.test.since.0 < at.0)
+    → ((is_on (ZoneOff place) (done_now at panel operation) ≡ true) → watch.off.since.0 < at.0)
+    × ((is_on (InTest place) (done_now at panel operation) ≡ true) → watch.test.since.0 < at.0)
 zone_since {panel = panel} {done = done} {decide = decide} stands operation at may place own watch e =
     let w = watched_zone stands place own.zone own.is own.at in
     let same : watch ≡ w.over = read_is decide.zones.items place watch w.over e w.is_over in (
-      λ on. subst (λ (o : ZoneWatch). o.off.since.0 < at.0) (sym same) (subst (λ n. n < at.0) (sym w.watches.off.since) (set_before at.0 (ZoneOff place) done may.next.from_one may.next.since (may.next.once (ZoneOff place) on))),
-      λ on. subst (λ (o : ZoneWatch). o.test.since.0 < at.0) (sym same) (subst (λ n. n < at.0) (sym w.watches.test.since) (set_before at.0 (InTest place) done may.next.from_one may.next.since (may.next.once (InTest place) on))),
+      λ on. subst (λ (o : ZoneWatch). o.off.since.0 < at.0) (sym same)
+          (subst (λ n. n < at.0) (sym w.watches.off.since)
+          (set_before at.0 (ZoneOff place) done may.next.from_one may.next.since (may.next.once (ZoneOff place) on))),
+      λ on. subst (λ (o : ZoneWatch). o.test.since.0 < at.0) (sym same)
+          (subst (λ n. n < at.0) (sym w.watches.test.since)
+          (set_before at.0 (InTest place) done may.next.from_one may.next.since (may.next.once (InTest place) on))),
     )
 
-pub point_since : {site : Site} {kept : Retained} {panel : ℕ} {done : List Done} {taken : List Answer} {decide : Decide} → DecidesFor site kept panel done taken decide → (operation : Operation) (at : Tick) → MayApply site panel done taken operation at.0
-    → (place : ℕ) → IsOwn site panel place → (watch : PointWatch) → watch ≡ get_or decide.points.items place watch → (is_on (PointOff place) (done_now at panel operation) ≡ true) → watch.off.since.0 < at.0
+pub point_since : {site : Site} {kept : Retained} {panel : ℕ} {done : List Done} {taken : List Answer} {decide : Decide}
+    → DecidesFor site kept panel done taken decide → (operation : Operation) (at : Tick) → MayApply site panel done taken operation at.0
+    → (place : ℕ) → IsOwn site panel place → (watch : PointWatch) → watch ≡ get_or decide.points.items place watch
+    → (is_on (PointOff place) (done_now at panel operation) ≡ true) → watch.off.since.0 < at.0
 point_since {panel = panel} {done = done} {decide = decide} stands operation at may place own watch e on =
     let w = watched stands place own in
     let same : watch ≡ w.watch = read_is decide.points.items place watch w.watch e w.is_watch in
-    subst (λ (o : PointWatch). o.off.since.0 < at.0) (sym same) (subst (λ n. n < at.0) (sym w.watches.off.since) (set_before at.0 (PointOff place) done may.next.from_one may.next.since (may.next.once (PointOff place) on)))
+    subst (λ (o : PointWatch). o.off.since.0 < at.0) (sym same)
+    (subst (λ n. n < at.0) (sym w.watches.off.since)
+    (set_before at.0 (PointOff place) done may.next.from_one may.next.since (may.next.once (PointOff place) on)))

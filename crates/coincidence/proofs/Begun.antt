@@ -29,7 +29,8 @@ same_either : (b v : Bool) → v ≡ (if b then v else v)
 same_either true v = refl
 same_either false v = refl
 
-setting_begins : (site : Site) (kept : Retained) (setting : Setting) (value : Bool) → at_opening site kept setting ≡ value → TellsSetting site kept setting [] (switch_begun value)
+setting_begins : (site : Site) (kept : Retained) (setting : Setting) (value : Bool) → at_opening site kept setting ≡ value
+    → TellsSetting site kept setting [] (switch_begun value)
 setting_begins site kept setting value e = record { at = λ x since. e ∙ same_either (nat_lt 0 x) value; since = refl }
 
 none_silent : (n : ℕ) → nat_le (suc n) 0 ≡ false
@@ -39,7 +40,8 @@ none_le : true ≡ nat_le 0 0
 none_le = grind (arith, nat_tests)
 
 module _ (site : Site) (kept : Retained) where
-  point_begins : (place : ℕ) (point : PointPlan) → slice_get site.points place ≡ Some point → WatchesPoint site kept [] [] place point (point_from kept point)
+  point_begins : (place : ℕ) (point : PointPlan) → slice_get site.points place ≡ Some point
+      → WatchesPoint site kept [] [] place point (point_from kept point)
   point_begins place point is = record {
     zone = refl;
     manual = refl;
@@ -65,7 +67,8 @@ module _ (site : Site) (kept : Retained) where
     recent = λ point. refl;
   }
 
-  pub stands_begun : IsValid site → (panel : ℕ) (decide : Decide) → decide.panel ≡ panel → decide.points.items ≡ map (point_from kept) site.points → decide.zones.items ≡ map (zone_from kept) site.zones → decide.reset ≡ never_done
+  pub stands_begun : IsValid site → (panel : ℕ) (decide : Decide) → decide.panel ≡ panel → decide.points.items ≡ map (point_from kept) site.points
+      → decide.zones.items ≡ map (zone_from kept) site.zones → decide.reset ≡ never_done
       → DecidesFor site kept panel [] [] decide
   stands_begun valid panel decide at points zones reset = record {
     wired = wired_of site valid;
@@ -73,9 +76,13 @@ module _ (site : Site) (kept : Retained) where
     point_count = ap length points ∙ length_map (point_from kept) site.points;
     zone_count = ap length zones ∙ length_map (zone_from kept) site.zones;
     points = λ place watch point there is own.
-        subst (WatchesPoint site kept [] [] place point) (sym (get_map (point_from kept) site.points place point watch (ap (λ xs. slice_get xs place) (sym points) ∙ there) is)) (point_begins place point is);
+        subst (WatchesPoint site kept [] [] place point)
+        (sym (get_map (point_from kept) site.points place point watch (ap (λ xs. slice_get xs place) (sym points) ∙ there) is))
+        (point_begins place point is);
     zones = λ place watch zone there is own.
-        subst (WatchesZone site kept [] [] place zone) (sym (get_map (zone_from kept) site.zones place zone watch (ap (λ xs. slice_get xs place) (sym zones) ∙ there) is)) (zone_begins place zone is);
+        subst (WatchesZone site kept [] [] place zone)
+        (sym (get_map (zone_from kept) site.zones place zone watch (ap (λ xs. slice_get xs place) (sym zones) ∙ there) is))
+        (zone_begins place zone is);
     reset = subst (TellsLast _ []) (sym reset) (told_never _);
     order = record { rising = λ i j a b le f g. cc; once = λ i j a b f g p s. cc };
     own = λ k a is. cc;

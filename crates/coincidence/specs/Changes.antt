@@ -38,4 +38,5 @@ abbrev pub AppliesOperation : Decide → Operation → ℕ → Decide → Type 0
 AppliesOperation old operation tick decide =
     (site : Site) (kept : Retained) (panel : ℕ) (done : List Done) (taken : List Answer)
     → DecidesFor site kept panel done taken old → MayApply site panel done taken operation tick
-    → DecidesFor site kept panel (record { tick = tick; panel = panel; operation = operation } ∷ done) taken decide
+    → DecidesFor site kept panel (record { tick = tick; panel = panel; operation = operation } ∷ done) taken
+    decide

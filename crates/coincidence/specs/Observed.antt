@@ -23,7 +23,8 @@ abbrev pub FindsLast : Decide → Answer → Finding → Type 0
 FindsLast decide answer finding =
     (site : Site) (kept : Retained) (panel : ℕ) (done : List Done) (taken : List Answer)
     → DecidesFor site kept panel done (taken ++ answer ∷ []) decide
-    → Fits site panel done (taken ++ answer ∷ []) answer → finding ≡ finding_of site kept panel done taken answer
+    → Fits site panel done (taken ++ answer ∷ []) answer
+    → finding ≡ finding_of site kept panel done taken answer
 
 -- this is all that is seen of an answer at its point and in the point's zone
 abbrev pub SeesAnswer : Decide → Answer → Sight → Type 0
@@ -60,7 +61,8 @@ TellsSecond decide zone answer second =
 abbrev pub TellsFar : Decide → Option ℕ → Answer → Option Tick → Type 0
 TellsFar decide partner answer far =
     (site : Site) (kept : Retained) (panel : ℕ) (done : List Done) (taken : List Answer)
-    → DecidesFor site kept panel done taken decide → AreBy answer.stamp.0 done → IsOwnPartner site panel partner
+    → DecidesFor site kept panel done taken decide → AreBy answer.stamp.0 done
+    → IsOwnPartner site panel partner
     → far ≡ far_of site kept done taken partner answer
 
 -- what an answer that is seen means for the partner of its zone

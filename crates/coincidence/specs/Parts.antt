@@ -39,7 +39,11 @@ other_after point None other = other
 other_after point (Some seen) other = if seen.point == point then other else Some seen
 
 abbrev pub noted : ℕ → Tick → Recent → Recent
-noted point stamp recent = record { latest = Some (record { point = point; stamp = stamp }); other = other_after point recent.latest recent.other }
+noted point stamp recent = record {
+  latest = Some (record { point = point; stamp = stamp });
+  other =
+      other_after point recent.latest recent.other;
+}
 
 -- how many of the last answers were silent, to three
 abbrev pub silent_then : Heard → ℕ → ℕ
@@ -47,17 +51,26 @@ silent_then Silent n = if nat_lt n 3 then n + 1 else n
 silent_then _ n = 0
 
 abbrev pub point_noted : Heard → Bool → Tick → Tick → PointWatch → PointWatch
-point_noted heard counted floor stamp watch = record watch { silent = silent_then heard watch.silent; run = run_then counted floor.0 stamp watch.run }
+point_noted heard counted floor stamp watch =
+    record watch { silent = silent_then heard watch.silent; run = run_then counted floor.0 stamp watch.run }
 
 abbrev pub zone_noted : Bool → ℕ → Tick → ZoneWatch → ZoneWatch
-zone_noted pairs point stamp watch = if pairs then record watch { recent = noted point stamp watch.recent } else watch
+zone_noted pairs point stamp watch =
+    if pairs then record watch { recent = noted point stamp watch.recent } else watch
 
 -- what is kept at the start
 abbrev pub switch_begun : Bool → Switch
 switch_begun value = record { was = value; now = value; since = record { 0 = 0 } }
 
 abbrev pub point_begun : PointPlan → Bool → PointWatch
-point_begun point off = record { zone = point.zone; manual = point.manual; off = switch_begun off; silent = 0; run = None }
+point_begun point off = record {
+  zone = point.zone;
+  manual = point.manual;
+  off = switch_begun off;
+  silent =
+      0;
+  run = None;
+}
 
 abbrev pub zone_begun : ZonePlan → Bool → Bool → ZoneWatch
 zone_begun zone off test =

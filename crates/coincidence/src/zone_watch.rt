@@ -63,7 +63,11 @@ impl ZoneWatch {
 
     pub fn set_off(&mut self, off: bool, at: Tick)
         requires { self.old.off.since.0 < at.0 }
-        ensures { self.new ≡ record self.old { off = switch_after off at self.old.off; moved = last_if off at self.old.moved } }
+        ensures { self.new ≡ record self.old {
+          off = switch_after off at self.old.off;
+          moved =
+              last_if off at self.old.moved;
+        } }
     {
         self.off.set(off, at);
         if off {
@@ -73,7 +77,11 @@ impl ZoneWatch {
 
     pub fn set_test(&mut self, on: bool, at: Tick)
         requires { self.old.test.since.0 < at.0 }
-        ensures { self.new ≡ record self.old { test = switch_after on at self.old.test; moved = last_if on at self.old.moved } }
+        ensures { self.new ≡ record self.old {
+          test = switch_after on at self.old.test;
+          moved =
+              last_if on at self.old.moved;
+        } }
     {
         self.test.set(on, at);
         if on {

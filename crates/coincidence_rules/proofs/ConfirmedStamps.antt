@@ -43,5 +43,6 @@ module _ (floor : ℕ) (test : Answer → Bool) where
 pub in_alarm_where_confirmed : InAlarmWhereConfirmed
 in_alarm_where_confirmed = record {
   confirmed = λ site kept done answers zone tick h. stamp_from (floor_before site zone tick done) (confirms site kept done answers zone) answers h;
-  in_alarm = λ site kept done answers zone tick stamp above h. from_stamp (floor_before site zone tick done) (confirms site kept done answers zone) answers stamp above h;
+  in_alarm = λ site kept done answers zone tick stamp above h. from_stamp (floor_before site zone tick done) (confirms site kept done answers zone)
+      answers stamp above h;
 }

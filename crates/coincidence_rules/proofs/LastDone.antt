@@ -28,20 +28,24 @@ last_by at x last h g false = h
 last_by at x last h g true = elim (lt_tells last.tick.0 at.0) [ inl less ↦ rw less.0 g | inr same ↦ rw same.0 h ]
 
 -- one more operation, which is of the kind or not
-pub told_last : (test : Done → Bool) (d : Done) (done : List Done) (at : Tick) (last : LastDone) (on : Bool) → d.tick ≡ at.0 → test d ≡ on → AreBy at.0 done → TellsLast test done last →
+pub told_last : (test : Done → Bool) (d : Done) (done : List Done) (at : Tick) (last : LastDone) (on : Bool) → d.tick ≡ at.0 → test d ≡ on
+    → AreBy at.0 done → TellsLast test done last →
     TellsLast test (d ∷ done) (last_if on at last)
 told_last test d done at last on tick e since tells = record { at = at_of on e; by = by_of }
   where
     at_of : (b : Bool) → test d ≡ b → (x : ℕ) → (last_if b at last).tick.0 ≤ x → latest_before test x (d ∷ done) ≡ last_at x (last_if b at last)
-    at_of false off x le = ap (λ b. if b && nat_lt d.tick x then max d.tick (latest_before test x done) else latest_before test x done) off ∙ tells.at x le
+    at_of false off x le =
+        ap (λ b. if b && nat_lt d.tick x then max d.tick (latest_before test x done) else latest_before test x done) off ∙ tells.at x le
     at_of true is x le =
         let before = tells.by at.0 since in
         let after : at.0 ≤ x = reached le in
         ap (λ b. if b && nat_lt d.tick x then max d.tick (latest_before test x done) else latest_before test x done) is
         ∙ ap (λ n. if nat_lt n x then max n (latest_before test x done) else latest_before test x done) tick
-        ∙ last_step at x (latest_before test x done) last (tells.at x (omega (arith, before, after))) before after (halves (lt_tells last.tick.0 at.0))
+        ∙ last_step at x (latest_before test x done) last (tells.at x (omega (arith, before, after))) before after
+        (halves (lt_tells last.tick.0 at.0))
       where
-        halves : ((nat_lt last.tick.0 at.0 ≡ true) × (last.tick.0 < at.0)) ⊎ ((nat_lt last.tick.0 at.0 ≡ false) × (at.0 ≤ last.tick.0)) → (last.tick.0 < at.0) ⊎ (at.0 ≤ last.tick.0)
+        halves : ((nat_lt last.tick.0 at.0 ≡ true) × (last.tick.0 < at.0)) ⊎ ((nat_lt last.tick.0 at.0 ≡ false) × (at.0 ≤ last.tick.0))
+            → (last.tick.0 < at.0) ⊎ (at.0 ≤ last.tick.0)
         halves (inl less) = inl less.1
         halves (inr other) = inr other.1
 

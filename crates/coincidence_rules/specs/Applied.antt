@@ -10,11 +10,14 @@ abbrev pub NoneIn : ℕ → Setting → List Done → Type 0
 NoneIn tick setting [] = Unit {0}
 NoneIn tick setting (d ∷ ds) = (is_on setting d ≡ true → d.tick ≢ tick) × NoneIn tick setting ds
 
--- an operation may be done at a panel in a tick after these: ticks count from 1, it is not earlier than any of them, and the only one on its setting in that tick
+-- an operation may be done at a panel in a tick after these: ticks count from 1, it is not earlier than any
+-- of them, and the only one on its setting in that tick
 pub record MayBeDone (panel : ℕ) (done : List Done) (operation : Operation) (tick : ℕ) : Type 0 where
   pub from_one : 1 ≤ tick
   pub since : AreBy tick done
-  pub once : (setting : Setting) → is_on setting (record { tick = tick; panel = panel; operation = operation }) ≡ true → NoneIn tick setting done
+  pub once : (setting : Setting)
+      → is_on setting (record { tick = tick; panel = panel; operation = operation }) ≡ true
+      → NoneIn tick setting done
 
 -- the latest tick of a kind of operations, at each tick from it on
 pub record TellsLast (test : Done → Bool) (done : List Done) (last : LastDone) : Type 0 where

@@ -14,7 +14,8 @@ use Rattle.face_text.specs.Timelines.{IsFaceOf}
 
 -- the page of a panel has a slot: of a thing that the site has, or of delays, buzzer or counter
 abbrev pub IsSlotOf : Site → ℕ → Slot → Type 0
-IsSlotOf site panel (Thing group number) = HasPlace group × (1 ≤ number) × (number ≤ last_of group) × IsTrue (is_named (name_in site panel group number))
+IsSlotOf site panel (Thing group number) = HasPlace group × (1 ≤ number) × (number ≤ last_of group)
+    × IsTrue (is_named (name_in site panel group number))
 IsSlotOf site panel Delays = Unit {0}
 IsSlotOf site panel Sounding = Unit {0}
 IsSlotOf site panel Count = Unit {0}
@@ -51,19 +52,22 @@ face_after face (change ∷ changes) = face_after (face_told face change) change
 abbrev pub AreNews : ℕ → Face → List Change → Type 0
 AreNews rank face [] = Unit {0}
 AreNews rank face (change ∷ changes) =
-    (rank < slot_rank (slot_of change)) × (value_in face (slot_of change) ≢ value_of change) × AreNews (slot_rank (slot_of change)) (face_told face change) changes
+    (rank < slot_rank (slot_of change)) × (value_in face (slot_of change) ≢ value_of change)
+    × AreNews (slot_rank (slot_of change)) (face_told face change) changes
 
 -- what a change tells is so afterwards, and nothing else of the page is otherwise
 pub record TellsThisAlone : Type 0 where
   pub this : (site : Site) (panel : ℕ) (face : Face) (change : Change) → IsFaceOf site panel face → IsChange site panel change →
       value_in (face_told face change) (slot_of change) ≡ value_of change
-  pub others : (site : Site) (panel : ℕ) (face : Face) (change : Change) (slot : Slot) → IsFaceOf site panel face → IsChange site panel change → IsSlotOf site panel slot →
+  pub others : (site : Site) (panel : ℕ) (face : Face) (change : Change) (slot : Slot) → IsFaceOf site panel face → IsChange site panel change
+      → IsSlotOf site panel slot →
       slot ≢ slot_of change → value_in (face_told face change) slot ≡ value_in face slot
 
 -- the face that shows nothing is in form, and a change leaves a face in form
 pub record KeepsForm : Type 0 where
   pub empty : (site : Site) (panel : ℕ) → IsFaceOf site panel (empty_face panel)
-  pub told : (site : Site) (panel : ℕ) (face : Face) (change : Change) → IsFaceOf site panel face → IsChange site panel change → IsFaceOf site panel (face_told face change)
+  pub told : (site : Site) (panel : ℕ) (face : Face) (change : Change) → IsFaceOf site panel face → IsChange site panel change
+      → IsFaceOf site panel (face_told face change)
 
 -- two faces of a panel are equal where each slot of its page has one value in both
 abbrev pub AreTheirSlots : Type 0
@@ -78,7 +82,8 @@ pub record AddsItsLine (site : Site) (panel : ℕ) (before shown : Face) (change
 
 -- so it is for a change behind the place up to which a face may differ from the one before, that tells what isn't so yet
 abbrev pub AddsOneLine : Type 0
-AddsOneLine = (site : Site) (panel rank : ℕ) (before shown : Face) (change : Change) → IsFaceOf site panel shown → IsSameBehind site panel rank before shown → IsChange site panel change →
+AddsOneLine = (site : Site) (panel rank : ℕ) (before shown : Face) (change : Change) → IsFaceOf site panel shown
+    → IsSameBehind site panel rank before shown → IsChange site panel change →
     rank < slot_rank (slot_of change) → value_in shown (slot_of change) ≢ value_of change → AddsItsLine site panel before shown change
 
 -- the changes from one face to another are such that may be told one after another, their lines are the text, and they lead there
@@ -91,4 +96,5 @@ pub record LeadsThere (site : Site) (panel : ℕ) (before after : Face) : Type 0
 
 -- so it is for all faces of a panel
 abbrev pub ChangesLeadThere : Type 0
-ChangesLeadThere = (site : Site) (panel : ℕ) (before after : Face) → IsFaceOf site panel before → IsFaceOf site panel after → LeadsThere site panel before after
+ChangesLeadThere = (site : Site) (panel : ℕ) (before after : Face) → IsFaceOf site panel before → IsFaceOf site panel after
+    → LeadsThere site panel before after

@@ -28,7 +28,8 @@ abbrev pub told_text : Site → Told → List ℕ
 told_text site told =
     opening_line site
     ++ (if told.tick.0 == 0 then faces_text site (empty_faces site) told.faces
-    else (faces_text site (empty_faces site) told.opened ++ steps_text site told.opened told.steps ++ step_text site (faces_behind told.opened told.steps) (block_of told)))
+    else (faces_text site (empty_faces site) told.opened ++ steps_text site told.opened told.steps
+    ++ step_text site (faces_behind told.opened told.steps) (block_of told)))
 
 -- the lines of some entries
 abbrev pub entries_text : Site → List Entry → List ℕ

@@ -1,5 +1,6 @@
 -- How far a text is read, and that its first bad line stands there.
-use Rattle.std.specs.Prelude.{◌≡◌, ◌≢◌, ◌⊎◌, ◌≤◌, ◌+◌, ℕ, Bool, List, [], Some, None, Result, Ok, Err, length, if◌then◌else◌}
+use Rattle.std.specs.Prelude.{◌≡◌, ◌≢◌, ◌⊎◌, ◌≤◌, ◌+◌, ℕ, Bool, List, [], Some, None, Result, Ok, Err, length}
+use Rattle.std.specs.Prelude.{if◌then◌else◌}
 use Rattle.tick_units.specs.declared.tick.Tick.{Tick as TickOf}
 use Rattle.face_text.specs.declared.entry.Entry.{Entry}
 use Rattle.face_text.specs.declared.entry.Entry.TheVariants.{Change, Answer, Busy, StoreFailed, Tick, End}
@@ -30,5 +31,7 @@ HasPlaceOf faces (End tick) = Unit {0}
 abbrev pub IsEndOf : Told → TickOf → List ℕ → ℕ → Result Timeline TextRefusal → Type 0
 IsEndOf told last behind number (Ok timeline) = (timeline_told told last ≡ Some timeline) × (behind ≡ [])
 IsEndOf told last behind number (Err (BadLine line)) =
-    ((timeline_told told last ≡ None) × (line ≡ number)) ⊎ (((timeline : Timeline) × (timeline_told told last ≡ Some timeline)) × (behind ≢ []) × (line ≡ number + 1))
+    ((timeline_told told last ≡ None) × (line ≡ number))
+    ⊎ (((timeline : Timeline) × (timeline_told told last ≡ Some timeline)) × (behind ≢ [])
+    × (line ≡ number + 1))
 IsEndOf told last behind number (Err NoMemory) = Unit {0}

@@ -27,7 +27,8 @@ pub record AreStates (site : Site) (points : ℕ → PointState) (states : List 
 pub record StandsFor (site : Site) (panel : ℕ) (calls : List Call) (poller : Poller) : Type 0 where
   pub valid : IsValid site
   pub format : poller.profile.format ≡ site.format
-  pub lines : (place : ℕ) (line : PolledLine) → slice_get poller.lines place ≡ Some line → LineStands site panel (place + 1) (told_cable calls (place + 1)) line
+  pub lines : (place : ℕ) (line : PolledLine) → slice_get poller.lines place ≡ Some line
+      → LineStands site panel (place + 1) (told_cable calls (place + 1)) line
   pub states : AreStates site (told_point calls) poller.states.items
 
 -- a poller stands for some panel of a site

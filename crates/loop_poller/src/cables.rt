@@ -9,7 +9,8 @@ use isolators::LoopLine;
 use site_types::{LoopPlan, Site};
 
 fn plan_of(plans: &[LoopPlan], panel: u8, line: u8) -> Option<&LoopPlan>
-    ensures { option_copied result ≡ find (λ plan. (plan.panel == panel) && (plan.line == line)) plans.now }
+    ensures { option_copied result ≡ find (λ plan. (plan.panel == panel) && (plan.line == line))
+        plans.now }
 {
     plans
         .iter()

@@ -8,7 +8,8 @@ use Rattle.output_delays.specs.Overrides.{AllUpTo}
 use Rattle.output_delays.specs.Runs.{Call, is_through, overrides_of}
 use Rattle.output_delays.specs.Stands.{StandsFor}
 
--- at a tick that isn't before any override, those outputs pass that are asked for in it and that no delay holds back
+-- at a tick that isn't before any override, those outputs pass that are asked for in it and that no delay
+-- holds back
 abbrev pub PassesRequests : Delays → ℕ → Requests → ℕ → Type 0
 PassesRequests delays tick requests passed =
     (site : Site) (panel : ℕ) (active : Bool) (calls : List Call)

@@ -31,7 +31,8 @@ abbrev pub AppliesOperation : Hold → Operation → ℕ → Hold → Type 0
 AppliesOperation old operation tick hold =
     (site : Site) (kept : Retained) (panel : ℕ) (done : List Done) (turns : List HoldTurn)
     → HoldsFor site kept panel done turns old → MayApply panel done turns operation tick
-    → HoldsFor site kept panel (record { tick = tick; panel = panel; operation = operation } ∷ done) turns hold
+    → HoldsFor site kept panel (record { tick = tick; panel = panel; operation = operation } ∷ done) turns
+    hold
 
 -- these findings are taken after those before
 abbrev pub WatchesMore : Hold → List Finding → Hold → Type 0
@@ -45,7 +46,8 @@ StaysSettled old hold =
     (site : Site) (kept : Retained) (panel : ℕ) (done : List Done) (taken : List Finding) (tick : ℕ)
     → Watches site kept panel done taken old → Settled tick old.zones → Settled tick hold.zones
 
--- at a tick that is not before that of the latest turn, it shows what follows from the findings taken and the operations done
+-- at a tick that is not before that of the latest turn, it shows what follows from the findings taken and the
+-- operations done
 abbrev pub ShowsWhatFollows : Hold → ℕ → Outside → Hold → Type 0
 ShowsWhatFollows old now outside hold =
     (site : Site) (kept : Retained) (panel : ℕ) (done : List Done) (taken : List Finding) (tick : ℕ)

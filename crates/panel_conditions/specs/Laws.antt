@@ -66,6 +66,7 @@ AnswersTellWord =
 -- and so do its faults
 abbrev pub AnswersTellFaults : Type 0
 AnswersTellFaults =
-    (site : Site) (kept : Retained) (panel tick : ℕ) (done : List Done) (answers : List Answer) (outside : Outside)
+    (site : Site) (kept : Retained) (panel tick : ℕ) (done : List Done) (answers : List Answer) (outside :
+    Outside)
     → faults_at site kept panel done (findings_of site kept panel done answers) tick outside
     ≡ answered_faults site kept panel done answers tick outside

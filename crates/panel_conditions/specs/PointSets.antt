@@ -1,5 +1,6 @@
 -- What is made of sets of points: one point put in or taken out, and two sets joined or parted.
-use Rattle.std.specs.Prelude.{ℕ, Bool, List, [], ◌∷◌, Option, Some, None, replicate, slice_index, slice_index_or, bit_or, bit_and, ◌&&◌, ◌==◌, nat_le, if◌then◌else◌}
+use Rattle.std.specs.Prelude.{ℕ, Bool, List, [], ◌∷◌, Option, Some, None, replicate, slice_index, slice_index_or}
+use Rattle.std.specs.Prelude.{bit_or, bit_and, ◌&&◌, ◌==◌, nat_le, if◌then◌else◌}
 use Rattle.std.specs.Int.{w128, bit_not}
 use Rattle.site_types.specs.declared.point.Point.{Point}
 use Rattle.site_types.specs.declared.point_set.PointSet.{PointSet}
@@ -30,7 +31,8 @@ either_line a b = bit_or (slice_index a 0) (slice_index b 0) ∷ bit_or (slice_i
 
 -- those with the points of the first that aren't in the second
 abbrev pub line_without : List ℕ → List ℕ → List ℕ
-line_without a b = bit_and (slice_index a 0) (bit_not w128 (slice_index b 0)) ∷ bit_and (slice_index a 1) (bit_not w128 (slice_index b 1)) ∷ []
+line_without a b = bit_and (slice_index a 0) (bit_not w128 (slice_index b 0))
+    ∷ bit_and (slice_index a 1) (bit_not w128 (slice_index b 1)) ∷ []
 
 -- the two numbers of a loop, counted from 0
 abbrev pub line_in : PointSet → ℕ → List ℕ

@@ -29,7 +29,10 @@ has_points set = on_line set 0 || (on_line set 1 || (on_line set 2 || on_line se
 abbrev pub has_fault : FaultSet → Bool
 has_fault f =
     has_points f.missing
-    || (not (f.broken == 0) || (not (f.shorted == 0) || (not (f.supply == 0) || (not (f.silent == 0) || (not (f.links == 0) || not (f.unconfirmed == 0))))))
+    || (not (f.broken == 0)
+    || (not (f.shorted == 0)
+    || (not (f.supply == 0)
+    || (not (f.silent == 0) || (not (f.links == 0) || not (f.unconfirmed == 0))))))
 
 -- the faults at a tick: missing points by the findings taken, the others as the other parts tell them
 abbrev pub faults_at : Site → Retained → ℕ → List Done → List Finding → ℕ → Outside → FaultSet
@@ -59,10 +62,12 @@ word_at site panel done taken tick fault =
 -- the faults shown after these turns
 abbrev pub faults_after : Site → Retained → ℕ → List Done → List HoldTurn → FaultSet
 faults_after site kept panel done [] = no_faults
-faults_after site kept panel done (turn ∷ before) = faults_at site kept panel done (findings_taken (turn ∷ before)) turn.tick turn.outside
+faults_after site kept panel done (turn ∷ before) =
+    faults_at site kept panel done (findings_taken (turn ∷ before)) turn.tick turn.outside
 
 -- the word after these turns
 abbrev pub word_after : Site → Retained → ℕ → List Done → List HoldTurn → Word
 word_after site kept panel done [] = empty_word
 word_after site kept panel done (turn ∷ before) =
-    word_at site panel done (findings_taken (turn ∷ before)) turn.tick (has_fault (faults_after site kept panel done (turn ∷ before)))
+    word_at site panel done (findings_taken (turn ∷ before)) turn.tick
+    (has_fault (faults_after site kept panel done (turn ∷ before)))

@@ -1,7 +1,8 @@
 ghost use Rattle.std.specs.Prelude.{◌≡◌, ◌&&◌, nat_lt, if◌then◌else◌};
 ghost use Rattle.site_types.specs.Bits.{has_bit};
 ghost use Rattle.site_types.specs.Done.{is_cancel};
-ghost use Rattle.panel_conditions.specs.Parts.{first_shows, on_watched, raises, stamp_if, zone_done, zone_shows, zone_taken};
+ghost use Rattle.panel_conditions.specs.Parts.{first_shows, on_watched, raises, stamp_if, zone_done, zone_shows};
+ghost use Rattle.panel_conditions.specs.Parts.{zone_taken};
 
 use crate::sign::Sign;
 use coincidence_rules::Finding;

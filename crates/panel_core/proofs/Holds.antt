@@ -35,17 +35,32 @@ use Rattle.panel_rules.proofs.Reports.{cable_told, is_line}
 use Rattle.panel_core.proofs.Steps.{held_findings, seen_more, seen_after_decide, decided_after_poll, seen}
 
 -- four flags as the bits of four loops
-four : (test : ℕ → Bool) (a b c d : Bool) → a ≡ test 1 → b ≡ test 2 → c ≡ test 3 → d ≡ test 4 → (k : ℕ) → k < 4 → slice_index_or (a ∷ b ∷ c ∷ d ∷ []) k false ≡ test (k + 1)
+four : (test : ℕ → Bool) (a b c d : Bool) → a ≡ test 1 → b ≡ test 2 → c ≡ test 3 → d ≡ test 4 → (k : ℕ) → k < 4
+    → slice_index_or (a ∷ b ∷ c ∷ d ∷ []) k false ≡ test (k + 1)
 four test a b c d p q r s zero l = p
 four test a b c d p q r s (suc zero) l = q
 four test a b c d p q r s (suc (suc zero)) l = r
 four test a b c d p q r s (suc (suc (suc zero))) l = s
 four test a b c d p q r s (suc (suc (suc (suc k)))) l = absurd (omega arith)
 
-pub outside_is : (site : Site) (panel : ℕ) (cables : ℕ → Cable) (one two three four' : LineStatus) (broken shorted : ℕ) → one ≡ status_on (loop_of site panel 1) (cables 1) → two ≡ status_on (loop_of site panel 2) (cables 2) → three ≡ status_on (loop_of site panel 3) (cables 3) → four' ≡ status_on (loop_of site panel 4) (cables 4) → broken ≡ mask_of 4 (λ k. slice_index_or (one.broken ∷ two.broken ∷ three.broken ∷ four'.broken ∷ []) k false) → shorted ≡ mask_of 4 (λ k. slice_index_or (one.shorted ∷ two.shorted ∷ three.shorted ∷ four'.shorted ∷ []) k false) → (let o : Outside = record { supply = 0; broken = broken; shorted = shorted; silent = 0; links = 0; unconfirmed = 0 } in o) ≡ outside_of site panel cables
+pub outside_is : (site : Site) (panel : ℕ) (cables : ℕ → Cable) (one two three four' : LineStatus) (broken shorted : ℕ)
+    → one ≡ status_on (loop_of site panel 1) (cables 1) → two ≡ status_on (loop_of site panel 2) (cables 2)
+    → three ≡ status_on (loop_of site panel 3) (cables 3) → four' ≡ status_on (loop_of site panel 4) (cables 4)
+    → broken ≡ mask_of 4 (λ k. slice_index_or (one.broken ∷ two.broken ∷ three.broken ∷ four'.broken ∷ []) k false)
+    → shorted ≡ mask_of 4 (λ k. slice_index_or (one.shorted ∷ two.shorted ∷ three.shorted ∷ four'.shorted ∷ []) k false)
+    → (let o : Outside = record { supply = 0; broken = broken; shorted = shorted; silent = 0; links = 0; unconfirmed = 0 } in o)
+    ≡ outside_of site panel cables
 outside_is site panel cables one two three four' broken shorted a b c d x y =
-    let opened = x ∙ mask_same 4 (λ k. slice_index_or (one.broken ∷ two.broken ∷ three.broken ∷ four'.broken ∷ []) k false) (λ k. (status_on (loop_of site panel (k + 1)) (cables (k + 1))).broken) (four (λ line. (status_on (loop_of site panel line) (cables line)).broken) one.broken two.broken three.broken four'.broken (ap (λ s. s.broken) a) (ap (λ s. s.broken) b) (ap (λ s. s.broken) c) (ap (λ s. s.broken) d)) in
-    let shorts = y ∙ mask_same 4 (λ k. slice_index_or (one.shorted ∷ two.shorted ∷ three.shorted ∷ four'.shorted ∷ []) k false) (λ k. (status_on (loop_of site panel (k + 1)) (cables (k + 1))).shorted) (four (λ line. (status_on (loop_of site panel line) (cables line)).shorted) one.shorted two.shorted three.shorted four'.shorted (ap (λ s. s.shorted) a) (ap (λ s. s.shorted) b) (ap (λ s. s.shorted) c) (ap (λ s. s.shorted) d)) in
+    let opened =
+    x ∙ mask_same 4 (λ k. slice_index_or (one.broken ∷ two.broken ∷ three.broken ∷ four'.broken ∷ []) k false)
+    (λ k. (status_on (loop_of site panel (k + 1)) (cables (k + 1))).broken)
+    (four (λ line. (status_on (loop_of site panel line) (cables line)).broken) one.broken two.broken three.broken four'.broken
+    (ap (λ s. s.broken) a) (ap (λ s. s.broken) b) (ap (λ s. s.broken) c) (ap (λ s. s.broken) d)) in
+    let shorts =
+    y ∙ mask_same 4 (λ k. slice_index_or (one.shorted ∷ two.shorted ∷ three.shorted ∷ four'.shorted ∷ []) k false)
+    (λ k. (status_on (loop_of site panel (k + 1)) (cables (k + 1))).shorted)
+    (four (λ line. (status_on (loop_of site panel line) (cables line)).shorted) one.shorted two.shorted three.shorted four'.shorted
+    (ap (λ s. s.shorted) a) (ap (λ s. s.shorted) b) (ap (λ s. s.shorted) c) (ap (λ s. s.shorted) d)) in
     ap (λ n. (let o : Outside = record { supply = 0; broken = n; shorted = shorted; silent = 0; links = 0; unconfirmed = 0 } in o)) opened
     ∙ ap (λ n. (let o : Outside = record { supply = 0; broken = mask_of 4 (λ k. (status_on (loop_of site panel (k + 1)) (cables (k + 1))).broken); shorted = n; silent = 0; links = 0; unconfirmed = 0 } in o)) shorts
 
@@ -65,40 +80,52 @@ module _ (site : Site) (panel : ℕ) (before : List Moment) where
       ap (λ n. (let o : Outside = record { supply = 0; broken = n; shorted = mask_of 4 (λ k. (status_on (loop_of site panel (k + 1)) (cables_told (k + 1))).shorted); silent = 0; links = 0; unconfirmed = 0 } in o)) (mask_same 4 (λ k. (status_on (loop_of site panel (k + 1)) (cables_told (k + 1))).broken) (λ k. (status_on (loop_of site panel (k + 1)) (cables_stood (k + 1))).broken) (λ k small. ap (λ c. (status_on (loop_of site panel (k + 1)) c).broken) (same_cables (k + 1) (omega arith) (omega (arith, small)))))
       ∙ ap (λ n. (let o : Outside = record { supply = 0; broken = mask_of 4 (λ k. (status_on (loop_of site panel (k + 1)) (cables_stood (k + 1))).broken); shorted = n; silent = 0; links = 0; unconfirmed = 0 } in o)) (mask_same 4 (λ k. (status_on (loop_of site panel (k + 1)) (cables_told (k + 1))).shorted) (λ k. (status_on (loop_of site panel (k + 1)) (cables_stood (k + 1))).shorted) (λ k small. ap (λ c. (status_on (loop_of site panel (k + 1)) c).shorted) (same_cables (k + 1) (omega arith) (omega (arith, small)))))
 
-own_turn : (site : Site) (kept : Retained) (done : List Done) (panel : ℕ) (before : List Moment) → hold_turns site kept done panel (Turned panel Hold ∷ before) ≡ hold_turn site kept done panel before ∷ hold_turns site kept done panel before
+own_turn : (site : Site) (kept : Retained) (done : List Done) (panel : ℕ) (before : List Moment)
+    → hold_turns site kept done panel (Turned panel Hold ∷ before) ≡ hold_turn site kept done panel before ∷ hold_turns site kept done panel before
 own_turn site kept done panel before = rw (eq_true panel panel refl) refl
 
-one_more : (site : Site) (kept : Retained) (done : List Done) (panel : ℕ) (before : List Moment) → findings_taken (hold_turns site kept done panel before) ≡ seen site kept done panel before → findings_taken (hold_turns site kept done panel (Turned panel Hold ∷ before)) ≡ seen site kept done panel (Turned panel Hold ∷ before)
+one_more : (site : Site) (kept : Retained) (done : List Done) (panel : ℕ) (before : List Moment)
+    → findings_taken (hold_turns site kept done panel before) ≡ seen site kept done panel before
+    → findings_taken (hold_turns site kept done panel (Turned panel Hold ∷ before)) ≡ seen site kept done panel (Turned panel Hold ∷ before)
 one_more site kept done panel before ih =
     ap findings_taken (own_turn site kept done panel before)
     ∙ ap (λ xs. xs ++ take (turn_count (finding_lane site kept done panel before)) (finding_lane site kept done panel before).items) ih
     ∙ seen_more site kept done panel before
 
 -- the findings of all turns are those that Hold has taken
-pub turns_seen : (site : Site) (kept : Retained) (done : List Done) (panel : ℕ) (before : List Moment) → findings_taken (hold_turns site kept done panel before) ≡ seen site kept done panel before
+pub turns_seen : (site : Site) (kept : Retained) (done : List Done) (panel : ℕ) (before : List Moment)
+    → findings_taken (hold_turns site kept done panel before) ≡ seen site kept done panel before
 turns_seen site kept done panel [] = refl
 turns_seen site kept done panel (Began ∷ before) = turns_seen site kept done panel before
 turns_seen site kept done panel (Happened event ∷ before) = turns_seen site kept done panel before
 turns_seen site kept done panel (Turned other Poll ∷ before) =
     elim (eqb_tells other panel) [
-      | inl t ↦ turns_seen site kept done panel before ∙ subst (λ p. seen site kept done panel before ≡ seen site kept done panel (Turned p Poll ∷ before)) (sym t.1) (ap (λ xs. take (taken_by_hold site panel before) (findings_of site kept panel done xs)) (decided_after_poll site panel before))
+      | inl t ↦
+          turns_seen site kept done panel before ∙ subst (λ p. seen site kept done panel before ≡ seen site kept done panel (Turned p Poll ∷ before))
+          (sym t.1) (ap (λ xs. take (taken_by_hold site panel before) (findings_of site kept panel done xs)) (decided_after_poll site panel before))
       | inr t ↦ rw t.0 (turns_seen site kept done panel before)
     ]
 turns_seen site kept done panel (Turned other Decide ∷ before) =
     elim (eqb_tells other panel) [
-      | inl t ↦ turns_seen site kept done panel before ∙ subst (λ p. seen site kept done panel before ≡ seen site kept done panel (Turned p Decide ∷ before)) (sym t.1) (seen_after_decide site kept done panel before)
+      | inl t ↦
+          turns_seen site kept done panel before ∙ subst
+          (λ p. seen site kept done panel before ≡ seen site kept done panel (Turned p Decide ∷ before)) (sym t.1)
+          (seen_after_decide site kept done panel before)
       | inr t ↦ rw t.0 (turns_seen site kept done panel before)
     ]
 turns_seen site kept done panel (Turned other Hold ∷ before) =
     elim (eqb_tells other panel) [
-      | inl t ↦ subst (λ p. findings_taken (hold_turns site kept done panel (Turned p Hold ∷ before)) ≡ seen site kept done panel (Turned p Hold ∷ before)) (sym t.1) (one_more site kept done panel before (turns_seen site kept done panel before))
+      | inl t ↦
+          subst (λ p. findings_taken (hold_turns site kept done panel (Turned p Hold ∷ before)) ≡ seen site kept done panel (Turned p Hold ∷ before))
+          (sym t.1) (one_more site kept done panel before (turns_seen site kept done panel before))
       | inr t ↦ rw t.0 (turns_seen site kept done panel before)
     ]
 turns_seen site kept done panel (Turned other task ∷ before) = turns_seen site kept done panel before
 turns_seen site kept done panel (Kept failed ∷ before) = turns_seen site kept done panel before
 
 -- and the latest turn's tick is that of Hold's latest turn
-pub turns_tick : (site : Site) (kept : Retained) (done : List Done) (panel : ℕ) (before : List Moment) → latest_tick (hold_turns site kept done panel before) ≡ latest_turn panel Hold before
+pub turns_tick : (site : Site) (kept : Retained) (done : List Done) (panel : ℕ) (before : List Moment)
+    → latest_tick (hold_turns site kept done panel before) ≡ latest_turn panel Hold before
 turns_tick site kept done panel [] = refl
 turns_tick site kept done panel (Began ∷ before) = turns_tick site kept done panel before
 turns_tick site kept done panel (Happened event ∷ before) = turns_tick site kept done panel before
@@ -110,15 +137,54 @@ turns_tick site kept done panel (Turned other Hold ∷ before) =
 turns_tick site kept done panel (Turned other task ∷ before) = turns_tick site kept done panel before
 turns_tick site kept done panel (Kept failed ∷ before) = turns_tick site kept done panel before
 
-pub after_hold : (site : Site) (kept : Retained) (panel : ℕ) (before : List Moment) (parts : Parts) (hold : HoldPart) (findings' : LaneState Finding) (outside : Outside) (now : ℕ) → PanelStands site kept panel before parts → now ≡ tick_of before → IsRun site.panels (Turned panel Hold ∷ before) → outside ≡ outside_of site panel (told_cable (reports site panel before)) → findings' ≡ after_turn parts.findings → (HoldsFor site kept panel [] (hold_turns site kept [] panel before) parts.hold → MayTurn [] (hold_turns site kept [] panel before) now → HoldsFor site kept panel [] ((let t : HoldTurn = record { tick = now; found = take (turn_count parts.findings) parts.findings.items; outside = outside } in t) ∷ hold_turns site kept [] panel before) hold) → PanelStands site kept panel (Turned panel Hold ∷ before) (record { poller = parts.poller; decide = parts.decide; hold = hold; answers = parts.answers; findings = findings' })
+pub after_hold : (site : Site) (kept : Retained) (panel : ℕ) (before : List Moment) (parts : Parts) (hold : HoldPart) (findings' : LaneState Finding)
+    (outside : Outside) (now : ℕ) → PanelStands site kept panel before parts → now ≡ tick_of before → IsRun site.panels (Turned panel Hold ∷ before)
+    → outside ≡ outside_of site panel (told_cable (reports site panel before)) → findings' ≡ after_turn parts.findings
+    → (HoldsFor site kept panel [] (hold_turns site kept [] panel before) parts.hold → MayTurn [] (hold_turns site kept [] panel before) now
+    → HoldsFor site kept panel []
+    ((let t : HoldTurn = record { tick = now; found = take (turn_count parts.findings) parts.findings.items; outside = outside } in t)
+    ∷ hold_turns site kept [] panel before) hold)
+    → PanelStands site kept panel (Turned panel Hold ∷ before) (record {
+      poller = parts.poller;
+      decide = parts.decide;
+      hold = hold;
+      answers =
+          parts.answers;
+      findings = findings';
+    })
 after_hold site kept panel before parts hold findings' outside now h tick run told taken held =
     let lag = rw run.1 at (turn_lag site.panels panel Hold before h.member tt run.0) in
-    let may : MayTurn [] (hold_turns site kept [] panel before) now = record { later = omega (arith, turns_tick site kept [] panel before, lag, tick); since = tt } in
+    let may : MayTurn [] (hold_turns site kept [] panel before) now =
+    record { later = omega (arith, turns_tick site kept [] panel before, lag, tick); since = tt } in
     let turns = hold_turns site kept [] panel before in
     let first = held h.holds may in
-    let second = subst (λ (l : LaneState Finding). HoldsFor site kept panel [] ((let t : HoldTurn = record { tick = now; found = take (turn_count l) l.items; outside = outside } in t) ∷ turns) hold) h.findings first in
-    let third = subst (λ n. HoldsFor site kept panel [] ((let t : HoldTurn = record { tick = n; found = take (turn_count (finding_lane site kept [] panel before)) (finding_lane site kept [] panel before).items; outside = outside } in t) ∷ turns) hold) tick second in
-    let fourth = subst (λ o. HoldsFor site kept panel [] ((let t : HoldTurn = record { tick = tick_of before; found = take (turn_count (finding_lane site kept [] panel before)) (finding_lane site kept [] panel before).items; outside = o } in t) ∷ turns) hold) (told ∙ outside_told site panel before) third in
+    let second =
+    subst
+    (λ (l : LaneState Finding).
+    HoldsFor site kept panel [] ((let t : HoldTurn = record { tick = now; found = take (turn_count l) l.items; outside = outside } in t) ∷ turns)
+    hold) h.findings first in
+    let third =
+    subst
+    (λ n.
+    HoldsFor site kept panel []
+    ((let t : HoldTurn =
+    record {
+      tick = n;
+      found = take (turn_count (finding_lane site kept [] panel before)) (finding_lane site kept [] panel before).items;
+      outside = outside;
+    } in t) ∷ turns) hold) tick second in
+    let fourth =
+    subst
+    (λ o.
+    HoldsFor site kept panel []
+    ((let t : HoldTurn =
+    record {
+      tick = tick_of before;
+      found =
+          take (turn_count (finding_lane site kept [] panel before)) (finding_lane site kept [] panel before).items;
+      outside = o;
+    } in t) ∷ turns) hold)
+    (told ∙ outside_told site panel before) third in
     record {
       member = h.member;
       polls = h.polls;

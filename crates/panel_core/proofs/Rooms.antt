@@ -26,12 +26,25 @@ module _ (site : Site) (panel : ℕ) (before : List Moment) (p : IsPanel site.pa
   pub room_for_poll : IsRun site.panels (Turned panel Poll ∷ before) → HasRoom (answer_lane site panel before) 32
   room_for_poll run =
       let lie = answers_lie site site.panels panel before p run.0 in
-      let half = half_full _ _ _ _ _ run.1 lie in
-      (omega (arith, length-drop (taken_by_decide site panel before) (answers site panel before), half), counted (answer_count site panel before) (has_turned panel Poll before) (tick_of before) (answers_few site site.panels panel before p run.0) few)
+      let half = half_full _ _ _ _ _ run.1 lie in (
+        omega (arith, length-drop (taken_by_decide site panel before) (answers site panel before), half),
+        counted (answer_count site panel before) (has_turned panel Poll before) (tick_of before) (answers_few site site.panels panel before p run.0)
+            few,
+      )
 
-  pub room_for_decide : (kept : Retained) (done : List Done) → IsRun site.panels (Turned panel Decide ∷ before) → HasRoom (finding_lane site kept done panel before) 32
+  pub room_for_decide : (kept : Retained) (done : List Done) → IsRun site.panels (Turned panel Decide ∷ before)
+      → HasRoom (finding_lane site kept done panel before) 32
   room_for_decide kept done run =
       let lie = findings_lie site site.panels panel before p run.0 in
       let half = half_full _ _ _ _ _ run.1 lie in
-      let count = counted (answer_count site panel before) (has_turned panel Poll before) (tick_of before) (answers_few site site.panels panel before p run.0) few in
-      (omega (arith, length-drop (taken_by_hold site panel before) (found site kept done panel before), found_length site kept done panel before, half), omega (arith, count, decide_behind site panel before))
+      let count =
+      counted (answer_count site panel before) (has_turned panel Poll before) (tick_of before) (answers_few site site.panels panel before p run.0)
+      few in (
+        omega (
+          arith,
+          length-drop (taken_by_hold site panel before) (found site kept done panel before),
+          found_length site kept done panel before,
+          half,
+        ),
+        omega (arith, count, decide_behind site panel before),
+      )

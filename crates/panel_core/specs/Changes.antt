@@ -34,7 +34,8 @@ HearsPiece old line piece state parts =
 abbrev pub MakesTurn : Parts → Task → ℕ → Parts → Type 0
 MakesTurn old task tick parts =
     (site : Site) (kept : Retained) (panel : ℕ) (before : List Moment)
-    → PanelStands site kept panel before old → tick ≡ tick_of before → IsRun site.panels (Turned panel task ∷ before)
+    → PanelStands site kept panel before old → tick ≡ tick_of before
+    → IsRun site.panels (Turned panel task ∷ before)
     → PanelStands site kept panel (Turned panel task ∷ before) parts
 
 -- ---- all panels

@@ -1,4 +1,5 @@
--- What the zones mean that a panel shows of its own, in each run that the system stands for. Bit `number - 1` is a zone's.
+-- What the zones mean that a panel shows of its own, in each run that the system stands for. Bit `number - 1`
+-- is a zone's.
 use Rattle.std.specs.Prelude.{◌≡◌, ◌⊎◌, ◌-◌, ℕ, true, [], List, Some, slice_get}
 use Rattle.tick_units.specs.declared.task.Task.TheVariants.{Hold}
 use Rattle.site_types.specs.declared.retained.Retained.{Retained}

@@ -20,7 +20,8 @@ use Rattle.panel_core.specs.Lanes.{answer_lane, finding_lane, decided}
 use Rattle.panel_core.specs.Turns.{hold_turns}
 
 -- a panel of a site
-pub record PanelStands (site : Site) (kept : Retained) (panel : ℕ) (before : List Moment) (parts : Parts) : Type 0 where
+pub record PanelStands (site : Site) (kept : Retained) (panel : ℕ) (before : List Moment) (parts : Parts) :
+    Type 0 where
   pub member : IsPanel site.panels panel
   pub polls : PollsFor site panel (reports site panel before) parts.poller
   pub answers : parts.answers ≡ answer_lane site panel before
@@ -45,7 +46,8 @@ pub record StandsFor (site : Site) (kept : Retained) (before : List Moment) (sys
   pub same : system.site ≡ site
   pub tick : system.tick.0 ≡ tick_of before
   pub count : length system.panels.items ≡ site.panels
-  pub each : (place : ℕ) (parts : Parts) → slice_get system.panels.items place ≡ Some parts → PanelStands site kept (place + 1) before parts
+  pub each : (place : ℕ) (parts : Parts) → slice_get system.panels.items place ≡ Some parts
+      → PanelStands site kept (place + 1) before parts
 
 -- the system stands for some run of ordered ticks in which these turns may come next
 pub record MayTurnAll (order : List Seat) (system : System) : Type 0 where

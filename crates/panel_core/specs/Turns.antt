@@ -15,7 +15,8 @@ use Rattle.panel_rules.specs.Moments.{Moment, Began, Happened, Turned, Kept, tic
 use Rattle.panel_rules.specs.States.{piece_of}
 use Rattle.panel_core.specs.Lanes.{finding_lane}
 
--- what is told from outside, with the cables of the panel's loops in these states: the loops with an open and with a short piece
+-- what is told from outside, with the cables of the panel's loops in these states: the loops with an open and
+-- with a short piece
 abbrev pub outside_of : Site → ℕ → (ℕ → Cable) → Outside
 outside_of site panel cables =
     record {
@@ -35,7 +36,9 @@ abbrev pub hold_turn : Site → Retained → List Done → ℕ → List Moment �
 hold_turn site kept done panel before =
     record {
       tick = tick_of before;
-      found = take (turn_count (finding_lane site kept done panel before)) (finding_lane site kept done panel before).items;
+      found =
+          take (turn_count (finding_lane site kept done panel before))
+          (finding_lane site kept done panel before).items;
       outside = outside_at site panel before;
     }
 
@@ -45,6 +48,7 @@ hold_turns site kept done panel [] = []
 hold_turns site kept done panel (Began ∷ before) = hold_turns site kept done panel before
 hold_turns site kept done panel (Happened event ∷ before) = hold_turns site kept done panel before
 hold_turns site kept done panel (Turned other Hold ∷ before) =
-    if other == panel then hold_turn site kept done panel before ∷ hold_turns site kept done panel before else hold_turns site kept done panel before
+    if other == panel then hold_turn site kept done panel before
+    ∷ hold_turns site kept done panel before else hold_turns site kept done panel before
 hold_turns site kept done panel (Turned other task ∷ before) = hold_turns site kept done panel before
 hold_turns site kept done panel (Kept failed ∷ before) = hold_turns site kept done panel before

@@ -1,4 +1,5 @@
--- What the answers of operations say: one that was denied needed level 2 to 4 and had less, and each that wasn't busy was among the first of its panel and tick.
+-- What the answers of operations say: one that was denied needed level 2 to 4 and had less, and each that wasn't busy was among the first of its
+-- panel and tick.
 use Rattle.std.proofs.Common.{◌≡◌, ℕ, ◌≤◌, ◌<◌, ◌⊎◌, inl, inr, Bool, true, false, List, [], ◌∷◌, Option, Some, None, if◌then◌else◌, refl, sym, ◌∙◌, ap, subst, arith}
 use Rattle.std.specs.Prelude.{nat_le, nat_lt, option_map, slice_index_or}
 use Rattle.std.specs.List.{AllByRecursion}
@@ -17,7 +18,10 @@ use Rattle.face_text.specs.declared.reply.Reply.{Reply as TextReply}
 use Rattle.face_text.specs.declared.reply.Reply.TheVariants.{Done as DoneText, Denied as DeniedText, Waiting as WaitingText, Already as AlreadyText, Store as StoreText}
 use Rattle.face_text.specs.Timelines.{IsReply}
 use Rattle.panel_rules.specs.Moments.{Moment, Began, Happened, Turned, Kept, tick_of}
-use Rattle.panel_rules.specs.Operations.{Request, Reply, Busy, Denied, Waiting, Already, Store, WasDone, Answered, Operations, requests_in, requests, setting_asked, is_unsettled, stands_so, setting_reply, desk_reply, after_reply, after_request, after_desk, keep_reply, answer_all, operations}
+use Rattle.panel_rules.specs.Operations.{Request, Reply, Busy, Denied, Waiting, Already, Store, WasDone, Answered}
+use Rattle.panel_rules.specs.Operations.{Operations, requests_in, requests, setting_asked, is_unsettled, stands_so}
+use Rattle.panel_rules.specs.Operations.{setting_reply, desk_reply, after_reply, after_request, after_desk}
+use Rattle.panel_rules.specs.Operations.{keep_reply, answer_all, operations}
 use Rattle.panel_rules.specs.Timeline.{is_busy, told_answer, told_reply}
 use Rattle.panel_rules.proofs.Counting.{each_at, each_filtered, each_more}
 use Rattle.panel_rules.proofs.Floors.{lt_from}
@@ -44,7 +48,8 @@ pub record IsTold (a : Answered) : Type 0 where
 pub is_told_or_busy : (a : Answered) → ((told_answer a ≡ None) × (is_busy a.reply ≡ true)) ⊎ IsTold a
 is_told_or_busy a = go a.reply refl
   where
-    told_as : (reply : Reply) (text : TextReply) → a.reply ≡ reply → told_reply reply ≡ Some text → is_busy reply ≡ false → (IsGiven reply → IsReply text) → IsTold a
+    told_as : (reply : Reply) (text : TextReply) → a.reply ≡ reply → told_reply reply ≡ Some text → is_busy reply ≡ false
+        → (IsGiven reply → IsReply text) → IsTold a
     told_as reply text e told free given =
         record {
           op = record { number = a.request.number; reply = text };
@@ -91,7 +96,8 @@ level_some false false true = omega arith
 level_some false false false = omega arith
 
 level_in_least : (lists : List (List (List ℕ))) (digest : List ℕ) → 1 ≤ level_in lists digest
-level_in_least lists digest = level_some (holds (slice_index_or lists 2 []) digest) (holds (slice_index_or lists 1 []) digest) (holds (slice_index_or lists 0 []) digest)
+level_in_least lists digest =
+    level_some (holds (slice_index_or lists 2 []) digest) (holds (slice_index_or lists 1 []) digest) (holds (slice_index_or lists 0 []) digest)
 
 level_least : (site : Site) (code : Option (List ℕ)) → 1 ≤ level_of site code
 level_least site None = omega arith
@@ -103,7 +109,8 @@ HasLevel r = 1 ≤ r.level
 levels : (site : Site) (moments : List Moment) → AllByRecursion HasLevel (requests site moments)
 levels site [] = tt
 levels site (Began ∷ before) = levels site before
-levels site (Happened (Op panel code operation) ∷ before) = each_more HasLevel (requests site before) _ (levels site before) (level_least site (option_map (λ label. label.bytes) code))
+levels site (Happened (Op panel code operation) ∷ before) =
+    each_more HasLevel (requests site before) _ (levels site before) (level_least site (option_map (λ label. label.bytes) code))
 levels site (Happened (Point point state) ∷ before) = levels site before
 levels site (Happened (Cable panel line piece state) ∷ before) = levels site before
 levels site (Happened (Supply panel kind bad) ∷ before) = levels site before
@@ -137,7 +144,9 @@ module _ (site : Site) (kept : Retained) (r : Request) (so_far : Operations) (le
       by_rows false false = l
 
   by_row : (busy denied : Bool) → nat_le most_operations r.earlier ≡ busy → nat_lt r.level (needed_by r.operation) ≡ denied →
-      FitsOption r (if busy then Some Busy else (if denied then Some (Denied (needed_by r.operation) r.level) else setting_reply site kept r so_far (setting_asked r)))
+      FitsOption r
+      (if busy then Some Busy else (if denied then Some (Denied (needed_by r.operation) r.level) else setting_reply site kept r so_far
+      (setting_asked r)))
   by_row true denied b d = record { given = tt; early = λ e. absurd cc }
   by_row false true b d =
       let least = level in
@@ -168,18 +177,22 @@ reply_fits : (r : Request) (so_far : Operations) (reply : Option Reply) → Fits
 reply_fits r so_far None f h = record { answers = h.answers; waiting = each_more IsEarly so_far.waiting r h.waiting f }
 reply_fits r so_far (Some reply) f h = record { answers = (f, h.answers); waiting = h.waiting }
 
-all_desk : (site : Site) (kept : Retained) (taken : List Request) (so_far : Operations) → AllByRecursion HasLevel taken → AreFit so_far → AreFit (after_desk site kept taken so_far)
+all_desk : (site : Site) (kept : Retained) (taken : List Request) (so_far : Operations) → AllByRecursion HasLevel taken → AreFit so_far
+    → AreFit (after_desk site kept taken so_far)
 all_desk site kept [] so_far all h = h
 all_desk site kept (r ∷ taken) so_far all h =
-    all_desk site kept taken (after_request site kept so_far r) all.1 (reply_fits r so_far (desk_reply site kept r so_far) (desk_fits site kept r so_far all.0) h)
+    all_desk site kept taken (after_request site kept so_far r) all.1
+    (reply_fits r so_far (desk_reply site kept r so_far) (desk_fits site kept r so_far all.0) h)
 
 kept_fits : (r : Request) (failed : Bool) → r.earlier < 4 → Fits r (keep_reply failed)
 kept_fits r true l = early_reply r Store tt l
 kept_fits r false l = early_reply r WasDone tt l
 
-all_kept : (tick : ℕ) (failed : Bool) (waiting : List Request) (answers : List Answered) → AllByRecursion IsEarly waiting → AllByRecursion IsFit answers → AllByRecursion IsFit (answer_all tick failed waiting answers)
+all_kept : (tick : ℕ) (failed : Bool) (waiting : List Request) (answers : List Answered) → AllByRecursion IsEarly waiting
+    → AllByRecursion IsFit answers → AllByRecursion IsFit (answer_all tick failed waiting answers)
 all_kept tick failed [] answers all h = h
-all_kept tick failed (r ∷ waiting) answers all h = all_kept tick failed waiting (record { request = r; tick = tick; reply = keep_reply failed } ∷ answers) all.1 (kept_fits r failed all.0, h)
+all_kept tick failed (r ∷ waiting) answers all h =
+    all_kept tick failed waiting (record { request = r; tick = tick; reply = keep_reply failed } ∷ answers) all.1 (kept_fits r failed all.0, h)
 
 pub answers_fit : (site : Site) (kept : Retained) (moments : List Moment) → AreFit (operations site kept moments)
 answers_fit site kept [] = record { answers = tt; waiting = tt }
@@ -188,9 +201,15 @@ answers_fit site kept (Happened event ∷ before) = let h = answers_fit site kep
 answers_fit site kept (Turned panel Desk ∷ before) =
     let h =
     all_desk site kept (requests_in panel (tick_of before) (requests site before)) (operations site kept before)
-    (each_filtered HasLevel _ (requests site before) (λ k r is t. each_at HasLevel (requests site before) k r (levels site before) is)) (answers_fit site kept before) in
+    (each_filtered HasLevel _ (requests site before) (λ k r is t. each_at HasLevel (requests site before) k r (levels site before) is))
+    (answers_fit site kept before) in
     record { answers = h.answers; waiting = h.waiting }
 answers_fit site kept (Turned panel task ∷ before) = let h = answers_fit site kept before in record { answers = h.answers; waiting = h.waiting }
 answers_fit site kept (Kept failed ∷ before) =
     let h = answers_fit site kept before in
-    record { answers = all_kept (tick_of before) failed (operations site kept before).waiting (operations site kept before).answers h.waiting h.answers; waiting = tt }
+    record {
+      answers =
+          all_kept (tick_of before) failed (operations site kept before).waiting (operations site kept before).answers h.waiting h.answers;
+      waiting =
+          tt;
+    }

@@ -1,5 +1,7 @@
 -- The answers of a tick: they rise by number, at most 64 are told by number, and only panels of the site are busy.
-use Rattle.std.proofs.Common.{◌≡◌, ℕ, zero, suc, ◌+◌, ◌-◌, ◌^◌, ◌≤◌, ◌<◌, ◌==◌, ◌&&◌, inl, inr, not, Bool, true, false, List, [], ◌∷◌, length, get_or, map, Option, Some, None, slice_get, if◌then◌else◌, refl, sym, ◌∙◌, ap, subst, arith, length-append}
+use Rattle.std.proofs.Common.{◌≡◌, ℕ, zero, suc, ◌+◌, ◌-◌, ◌^◌, ◌≤◌, ◌<◌, ◌==◌, ◌&&◌, inl, inr, not, Bool, true}
+use Rattle.std.proofs.Common.{false, List, [], ◌∷◌, length, get_or, map, Option, Some, None, slice_get, if◌then◌else◌}
+use Rattle.std.proofs.Common.{refl, sym, ◌∙◌, ap, subst, arith, length-append}
 use Rattle.std.specs.Prelude.{filter, nat_le, nat_lt, option_map, slice_index}
 use Rattle.std.specs.List.{cons_option, filter_map, find, range_with_len}
 use Rattle.std.proofs.lemmas.Bool.Decides.{eqb_tells, leb_tells}
@@ -46,7 +48,8 @@ record IsFound (answers : List Answered) (tick : ℕ) (r : Request) (a : Answere
   number : a.request.number ≡ r.number
   tick_is : a.tick ≡ tick
 
-found : (site : Site) (kept : Retained) (answers : List Answered) (tick : ℕ) (r : Request) (a : Answered) → answer_in site kept tick answers r ≡ Some a → IsFound answers tick r a
+found : (site : Site) (kept : Retained) (answers : List Answered) (tick : ℕ) (r : Request) (a : Answered)
+    → answer_in site kept tick answers r ≡ Some a → IsFound answers tick r a
 found site kept answers tick r a h =
     let g = find_got (λ (x : Answered). (x.request.number == r.number) && (x.tick == tick)) answers a h in
     let p = parts (a.request.number == r.number) (a.tick == tick) g.passes in
@@ -63,35 +66,40 @@ shifted most past n l = omega (arith, l)
 number_small : (most past n number : ℕ) → number ≡ past + 0 + 1 → past + suc n < most → number < most
 number_small most past n number e l = omega (arith, e, l)
 
-module _ (look : Request → Option Answered) (sound : (r : Request) (a : Answered) → look r ≡ Some a → (a.request.number ≡ r.number) × IsGiven a.reply) where
-  abbrev told_of : List Request → List OpAnswer
-  told_of asked = filter_map told_answer (filter_map look asked)
+module _ (look : Request → Option Answered) (sound : (r : Request) (a : Answered) → look r ≡ Some a → (a.request.number ≡ r.number) × IsGiven a.reply)
+  where
+    abbrev told_of : List Request → List OpAnswer
+    told_of asked = filter_map told_answer (filter_map look asked)
 
-  rising : (asked : List Request) (past bound : ℕ) → ((k : ℕ) (r : Request) → slice_get asked k ≡ Some r → r.number ≡ past + k + 1) → past + length asked < 2 ^ 64 → bound ≤ past + 1 → AreOpAnswers bound (told_of asked)
-  rising [] past bound numbered few low = tt
-  rising (r ∷ asked) past bound numbered few low =
-      go (look r) refl
-      (λ next l. rising asked (past + 1) next (λ k x e. (let m = numbered (suc k) x e in omega (arith, m))) (shifted (2 ^ 64) past (length asked) few) l)
-    where
-      by : (a : Answered) → look r ≡ Some a → ((next : ℕ) → next ≤ past + 1 + 1 → AreOpAnswers next (told_of asked)) → (o : Option OpAnswer) → told_answer a ≡ o → AreOpAnswers bound (cons_option o (told_of asked))
-      by a e ih None t = ih bound (omega (arith, low))
-      by a e ih (Some op) t =
-          elim (is_told_or_busy a) [
-            | inl h ↦ (let x : None ≡ Some op = sym h.0 ∙ t in absurd cc)
-            | inr h ↦
-                (let s = sound r a e in
-                let same = some_same h.op op (sym h.is ∙ t) in
-                let number : op.number ≡ past + 0 + 1 = ap (λ (x : OpAnswer). x.number) (sym same) ∙ h.number ∙ s.0 ∙ numbered 0 r refl in (
-                  omega (arith, low, number),
-                  number_small (2 ^ 64) past (length asked) op.number number few,
-                  subst (λ (x : OpAnswer). IsReply x.reply) same (h.given s.1),
-                  ih (suc op.number) (omega (arith, number)),
-                ))
-          ]
+    rising : (asked : List Request) (past bound : ℕ) → ((k : ℕ) (r : Request) → slice_get asked k ≡ Some r → r.number ≡ past + k + 1)
+        → past + length asked < 2 ^ 64 → bound ≤ past + 1 → AreOpAnswers bound (told_of asked)
+    rising [] past bound numbered few low = tt
+    rising (r ∷ asked) past bound numbered few low =
+        go (look r) refl
+        (λ next l. rising asked (past + 1) next (λ k x e. (let m = numbered (suc k) x e in omega (arith, m))) (shifted (2 ^ 64) past (length asked) few)
+        l)
+      where
+        by : (a : Answered) → look r ≡ Some a → ((next : ℕ) → next ≤ past + 1 + 1 → AreOpAnswers next (told_of asked)) → (o : Option OpAnswer)
+            → told_answer a ≡ o → AreOpAnswers bound (cons_option o (told_of asked))
+        by a e ih None t = ih bound (omega (arith, low))
+        by a e ih (Some op) t =
+            elim (is_told_or_busy a) [
+              | inl h ↦ (let x : None ≡ Some op = sym h.0 ∙ t in absurd cc)
+              | inr h ↦
+                  (let s = sound r a e in
+                  let same = some_same h.op op (sym h.is ∙ t) in
+                  let number : op.number ≡ past + 0 + 1 = ap (λ (x : OpAnswer). x.number) (sym same) ∙ h.number ∙ s.0 ∙ numbered 0 r refl in (
+                    omega (arith, low, number),
+                    number_small (2 ^ 64) past (length asked) op.number number few,
+                    subst (λ (x : OpAnswer). IsReply x.reply) same (h.given s.1),
+                    ih (suc op.number) (omega (arith, number)),
+                  ))
+            ]
 
-      go : (o : Option Answered) → look r ≡ o → ((next : ℕ) → next ≤ past + 1 + 1 → AreOpAnswers next (told_of asked)) → AreOpAnswers bound (filter_map told_answer (cons_option o (filter_map look asked)))
-      go None e ih = ih bound (omega (arith, low))
-      go (Some a) e ih = by a e ih (told_answer a) refl
+        go : (o : Option Answered) → look r ≡ o → ((next : ℕ) → next ≤ past + 1 + 1 → AreOpAnswers next (told_of asked))
+            → AreOpAnswers bound (filter_map told_answer (cons_option o (filter_map look asked)))
+        go None e ih = ih bound (omega (arith, low))
+        go (Some a) e ih = by a e ih (told_answer a) refl
 
 -- ---- lists are short
 
@@ -116,7 +124,9 @@ requests_short site [] = omega arith
 requests_short site (Began ∷ before) = let ih = requests_short site before in omega (arith, ih)
 requests_short site (Happened (Op panel code operation) ∷ before) =
     let ih = requests_short site before in
-    let more = length-append (requests site before) (request_of (tick_of before) panel (level_of site (option_map (λ label. label.bytes) code)) operation (requests site before) ∷ []) in
+    let more =
+    length-append (requests site before) (request_of (tick_of before) panel (level_of site (option_map (λ label. label.bytes) code)) operation
+    (requests site before) ∷ []) in
     omega (arith, ih, more)
 requests_short site (Happened (Point point state) ∷ before) = let ih = requests_short site before in omega (arith, ih)
 requests_short site (Happened (Cable panel line piece state) ∷ before) = let ih = requests_short site before in omega (arith, ih)
@@ -146,7 +156,11 @@ told_in_time : (tick : ℕ) (r : Request) → 1 ≤ r.panel → r.panel ≤ 8 �
 told_in_time tick r one eight early low high =
     elim (eqb_tells r.tick tick) [
       | inl h ↦ either_left (is_early_up_to 8 tick r) (is_early_up_to 8 (tick - 1) r) (early_in tick r one eight early h.1)
-      | inr h ↦ (let apart = h.1 in either_right (is_early_up_to 8 tick r) (is_early_up_to 8 (tick - 1) r) (early_in (tick - 1) r one eight early (omega (arith, low, high, apart))))
+      | inr h ↦
+          (let apart =
+          h.1 in
+          either_right (is_early_up_to 8 tick r) (is_early_up_to 8 (tick - 1) r)
+          (early_in (tick - 1) r one eight early (omega (arith, low, high, apart))))
     ]
 
 -- ---- the answers of a run's last tick
@@ -156,9 +170,11 @@ module _ (site : Site) (kept : Retained) (moments : List Moment) (can : CanBeTol
   all_answers = (operations site kept moments).answers
 
   fit_at : (r : Request) (a : Answered) → answer_in site kept (tick_of moments) all_answers r ≡ Some a → IsFit a
-  fit_at r a e = let f = found site kept all_answers (tick_of moments) r a e in each_at IsFit all_answers f.place a (answers_fit site kept moments).answers f.is
+  fit_at r a e = let f = found site kept all_answers (tick_of moments) r a e in
+      each_at IsFit all_answers f.place a (answers_fit site kept moments).answers f.is
 
-  request_is : (k : ℕ) (r : Request) (a : Answered) → slice_get (requests site moments) k ≡ Some r → answer_in site kept (tick_of moments) all_answers r ≡ Some a → a.request ≡ r
+  request_is : (k : ℕ) (r : Request) (a : Answered) → slice_get (requests site moments) k ≡ Some r
+      → answer_in site kept (tick_of moments) all_answers r ≡ Some a → a.request ≡ r
   request_is k r a is e =
       let f = found site kept all_answers (tick_of moments) r a e in
       let asked = answers_are_to site kept moments f.place a can.run f.is in
@@ -166,14 +182,17 @@ module _ (site : Site) (kept : Retained) (moments : List Moment) (can : CanBeTol
 
   ops_rise : AreOpAnswers 0 (filter_map told_answer (answers_now site kept moments))
   ops_rise =
-      rising (answer_in site kept (tick_of moments) all_answers) (λ r a e. ((found site kept all_answers (tick_of moments) r a e).number, (fit_at r a e).given)) (requests site moments) 0 0
+      rising (answer_in site kept (tick_of moments) all_answers)
+      (λ r a e. ((found site kept all_answers (tick_of moments) r a e).number, (fit_at r a e).given)) (requests site moments) 0 0
       (λ k r is. (let m = numbered_by_place site moments k r is in omega (arith, m)))
-      (small (2 ^ 64) (0 + length (requests site moments)) (length (requests site moments)) (length moments) (omega arith) (requests_short site moments) can.few) (omega arith)
+      (small (2 ^ 64) (0 + length (requests site moments)) (length (requests site moments)) (length moments) (omega arith)
+      (requests_short site moments) can.few) (omega arith)
 
   panels_few : site.panels ≤ 8
   panels_few = can.valid.forms.panels.1
 
-  passes : (k : ℕ) (r : Request) (a : Answered) → slice_get (requests site moments) k ≡ Some r → answer_in site kept (tick_of moments) all_answers r ≡ Some a → is_busy a.reply ≡ false → can_be_told (tick_of moments) r ≡ true
+  passes : (k : ℕ) (r : Request) (a : Answered) → slice_get (requests site moments) k ≡ Some r
+      → answer_in site kept (tick_of moments) all_answers r ≡ Some a → is_busy a.reply ≡ false → can_be_told (tick_of moments) r ≡ true
   passes k r a is e free =
       let f = found site kept all_answers (tick_of moments) r a e in
       let asked = answers_are_to site kept moments f.place a can.run f.is in
@@ -219,7 +238,8 @@ module _ (site : Site) (kept : Retained) (moments : List Moment) (can : CanBeTol
   counts_small place =
       elim (leb_tells 8 place) [
         | inl h ↦ small (2 ^ 64) (slice_index (map busy_of (range_with_len 1 8)) place) 0 (length moments) (busy_past place h.1) (omega arith) can.few
-        | inr h ↦ small (2 ^ 64) (slice_index (map busy_of (range_with_len 1 8)) place) (busy_of (1 + place)) (length moments) (busy_at place h.1) (busy_few (1 + place)) can.few
+        | inr h ↦ small (2 ^ 64) (slice_index (map busy_of (range_with_len 1 8)) place) (busy_of (1 + place)) (length moments) (busy_at place h.1)
+            (busy_few (1 + place)) can.few
       ]
 
   not_this : (panel place : ℕ) (b : Bool) → panel ≤ place → ((panel == 1 + place) && b) ≡ false
@@ -262,14 +282,18 @@ module _ (site : Site) (kept : Retained) (moments : List Moment) (can : CanBeTol
       not_zero busy z =
           let own = given_panel 0 a here in
           let few = panels_few in
-          let at = get_or-map-range_with_len busy_of 1 8 (a.request.panel - 1) a.request.panel 0 (omega (arith, own.0, own.1, few)) (omega (arith, own.0)) in
+          let at =
+          get_or-map-range_with_len busy_of 1 8 (a.request.panel - 1) a.request.panel 0 (omega (arith, own.0, own.1, few)) (omega (arith, own.0))
+          in
           let long = length_filter (λ (x : Answered). (x.request.panel == a.request.panel) && is_busy x.reply) (answers_now site kept moments) in
-          let some = count-some (λ (x : Answered). (x.request.panel == a.request.panel) && is_busy x.reply) (answers_now site kept moments) 0 a here (both (a.request.panel == a.request.panel) (is_busy a.reply) (eq_true a.request.panel a.request.panel refl) busy) in
+          let some = count-some (λ (x : Answered). (x.request.panel == a.request.panel) && is_busy x.reply) (answers_now site kept moments) 0 a here
+          (both (a.request.panel == a.request.panel) (is_busy a.reply) (eq_true a.request.panel a.request.panel refl) busy) in
           omega (arith, z, at, long, some)
 
       not_none : (op : OpAnswer) → told_answer a ≡ Some op → filter_map told_answer (answers_now site kept moments) ≡ [] → ⊥
       not_none op told_so z =
-          let x : cons_option (Some op) (filter_map told_answer rest) ≡ [] = ap (λ o. cons_option o (filter_map told_answer rest)) (sym told_so) ∙ ap (filter_map told_answer) (sym e) ∙ z in
+          let x : cons_option (Some op) (filter_map told_answer rest) ≡ [] =
+          ap (λ o. cons_option o (filter_map told_answer rest)) (sym told_so) ∙ ap (filter_map told_answer) (sym e) ∙ z in
           cc
 
   pub tells : has_answer site kept moments ≡ true → HasAnswer (step_of site kept moments).answers

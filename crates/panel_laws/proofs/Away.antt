@@ -60,12 +60,15 @@ three a b c d e f p q r = cc
 module _ (site : Site) (valid : IsValid site) (point : ℕ) (plan : Point) (is : slice_get site.points point ≡ Some plan) (test : ℕ → Bool) where
   addressed_is : addressed site plan.panel plan.line plan.address ≡ Some point
   addressed_is =
-      position_unique (is_addressed plan.panel plan.line plan.address) site.points point plan is (both _ _ (eq_true plan.panel plan.panel refl) (both _ _ (eq_true plan.line plan.line refl) (eq_true plan.address plan.address refl)))
+      position_unique (is_addressed plan.panel plan.line plan.address) site.points point plan is
+      (both _ _ (eq_true plan.panel plan.panel refl) (both _ _ (eq_true plan.line plan.line refl) (eq_true plan.address plan.address refl)))
       (λ j q at t. (let g = parts (q.panel == plan.panel) ((q.line == plan.line) && (q.address == plan.address)) t in
       let h = parts (q.line == plan.line) (q.address == plan.address) g.1 in
-      valid.twins.points j point q plan at is (three q.panel q.line q.address plan.panel plan.line plan.address (eq_is q.panel plan.panel g.0) (eq_is q.line plan.line h.0) (eq_is q.address plan.address h.1))))
+      valid.twins.points j point q plan at is (three q.panel q.line q.address plan.panel plan.line plan.address (eq_is q.panel plan.panel g.0)
+      (eq_is q.line plan.line h.0) (eq_is q.address plan.address h.1))))
 
-  in_half : (line past : ℕ) → plan.line ≡ line → past + (plan.address - 1) % 96 + 1 ≡ plan.address → has_bit (addresses_where site plan.panel test line past) ((plan.address - 1) % 96) ≡ test point
+  in_half : (line past : ℕ) → plan.line ≡ line → past + (plan.address - 1) % 96 + 1 ≡ plan.address
+      → has_bit (addresses_where site plan.panel test line past) ((plan.address - 1) % 96) ≡ test point
   unfolding addresses_where
   in_half line past l e =
       has_bit-mask 96 (λ k. on_point test (addressed site plan.panel line (past + k + 1))) ((plan.address - 1) % 96) (omega arith)
@@ -74,7 +77,8 @@ module _ (site : Site) (valid : IsValid site) (point : ℕ) (plan : Point) (is :
       ∙ ap (on_point test) addressed_is
 
   on_line : (line : ℕ) → plan.line ≡ line → (half : ℕ) → (plan.address - 1) / 96 ≡ half → half < 2
-      → has_bit (slice_index (addresses_where site plan.panel test line 0 ∷ addresses_where site plan.panel test line 96 ∷ []) half) ((plan.address - 1) % 96) ≡ test point
+      → has_bit (slice_index (addresses_where site plan.panel test line 0 ∷ addresses_where site plan.panel test line 96 ∷ []) half)
+      ((plan.address - 1) % 96) ≡ test point
   on_line line l zero h few = let n = point_numbers site valid point plan is in in_half line 0 l (let a = n.2 in omega (arith, h, a.2))
   on_line line l (suc zero) h few = in_half line 96 l (omega (arith, h))
   on_line line l (suc (suc half)) h few = absurd (omega (arith, few))
@@ -84,7 +88,8 @@ module _ (site : Site) (valid : IsValid site) (point : ℕ) (plan : Point) (is :
 
   pub point_bit : has_point (points_where site plan.panel test) plan.line plan.address ≡ test point
   unfolding points_where
-  point_bit = by (plan.line - 1) (let n = point_numbers site valid point plan is in let a = n.2 in omega (arith, a.0)) (let n = point_numbers site valid point plan is in let a = n.2 in omega (arith, a.0, a.1))
+  point_bit = by (plan.line - 1) (let n = point_numbers site valid point plan is in let a = n.2 in omega (arith, a.0)) (let n =
+      point_numbers site valid point plan is in let a = n.2 in omega (arith, a.0, a.1))
     where
       by : (place : ℕ) → plan.line ≡ place + 1 → place < 4
           → has_bit
@@ -112,7 +117,8 @@ record IsHeld (xs : List Answer) (point tick : ℕ) : Type 0 where
   point_is : answer.point ≡ point
   stamp_is : answer.stamp.0 ≡ tick
 
-module _ (site : Site) (m : List Moment) (point first : ℕ) (plan : Point) (after : HasEnded site m) (is : slice_get site.points point ≡ Some plan) (away : IsAway site m point first) where
+module _ (site : Site) (m : List Moment) (point first : ℕ) (plan : Point) (after : HasEnded site m) (is : slice_get site.points point ≡ Some plan)
+    (away : IsAway site m point first) where
   p_is : IsPanel site.panels plan.panel
   p_is = (point_at site after.valid point plan is).panel
 
@@ -129,18 +135,25 @@ module _ (site : Site) (m : List Moment) (point first : ℕ) (plan : Point) (aft
   word_stamp = was_made plan.panel (made_at plan.panel m) (made_is plan.panel m).made ∙ word_tick
 
   -- an asking that is old enough
-  held : (tick : ℕ) → 1 ≤ tick → tick + 2 ≤ tick_of m → tick % round_of site.format ≡ (plan.address - 1) / 8 → IsHeld (held_answers site plan.panel (made_at plan.panel m)) point tick
+  held : (tick : ℕ) → 1 ≤ tick → tick + 2 ≤ tick_of m → tick % round_of site.format ≡ (plan.address - 1) / 8
+      → IsHeld (held_answers site plan.panel (made_at plan.panel m)) point tick
   held tick begins late asks =
       let t = word_tick in
       let s = word_stamp in
-      let turn = turn_in site.panels plan.panel Poll (made_at plan.panel m) tick p_is tt word_run begins (owed (has_turned plan.panel Poll (made_at plan.panel m)) (omega (arith, t, late))) in
-      let found = polled site site.panels plan.panel (made_at plan.panel m) point plan tick lies refl turn (eq_true (tick % round_of site.format) ((plan.address - 1) / 8) asks) in
+      let turn =
+      turn_in site.panels plan.panel Poll (made_at plan.panel m) tick p_is tt word_run begins
+      (owed (has_turned plan.panel Poll (made_at plan.panel m)) (omega (arith, t, late))) in
+      let found =
+      polled site site.panels plan.panel (made_at plan.panel m) point plan tick lies refl turn
+      (eq_true (tick % round_of site.format) ((plan.address - 1) / 8) asks) in
       let at = found.stamp_is in
-      let has = hold_has site site.panels plan.panel (made_at plan.panel m) found.place found.answer p_is word_run found.is (omega (arith, at, s, late)) in
+      let has =
+      hold_has site site.panels plan.panel (made_at plan.panel m) found.place found.answer p_is word_run found.is (omega (arith, at, s, late)) in
       record {
         place = found.place;
         answer = found.answer;
-        is = get_take (taken_by_hold site plan.panel (made_at plan.panel m)) (answers site plan.panel (made_at plan.panel m)) found.place found.answer has found.is;
+        is = get_take (taken_by_hold site plan.panel (made_at plan.panel m)) (answers site plan.panel (made_at plan.panel m)) found.place found.answer
+            has found.is;
         point_is = found.point_is;
         stamp_is = found.stamp_is;
       }
@@ -149,13 +162,15 @@ module _ (site : Site) (m : List Moment) (point first : ℕ) (plan : Point) (aft
       owed true l = omega (arith, l)
       owed false l = omega (arith, l)
 
-  order : (i j : ℕ) (a b : Answer) → i ≤ j → slice_get (held_answers site plan.panel (made_at plan.panel m)) i ≡ Some a → slice_get (held_answers site plan.panel (made_at plan.panel m)) j ≡ Some b → a.stamp.0 ≤ b.stamp.0
+  order : (i j : ℕ) (a b : Answer) → i ≤ j → slice_get (held_answers site plan.panel (made_at plan.panel m)) i ≡ Some a
+      → slice_get (held_answers site plan.panel (made_at plan.panel m)) j ≡ Some b → a.stamp.0 ≤ b.stamp.0
   order i j a b l e f =
       let g = take_get (taken_by_hold site plan.panel (made_at plan.panel m)) (answers site plan.panel (made_at plan.panel m)) i a e in
       let h = take_get (taken_by_hold site plan.panel (made_at plan.panel m)) (answers site plan.panel (made_at plan.panel m)) j b f in
       (answers_in_order site site.panels plan.panel (made_at plan.panel m) p_is word_run).rising i j a b l g.1 h.1
 
-  silent : (k : ℕ) (a : Answer) → slice_get (held_answers site plan.panel (made_at plan.panel m)) k ≡ Some a → a.point ≡ point → first ≤ a.stamp.0 → is_silent a.heard ≡ true
+  silent : (k : ℕ) (a : Answer) → slice_get (held_answers site plan.panel (made_at plan.panel m)) k ≡ Some a → a.point ≡ point → first ≤ a.stamp.0
+      → is_silent a.heard ≡ true
   silent k a e of from =
       let g = take_get (taken_by_hold site plan.panel (made_at plan.panel m)) (answers site plan.panel (made_at plan.panel m)) k a e in
       let tells = told_by site site.panels plan.panel m (made_at plan.panel m) k a after.run (made_is plan.panel m).past g.1 in
@@ -163,16 +178,20 @@ module _ (site : Site) (m : List Moment) (point first : ℕ) (plan : Point) (aft
       let t = word_tick in
       let is_away = away.away a.stamp.0 from (omega (arith, by, t)) in
       ap is_silent tells.heard
-      ∙ subst (λ q. is_silent (heard_of (state_of q (up_to a.stamp.0 m)) (reached_at site q (up_to a.stamp.0 m))) ≡ true) (sym of) (silent_if (state_of point (up_to a.stamp.0 m)) (reached_at site point (up_to a.stamp.0 m)) is_away)
+      ∙ subst (λ q. is_silent (heard_of (state_of q (up_to a.stamp.0 m)) (reached_at site q (up_to a.stamp.0 m))) ≡ true) (sym of)
+      (silent_if (state_of point (up_to a.stamp.0 m)) (reached_at site point (up_to a.stamp.0 m)) is_away)
 
-  later : {s t : ℕ} (one : IsHeld (held_answers site plan.panel (made_at plan.panel m)) point s) (other : IsHeld (held_answers site plan.panel (made_at plan.panel m)) point t) → s < t → one.place < other.place
+  later : {s t : ℕ} (one : IsHeld (held_answers site plan.panel (made_at plan.panel m)) point s) (other :
+      IsHeld (held_answers site plan.panel (made_at plan.panel m)) point t) → s < t → one.place < other.place
   later one other l =
       elim (leb_tells other.place one.place) [
-        | inl h ↦ (let r = order other.place one.place other.answer one.answer h.1 other.is one.is in let a = one.stamp_is in let b = other.stamp_is in absurd (omega (arith, r, a, b, l)))
+        | inl h ↦ (let r = order other.place one.place other.answer one.answer h.1 other.is one.is in let a = one.stamp_is in let b =
+            other.stamp_is in absurd (omega (arith, r, a, b, l)))
         | inr h ↦ h.1
       ]
 
-  passes : {s : ℕ} (one : IsHeld (held_answers site plan.panel (made_at plan.panel m)) point s) → first ≤ s → ((one.answer.point == point) && nat_le first one.answer.stamp.0) ≡ true
+  passes : {s : ℕ} (one : IsHeld (held_answers site plan.panel (made_at plan.panel m)) point s) → first ≤ s
+      → ((one.answer.point == point) && nat_le first one.answer.stamp.0) ≡ true
   passes one l = let a = one.stamp_is in both _ _ (eq_true one.answer.point point one.point_is) (le_to first one.answer.stamp.0 (omega (arith, a, l)))
 
   pub is_missing_now : is_missing (held_answers site plan.panel (made_at plan.panel m)) point ≡ true
@@ -190,12 +209,15 @@ module _ (site : Site) (m : List Moment) (point first : ℕ) (plan : Point) (aft
       let b = held two.tick (let x = two.from in omega (arith, x, begins)) (let x = two.by in omega (arith, x, long, f)) two.asks in
       let c = held third.tick (let x = third.from in omega (arith, x, begins)) (let x = third.by in omega (arith, x, long, f)) third.asks in
       missing_by first point (held_answers site plan.panel (made_at plan.panel m)) order silent
-      (three_places (λ (y : Answer). (y.point == point) && nat_le first y.stamp.0) (held_answers site plan.panel (made_at plan.panel m)) a.place b.place c.place a.answer b.answer c.answer
-      (later a b (let x = one.by in let y = two.from in omega (arith, x, y))) (later b c (let x = two.by in let y = third.from in omega (arith, x, y))) a.is b.is c.is
+      (three_places (λ (y : Answer). (y.point == point) && nat_le first y.stamp.0) (held_answers site plan.panel (made_at plan.panel m)) a.place
+      b.place c.place a.answer b.answer c.answer
+      (later a b (let x = one.by in let y = two.from in omega (arith, x, y)))
+      (later b c (let x = two.by in let y = third.from in omega (arith, x, y))) a.is b.is c.is
       (passes a one.from) (passes b (let y = two.from in omega (arith, y))) (passes c (let y = third.from in omega (arith, y))))
 
 pub away_is_missing : AwayIsMissing
 away_is_missing site kept done stored m point first plan after is away free =
     let t = word_tick site m point first plan after is away in
-    point_bit site after.valid point plan is (λ place. is_missing (held_answers site plan.panel (made_at plan.panel m)) place && not (is_off site kept done place (tick_of (made_at plan.panel m))))
+    point_bit site after.valid point plan is (λ place. is_missing (held_answers site plan.panel (made_at plan.panel m)) place
+    && not (is_off site kept done place (tick_of (made_at plan.panel m))))
     ∙ both _ _ (is_missing_now site m point first plan after is away) (not_true _ (ap (λ x. is_off site kept done point x) t ∙ free))

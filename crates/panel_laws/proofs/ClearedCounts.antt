@@ -85,13 +85,15 @@ of_operation site panel (Untest zone) = of_test (slice_get site.zones zone) fals
 of_operation site panel (Delays on) = tt
 of_operation site panel Clear = tt
 
-one_more : (o : Option Change) (changes : List Change) → MakesNoCount o → AllByRecursion IsNoCount changes → AllByRecursion IsNoCount (cons_option o changes)
+one_more : (o : Option Change) (changes : List Change) → MakesNoCount o → AllByRecursion IsNoCount changes
+    → AllByRecursion IsNoCount (cons_option o changes)
 one_more None changes h all = all
 one_more (Some change) changes h all = (h, all)
 
 no_counts : (site : Site) (waiting : List Request) → AllByRecursion IsNoCount (changes_of site waiting)
 no_counts site [] = tt
-no_counts site (r ∷ waiting) = one_more (operation_change site r.panel r.operation) (changes_of site waiting) (of_operation site r.panel r.operation) (no_counts site waiting)
+no_counts site (r ∷ waiting) =
+    one_more (operation_change site r.panel r.operation) (changes_of site waiting) (of_operation site r.panel r.operation) (no_counts site waiting)
 
 -- ---- what they make of a counter
 
@@ -101,7 +103,8 @@ zero_set (x ∷ xs) zero = refl
 zero_set (x ∷ xs) (suc i) = zero_set xs i
 
 module _ (panel : ℕ) where
-  leaves : (change : Change) → IsNoCount change → is_clearing_of panel change ≡ false → (stored : Retained) → counter_in panel (changed change stored) ≡ counter_in panel stored
+  leaves : (change : Change) → IsNoCount change → is_clearing_of panel change ≡ false → (stored : Retained)
+      → counter_in panel (changed change stored) ≡ counter_in panel stored
   leaves (Count p entries) plain e stored = absurd plain
   leaves (Point p line address off) plain e stored = refl
   leaves (Zone p number off) plain e stored = refl
@@ -134,7 +137,8 @@ module _ (panel : ℕ) where
       let none = none_of panel (is_clearing_of panel c) (list_any (is_clearing_of panel) changes) e in
       all_leave changes all.1 none.1 (changed c stored) ∙ leaves c all.0 none.0 stored
 
-  stays_empty : (changes : List Change) → AllByRecursion IsNoCount changes → (stored : Retained) → counter_in panel stored ≡ 0 → counter_in panel (changed_by changes stored) ≡ 0
+  stays_empty : (changes : List Change) → AllByRecursion IsNoCount changes → (stored : Retained) → counter_in panel stored ≡ 0
+      → counter_in panel (changed_by changes stored) ≡ 0
   stays_empty [] all stored z = z
   stays_empty (c ∷ changes) all stored z = stays_empty changes all.1 (changed c stored) (go (is_clearing_of panel c) refl)
     where
@@ -142,17 +146,20 @@ module _ (panel : ℕ) where
       go true e = empties c e stored
       go false e = leaves c all.0 e stored ∙ z
 
-  emptied : (changes : List Change) → AllByRecursion IsNoCount changes → list_any (is_clearing_of panel) changes ≡ true → (stored : Retained) → counter_in panel (changed_by changes stored) ≡ 0
+  emptied : (changes : List Change) → AllByRecursion IsNoCount changes → list_any (is_clearing_of panel) changes ≡ true → (stored : Retained)
+      → counter_in panel (changed_by changes stored) ≡ 0
   emptied [] all e stored = cc
   emptied (c ∷ changes) all e stored = go (is_clearing_of panel c) refl (λ rest. emptied changes all.1 rest (changed c stored))
     where
-      go : (b : Bool) → is_clearing_of panel c ≡ b → (list_any (is_clearing_of panel) changes ≡ true → counter_in panel (changed_by changes (changed c stored)) ≡ 0)
+      go : (b : Bool) → is_clearing_of panel c ≡ b
+          → (list_any (is_clearing_of panel) changes ≡ true → counter_in panel (changed_by changes (changed c stored)) ≡ 0)
           → counter_in panel (changed_by changes (changed c stored)) ≡ 0
       go true t ih = stays_empty changes all.1 (changed c stored) (empties c t stored)
       go false t ih = ih (sym (ap (λ b. b || list_any (is_clearing_of panel) changes) t) ∙ e)
 
   -- counts clear nothing
-  count_clears : (site : Site) (kept : Retained) (done : List Done) (p : ℕ) (ticks : List ℕ) → list_any (is_clearing_of panel) (count_of site kept done p ticks) ≡ false
+  count_clears : (site : Site) (kept : Retained) (done : List Done) (p : ℕ) (ticks : List ℕ)
+      → list_any (is_clearing_of panel) (count_of site kept done p ticks) ≡ false
   count_clears site kept done p [] = refl
   count_clears site kept done p (tick ∷ ticks) = refl
 
@@ -161,13 +168,17 @@ module _ (panel : ℕ) where
   counts_clear site kept done before first zero = refl
   counts_clear site kept done before first (suc many) =
       list_any-append (is_clearing_of panel) (counted_now site kept done before first) (counts_from site kept done before (first + 1) many)
-      ∙ ap (λ b. b || list_any (is_clearing_of panel) (counts_from site kept done before (first + 1) many)) (count_clears site kept done first (new_entries site kept done first before))
+      ∙ ap (λ b. b || list_any (is_clearing_of panel) (counts_from site kept done before (first + 1) many))
+      (count_clears site kept done first (new_entries site kept done first before))
       ∙ counts_clear site kept done before (first + 1) many
 
-  cleared_by : (site : Site) (kept : Retained) (before : List Moment) → is_cleared_now site kept panel before ≡ list_any (is_clearing_of panel) (changes_of site (operations site kept before).waiting)
+  cleared_by : (site : Site) (kept : Retained) (before : List Moment)
+      → is_cleared_now site kept panel before ≡ list_any (is_clearing_of panel) (changes_of site (operations site kept before).waiting)
   cleared_by site kept before =
-      list_any-append (is_clearing_of panel) (counts site kept (operations site kept before).done before) (changes_of site (operations site kept before).waiting)
-      ∙ ap (λ b. b || list_any (is_clearing_of panel) (changes_of site (operations site kept before).waiting)) (counts_clear site kept (operations site kept before).done before 1 site.panels)
+      list_any-append (is_clearing_of panel) (counts site kept (operations site kept before).done before)
+      (changes_of site (operations site kept before).waiting)
+      ∙ ap (λ b. b || list_any (is_clearing_of panel) (changes_of site (operations site kept before).waiting))
+      (counts_clear site kept (operations site kept before).done before 1 site.panels)
 
 -- ---- over a run
 
@@ -185,7 +196,8 @@ counted_more site kept done panel past moments (later Began before h) = counted_
 counted_more site kept done panel past moments (later (Happened event) before h) = counted_more site kept done panel past before h
 counted_more site kept done panel past moments (later (Turned p task) before h) = counted_more site kept done panel past before h
 counted_more site kept done panel past moments (later (Kept true) before h) = counted_more site kept done panel past before h
-counted_more site kept done panel past moments (later (Kept false) before h) = let l = counted_more site kept done panel past before h in omega (arith, l)
+counted_more site kept done panel past moments (later (Kept false) before h) = let l = counted_more site kept done panel past before h in
+    omega (arith, l)
 
 nothing_since : (n : ℕ) → 0 ≡ min (n - n) greatest_count
 nothing_since n = omega arith
@@ -196,17 +208,22 @@ more_since c b n l = omega (arith, l)
 module _ (site : Site) (kept : Retained) (panel : ℕ) (few : site.panels ≤ 8) (own : IsPanel site.panels panel) (whole : AreWhole kept)
     (before : List Moment) (clears : is_cleared_now site kept panel before ≡ true) where
   abbrev NoneLater : List Moment → Type 0
-  NoneLater moments = (after : List Moment) → IsPast (Kept false ∷ before) after → IsPast (Kept false ∷ after) moments → is_cleared_now site kept panel after ≡ false
+  NoneLater moments = (after : List Moment) → IsPast (Kept false ∷ before) after → IsPast (Kept false ∷ after) moments
+      → is_cleared_now site kept panel after ≡ false
 
   abbrev Counts : List Moment → List Done → Type 0
-  Counts moments done = counter_in panel (kept_after site kept moments) ≡ min (counted_entries site kept done panel moments - counted_entries site kept done panel (Kept false ∷ before)) greatest_count
+  Counts moments done =
+      counter_in panel (kept_after site kept moments)
+      ≡ min (counted_entries site kept done panel moments - counted_entries site kept done panel (Kept false ∷ before)) greatest_count
 
   -- the same by what was done a little later
-  carry : (rest : List Moment) (after : List Done) → IsPast (Kept false ∷ before) rest → Grew (operations site kept rest).done after (tick_of rest) → Counts rest (operations site kept rest).done
+  carry : (rest : List Moment) (after : List Done) → IsPast (Kept false ∷ before) rest → Grew (operations site kept rest).done after (tick_of rest)
+      → Counts rest (operations site kept rest).done
       → Counts rest after
   carry rest after h grew ih =
       let old = (operations site kept rest).done in
-      let now = ap (λ done. counted_entries site kept done panel rest) grew.is ∙ counted_same site kept grew.new old (tick_of rest) grew.from panel rest (omega arith) in
+      let now = ap (λ done. counted_entries site kept done panel rest) grew.is ∙ counted_same site kept grew.new old (tick_of rest) grew.from panel
+      rest (omega arith) in
       let then = ap (λ done. counted_entries site kept done panel (Kept false ∷ before)) grew.is
       ∙ counted_same site kept grew.new old (tick_of rest) grew.from panel (Kept false ∷ before) (past_in_time (Kept false ∷ before) rest h) in
       ih
@@ -224,8 +241,10 @@ module _ (site : Site) (kept : Retained) (panel : ℕ) (few : site.panels ≤ 8)
       (changed_by (counts site kept so_far.done before) (kept_after site kept before))
       ∙ nothing_since (counted_entries site kept (operations site kept (Kept false ∷ before)).done panel (Kept false ∷ before))
   since moments (later Began rest h) none = carry rest _ h (next_grew site kept Began rest) (since rest h (sooner Began rest none))
-  since moments (later (Happened event) rest h) none = carry rest _ h (next_grew site kept (Happened event) rest) (since rest h (sooner (Happened event) rest none))
-  since moments (later (Turned p task) rest h) none = carry rest _ h (next_grew site kept (Turned p task) rest) (since rest h (sooner (Turned p task) rest none))
+  since moments (later (Happened event) rest h) none =
+      carry rest _ h (next_grew site kept (Happened event) rest) (since rest h (sooner (Happened event) rest none))
+  since moments (later (Turned p task) rest h) none =
+      carry rest _ h (next_grew site kept (Turned p task) rest) (since rest h (sooner (Turned p task) rest none))
   since moments (later (Kept true) rest h) none = carry rest _ h (next_grew site kept (Kept true) rest) (since rest h (sooner (Kept true) rest none))
   since moments (later (Kept false) rest h) none =
       let so_far = operations site kept rest in
@@ -236,7 +255,8 @@ module _ (site : Site) (kept : Retained) (panel : ℕ) (few : site.panels ≤ 8)
       let fresh = new_entries site kept so_far.done panel rest in
       let old = counted_entries site kept after panel (Kept false ∷ before) in
       let now = counted_entries site kept after panel rest in
-      let counted = within panel own.0 (let p = own.1 in omega (arith, p, few)) site kept so_far.done rest 1 site.panels stored (omega arith) own.0 (let p = own.1 in omega (arith, p))
+      let counted = within panel own.0 (let p = own.1 in omega (arith, p, few)) site kept so_far.done rest 1 site.panels stored (omega arith) own.0
+      (let p = own.1 in omega (arith, p))
       (whole_after site kept rest whole) in
       ap (counter_in panel) (changed_by-append (counts site kept so_far.done rest) (changes_of site so_far.waiting) stored)
       ∙ all_leave panel (changes_of site so_far.waiting) (no_counts site so_far.waiting) (sym (cleared_by panel site kept rest) ∙ none rest h present)
@@ -246,7 +266,9 @@ module _ (site : Site) (kept : Retained) (panel : ℕ) (few : site.panels ≤ 8)
       ∙ twice (now - old) (length fresh)
       ∙ ap (λ n. min n greatest_count) (more_since now old (length fresh) (counted_more site kept after panel (Kept false ∷ before) rest h))
       ∙ ap (λ xs. min ((now + length xs) - old) greatest_count)
-      (sym (ap (λ done. new_entries site kept done panel rest) grew.is ∙ new_same site kept grew.new so_far.done (tick_of rest) grew.from panel rest (omega arith)))
+      (sym (ap (λ done. new_entries site kept done panel rest) grew.is ∙ new_same site kept grew.new so_far.done (tick_of rest) grew.from panel rest
+      (omega arith)))
 
 pub cleared_counts : ClearedCountsFromZero
-cleared_counts site kept moments panel before few own long small h = since site kept panel few own (record { long = long; small = small }) before h.clears moments h.turn h.last
+cleared_counts site kept moments panel before few own long small h =
+    since site kept panel few own (record { long = long; small = small }) before h.clears moments h.turn h.last

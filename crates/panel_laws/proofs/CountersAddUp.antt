@@ -1,5 +1,7 @@
 -- The counters add up.
-use Rattle.std.proofs.Common.{◌≡◌, ◌≢◌, ◌∙◌, inl, inr, ◌≤◌, ◌<◌, ◌+◌, ◌-◌, ◌==◌, ◌&&◌, ◌++◌, ℕ, zero, suc, min, Bool, true, false, List, [], ◌∷◌, Option, Some, None, length, refl, sym, ap, subst, arith, get_or-set_same, get_or-set_other, length-set}
+use Rattle.std.proofs.Common.{◌≡◌, ◌≢◌, ◌∙◌, inl, inr, ◌≤◌, ◌<◌, ◌+◌, ◌-◌, ◌==◌, ◌&&◌, ◌++◌, ℕ, zero, suc, min, Bool}
+use Rattle.std.proofs.Common.{true, false, List, [], ◌∷◌, Option, Some, None, length, refl, sym, ap, subst, arith}
+use Rattle.std.proofs.Common.{get_or-set_same, get_or-set_other, length-set}
 use Rattle.std.specs.Prelude.{◌||◌, slice_get}
 use Rattle.std.specs.List.{AllByRecursion, flat_map, list_any, range_with_len}
 use Rattle.std.proofs.lemmas.Bool.Decides.{eqb_tells}
@@ -63,7 +65,8 @@ module _ (panel : ℕ) (one : 1 ≤ panel) (few : panel ≤ 8) where
   other_count : (site : Site) (kept : Retained) (done : List Done) (p : ℕ) (ticks : List ℕ) (stored : Retained) → 1 ≤ p → p ≢ panel →
       counter_in panel (changed_by (count_of site kept done p ticks) stored) ≡ counter_in panel stored
   other_count site kept done p [] stored least apart = refl
-  other_count site kept done p (tick ∷ ticks) stored least apart = get_or-set_other stored.counters (p - 1) (panel - 1) _ 0 (λ same. apart (omega (arith, least, one, same)))
+  other_count site kept done p (tick ∷ ticks) stored least apart =
+      get_or-set_other stored.counters (p - 1) (panel - 1) _ 0 (λ same. apart (omega (arith, least, one, same)))
 
   own_count : (site : Site) (kept : Retained) (done : List Done) (ticks : List ℕ) (stored : Retained) → AreWhole stored →
       counter_in panel (changed_by (count_of site kept done panel ticks) stored) ≡ min (counter_in panel stored + length ticks) greatest_count
@@ -71,27 +74,38 @@ module _ (panel : ℕ) (one : 1 ≤ panel) (few : panel ≤ 8) where
   own_count site kept done (tick ∷ ticks) stored h = get_or-set_same stored.counters (panel - 1) _ 0 (let l = h.long in omega (arith, one, few, l))
 
   module _ (site : Site) (kept : Retained) (done : List Done) (before : List Moment) where
-    behind : (first many : ℕ) (stored : Retained) → 1 ≤ first → panel < first → counter_in panel (changed_by (flat_map (λ p. count_of site kept done p (new_entries site kept done p before)) (range_with_len first many)) stored) ≡ counter_in panel stored
+    behind : (first many : ℕ) (stored : Retained) → 1 ≤ first → panel < first
+        → counter_in panel (changed_by (flat_map (λ p. count_of site kept done p (new_entries site kept done p before)) (range_with_len first many))
+        stored) ≡ counter_in panel stored
     behind first zero stored least far = refl
     behind first (suc many) stored least far =
-        ap (counter_in panel) (changed_by-append (count_of site kept done first (new_entries site kept done first before)) (flat_map (λ p. count_of site kept done p (new_entries site kept done p before)) (range_with_len (first + 1) many)) stored)
-        ∙ behind (first + 1) many (changed_by (count_of site kept done first (new_entries site kept done first before)) stored) (omega (arith, least)) (omega (arith, far))
+        ap (counter_in panel) (changed_by-append (count_of site kept done first (new_entries site kept done first before))
+        (flat_map (λ p. count_of site kept done p (new_entries site kept done p before)) (range_with_len (first + 1) many)) stored)
+        ∙ behind (first + 1) many (changed_by (count_of site kept done first (new_entries site kept done first before)) stored) (omega (arith, least))
+        (omega (arith, far))
         ∙ other_count site kept done first (new_entries site kept done first before) stored least (λ same. omega (arith, far, same))
 
     pub within : (first many : ℕ) (stored : Retained) → 1 ≤ first → first ≤ panel → panel < first + many → AreWhole stored →
-        counter_in panel (changed_by (flat_map (λ p. count_of site kept done p (new_entries site kept done p before)) (range_with_len first many)) stored) ≡ min (counter_in panel stored + length (new_entries site kept done panel before)) greatest_count
+        counter_in panel (changed_by (flat_map (λ p. count_of site kept done p (new_entries site kept done p before)) (range_with_len first many))
+        stored) ≡ min (counter_in panel stored + length (new_entries site kept done panel before)) greatest_count
     within first zero stored least low high h = absurd (omega (arith, low, high))
     within first (suc many) stored least low high h =
-        ap (counter_in panel) (changed_by-append (count_of site kept done first (new_entries site kept done first before)) (flat_map (λ p. count_of site kept done p (new_entries site kept done p before)) (range_with_len (first + 1) many)) stored)
+        ap (counter_in panel) (changed_by-append (count_of site kept done first (new_entries site kept done first before))
+        (flat_map (λ p. count_of site kept done p (new_entries site kept done p before)) (range_with_len (first + 1) many)) stored)
         ∙ elim (eqb_tells first panel) [
           | inl e ↦ (
-              behind (first + 1) many (changed_by (count_of site kept done first (new_entries site kept done first before)) stored) (omega (arith, least)) (let same = e.1 in omega (arith, same))
-              ∙ subst (λ p. counter_in panel (changed_by (count_of site kept done p (new_entries site kept done p before)) stored) ≡ min (counter_in panel stored + length (new_entries site kept done panel before)) greatest_count) (sym e.1)
+              behind (first + 1) many (changed_by (count_of site kept done first (new_entries site kept done first before)) stored)
+              (omega (arith, least)) (let same = e.1 in omega (arith, same))
+              ∙ subst (λ p. counter_in panel (changed_by (count_of site kept done p (new_entries site kept done p before)) stored)
+              ≡ min (counter_in panel stored + length (new_entries site kept done panel before)) greatest_count) (sym e.1)
               (own_count site kept done (new_entries site kept done panel before) stored h)
               )
           | inr e ↦ (
-              within (first + 1) many (changed_by (count_of site kept done first (new_entries site kept done first before)) stored) (omega (arith, least)) (let apart = e.1 in omega (arith, low, apart)) (omega (arith, high)) (whole_changed (count_of site kept done first (new_entries site kept done first before)) stored h)
-              ∙ ap (λ n. min (n + length (new_entries site kept done panel before)) greatest_count) (other_count site kept done first (new_entries site kept done first before) stored least e.1)
+              within (first + 1) many (changed_by (count_of site kept done first (new_entries site kept done first before)) stored)
+              (omega (arith, least)) (let apart = e.1 in omega (arith, low, apart)) (omega (arith, high))
+              (whole_changed (count_of site kept done first (new_entries site kept done first before)) stored h)
+              ∙ ap (λ n. min (n + length (new_entries site kept done panel before)) greatest_count)
+              (other_count site kept done first (new_entries site kept done first before) stored least e.1)
               )
         ]
 
@@ -131,13 +145,15 @@ module _ (panel : ℕ) where
     | inr h ↦ h.1 (sym same)
   ]
 
-  from_operation : (site : Site) (p : ℕ) (operation : Operation) (c : Change) → operation_change site p operation ≡ Some c → (is_clearing operation && (p - 1 == panel - 1)) ≡ false → Leaves panel c
+  from_operation : (site : Site) (p : ℕ) (operation : Operation) (c : Change) → operation_change site p operation ≡ Some c
+      → (is_clearing operation && (p - 1 == panel - 1)) ≡ false → Leaves panel c
   from_operation site p (Disable item) c e f = from_item site item true c e
   from_operation site p (Enable item) c e f = from_item site item false c e
   from_operation site p (Test zone) c e f = from_test (slice_get site.zones zone) true c e
   from_operation site p (Untest zone) c e f = from_test (slice_get site.zones zone) false c e
   from_operation site p (Delays on) c e f = subst (Leaves panel) (some_is _ c e) (λ stored. refl)
-  from_operation site p Clear c e f = subst (Leaves panel) (some_is _ c e) (λ stored. get_or-set_other stored.counters (p - 1) (panel - 1) 0 0 (apart_from (p - 1) (panel - 1) f))
+  from_operation site p Clear c e f =
+      subst (Leaves panel) (some_is _ c e) (λ stored. get_or-set_other stored.counters (p - 1) (panel - 1) 0 0 (apart_from (p - 1) (panel - 1) f))
   from_operation site p Mute c e f = cc
   from_operation site p Override c e f = cc
   from_operation site p Silence c e f = cc
@@ -158,10 +174,12 @@ module _ (panel : ℕ) where
       let g = none_of (clears_counter panel (done_in tick r)) (list_any (clears_counter panel) done) h.0 in
       (g.1, (g.0, h.1))
 
-  operations_leave : (site : Site) (tick : ℕ) (waiting : List Request) (stored : Retained) → AllByRecursion (λ (r : Request). clears_counter panel (done_in tick r) ≡ false) waiting →
+  operations_leave : (site : Site) (tick : ℕ) (waiting : List Request) (stored : Retained)
+      → AllByRecursion (λ (r : Request). clears_counter panel (done_in tick r) ≡ false) waiting →
       counter_in panel (changed_by (changes_of site waiting) stored) ≡ counter_in panel stored
   operations_leave site tick [] stored all = refl
-  operations_leave site tick (r ∷ waiting) stored all = go (operation_change site r.panel r.operation) refl (λ s. operations_leave site tick waiting s all.1)
+  operations_leave site tick (r ∷ waiting) stored all =
+      go (operation_change site r.panel r.operation) refl (λ s. operations_leave site tick waiting s all.1)
     where
       with_first : Option Change → List Change
       with_first None = changes_of site waiting
@@ -171,10 +189,13 @@ module _ (panel : ℕ) where
       split None e = rw e refl
       split (Some c) e = rw e refl
 
-      go : (o : Option Change) → operation_change site r.panel r.operation ≡ o → ((s : Retained) → counter_in panel (changed_by (changes_of site waiting) s) ≡ counter_in panel s) →
+      go : (o : Option Change) → operation_change site r.panel r.operation ≡ o
+          → ((s : Retained) → counter_in panel (changed_by (changes_of site waiting) s) ≡ counter_in panel s) →
           counter_in panel (changed_by (changes_of site (r ∷ waiting)) stored) ≡ counter_in panel stored
       go None e ih = ap (λ cs. counter_in panel (changed_by cs stored)) (split None e) ∙ ih stored
-      go (Some c) e ih = ap (λ cs. counter_in panel (changed_by cs stored)) (split (Some c) e) ∙ ih (changed c stored) ∙ from_operation site r.panel r.operation c e all.0 stored
+      go (Some c) e ih =
+          ap (λ cs. counter_in panel (changed_by cs stored)) (split (Some c) e) ∙ ih (changed c stored) ∙ from_operation site r.panel r.operation c e
+          all.0 stored
 
 -- ---- the whole
 
@@ -191,18 +212,23 @@ none_earlier test (d ∷ new) old e = none_earlier test new old (neither_of (tes
 
 module _ (site : Site) (kept : Retained) (panel : ℕ) (few : site.panels ≤ 8) (own : IsPanel site.panels panel) (whole : AreWhole kept) where
   abbrev Adds : List Moment → List Done → Type 0
-  Adds moments done = counter_in panel (kept_after site kept moments) ≡ min (counter_in panel kept + counted_entries site kept done panel moments) greatest_count
+  Adds moments done =
+      counter_in panel (kept_after site kept moments) ≡ min (counter_in panel kept + counted_entries site kept done panel moments) greatest_count
 
   -- the same by what was done a little later
-  carry : (before : List Moment) (after : List Done) → Grew (operations site kept before).done after (tick_of before) → list_any (clears_counter panel) after ≡ false →
-      (list_any (clears_counter panel) (operations site kept before).done ≡ false → Adds before (operations site kept before).done) → Adds before after
+  carry : (before : List Moment) (after : List Done) → Grew (operations site kept before).done after (tick_of before)
+      → list_any (clears_counter panel) after ≡ false →
+      (list_any (clears_counter panel) (operations site kept before).done ≡ false → Adds before (operations site kept before).done)
+      → Adds before after
   carry before after grew none ih =
       let old = (operations site kept before).done in
       let earlier = none_earlier (clears_counter panel) grew.new old (subst (λ done. list_any (clears_counter panel) done ≡ false) grew.is none) in
       ih earlier ∙ ap (λ n. min (counter_in panel kept + n) greatest_count)
-      (sym (ap (λ done. counted_entries site kept done panel before) grew.is ∙ counted_same site kept grew.new old (tick_of before) grew.from panel before (omega arith)))
+      (sym (ap (λ done. counted_entries site kept done panel before) grew.is ∙ counted_same site kept grew.new old (tick_of before) grew.from panel
+      before (omega arith)))
 
-  adds : (moments : List Moment) → list_any (clears_counter panel) (operations site kept moments).done ≡ false → Adds moments (operations site kept moments).done
+  adds : (moments : List Moment) → list_any (clears_counter panel) (operations site kept moments).done ≡ false
+      → Adds moments (operations site kept moments).done
   adds [] none = none_more (counter_in panel kept) (whole.small (panel - 1))
   adds (Began ∷ before) none = carry before _ (next_grew site kept Began before) none (adds before)
   adds (Happened event ∷ before) none = carry before _ (next_grew site kept (Happened event) before) none (adds before)
@@ -216,7 +242,8 @@ module _ (site : Site) (kept : Retained) (panel : ℕ) (few : site.panels ≤ 8)
       let was = carry before after grew none (adds before) in
       let fresh = new_entries site kept so_far.done panel before in
       let waits = none_clears panel (tick_of before) so_far.waiting so_far.done none in
-      let counted = within panel own.0 (let p = own.1 in omega (arith, p, few)) site kept so_far.done before 1 site.panels stored (omega arith) own.0 (let p = own.1 in omega (arith, p)) (whole_after site kept before whole) in
+      let counted = within panel own.0 (let p = own.1 in omega (arith, p, few)) site kept so_far.done before 1 site.panels stored (omega arith) own.0
+      (let p = own.1 in omega (arith, p)) (whole_after site kept before whole) in
       ap (counter_in panel) (changed_by-append (counts site kept so_far.done before) (changes_of site so_far.waiting) stored)
       ∙ operations_leave panel site (tick_of before) so_far.waiting (changed_by (counts site kept so_far.done before) stored) waits.1
       ∙ counted
@@ -224,7 +251,8 @@ module _ (site : Site) (kept : Retained) (panel : ℕ) (few : site.panels ≤ 8)
       ∙ twice (counter_in panel kept + counted_entries site kept after panel before) (length fresh)
       ∙ ap (λ n. min n greatest_count) (plus (counter_in panel kept) (counted_entries site kept after panel before) (length fresh))
       ∙ ap (λ xs. min (counter_in panel kept + (counted_entries site kept after panel before + length xs)) greatest_count)
-      (sym (ap (λ done. new_entries site kept done panel before) grew.is ∙ new_same site kept grew.new so_far.done (tick_of before) grew.from panel before (omega arith)))
+      (sym (ap (λ done. new_entries site kept done panel before) grew.is ∙ new_same site kept grew.new so_far.done (tick_of before) grew.from panel
+      before (omega arith)))
     where
       plus : (a b c : ℕ) → (a + b) + c ≡ a + (b + c)
       plus a b c = omega arith

@@ -19,15 +19,20 @@ module _ (site : Site) (kept : Retained) (r : Request) (so_far : Operations) whe
   by_value setting e true = told Already refl (λ done. refl)
   by_value setting e false = goes_on setting e
 
-  by_waiting : (setting : Setting) → setting_asked r ≡ Some setting → (b c : Bool) → Outcome r (if b then Some Waiting else (if c then Some Already else None))
+  by_waiting : (setting : Setting) → setting_asked r ≡ Some setting → (b c : Bool)
+      → Outcome r (if b then Some Waiting else (if c then Some Already else None))
   by_waiting setting e true c = told Waiting refl (λ done. refl)
   by_waiting setting e false c = by_value setting e c
 
   by_setting : (o : Option Setting) → setting_asked r ≡ o → Outcome r (setting_reply site kept r so_far o)
   by_setting None e = at_once e
-  by_setting (Some setting) e = by_waiting setting e (is_unsettled setting r.tick so_far) (stands_so site kept setting r.tick (value_set r.operation) so_far.done)
+  by_setting (Some setting) e =
+      by_waiting setting e (is_unsettled setting r.tick so_far) (stands_so site kept setting r.tick (value_set r.operation) so_far.done)
 
-  by_row : (busy denied : Bool) → Outcome r (if busy then Some Busy else (if denied then Some (Denied (needed_by r.operation) r.level) else setting_reply site kept r so_far (setting_asked r)))
+  by_row : (busy denied : Bool)
+      → Outcome r
+      (if busy then Some Busy else (if denied then Some (Denied (needed_by r.operation) r.level) else setting_reply site kept r so_far
+      (setting_asked r)))
   by_row true denied = told Busy refl (λ done. refl)
   by_row false true = told (Denied (needed_by r.operation) r.level) refl (λ done. refl)
   by_row false false = by_setting (setting_asked r) refl

@@ -16,7 +16,8 @@ use Rattle.panel_rules.proofs.Floors.{le_from}
 abbrev IsOfSite : Site → Request → Type 0
 IsOfSite site r = IsPanel site.panels r.panel × (has_operands site r.panel r.operation ≡ true)
 
-of_event : (site : Site) (panel : ℕ) (operation : Operation) → (is_panel site panel && has_operands site panel operation) ≡ true → IsPanel site.panels panel × (has_operands site panel operation ≡ true)
+of_event : (site : Site) (panel : ℕ) (operation : Operation) → (is_panel site panel && has_operands site panel operation) ≡ true
+    → IsPanel site.panels panel × (has_operands site panel operation ≡ true)
 of_event site panel operation h =
     let p = parts (is_panel site panel) (has_operands site panel operation) h in
     let own = parts (nat_le 1 panel) (nat_le panel site.panels) p.0 in
@@ -25,7 +26,8 @@ of_event site panel operation h =
 each_of_site : (site : Site) (moments : List Moment) → AreEventsOf site moments → AllByRecursion (IsOfSite site) (requests site moments)
 each_of_site site [] h = tt
 each_of_site site (Began ∷ before) h = each_of_site site before h
-each_of_site site (Happened (Op panel code operation) ∷ before) h = each_more (IsOfSite site) (requests site before) _ (each_of_site site before h.0) (of_event site panel operation h.1)
+each_of_site site (Happened (Op panel code operation) ∷ before) h =
+    each_more (IsOfSite site) (requests site before) _ (each_of_site site before h.0) (of_event site panel operation h.1)
 each_of_site site (Happened (Point point state) ∷ before) h = each_of_site site before h.0
 each_of_site site (Happened (Cable panel line piece state) ∷ before) h = each_of_site site before h.0
 each_of_site site (Happened (Supply panel kind bad) ∷ before) h = each_of_site site before h.0

@@ -35,20 +35,29 @@ record AreZones (site : Site) (source : ℕ) (word : Word) : Type 0 where
 
 module _ (site : Site) (kept : Retained) (done : List Done) where
   made_named : (source : ℕ) (made : List Moment) → AreZones site source (word_made site kept done (tells_fault site kept done) source made)
-  made_named source [] = record { alarm = of_nothing 32 (λ k. is_named (zone_name site source (1 + k))); first = of_nothing 32 (λ k. is_named (zone_name site source (1 + k))) }
+  made_named source [] =
+      record {
+        alarm = of_nothing 32 (λ k. is_named (zone_name site source (1 + k)));
+        first =
+            of_nothing 32 (λ k. is_named (zone_name site source (1 + k)));
+      }
   made_named source (moment ∷ before) = record { alarm = zones_named site source _; first = zones_named site source _ }
 
   shown_named : (panel source : ℕ) (moments : List Moment) → AreZones site source (shown_word site kept done panel moments source)
   shown_named panel source moments = by_own (source == panel) (eq_is source panel)
     where
       by_own : (b : Bool) → (b ≡ true → source ≡ panel) →
-          AreZones site source (if b then latest_word site kept done (tells_fault site kept done) panel moments else kept_word_of site kept done (tells_fault site kept done) panel source moments)
-      by_own true e = subst (λ s. AreZones site s (latest_word site kept done (tells_fault site kept done) panel moments)) (sym (e refl)) (made_named panel (made_at panel moments))
+          AreZones site source (if b then latest_word site kept done (tells_fault site kept done) panel moments else kept_word_of site kept done
+          (tells_fault site kept done) panel source moments)
+      by_own true e =
+          subst (λ s. AreZones site s (latest_word site kept done (tells_fault site kept done) panel moments)) (sym (e refl))
+          (made_named panel (made_at panel moments))
       by_own false e = made_named source (kept_at site.panels panel source moments)
 
   -- ---- faults
 
-  faults_named : (panel : ℕ) (made : List Moment) → IsPanel site.panels panel → AreFaults site panel (faults_with site kept done (tells_fault site kept done) panel made)
+  faults_named : (panel : ℕ) (made : List Moment) → IsPanel site.panels panel
+      → AreFaults site panel (faults_with site kept done (tells_fault site kept done) panel made)
   faults_named panel made own =
       record {
         missing = record { test = _; is = refl };
@@ -62,11 +71,22 @@ module _ (site : Site) (kept : Retained) (done : List Done) where
 
   -- ---- faces
 
-  face_named : (stored : Retained) (panel : ℕ) (moments : List Moment) → IsPanel site.panels panel → IsNamed site (face_with site kept done stored panel moments)
+  face_named : (stored : Retained) (panel : ℕ) (moments : List Moment) → IsPanel site.panels panel
+      → IsNamed site (face_with site kept done stored panel moments)
   face_named stored panel moments own =
       record {
-        zones = record { mask = λ source. (shown_word site kept done panel moments source).alarm; is = refl; named = λ source. (shown_named panel source moments).alarm };
-        firsts = record { mask = λ source. (shown_word site kept done panel moments source).first; is = refl; named = λ source. (shown_named panel source moments).first };
+        zones = record {
+          mask = λ source. (shown_word site kept done panel moments source).alarm;
+          is = refl;
+          named =
+              λ source. (shown_named panel source moments).alarm;
+        };
+        firsts = record {
+          mask = λ source. (shown_word site kept done panel moments source).first;
+          is = refl;
+          named =
+              λ source. (shown_named panel source moments).first;
+        };
         faults = faults_named panel (made_at panel moments) own;
         outputs = outputs_named site panel _;
         confirmed = outputs_named site panel _;
@@ -78,7 +98,8 @@ module _ (site : Site) (kept : Retained) (done : List Done) where
 
 pub of_the_site : FacesAreOfSite
 of_the_site site kept moments panel own =
-    named_is site (face_of site kept panel moments) (face_named site kept (operations site kept moments).done (kept_after site kept moments) panel moments own)
+    named_is site (face_of site kept panel moments) (face_named site kept (operations site kept moments).done (kept_after site kept moments) panel
+    moments own)
 
 -- ---- counters
 
@@ -86,13 +107,15 @@ counters_changed : (changes : List Change) (kept : Retained) → AreCounters kep
 counters_changed [] kept h = h
 counters_changed (change ∷ changes) kept h = counters_changed changes (changed change kept) (counters-changed change kept h)
 
-counters_after : (site : Site) (kept : Retained) (moments : List Moment) → AreCounters kept.counters → AreCounters (kept_after site kept moments).counters
+counters_after : (site : Site) (kept : Retained) (moments : List Moment) → AreCounters kept.counters
+    → AreCounters (kept_after site kept moments).counters
 counters_after site kept [] h = h
 counters_after site kept (Began ∷ before) h = counters_after site kept before h
 counters_after site kept (Happened event ∷ before) h = counters_after site kept before h
 counters_after site kept (Turned panel task ∷ before) h = counters_after site kept before h
 counters_after site kept (Kept true ∷ before) h = counters_after site kept before h
-counters_after site kept (Kept false ∷ before) h = counters_changed (batch site kept before) (kept_after site kept before) (counters_after site kept before h)
+counters_after site kept (Kept false ∷ before) h =
+    counters_changed (batch site kept before) (kept_after site kept before) (counters_after site kept before h)
 
 pub counter_ends : CountersHaveAnEnd
 counter_ends site kept moments panel h = counters_after site kept moments h (panel - 1)
@@ -108,7 +131,8 @@ made_at_place f a (suc n) (suc k) x h = let g = made_at_place f (a + 1) n k x h 
 pub by_panel : FacesAreByPanel
 by_panel site kept moments = (
   length-map-range_with_len (λ panel. face_of site kept panel moments) 1 site.panels,
-  λ place face is. (let h = made_at_place (λ panel. face_of site kept panel moments) 1 site.panels place face is in ap (λ (f : Face). f.panel) h.1 ∙ omega arith),
+  λ place face is. (let h = made_at_place (λ panel. face_of site kept panel moments) 1 site.panels place face is in
+      ap (λ (f : Face). f.panel) h.1 ∙ omega arith),
 )
 
 pub faces_in_form : (site : Site) (kept : Retained) (moments : List Moment) → AreCounters kept.counters → AreFaces site (faces_of site kept moments)
@@ -123,4 +147,9 @@ faces_in_form site kept moments counters =
         let within = h.0 in
         let e : 1 + place ≡ place + 1 = omega arith in
         subst (IsFaceOf site (place + 1)) (sym h.1)
-        (record { panel_is = e; of_the_site = of_the_site site kept moments (1 + place) (omega arith, omega (arith, within)); counter = counter_ends site kept moments (1 + place) counters })
+        (record {
+          panel_is = e;
+          of_the_site = of_the_site site kept moments (1 + place) (omega arith, omega (arith, within));
+          counter =
+              counter_ends site kept moments (1 + place) counters;
+        })

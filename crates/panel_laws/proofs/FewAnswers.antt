@@ -1,5 +1,7 @@
 -- At most 64 operations are answered by number in a tick: of each of at most eight panels four of the tick and four of the one before.
-use Rattle.std.proofs.Common.{◌≡◌, ◌≢◌, ℕ, zero, suc, ◌+◌, ◌-◌, ◌*◌, ◌≤◌, ◌==◌, ◌&&◌, ◌||◌, inl, inr, Bool, true, false, List, [], ◌∷◌, ◌++◌, length, Option, Some, None, slice_get, if◌then◌else◌, refl, sym, ◌∙◌, ap, arith}
+use Rattle.std.proofs.Common.{◌≡◌, ◌≢◌, ℕ, zero, suc, ◌+◌, ◌-◌, ◌*◌, ◌≤◌, ◌==◌, ◌&&◌, ◌||◌, inl, inr, Bool, true}
+use Rattle.std.proofs.Common.{false, List, [], ◌∷◌, ◌++◌, length, Option, Some, None, slice_get, if◌then◌else◌, refl}
+use Rattle.std.proofs.Common.{sym, ◌∙◌, ap, arith}
 use Rattle.std.specs.Prelude.{filter, nat_le, nat_lt, option_map}
 use Rattle.std.specs.List.{cons_option, filter_map}
 use Rattle.std.proofs.lemmas.Bool.Decides.{eqb_tells, leb_tells}
@@ -24,7 +26,8 @@ length_filter test (x ∷ xs) = go (test x) (length_filter test xs)
     go true ih = omega (arith, ih)
     go false ih = omega (arith, ih)
 
-count_split : {X : Type 0} (whole first second : X → Bool) (xs : List X) → ((x : X) → one (whole x) ≤ one (first x) + one (second x)) → count whole xs ≤ count first xs + count second xs
+count_split : {X : Type 0} (whole first second : X → Bool) (xs : List X) → ((x : X) → one (whole x) ≤ one (first x) + one (second x))
+    → count whole xs ≤ count first xs + count second xs
 count_split whole first second [] each = omega arith
 count_split whole first second (x ∷ xs) each = let ih = count_split whole first second xs each in let here = each x in omega (arith, ih, here)
 
@@ -49,14 +52,16 @@ record AreFew (few asked : Request → Bool) (xs : List Request) : Type 0 where
   bound : count few xs ≤ 4
   less : count few xs ≤ count asked xs
 
-few_more : (few asked : Request → Bool) (xs : List Request) (r : Request) → count few xs + one (few r) ≤ 4 → count few xs ≤ count asked xs → one (few r) ≤ one (asked r) → AreFew few asked (xs ++ r ∷ [])
+few_more : (few asked : Request → Bool) (xs : List Request) (r : Request) → count few xs + one (few r) ≤ 4 → count few xs ≤ count asked xs
+    → one (few r) ≤ one (asked r) → AreFew few asked (xs ++ r ∷ [])
 few_more few asked xs r bound less one_less =
     let a = count-append few xs (r ∷ []) in
     let b = count-append asked xs (r ∷ []) in
     record { bound = omega (arith, a, bound); less = omega (arith, a, b, less, one_less) }
 
 module _ (panel tick : ℕ) where
-  next_few : (xs : List Request) (r : Request) → r.earlier ≡ length (requests_in r.panel r.tick xs) → AreFew (is_early_at panel tick) (is_asked_at panel tick) xs → AreFew (is_early_at panel tick) (is_asked_at panel tick) (xs ++ r ∷ [])
+  next_few : (xs : List Request) (r : Request) → r.earlier ≡ length (requests_in r.panel r.tick xs)
+      → AreFew (is_early_at panel tick) (is_asked_at panel tick) xs → AreFew (is_early_at panel tick) (is_asked_at panel tick) (xs ++ r ∷ [])
   next_few xs r e h =
       let s = step (count (is_early_at panel tick) xs) (count (is_asked_at panel tick) xs) r.earlier (is_asked_at panel tick r) same h.bound h.less in
       few_more (is_early_at panel tick) (is_asked_at panel tick) xs r s.0 h.less s.1
@@ -73,7 +78,9 @@ module _ (panel tick : ℕ) where
   few_at site [] = record { bound = omega arith; less = omega arith }
   few_at site (Began ∷ before) = let h = few_at site before in record { bound = h.bound; less = h.less }
   few_at site (Happened (Op other code operation) ∷ before) =
-      let h = next_few (requests site before) (request_of (tick_of before) other (level_of site (option_map (λ label. label.bytes) code)) operation (requests site before)) refl (few_at site before) in
+      let h =
+      next_few (requests site before) (request_of (tick_of before) other (level_of site (option_map (λ label. label.bytes) code)) operation
+      (requests site before)) refl (few_at site before) in
       record { bound = h.bound; less = h.less }
   few_at site (Happened (Point point state) ∷ before) = let h = few_at site before in record { bound = h.bound; less = h.less }
   few_at site (Happened (Cable other line piece state) ∷ before) = let h = few_at site before in record { bound = h.bound; less = h.less }
@@ -125,19 +132,27 @@ here true b true false = omega arith
 here true b false e = omega arith
 here false b t e = omega arith
 
-split_panel : (panel n : ℕ) (t e : Bool) → one ((nat_le 1 panel && nat_le panel (suc n)) && (t && e)) ≤ one ((nat_le 1 panel && nat_le panel n) && (t && e)) + one (((panel == suc n) && t) && e)
+split_panel : (panel n : ℕ) (t e : Bool)
+    → one ((nat_le 1 panel && nat_le panel (suc n)) && (t && e)) ≤ one ((nat_le 1 panel && nat_le panel n) && (t && e)) + one (((panel == suc n) && t)
+    && e)
 split_panel panel n t e =
     elim (eqb_tells panel (suc n)) [
       | inl h ↦ rw h.0 (here (nat_le 1 panel && nat_le panel (suc n)) (nat_le 1 panel && nat_le panel n) t e)
       | inr h ↦ rw (same_le panel n h.1) (omega arith)
     ]
 
-few_panels : (tick : ℕ) (xs : List Request) → ((panel : ℕ) → count (is_early_at panel tick) xs ≤ 4) → (n : ℕ) → count (is_early_up_to n tick) xs ≤ n * 4
-few_panels tick xs each zero = let none = count-none (is_early_up_to 0 tick) xs (each_by (λ (r : Request). is_early_up_to 0 tick r ≡ false) xs (λ k r h. nowhere r.panel ((r.tick == tick) && nat_lt r.earlier 4))) in omega (arith, none)
+few_panels : (tick : ℕ) (xs : List Request) → ((panel : ℕ) → count (is_early_at panel tick) xs ≤ 4) → (n : ℕ)
+    → count (is_early_up_to n tick) xs ≤ n * 4
+few_panels tick xs each zero = let none =
+    count-none (is_early_up_to 0 tick) xs
+    (each_by (λ (r : Request). is_early_up_to 0 tick r ≡ false) xs (λ k r h. nowhere r.panel ((r.tick == tick) && nat_lt r.earlier 4))) in
+    omega (arith, none)
 few_panels tick xs each (suc n) =
     let ih = few_panels tick xs each n in
     let one_more = each (suc n) in
-    let split = count_split (is_early_up_to (suc n) tick) (is_early_up_to n tick) (is_early_at (suc n) tick) xs (λ r. split_panel r.panel n (r.tick == tick) (nat_lt r.earlier 4)) in
+    let split =
+    count_split (is_early_up_to (suc n) tick) (is_early_up_to n tick) (is_early_at (suc n) tick) xs
+    (λ r. split_panel r.panel n (r.tick == tick) (nat_lt r.earlier 4)) in
     omega (arith, ih, one_more, split)
 
 -- those of a tick that aren't busy
@@ -156,7 +171,9 @@ pub few_asked : (site : Site) (moments : List Moment) (tick : ℕ) → count (ca
 few_asked site moments tick =
     let now_few = few_in_tick site moments tick in
     let last_few = few_in_tick site moments (tick - 1) in
-    let split = count_split (can_be_told tick) (is_early_up_to 8 tick) (is_early_up_to 8 (tick - 1)) (requests site moments) (λ r. or_split (is_early_up_to 8 tick r) (is_early_up_to 8 (tick - 1) r)) in
+    let split =
+    count_split (can_be_told tick) (is_early_up_to 8 tick) (is_early_up_to 8 (tick - 1)) (requests site moments)
+    (λ r. or_split (is_early_up_to 8 tick r) (is_early_up_to 8 (tick - 1) r)) in
     omega (arith, now_few, last_few, split)
 
 -- ---- of those that are told
@@ -167,7 +184,8 @@ pub told_few : (look : Request → Option Answered) (test : Request → Bool) (a
 told_few look test [] passes = omega arith
 told_few look test (r ∷ asked) passes = go (look r) refl (told_few look test asked (λ k x a is e free. passes (suc k) x a is e free))
   where
-    either : (a : Answered) → look r ≡ Some a → (o : Option OpAnswer) → told_answer a ≡ o → (is_busy a.reply ≡ false → test r ≡ true) → length (filter_map told_answer (filter_map look asked)) ≤ count test asked →
+    either : (a : Answered) → look r ≡ Some a → (o : Option OpAnswer) → told_answer a ≡ o → (is_busy a.reply ≡ false → test r ≡ true)
+        → length (filter_map told_answer (filter_map look asked)) ≤ count test asked →
         length (cons_option o (filter_map told_answer (filter_map look asked))) ≤ one (test r) + count test asked
     either a e None t free ih = omega (arith, ih)
     either a e (Some op) t free ih =

@@ -36,23 +36,28 @@ module _ (site : Site) (kept : Retained) (done : List Done) (panel : ℕ) where
   alarms answers tick = zones_where site panel (λ zone. is_in_alarm site kept done answers zone tick)
 
   -- those that a word tells are those over the answers that were held when it was made
-  in_word : (word : List Moment) → (word_made site kept done (tells_fault site kept done) panel word).alarm ≡ alarms (held_answers site panel word) (tick_of word)
+  in_word : (word : List Moment) → (word_made site kept done (tells_fault site kept done) panel word).alarm ≡ alarms (held_answers site panel word)
+      (tick_of word)
   in_word [] = no_zones site panel
   in_word (moment ∷ before) = refl
 
-  latest : (m : List Moment) → (latest_word site kept done (tells_fault site kept done) panel m).alarm ≡ zones_where site panel (holds_alarm site kept done panel m)
+  latest : (m : List Moment)
+      → (latest_word site kept done (tells_fault site kept done) panel m).alarm ≡ zones_where site panel (holds_alarm site kept done panel m)
   latest m =
       in_word (made_at panel m) ∙
       (ap (λ xs. alarms xs (tick_of (made_at panel m))) (held_made site panel m) ∙
       ap (λ t. alarms (held_answers site panel m) t) (made_tick panel m))
 
-  own_word : (m : List Moment) → (shown_word site kept done panel m panel).alarm ≡ (latest_word site kept done (tells_fault site kept done) panel m).alarm
+  own_word : (m : List Moment)
+      → (shown_word site kept done panel m panel).alarm ≡ (latest_word site kept done (tells_fault site kept done) panel m).alarm
   own_word m = let same = equal_self panel in rw same refl
     where
       equal_self : (n : ℕ) → (n == n) ≡ true
       equal_self n = grind (arith, nat_tests)
 
-  own_mask : (m : List Moment) → (1 ≤ panel) × (panel ≤ 8) → slice_index (map (λ source. (shown_word site kept done panel m source).alarm) (range_with_len 1 8)) (panel - 1) ≡ zones_where site panel (holds_alarm site kept done panel m)
+  own_mask : (m : List Moment) → (1 ≤ panel) × (panel ≤ 8)
+      → slice_index (map (λ source. (shown_word site kept done panel m source).alarm) (range_with_len 1 8)) (panel - 1)
+      ≡ zones_where site panel (holds_alarm site kept done panel m)
   own_mask m p =
       entry (λ source. (shown_word site kept done panel m source).alarm) (panel - 1) (let l = p.0 in let h = p.1 in omega (arith, l, h)) ∙
       (ap (λ q. (shown_word site kept done panel m q).alarm) (let l = p.0 in omega (arith, l)) ∙

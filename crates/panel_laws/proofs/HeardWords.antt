@@ -35,20 +35,27 @@ at_start : (panels : ℕ) (m : List Moment) → IsRun panels m → tick_of m ≡
 at_start panels [] run z = refl
 at_start panels (Began ∷ before) run z = absurd (omega (arith, z))
 at_start panels (Happened event ∷ before) run z = absurd (let e = ap is_fresh (at_start panels before run.0 z) in let x = sym e ∙ run.1 in cc)
-at_start panels (Turned panel task ∷ before) run z = absurd (let e = ap (has_turned panel task) (at_start panels before run.0 z) in let x = sym e ∙ run.1 in cc)
+at_start panels (Turned panel task ∷ before) run z =
+    absurd (let e = ap (has_turned panel task) (at_start panels before run.0 z) in let x = sym e ∙ run.1 in cc)
 at_start panels (Kept failed ∷ before) run z = absurd (let e = ap has_kept (at_start panels before run.0 z) in let x = sym e ∙ run.1 in cc)
 
 -- once Hold has had its turn in a tick, it has had it
-turned_on : (source : ℕ) (before m : List Moment) → IsPast (Turned source Hold ∷ before) m → tick_of m ≤ tick_of before → has_turned source Hold m ≡ true
+turned_on : (source : ℕ) (before m : List Moment) → IsPast (Turned source Hold ∷ before) m → tick_of m ≤ tick_of before
+    → has_turned source Hold m ≡ true
 turned_on source before m present l = rw (own_turn source Hold) refl
 turned_on source before m (later Began b h) l = absurd (omega (arith, tick_rises (Turned source Hold ∷ before) b h, l))
 turned_on source before m (later (Happened event) b h) l = turned_on source before b h l
 turned_on source before m (later (Turned panel task) b h) l =
-    elim (is_turn source Hold panel task) as (λ c. (if c then true else has_turned source Hold b) ≡ true) [ true ↦ refl | false ↦ turned_on source before b h l ]
+    elim (is_turn source Hold panel task) as (λ c. (if c then true else has_turned source Hold b) ≡ true) [
+      | true ↦ refl
+      | false ↦
+          turned_on source before b h l
+    ]
 turned_on source before m (later (Kept failed) b h) l = turned_on source before b h l
 
 -- so for the rest of the tick the word that it made then is the latest one
-made_on : (panels source : ℕ) (before m : List Moment) → IsPast (Turned source Hold ∷ before) m → IsRun panels m → tick_of m ≤ tick_of before → made_at source m ≡ Turned source Hold ∷ before
+made_on : (panels source : ℕ) (before m : List Moment) → IsPast (Turned source Hold ∷ before) m → IsRun panels m → tick_of m ≤ tick_of before
+    → made_at source m ≡ Turned source Hold ∷ before
 made_on panels source before m present run l = rw (eq_true source source refl) refl
 made_on panels source before m (later Began b h) run l = absurd (omega (arith, tick_rises (Turned source Hold ∷ before) b h, l))
 made_on panels source before m (later (Happened event) b h) run l = made_on panels source before b h run.0 l
@@ -60,11 +67,13 @@ made_on panels source before m (later (Turned panel Hold) b h) run l =
 made_on panels source before m (later (Turned panel task) b h) run l = made_on panels source before b h run.0 l
 made_on panels source before m (later (Kept failed) b h) run l = made_on panels source before b h run.0 l
 
-latest_then : (panels source : ℕ) (m word : List Moment) → IsMade source word → IsPast word m → IsRun panels m → made_at source (up_to (tick_of word) m) ≡ word
+latest_then : (panels source : ℕ) (m word : List Moment) → IsMade source word → IsPast word m → IsRun panels m
+    → made_at source (up_to (tick_of word) m) ≡ word
 latest_then panels source m word (nothing e) past run =
     let z = up_to_by (tick_of word) m in
     let t = ap tick_of e in
-    ap (made_at source) (at_start panels (up_to (tick_of word) m) (run_tail panels (up_to (tick_of word) m) m (up_to_is_past (tick_of word) m) run) (omega (arith, z, t))) ∙ sym e
+    ap (made_at source) (at_start panels (up_to (tick_of word) m) (run_tail panels (up_to (tick_of word) m) m (up_to_is_past (tick_of word) m) run)
+    (omega (arith, z, t))) ∙ sym e
 latest_then panels source m word (in_turn before e) past run =
     let by = up_to_by (tick_of word) m in
     let t = ap tick_of e in

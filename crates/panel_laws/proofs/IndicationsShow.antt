@@ -8,4 +8,5 @@ use Rattle.panel_laws.proofs.OutputsOn.{indicated_on}
 
 pub indicated_shown : IndicatedOutputIsShown
 indicated_shown site kept done stored m output plan after is indicated =
-    output_bit site after.valid output plan is (λ o. is_on site (facts_of site kept done) kept done o m) ∙ indicated_on site kept done m output after.valid after.run after.ended indicated
+    output_bit site after.valid output plan is (λ o. is_on site (facts_of site kept done) kept done o m) ∙ indicated_on site kept done m output
+    after.valid after.run after.ended indicated

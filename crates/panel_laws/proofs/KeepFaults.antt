@@ -29,7 +29,8 @@ sound_turn = record { sound = sound; idle = idle }
     sound false [] = refl
     sound false (change ∷ changes) = refl
 
-    idle : (mending_fails committing_fails : Bool) (changes : List Change) → has_batch changes ≡ false → keep_answer (turn_fails false mending_fails changes committing_fails) changes ≡ Idle
+    idle : (mending_fails committing_fails : Bool) (changes : List Change) → has_batch changes ≡ false
+        → keep_answer (turn_fails false mending_fails changes committing_fails) changes ≡ Idle
     idle mending_fails committing_fails [] e = refl
     idle mending_fails committing_fails (change ∷ changes) e = absurd cc
 

@@ -32,7 +32,9 @@ falls_more (y ∷ xs) x falls all = (each_more (λ (b : Answer). b.stamp.0 ≤ y
 
 falls_reverse : (xs : List Answer) → Rises xs → Falls (reverse xs)
 falls_reverse [] rises = tt
-falls_reverse (x ∷ xs) rises = subst Falls (sym (reverse_cons x xs)) (falls_more (reverse xs) x (falls_reverse xs rises.1) (each_reverse (λ (b : Answer). x.stamp.0 ≤ b.stamp.0) xs rises.0))
+falls_reverse (x ∷ xs) rises =
+    subst Falls (sym (reverse_cons x xs))
+    (falls_more (reverse xs) x (falls_reverse xs rises.1) (each_reverse (λ (b : Answer). x.stamp.0 ≤ b.stamp.0) xs rises.0))
 
 count_reverse : (test : Answer → Bool) (xs : List Answer) → count test (reverse xs) ≡ count test xs
 count_reverse test [] = refl
@@ -43,7 +45,8 @@ count_reverse test (x ∷ xs) =
     omega (arith, ih, a, e)
 
 -- those that come in order still do where some are left out
-rises_filter : (among : Answer → Bool) (xs : List Answer) → ((i j : ℕ) (a b : Answer) → i ≤ j → slice_get xs i ≡ Some a → slice_get xs j ≡ Some b → a.stamp.0 ≤ b.stamp.0) → Rises (filter among xs)
+rises_filter : (among : Answer → Bool) (xs : List Answer)
+    → ((i j : ℕ) (a b : Answer) → i ≤ j → slice_get xs i ≡ Some a → slice_get xs j ≡ Some b → a.stamp.0 ≤ b.stamp.0) → Rises (filter among xs)
 rises_filter among [] order = tt
 rises_filter among (x ∷ xs) order = go (among x) (rises_filter among xs (λ i j a b l e f. order (suc i) (suc j) a b (omega (arith, l)) e f))
   where
@@ -52,7 +55,8 @@ rises_filter among (x ∷ xs) order = go (among x) (rises_filter among xs (λ i 
     go false ih = ih
 
 -- three places that pass are counted
-two_places : (test : Answer → Bool) (xs : List Answer) (i j : ℕ) (a b : Answer) → i < j → slice_get xs i ≡ Some a → slice_get xs j ≡ Some b → test a ≡ true → test b ≡ true → 2 ≤ count test xs
+two_places : (test : Answer → Bool) (xs : List Answer) (i j : ℕ) (a b : Answer) → i < j → slice_get xs i ≡ Some a → slice_get xs j ≡ Some b
+    → test a ≡ true → test b ≡ true → 2 ≤ count test xs
 two_places test [] i j a b l e f s t = cc
 two_places test (x ∷ xs) i zero a b l e f s t = absurd (omega (arith, l))
 two_places test (x ∷ xs) zero (suc j) a b l e f s t =
@@ -62,7 +66,8 @@ two_places test (x ∷ xs) zero (suc j) a b l e f s t =
     omega (arith, here, more)
 two_places test (x ∷ xs) (suc i) (suc j) a b l e f s t = let ih = two_places test xs i j a b (omega (arith, l)) e f s t in omega (arith, ih)
 
-pub three_places : (test : Answer → Bool) (xs : List Answer) (i j k : ℕ) (a b c : Answer) → i < j → j < k → slice_get xs i ≡ Some a → slice_get xs j ≡ Some b → slice_get xs k ≡ Some c → test a ≡ true → test b ≡ true → test c ≡ true → 3 ≤ count test xs
+pub three_places : (test : Answer → Bool) (xs : List Answer) (i j k : ℕ) (a b c : Answer) → i < j → j < k → slice_get xs i ≡ Some a
+    → slice_get xs j ≡ Some b → slice_get xs k ≡ Some c → test a ≡ true → test b ≡ true → test c ≡ true → 3 ≤ count test xs
 three_places test [] i j k a b c l m e f g s t u = cc
 three_places test (x ∷ xs) i zero k a b c l m e f g s t u = absurd (omega (arith, l))
 three_places test (x ∷ xs) i (suc j) zero a b c l m e f g s t u = absurd (omega (arith, m))
@@ -71,10 +76,12 @@ three_places test (x ∷ xs) zero (suc j) (suc k) a b c l m e f g s t u =
     let here = ap one (ap test same ∙ s) in
     let more = two_places test xs j k b c (omega (arith, m)) f g t u in
     omega (arith, here, more)
-three_places test (x ∷ xs) (suc i) (suc j) (suc k) a b c l m e f g s t u = let ih = three_places test xs i j k a b c (omega (arith, l)) (omega (arith, m)) e f g s t u in omega (arith, ih)
+three_places test (x ∷ xs) (suc i) (suc j) (suc k) a b c l m e f g s t u = let ih =
+    three_places test xs i j k a b c (omega (arith, l)) (omega (arith, m)) e f g s t u in omega (arith, ih)
 
 -- the latest ones first: as many as lie from a tick on are silent, if each of these is
-begins : (first n : ℕ) (ys : List Answer) → Falls ys → AllByRecursion (λ (y : Answer). first ≤ y.stamp.0 → is_silent y.heard ≡ true) ys → n ≤ count (λ (y : Answer). nat_le first y.stamp.0) ys → begins_silent n ys ≡ true
+begins : (first n : ℕ) (ys : List Answer) → Falls ys → AllByRecursion (λ (y : Answer). first ≤ y.stamp.0 → is_silent y.heard ≡ true) ys
+    → n ≤ count (λ (y : Answer). nat_le first y.stamp.0) ys → begins_silent n ys ≡ true
 begins first zero ys falls silent l = refl
 begins first (suc n) [] falls silent l = absurd (omega (arith, l))
 begins first (suc n) (y ∷ ys) falls silent l =
@@ -84,7 +91,10 @@ begins first (suc n) (y ∷ ys) falls silent l =
           both (is_silent y.heard) (begins_silent n ys) (silent.0 h.1) (begins first n ys falls.1 silent.1 (omega (arith, l, here))))
       | inr h ↦
           (let here = ap one h.0 in
-          let none = count-none (λ (z : Answer). nat_le first z.stamp.0) ys (each_to (λ (z : Answer). z.stamp.0 ≤ y.stamp.0) (λ (z : Answer). nat_le first z.stamp.0 ≡ false) ys (λ z le. (let m = h.1 in early z.stamp.0 (omega (arith, m, le)))) falls.0) in
+          let none =
+          count-none (λ (z : Answer). nat_le first z.stamp.0) ys
+          (each_to (λ (z : Answer). z.stamp.0 ≤ y.stamp.0) (λ (z : Answer). nat_le first z.stamp.0 ≡ false) ys
+          (λ z le. (let m = h.1 in early z.stamp.0 (omega (arith, m, le)))) falls.0) in
           absurd (omega (arith, l, here, none)))
     ]
   where
@@ -92,13 +102,16 @@ begins first (suc n) (y ∷ ys) falls silent l =
     early t l = elim (leb_tells first t) [ inl h ↦ (let m = h.1 in absurd (omega (arith, m, l))) | inr h ↦ h.0 ]
 
 -- a point whose answers from a tick on are all silent, and are three at least, is missing
-pub missing_by : (first point : ℕ) (xs : List Answer) → ((i j : ℕ) (a b : Answer) → i ≤ j → slice_get xs i ≡ Some a → slice_get xs j ≡ Some b → a.stamp.0 ≤ b.stamp.0)
+pub missing_by : (first point : ℕ) (xs : List Answer)
+    → ((i j : ℕ) (a b : Answer) → i ≤ j → slice_get xs i ≡ Some a → slice_get xs j ≡ Some b → a.stamp.0 ≤ b.stamp.0)
     → ((k : ℕ) (a : Answer) → slice_get xs k ≡ Some a → a.point ≡ point → first ≤ a.stamp.0 → is_silent a.heard ≡ true)
     → 3 ≤ count (λ (a : Answer). (a.point == point) && nat_le first a.stamp.0) xs → is_missing xs point ≡ true
 missing_by first point xs order silent l =
     let c = count-filter (λ (a : Answer). nat_le first a.stamp.0) (λ (a : Answer). a.point == point) xs in
     let r = count_reverse (λ (a : Answer). nat_le first a.stamp.0) (filter (λ (a : Answer). a.point == point) xs) in
-    begins first 3 (latest_of point xs) (falls_reverse (filter (λ (a : Answer). a.point == point) xs) (rises_filter (λ (a : Answer). a.point == point) xs order))
+    begins first 3 (latest_of point xs)
+    (falls_reverse (filter (λ (a : Answer). a.point == point) xs) (rises_filter (λ (a : Answer). a.point == point) xs order))
     (each_reverse (λ (y : Answer). first ≤ y.stamp.0 → is_silent y.heard ≡ true) (filter (λ (a : Answer). a.point == point) xs)
-    (each_filtered (λ (y : Answer). first ≤ y.stamp.0 → is_silent y.heard ≡ true) (λ (a : Answer). a.point == point) xs (λ k a e t. silent k a e (eq_is a.point point t))))
+    (each_filtered (λ (y : Answer). first ≤ y.stamp.0 → is_silent y.heard ≡ true) (λ (a : Answer). a.point == point) xs
+    (λ k a e t. silent k a e (eq_is a.point point t))))
     (omega (arith, c, r, l))

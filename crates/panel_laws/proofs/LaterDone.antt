@@ -14,7 +14,9 @@ use Rattle.panel_rules.specs.Answers.{answers}
 use Rattle.panel_rules.specs.Moments.{Moment, Began, Happened, Turned, Kept, is_turn, latest_turn, tick_of}
 use Rattle.panel_rules.specs.Counts.{taken_by_hold}
 use Rattle.panel_rules.specs.Zones.{held_answers}
-use Rattle.panel_rules.specs.Operations.{Request, Reply, Busy, Denied, Waiting, Already, Store, WasDone, Operations, requests, requests_in, done_in, after_reply, desk_reply, after_request, after_desk, do_all, after_keep, operations}
+use Rattle.panel_rules.specs.Operations.{Request, Reply, Busy, Denied, Waiting, Already, Store, WasDone, Operations}
+use Rattle.panel_rules.specs.Operations.{requests, requests_in, done_in, after_reply, desk_reply, after_request}
+use Rattle.panel_rules.specs.Operations.{after_desk, do_all, after_keep, operations}
 use Rattle.panel_rules.specs.Batches.{is_in_fire_alarm, enters, new_entries}
 use Rattle.panel_laws.specs.TimelineLaws.{counted_entries}
 use Rattle.panel_laws.proofs.AnswerLaws.{eq_is}
@@ -31,7 +33,8 @@ turn_in_time : (panel : ℕ) (task : Task) (moments : List Moment) → latest_tu
 turn_in_time panel task [] = omega arith
 turn_in_time panel task (Began ∷ before) = omega (arith, turn_in_time panel task before)
 turn_in_time panel task (Happened event ∷ before) = turn_in_time panel task before
-turn_in_time panel task (Turned other_panel other ∷ before) = turn_by (is_turn panel task other_panel other) (tick_of before) (latest_turn panel task before) (turn_in_time panel task before)
+turn_in_time panel task (Turned other_panel other ∷ before) =
+    turn_by (is_turn panel task other_panel other) (tick_of before) (latest_turn panel task before) (turn_in_time panel task before)
 turn_in_time panel task (Kept failed ∷ before) = turn_in_time panel task before
 
 module _ (site : Site) (kept : Retained) (new old : List Done) (tick : ℕ) (from : AreFrom tick new) (panel : ℕ) where
@@ -41,7 +44,8 @@ module _ (site : Site) (kept : Retained) (new old : List Done) (tick : ℕ) (fro
   fire_same : (m : List Moment) → tick_of m ≤ tick → is_in_fire_alarm site kept (new ++ old) panel m ≡ is_in_fire_alarm site kept old panel m
   fire_same m le =
       ap (λ mask. not (mask == 0))
-      (zones_same site panel _ _ (λ z. in_alarm-later site kept new old tick from (held_answers site panel m) (late m le) z (latest_turn panel Hold m) (omega (arith, le, turn_in_time panel Hold m))))
+      (zones_same site panel _ _ (λ z. in_alarm-later site kept new old tick from (held_answers site panel m) (late m le) z (latest_turn panel Hold m)
+      (omega (arith, le, turn_in_time panel Hold m))))
 
   enters_same : (m : List Moment) → tick_of m ≤ tick → enters site kept (new ++ old) panel m ≡ enters site kept old panel m
   enters_same m le =
@@ -53,7 +57,8 @@ module _ (site : Site) (kept : Retained) (new old : List Done) (tick : ℕ) (fro
   new_same (Began ∷ before) le = new_same before (omega (arith, le))
   new_same (Happened event ∷ before) le = new_same before le
   new_same (Turned other Hold ∷ before) le =
-      ap (λ b. if (other == panel) && b then tick_of before ∷ new_entries site kept (new ++ old) panel before else new_entries site kept (new ++ old) panel before) (enters_same before le)
+      ap (λ b. if (other == panel) && b then tick_of before ∷ new_entries site kept (new ++ old) panel before else new_entries site kept (new ++ old)
+      panel before) (enters_same before le)
       ∙ ap (λ xs. if (other == panel) && enters site kept old panel before then tick_of before ∷ xs else xs) (new_same before le)
   new_same (Turned other Poll ∷ before) le = new_same before le
   new_same (Turned other Decide ∷ before) le = new_same before le
@@ -72,7 +77,8 @@ module _ (site : Site) (kept : Retained) (new old : List Done) (tick : ℕ) (fro
   counted_same (Turned other task ∷ before) le = counted_same before le
   counted_same (Kept failed ∷ before) le =
       ap (λ n. if failed then n else n + length (new_entries site kept (new ++ old) panel before)) (counted_same before le)
-      ∙ ap (λ xs. if failed then counted_entries site kept old panel before else counted_entries site kept old panel before + length xs) (new_same before le)
+      ∙ ap (λ xs. if failed then counted_entries site kept old panel before else counted_entries site kept old panel before + length xs)
+      (new_same before le)
 
 -- what was done more, in a tick or later
 pub record Grew (before after : List Done) (tick : ℕ) : Type 0 where
@@ -98,16 +104,19 @@ then_grew : (first second third : List Done) (tick : ℕ) → Grew first second 
 then_grew first second third tick h g =
     record { new = g.new ++ h.new; is = g.is ∙ ap (λ xs. g.new ++ xs) h.is ∙ join g.new h.new first; from = from_both tick g.new h.new g.from h.from }
 
-reply_grew : (r : Request) (so_far : Operations) (reply : Option Reply) (tick : ℕ) → r.tick ≡ tick → Grew so_far.done (after_reply r so_far reply).done tick
+reply_grew : (r : Request) (so_far : Operations) (reply : Option Reply) (tick : ℕ) → r.tick ≡ tick
+    → Grew so_far.done (after_reply r so_far reply).done tick
 reply_grew r so_far None tick now = same_done so_far.done tick
 reply_grew r so_far (Some Busy) tick now = same_done so_far.done tick
 reply_grew r so_far (Some (Denied needs has)) tick now = same_done so_far.done tick
 reply_grew r so_far (Some Waiting) tick now = same_done so_far.done tick
 reply_grew r so_far (Some Already) tick now = same_done so_far.done tick
 reply_grew r so_far (Some Store) tick now = same_done so_far.done tick
-reply_grew r so_far (Some WasDone) tick now = one_done so_far.done so_far.done tick (done_in r.tick r) (omega (arith, now)) (same_done so_far.done tick)
+reply_grew r so_far (Some WasDone) tick now =
+    one_done so_far.done so_far.done tick (done_in r.tick r) (omega (arith, now)) (same_done so_far.done tick)
 
-desk_grew : (site : Site) (kept : Retained) (tick : ℕ) (taken : List Request) (so_far : Operations) → AllByRecursion (λ (r : Request). r.tick ≡ tick) taken →
+desk_grew : (site : Site) (kept : Retained) (tick : ℕ) (taken : List Request) (so_far : Operations)
+    → AllByRecursion (λ (r : Request). r.tick ≡ tick) taken →
     Grew so_far.done (after_desk site kept taken so_far).done tick
 desk_grew site kept tick [] so_far all = same_done so_far.done tick
 desk_grew site kept tick (r ∷ taken) so_far all =
@@ -117,19 +126,22 @@ desk_grew site kept tick (r ∷ taken) so_far all =
 all_grew : (tick : ℕ) (waiting : List Request) (done : List Done) → Grew done (do_all tick waiting done) tick
 all_grew tick [] done = same_done done tick
 all_grew tick (r ∷ waiting) done =
-    then_grew done (done_in tick r ∷ done) (do_all tick waiting (done_in tick r ∷ done)) tick (one_done done done tick (done_in tick r) (omega arith) (same_done done tick)) (all_grew tick waiting (done_in tick r ∷ done))
+    then_grew done (done_in tick r ∷ done) (do_all tick waiting (done_in tick r ∷ done)) tick
+    (one_done done done tick (done_in tick r) (omega arith) (same_done done tick)) (all_grew tick waiting (done_in tick r ∷ done))
 
 keep_grew : (tick : ℕ) (failed : Bool) (so_far : Operations) → Grew so_far.done (after_keep tick failed so_far).done tick
 keep_grew tick true so_far = same_done so_far.done tick
 keep_grew tick false so_far = all_grew tick so_far.waiting so_far.done
 
 -- what is done at a moment is done in its tick
-pub next_grew : (site : Site) (kept : Retained) (moment : Moment) (before : List Moment) → Grew (operations site kept before).done (operations site kept (moment ∷ before)).done (tick_of before)
+pub next_grew : (site : Site) (kept : Retained) (moment : Moment) (before : List Moment)
+    → Grew (operations site kept before).done (operations site kept (moment ∷ before)).done (tick_of before)
 next_grew site kept Began before = same_done _ _
 next_grew site kept (Happened event) before = same_done _ _
 next_grew site kept (Turned panel Desk) before =
     desk_grew site kept (tick_of before) (requests_in panel (tick_of before) (requests site before)) (operations site kept before)
-    (each_filtered (λ (r : Request). r.tick ≡ tick_of before) (λ (r : Request). (r.panel == panel) && (r.tick == tick_of before)) (requests site before)
+    (each_filtered (λ (r : Request). r.tick ≡ tick_of before) (λ (r : Request). (r.panel == panel) && (r.tick == tick_of before))
+    (requests site before)
     (λ k r is t. eq_is r.tick (tick_of before) (parts (r.panel == panel) (r.tick == tick_of before) t).1))
 next_grew site kept (Turned panel Poll) before = same_done _ _
 next_grew site kept (Turned panel Decide) before = same_done _ _

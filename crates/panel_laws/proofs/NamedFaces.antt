@@ -28,7 +28,8 @@ low_half set line a b k e small =
     ∙ ap (λ n. has_bit (slice_index (a ∷ b ∷ []) n) (bit_of (1 + k))) half
     ∙ ap (λ n. has_bit a n) bit
 
-high_half : (set : PointSet) (line a b k : ℕ) → slice_index_or set.loops (line - 1) [] ≡ a ∷ b ∷ [] → k < 96 → has_point set line (97 + k) ≡ has_bit b k
+high_half : (set : PointSet) (line a b k : ℕ) → slice_index_or set.loops (line - 1) [] ≡ a ∷ b ∷ [] → k < 96
+    → has_point set line (97 + k) ≡ has_bit b k
 high_half set line a b k e small =
     let half : half_of (97 + k) ≡ 1 = omega (arith, small) in
     let bit : bit_of (97 + k) ≡ k = omega (arith, small) in
@@ -51,13 +52,17 @@ module _ (site : Site) (face : Face) (group : ℕ → Group) (set : PointSet) (p
   abbrev half : ℕ → ℕ → ℕ
   half line past = addresses_where site face.panel points.test line past
 
-  half_kept : (line past from : ℕ) → from ≡ past + 1 → ((k : ℕ) → k < 96 → has_point set line (from + k) ≡ has_bit (half line past) k) → half line past ≡ kept_of site face (group line) from 96
+  half_kept : (line past from : ℕ) → from ≡ past + 1 → ((k : ℕ) → k < 96 → has_point set line (from + k) ≡ has_bit (half line past) k)
+      → half line past ≡ kept_of site face (group line) from 96
   half_kept line past from begins bits =
       kept_is 96 (λ k. is_named (name_in site face.panel (group line) (from + k))) (λ k. shows face (group line) (from + k)) (half line past)
-      (points_named site face.panel line past from points.test begins ∙ ap (λ (named : ℕ → Bool). mask_of 96 (λ k. named k && has_bit (half line past) k)) (named_same line from))
+      (points_named site face.panel line past from points.test begins ∙ ap
+      (λ (named : ℕ → Bool). mask_of 96 (λ k. named k && has_bit (half line past) k)) (named_same line from))
       (λ k small. shown line (from + k) ∙ bits k small)
     where
-      named_same : (line from : ℕ) → ◌≡◌ {A = ℕ → Bool} (λ k. is_named (point_name site face.panel line (from + k))) (λ k. is_named (name_in site face.panel (group line) (from + k)))
+      named_same : (line from : ℕ)
+          → ◌≡◌ {A = ℕ → Bool} (λ k. is_named (point_name site face.panel line (from + k)))
+          (λ k. is_named (name_in site face.panel (group line) (from + k)))
       named_same line from = fun_ext (λ k. ap is_named (sym (name line (from + k))))
 
   line_kept : (line : ℕ) → slice_index_or set.loops (line - 1) [] ≡ half line 0 ∷ half line 96 ∷ [] →
@@ -72,8 +77,10 @@ module _ (site : Site) (face : Face) (group : ℕ → Group) (set : PointSet) (p
   points_kept =
       points.is
       ∙ same_set (half 1 0 ∷ half 1 96 ∷ []) (half 2 0 ∷ half 2 96 ∷ []) (half 3 0 ∷ half 3 96 ∷ []) (half 4 0 ∷ half 4 96 ∷ [])
-      (kept_of site face (group 1) 1 96 ∷ kept_of site face (group 1) 97 96 ∷ []) (kept_of site face (group 2) 1 96 ∷ kept_of site face (group 2) 97 96 ∷ [])
-      (kept_of site face (group 3) 1 96 ∷ kept_of site face (group 3) 97 96 ∷ []) (kept_of site face (group 4) 1 96 ∷ kept_of site face (group 4) 97 96 ∷ [])
+      (kept_of site face (group 1) 1 96 ∷ kept_of site face (group 1) 97 96 ∷ []) (kept_of site face (group 2) 1 96
+      ∷ kept_of site face (group 2) 97 96 ∷ [])
+      (kept_of site face (group 3) 1 96 ∷ kept_of site face (group 3) 97 96 ∷ []) (kept_of site face (group 4) 1 96
+      ∷ kept_of site face (group 4) 97 96 ∷ [])
       (line_kept 1 (ap (λ (s : PointSet). slice_index_or s.loops 0 []) points.is))
       (line_kept 2 (ap (λ (s : PointSet). slice_index_or s.loops 1 []) points.is))
       (line_kept 3 (ap (λ (s : PointSet). slice_index_or s.loops 2 []) points.is))
@@ -93,23 +100,28 @@ map_range f g a (suc n) same =
     let ih = map_range f g (a + 1) n (λ x low high. same x (omega (arith, low)) (omega (arith, high))) in
     ap (λ y. y ∷ map f (range_with_len (a + 1) n)) (same a (omega arith) (omega arith)) ∙ ap (λ ys. g a ∷ ys) ih
 
-bit_at_panel : (masks : List ℕ) (mask : ℕ → ℕ) (source k : ℕ) → masks ≡ map mask (range_with_len 1 8) → 1 ≤ source → source < 9 → has_bit (slice_index masks (source - 1)) ((1 + k) - 1) ≡ has_bit (mask source) k
+bit_at_panel : (masks : List ℕ) (mask : ℕ → ℕ) (source k : ℕ) → masks ≡ map mask (range_with_len 1 8) → 1 ≤ source → source < 9
+    → has_bit (slice_index masks (source - 1)) ((1 + k) - 1) ≡ has_bit (mask source) k
 bit_at_panel masks mask source k e low high =
     bit_is (slice_index masks (source - 1)) k
     ∙ ap (λ (xs : List ℕ). has_bit (slice_index xs (source - 1)) k) e
     ∙ ap (λ m. has_bit m k) (get_or-map-range_with_len mask 1 8 (source - 1) source 0 (omega (arith, low, high)) (omega (arith, low)))
 
-zones_kept : (site : Site) (face : Face) → ArePanels site face.zones → face.zones ≡ map (λ panel. kept_of site face (Zones panel) 1 32) (range_with_len 1 8)
+zones_kept : (site : Site) (face : Face) → ArePanels site face.zones
+    → face.zones ≡ map (λ panel. kept_of site face (Zones panel) 1 32) (range_with_len 1 8)
 zones_kept site face h =
     h.is
     ∙ map_range h.mask (λ panel. kept_of site face (Zones panel) 1 32) 1 8
-    (λ source low high. kept_is 32 (λ k. is_named (zone_name site source (1 + k))) (λ k. shows face (Zones source) (1 + k)) (h.mask source) (h.named source) (λ k small. bit_at_panel face.zones h.mask source k h.is low (omega (arith, high))))
+    (λ source low high. kept_is 32 (λ k. is_named (zone_name site source (1 + k))) (λ k. shows face (Zones source) (1 + k)) (h.mask source)
+    (h.named source) (λ k small. bit_at_panel face.zones h.mask source k h.is low (omega (arith, high))))
 
-firsts_kept : (site : Site) (face : Face) → ArePanels site face.firsts → face.firsts ≡ map (λ panel. kept_of site face (Firsts panel) 1 32) (range_with_len 1 8)
+firsts_kept : (site : Site) (face : Face) → ArePanels site face.firsts
+    → face.firsts ≡ map (λ panel. kept_of site face (Firsts panel) 1 32) (range_with_len 1 8)
 firsts_kept site face h =
     h.is
     ∙ map_range h.mask (λ panel. kept_of site face (Firsts panel) 1 32) 1 8
-    (λ source low high. kept_is 32 (λ k. is_named (zone_name site source (1 + k))) (λ k. shows face (Firsts source) (1 + k)) (h.mask source) (h.named source) (λ k small. bit_at_panel face.firsts h.mask source k h.is low (omega (arith, high))))
+    (λ source low high. kept_is 32 (λ k. is_named (zone_name site source (1 + k))) (λ k. shows face (Firsts source) (1 + k)) (h.mask source)
+    (h.named source) (λ k small. bit_at_panel face.firsts h.mask source k h.is low (omega (arith, high))))
 
 -- ---- the face
 
@@ -160,13 +172,15 @@ module _ (panel : ℕ) (delays_off : Bool) (buzzer : Buzzer) (counter : ℕ) whe
         counter = counter;
       }
 
-  same_parts : (a a' b b' : List ℕ) (c c' : FaultSet) (d d' e e' : ℕ) (f f' : PointSet) (g g' h h' i i' : ℕ) → a ≡ a' → b ≡ b' → c ≡ c' → d ≡ d' → e ≡ e' → f ≡ f' → g ≡ g' → h ≡ h' → i ≡ i' →
+  same_parts : (a a' b b' : List ℕ) (c c' : FaultSet) (d d' e e' : ℕ) (f f' : PointSet) (g g' h h' i i' : ℕ) → a ≡ a' → b ≡ b' → c ≡ c' → d ≡ d'
+      → e ≡ e' → f ≡ f' → g ≡ g' → h ≡ h' → i ≡ i' →
       face_from a b c d e f g h i ≡ face_from a' b' c' d' e' f' g' h' i'
   same_parts a a' b b' c c' d d' e e' f f' g g' h h' i i' h1 h2 h3 h4 h5 h6 h7 h8 h9 = rw (h1, h2, h3, h4, h5, h6, h7, h8, h9) refl
 
 module _ (site : Site) (face : Face) (h : IsNamed site face) where
   -- the numbers of a group that has one mask
-  one_kept : (group : Group) (count mask : ℕ) (named : ℕ → Bool) → HasNames count named mask → ((k : ℕ) → named k ≡ is_named (name_in site face.panel group (1 + k))) → ((k : ℕ) → shows face group (1 + k) ≡ has_bit mask k) →
+  one_kept : (group : Group) (count mask : ℕ) (named : ℕ → Bool) → HasNames count named mask
+      → ((k : ℕ) → named k ≡ is_named (name_in site face.panel group (1 + k))) → ((k : ℕ) → shows face group (1 + k) ≡ has_bit mask k) →
       mask ≡ kept_of site face group 1 count
   one_kept group count mask named has same shown =
       kept_is count named (λ k. shows face group (1 + k)) mask has (λ k small. shown k)
@@ -186,7 +200,8 @@ module _ (site : Site) (face : Face) (h : IsNamed site face) where
 
   pub named_is : face ≡ of_site site face
   named_is =
-      same_parts face.panel face.delays_off face.buzzer face.counter face.zones _ face.firsts _ face.faults _ face.outputs _ face.confirmed _ face.points_off _ face.zones_off _ face.outputs_off _ face.test _
+      same_parts face.panel face.delays_off face.buzzer face.counter face.zones _ face.firsts _ face.faults _ face.outputs _ face.confirmed _
+      face.points_off _ face.zones_off _ face.outputs_off _ face.test _
       (zones_kept site face h.zones)
       (firsts_kept site face h.firsts)
       faults_kept

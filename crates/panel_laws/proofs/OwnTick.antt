@@ -35,7 +35,8 @@ stands_again site kept done stored m zone plan reset addition settled after is s
 -- at Hold's turn of a tick that has ended, what events told is as it is after the tick
 module _ (site : Site) (m : List Moment) (after : HasEnded site m) (panel : ℕ) (p : IsPanel site.panels panel) where
   pub made_now : tick_of (made_at panel m) ≡ tick_of m
-  made_now = let lag = rw (after.ended.each panel Hold p tt) at (turn_lag site.panels panel Hold m p tt after.run) in let t = made_tick panel m in omega (arith, lag, t)
+  made_now = let lag = rw (after.ended.each panel Hold p tt) at (turn_lag site.panels panel Hold m p tt after.run) in let t = made_tick panel m in
+      omega (arith, lag, t)
 
   told_now : {X : Type 0} (value : List Moment → X) → ByEvents value → value (made_at panel m) ≡ value m
   told_now value by = go (made_is panel m).made
@@ -82,8 +83,11 @@ at_range first (suc many) (suc k) l = at_range (first + 1) many k (omega (arith,
     over : (n k : ℕ) → n + 1 + k ≡ n + suc k
     over n k = omega arith
 
-some_piece : (test : PieceState → Bool) (cable : ℕ → PieceState) (last piece : ℕ) → piece ≤ last → test (cable piece) ≡ true → list_any (λ k. test (cable k)) (range_with_len 0 (last + 1)) ≡ true
-some_piece test cable last piece l t = any_at (λ k. test (cable k)) (range_with_len 0 (last + 1)) piece piece (at_range 0 (last + 1) piece (omega (arith, l)) ∙ ap Some (zero_more piece)) t
+some_piece : (test : PieceState → Bool) (cable : ℕ → PieceState) (last piece : ℕ) → piece ≤ last → test (cable piece) ≡ true
+    → list_any (λ k. test (cable k)) (range_with_len 0 (last + 1)) ≡ true
+some_piece test cable last piece l t =
+    any_at (λ k. test (cable k)) (range_with_len 0 (last + 1)) piece piece
+    (at_range 0 (last + 1) piece (omega (arith, l)) ∙ ap Some (zero_more piece)) t
   where
     zero_more : (n : ℕ) → 0 + n ≡ n
     zero_more n = omega arith
@@ -97,16 +101,22 @@ piece_shown site kept done stored m panel line piece plan after p one four is la
     same : piece_of panel line piece (made_at panel m) ≡ piece_of panel line piece m
     same = told_now site m after panel p (λ b. piece_of panel line piece b) (piece_by_events panel line piece)
 
-    broken : piece_of panel line piece m ≡ Open → has_bit (mask_of 4 (λ k. (status_on (loop_of site panel (k + 1)) (λ x. piece_of panel (k + 1) x (made_at panel m))).broken)) (line - 1) ≡ true
+    broken : piece_of panel line piece m ≡ Open
+        → has_bit (mask_of 4 (λ k. (status_on (loop_of site panel (k + 1)) (λ x. piece_of panel (k + 1) x (made_at panel m))).broken)) (line - 1)
+        ≡ true
     broken e =
-        has_bit-mask 4 (λ k. (status_on (loop_of site panel (k + 1)) (λ x. piece_of panel (k + 1) x (made_at panel m))).broken) (line - 1) (omega (arith, one, four))
+        has_bit-mask 4 (λ k. (status_on (loop_of site panel (k + 1)) (λ x. piece_of panel (k + 1) x (made_at panel m))).broken) (line - 1)
+        (omega (arith, one, four))
         ∙ ap (λ k. (status_on (loop_of site panel k) (λ x. piece_of panel k x (made_at panel m))).broken) here
         ∙ ap (λ o. (status_on o (λ x. piece_of panel line x (made_at panel m))).broken) is
         ∙ some_piece is_open (λ x. piece_of panel line x (made_at panel m)) plan.last piece last (ap is_open (same ∙ e))
 
-    shorted : piece_of panel line piece m ≡ Short → has_bit (mask_of 4 (λ k. (status_on (loop_of site panel (k + 1)) (λ x. piece_of panel (k + 1) x (made_at panel m))).shorted)) (line - 1) ≡ true
+    shorted : piece_of panel line piece m ≡ Short
+        → has_bit (mask_of 4 (λ k. (status_on (loop_of site panel (k + 1)) (λ x. piece_of panel (k + 1) x (made_at panel m))).shorted)) (line - 1)
+        ≡ true
     shorted e =
-        has_bit-mask 4 (λ k. (status_on (loop_of site panel (k + 1)) (λ x. piece_of panel (k + 1) x (made_at panel m))).shorted) (line - 1) (omega (arith, one, four))
+        has_bit-mask 4 (λ k. (status_on (loop_of site panel (k + 1)) (λ x. piece_of panel (k + 1) x (made_at panel m))).shorted) (line - 1)
+        (omega (arith, one, four))
         ∙ ap (λ k. (status_on (loop_of site panel k) (λ x. piece_of panel k x (made_at panel m))).shorted) here
         ∙ ap (λ o. (status_on o (λ x. piece_of panel line x (made_at panel m))).shorted) is
         ∙ some_piece is_short (λ x. piece_of panel line x (made_at panel m)) plan.last piece last (ap is_short (same ∙ e))

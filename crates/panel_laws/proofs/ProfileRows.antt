@@ -11,7 +11,9 @@ use Rattle.panel_rules.specs.Outputs.{delay_of, delay_of_plan, is_quiet, is_soun
 use Rattle.panel_rules.specs.Run.{facts_of}
 use Rattle.panel_rules.specs.Due.{IsDueAfter, IsDueOut, own, by_way, by_itself}
 use Rattle.panel_rules.specs.DueOutputs.{AreDue, IsDueAsked}
-use Rattle.panel_laws.specs.ProfileLaws.{HasSignalledFor, SignalledOutputIsOn, WereJoined, at_home, over_the_network, NetworkIsTheSum, SignalIsShown, JoinedPanelsShow, SingleDetectorIsShown, DisablementIsShown}
+use Rattle.panel_laws.specs.ProfileLaws.{HasSignalledFor, SignalledOutputIsOn, WereJoined, at_home, over_the_network}
+use Rattle.panel_laws.specs.ProfileLaws.{NetworkIsTheSum, SignalIsShown, JoinedPanelsShow, SingleDetectorIsShown}
+use Rattle.panel_laws.specs.ProfileLaws.{DisablementIsShown}
 use Rattle.panel_laws.proofs.Accepted.{accepted}
 use Rattle.panel_laws.proofs.FacesShow.{due_output_shown, due_zone_shown, of_plan, plan_panel}
 use Rattle.panel_laws.proofs.SettingsShow.{accepted_shown}
@@ -26,21 +28,28 @@ signal_shown site kept done stored moments zone plan settled after is signal lat
     (record { settled = settled; signal = signal; late = own (sym (of_plan site kept done after.valid zone plan is)) late })
 
 -- panels that were joined in a span were joined in each part of it
-way_within : (panels : ℕ) (moments : List Moment) (from to first last later sooner : ℕ) → first ≤ later → sooner ≤ last → IsWayUp panels moments from to first last
+way_within : (panels : ℕ) (moments : List Moment) (from to first last later sooner : ℕ) → first ≤ later → sooner ≤ last
+    → IsWayUp panels moments from to first last
     → IsWayUp panels moments from to later sooner
-way_within panels moments from to first last later sooner l m way step tick on after before = way step tick on (omega (arith, l, after)) (omega (arith, m, before))
+way_within panels moments from to first last later sooner l m way step tick on after before =
+    way step tick on (omega (arith, l, after)) (omega (arith, m, before))
 
-joined_within : (panels : ℕ) (moments : List Moment) (one other first last later sooner : ℕ) → first ≤ later → sooner ≤ last → AreJoined panels moments one other first last
+joined_within : (panels : ℕ) (moments : List Moment) (one other first last later sooner : ℕ) → first ≤ later → sooner ≤ last
+    → AreJoined panels moments one other first last
     → AreJoined panels moments one other later sooner
 joined_within panels moments one other first last later sooner l m (the_same e) = the_same e
-joined_within panels moments one other first last later sooner l m (upward way) = upward (way_within panels moments one other first last later sooner l m way)
-joined_within panels moments one other first last later sooner l m (downward way) = downward (way_within panels moments other one first last later sooner l m way)
+joined_within panels moments one other first last later sooner l m (upward way) =
+    upward (way_within panels moments one other first last later sooner l m way)
+joined_within panels moments one other first last later sooner l m (downward way) =
+    downward (way_within panels moments other one first last later sooner l m way)
 
-due_by_network : (site : Site) (kept : Retained) (done : List Done) (moments : List Moment) (zone panel settled : ℕ) → 1 ≤ site.format → settled + network_of site.format ≤ tick_of moments
+due_by_network : (site : Site) (kept : Retained) (done : List Done) (moments : List Moment) (zone panel settled : ℕ) → 1 ≤ site.format
+    → settled + network_of site.format ≤ tick_of moments
     → WereJoined site moments (panel_of_zone site zone) panel → IsDueAfter site kept done moments zone panel settled
 due_by_network site kept done moments zone panel settled format late joined =
     by_way (tick_of moments - spread_of site.format) (tick_of moments - 1) (omega (arith, late)) (omega (arith, late)) (omega (arith, late, format))
-    (joined_within site.panels moments (panel_of_zone site zone) panel (tick_of moments - network_of site.format) (tick_of moments) (tick_of moments - spread_of site.format) (tick_of moments - 1)
+    (joined_within site.panels moments (panel_of_zone site zone) panel (tick_of moments - network_of site.format) (tick_of moments)
+    (tick_of moments - spread_of site.format) (tick_of moments - 1)
     (omega arith) (omega arith) joined)
 
 pub joined_shown : JoinedPanelsShow
@@ -59,9 +68,11 @@ single_shown site kept done stored moments zone plan settled after is signals la
 
 -- ---- outputs
 
-due_out : (site : Site) (kept : Retained) (done : List Done) (moments : List Moment) (zone panel : ℕ) → 1 ≤ site.format → HasSignalledFor site kept done moments zone panel
+due_out : (site : Site) (kept : Retained) (done : List Done) (moments : List Moment) (zone panel : ℕ) → 1 ≤ site.format
+    → HasSignalledFor site kept done moments zone panel
     → IsDueOut site kept done moments zone panel
-due_out site kept done moments zone panel format (at_home settled signal late home) = record { settled = settled; signal = signal; late = own home late }
+due_out site kept done moments zone panel format (at_home settled signal late home) =
+    record { settled = settled; signal = signal; late = own home late }
 due_out site kept done moments zone panel format (over_the_network settled signal late joined) =
     record { settled = settled; signal = signal; late = due_by_network site kept done moments zone panel settled format late joined }
 
@@ -97,7 +108,8 @@ signalled_on site kept done stored moments output plan after so =
     each : (tick : ℕ) → tick_of moments ≤ tick + delay_of site output → tick ≤ tick_of moments → IsDueAsked site kept done (up_to tick moments) output
     each tick low high =
         let e : tick_of moments ≡ tick = omega (arith, low, high, no_delay) in
-        subst (λ t. IsDueAsked site kept done (up_to t moments) output) e (subst (λ m. IsDueAsked site kept done m output) (sym (up_to_here moments)) now)
+        subst (λ t. IsDueAsked site kept done (up_to t moments) output) e
+        (subst (λ m. IsDueAsked site kept done m output) (sym (up_to_here moments)) now)
 
 -- ---- a disablement
 

@@ -30,26 +30,34 @@ use Rattle.panel_laws.proofs.Accepted.{accepted}
 -- ---- the bits of a face
 
 module _ (site : Site) (valid : IsValid site) (panel : ℕ) where
-  point_shown : (test : ℕ → Bool) (point : ℕ) (o : Option Point) → slice_get site.points point ≡ o → is_some_with (λ (p : Point). p.panel == panel) o ≡ true
+  point_shown : (test : ℕ → Bool) (point : ℕ) (o : Option Point) → slice_get site.points point ≡ o
+      → is_some_with (λ (p : Point). p.panel == panel) o ≡ true
       → is_some_with (λ (p : Point). has_point (points_where site panel test) p.line p.address) o ≡ test point
   point_shown test point None e t = absurd cc
-  point_shown test point (Some plan) e t = subst (λ q. has_point (points_where site q test) plan.line plan.address ≡ test point) (eq_is plan.panel panel t) (point_bit site valid point plan e test)
+  point_shown test point (Some plan) e t =
+      subst (λ q. has_point (points_where site q test) plan.line plan.address ≡ test point) (eq_is plan.panel panel t)
+      (point_bit site valid point plan e test)
 
   zone_shown : (test : ℕ → Bool) (zone : ℕ) (o : Option Zone) → slice_get site.zones zone ≡ o → is_some_with (λ (z : Zone). z.panel == panel) o ≡ true
       → is_some_with (λ (z : Zone). has_bit (zones_where site panel test) (z.number - 1)) o ≡ test zone
   zone_shown test zone None e t = absurd cc
   zone_shown test zone (Some plan) e t =
-      subst (λ q. has_bit (zones_where site q test) (plan.number - 1) ≡ test zone) (eq_is plan.panel panel t) (has_bit-zone site test zone plan (wired_of site valid) e)
+      subst (λ q. has_bit (zones_where site q test) (plan.number - 1) ≡ test zone) (eq_is plan.panel panel t)
+      (has_bit-zone site test zone plan (wired_of site valid) e)
 
-  output_shown : (test : ℕ → Bool) (output : ℕ) (o : Option Output) → slice_get site.outputs output ≡ o → is_some_with (λ (u : Output). u.panel == panel) o ≡ true
+  output_shown : (test : ℕ → Bool) (output : ℕ) (o : Option Output) → slice_get site.outputs output ≡ o
+      → is_some_with (λ (u : Output). u.panel == panel) o ≡ true
       → is_some_with (λ (u : Output). has_bit (outputs_where site panel test) (u.number - 1)) o ≡ test output
   output_shown test output None e t = absurd cc
-  output_shown test output (Some plan) e t = subst (λ q. has_bit (outputs_where site q test) (plan.number - 1) ≡ test output) (eq_is plan.panel panel t) (output_bit site valid output plan e test)
+  output_shown test output (Some plan) e t =
+      subst (λ q. has_bit (outputs_where site q test) (plan.number - 1) ≡ test output) (eq_is plan.panel panel t)
+      (output_bit site valid output plan e test)
 
 -- ---- counters
 
 -- no operation sets a counter
-sets_none : (panel at : ℕ) (operation : Operation) (tick : ℕ) → is_on (Counter panel) (record { tick = tick; panel = at; operation = operation }) ≡ true → value_set operation ≡ false
+sets_none : (panel at : ℕ) (operation : Operation) (tick : ℕ) → is_on (Counter panel) (record { tick = tick; panel = at; operation = operation })
+    ≡ true → value_set operation ≡ false
 sets_none panel at (Disable (PointItem point)) tick t = absurd cc
 sets_none panel at (Disable (ZoneItem zone)) tick t = absurd cc
 sets_none panel at (Disable (OutputItem output)) tick t = absurd cc
@@ -72,11 +80,14 @@ no_counter site kept panel x (d ∷ done) = go (is_on (Counter panel) d) refl (n
 pub settings_shown : SettingsAreShown
 settings_shown site kept done stored m panel (PointOff point) valid at =
     point_shown site valid panel (λ p. in_force site kept (PointOff p) (tick_of m) done) point (slice_get site.points point) refl at
-settings_shown site kept done stored m panel (ZoneOff zone) valid at = zone_shown site valid panel (λ z. in_force site kept (ZoneOff z) (tick_of m) done) zone (slice_get site.zones zone) refl at
+settings_shown site kept done stored m panel (ZoneOff zone) valid at =
+    zone_shown site valid panel (λ z. in_force site kept (ZoneOff z) (tick_of m) done) zone (slice_get site.zones zone) refl at
 settings_shown site kept done stored m panel (OutputOff output) valid at =
     output_shown site valid panel (λ o. in_force site kept (OutputOff o) (tick_of m) done) output (slice_get site.outputs output) refl at
-settings_shown site kept done stored m panel (InTest zone) valid at = zone_shown site valid panel (λ z. in_force site kept (InTest z) (tick_of m) done) zone (slice_get site.zones zone) refl at
-settings_shown site kept done stored m panel (DelaysOff other) valid at = ap (λ p. in_force site kept (DelaysOff p) (tick_of m) done) (sym (eq_is other panel at))
+settings_shown site kept done stored m panel (InTest zone) valid at =
+    zone_shown site valid panel (λ z. in_force site kept (InTest z) (tick_of m) done) zone (slice_get site.zones zone) refl at
+settings_shown site kept done stored m panel (DelaysOff other) valid at =
+    ap (λ p. in_force site kept (DelaysOff p) (tick_of m) done) (sym (eq_is other panel at))
 settings_shown site kept done stored m panel (Counter other) valid at = sym (no_counter site kept other (tick_of m) done)
 
 some_is : (a b : Setting) → Some a ≡ Some b → a ≡ b
@@ -87,13 +98,15 @@ at_panel : (site : Site) (panel : ℕ) (operation : Operation) (setting : Settin
     → has_operands site panel operation ≡ true → is_setting_at site panel setting ≡ true
 at_panel site panel (Disable (PointItem point)) setting e h = subst (λ s. is_setting_at site panel s ≡ true) (some_is (PointOff point) setting e) h
 at_panel site panel (Disable (ZoneItem zone)) setting e h = subst (λ s. is_setting_at site panel s ≡ true) (some_is (ZoneOff zone) setting e) h
-at_panel site panel (Disable (OutputItem output)) setting e h = subst (λ s. is_setting_at site panel s ≡ true) (some_is (OutputOff output) setting e) h
+at_panel site panel (Disable (OutputItem output)) setting e h =
+    subst (λ s. is_setting_at site panel s ≡ true) (some_is (OutputOff output) setting e) h
 at_panel site panel (Enable (PointItem point)) setting e h = subst (λ s. is_setting_at site panel s ≡ true) (some_is (PointOff point) setting e) h
 at_panel site panel (Enable (ZoneItem zone)) setting e h = subst (λ s. is_setting_at site panel s ≡ true) (some_is (ZoneOff zone) setting e) h
 at_panel site panel (Enable (OutputItem output)) setting e h = subst (λ s. is_setting_at site panel s ≡ true) (some_is (OutputOff output) setting e) h
 at_panel site panel (Test zone) setting e h = subst (λ s. is_setting_at site panel s ≡ true) (some_is (InTest zone) setting e) h
 at_panel site panel (Untest zone) setting e h = subst (λ s. is_setting_at site panel s ≡ true) (some_is (InTest zone) setting e) h
-at_panel site panel (Delays on) setting e h = subst (λ s. is_setting_at site panel s ≡ true) (some_is (DelaysOff panel) setting e) (eq_true panel panel refl)
+at_panel site panel (Delays on) setting e h =
+    subst (λ s. is_setting_at site panel s ≡ true) (some_is (DelaysOff panel) setting e) (eq_true panel panel refl)
 at_panel site panel Clear setting e h = subst (λ s. is_setting_at site panel s ≡ true) (some_is (Counter panel) setting e) (eq_true panel panel refl)
 at_panel site panel _ setting e h = absurd cc
 

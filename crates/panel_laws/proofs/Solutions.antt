@@ -41,20 +41,23 @@ all_passes : {X : Type 0} (p : X → Bool) (xs : List X) → 1 ≤ length xs →
 all_passes p [] l h = absurd (omega (arith, l))
 all_passes p (x ∷ xs) l h = record { place = 0; item = x; at = refl; passes = (parts (p x) (list_all p xs) h).0 }
 
-pub one_holds : {X : Type 0} (combine : Combine) (p : X → Bool) (xs : List X) → 1 ≤ length xs → IsCombine (length xs) combine → is_met combine p xs ≡ true → Passes p xs
+pub one_holds : {X : Type 0} (combine : Combine) (p : X → Bool) (xs : List X) → 1 ≤ length xs → IsCombine (length xs) combine
+    → is_met combine p xs ≡ true → Passes p xs
 one_holds All p xs l c h = all_passes p xs l h
 one_holds Any p xs l c h = one_passes p xs h
 one_holds (AtLeast needed) p xs l c h = counted_passes p xs (let k = le_from needed (count_by p xs) h in let one = c.0 in omega (arith, k, one))
 
 -- ---- what its terms make of a marker goes by its terms alone
 
-holds_same : (facts : Facts) (v w : ℕ → Bool) (term : Term) → ((other : ℕ) → is_marker other term ≡ true → v other ≡ w other) → holds facts v term ≡ holds facts w term
+holds_same : (facts : Facts) (v w : ℕ → Bool) (term : Term) → ((other : ℕ) → is_marker other term ≡ true → v other ≡ w other)
+    → holds facts v term ≡ holds facts w term
 holds_same facts v w (Zone zone) same = refl
 holds_same facts v w (Manual zone) same = refl
 holds_same facts v w (Fault panel) same = refl
 holds_same facts v w (Marker other) same = same other (equal_number other)
 
-makes_same : (facts : Facts) (v w : ℕ → Bool) (marker : Option MarkerPlan) → ((other : ℕ) → list_any (is_marker other) (terms_of marker) ≡ true → v other ≡ w other) → equation facts v marker ≡ equation facts w marker
+makes_same : (facts : Facts) (v w : ℕ → Bool) (marker : Option MarkerPlan)
+    → ((other : ℕ) → list_any (is_marker other) (terms_of marker) ≡ true → v other ≡ w other) → equation facts v marker ≡ equation facts w marker
 makes_same facts v w None same = refl
 makes_same facts v w (Some marker) same =
     met_same marker.combine (holds facts v) (holds facts w) marker.terms
@@ -63,7 +66,8 @@ makes_same facts v w (Some marker) same =
 -- ---- a chain of terms that meets no marker twice ends
 
 -- a marker more at its end would be one too many
-too_long : (site : Site) (m : ℕ) (marker : MarkerPlan) (seen : List ℕ) → Chain site m seen → list_any (λ x. m == x) seen ≡ false → m < length site.markers → length site.markers ≤ length seen → ⊥
+too_long : (site : Site) (m : ℕ) (marker : MarkerPlan) (seen : List ℕ) → Chain site m seen → list_any (λ x. m == x) seen ≡ false
+    → m < length site.markers → length site.markers ≤ length seen → ⊥
 unfolding IsDistinct
 too_long site m marker seen w fresh within long =
     let few = length-le_from_distinct_below (m ∷ seen) (length site.markers) (none_equal m seen fresh, w.distinct) small in omega (arith, few, long)
@@ -81,7 +85,8 @@ is_within (x ∷ markers) (suc m) marker at = let less = is_within markers m mar
 
 module _ (site : Site) (facts : Facts) (free : HasNoCycle site) where
   -- one depth more changes nothing
-  at_the_end : (m : ℕ) (seen : List ℕ) → Chain site m seen → length site.markers ≤ length seen → (o : Option MarkerPlan) → slice_get site.markers m ≡ o → false ≡ equation facts (solved site facts 0) o
+  at_the_end : (m : ℕ) (seen : List ℕ) → Chain site m seen → length site.markers ≤ length seen → (o : Option MarkerPlan)
+      → slice_get site.markers m ≡ o → false ≡ equation facts (solved site facts 0) o
   at_the_end m seen w long None is = refl
   at_the_end m seen w long (Some marker) is = go (list_any (λ x. m == x) seen) refl
     where
@@ -89,18 +94,21 @@ module _ (site : Site) (facts : Facts) (free : HasNoCycle site) where
       go true e = absurd (free m (w.leads m e))
       go false e = absurd (too_long site m marker seen w e (is_within site.markers m marker is) long)
 
-  settles : (depth m : ℕ) (seen : List ℕ) → Chain site m seen → length site.markers ≤ depth + length seen → solved site facts depth m ≡ solved site facts (suc depth) m
+  settles : (depth m : ℕ) (seen : List ℕ) → Chain site m seen → length site.markers ≤ depth + length seen
+      → solved site facts depth m ≡ solved site facts (suc depth) m
   settles zero m seen w far = at_the_end m seen w (omega (arith, far)) (slice_get site.markers m) refl
   settles (suc depth) m seen w far = go (list_any (λ x. m == x) seen) refl
       (λ fresh. makes_same facts (solved site facts depth) (solved site facts (suc depth)) (slice_get site.markers m)
       (λ other term. settles depth other (m ∷ seen) (chain_on site m other seen w fresh term) (omega (arith, far))))
     where
-      go : (b : Bool) → list_any (λ x. m == x) seen ≡ b → (list_any (λ x. m == x) seen ≡ false → solved site facts (suc depth) m ≡ solved site facts (suc (suc depth)) m) →
+      go : (b : Bool) → list_any (λ x. m == x) seen ≡ b
+          → (list_any (λ x. m == x) seen ≡ false → solved site facts (suc depth) m ≡ solved site facts (suc (suc depth)) m) →
           solved site facts (suc depth) m ≡ solved site facts (suc (suc depth)) m
       go true e f = absurd (free m (w.leads m e))
       go false e f = f e
 
-  agrees : (v w : ℕ → Bool) → IsSolution site facts v → IsSolution site facts w → (fuel m : ℕ) (seen : List ℕ) → Chain site m seen → length site.markers < fuel + length seen → v m ≡ w m
+  agrees : (v w : ℕ → Bool) → IsSolution site facts v → IsSolution site facts w → (fuel m : ℕ) (seen : List ℕ) → Chain site m seen
+      → length site.markers < fuel + length seen → v m ≡ w m
   agrees v w sv sw zero m seen chain far = absurd (chain_fits site m seen chain (omega (arith, far)))
   agrees v w sv sw (suc fuel) m seen chain far = go (list_any (λ x. m == x) seen) refl
       (λ fresh. sv m ∙ (makes_same facts v w (slice_get site.markers m)
@@ -114,4 +122,6 @@ pub solution_is : SolutionSolves
 solution_is site facts free m = settles site facts free (length site.markers) m [] (no_chain site m) (omega arith)
 
 pub no_other : OneSolution
-no_other site facts values free is m = agrees site facts free values (λ marker. solved site facts (length site.markers) marker) is (solution_is site facts free) (suc (length site.markers)) m [] (no_chain site m) (omega arith)
+no_other site facts values free is m =
+    agrees site facts free values (λ marker. solved site facts (length site.markers) marker) is (solution_is site facts free)
+    (suc (length site.markers)) m [] (no_chain site m) (omega arith)

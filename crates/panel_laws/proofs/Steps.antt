@@ -27,36 +27,46 @@ up_to_tick tick (moment ∷ before) reached =
     ]
 
 module _ (f : ℕ → Step) (p : ℕ → Bool) where
-  rising_by : (before a last : ℕ) (ticks : List ℕ) (b : Bool) → (f a).tick.0 ≡ a → before < a → ((x : ℕ) → x < a + 1 → AreRising x last (map f ticks)) →
+  rising_by : (before a last : ℕ) (ticks : List ℕ) (b : Bool) → (f a).tick.0 ≡ a → before < a
+      → ((x : ℕ) → x < a + 1 → AreRising x last (map f ticks)) →
       AreRising before last (map f (if b then a ∷ ticks else ticks))
   rising_by before a last ticks true at less ih = (omega (arith, at, less), ih (f a).tick.0 (omega (arith, at)))
   rising_by before a last ticks false at less ih = ih before (omega (arith, less))
 
-  rising : (before a n last : ℕ) → ((t : ℕ) → a ≤ t → t < a + n → (f t).tick.0 ≡ t) → before < a → a + n ≡ last + 1 → AreRising before last (map f (filter p (range_with_len a n)))
+  rising : (before a n last : ℕ) → ((t : ℕ) → a ≤ t → t < a + n → (f t).tick.0 ≡ t) → before < a → a + n ≡ last + 1
+      → AreRising before last (map f (filter p (range_with_len a n)))
   rising before a zero last at less end = omega (arith, less, end)
   rising before a (suc n) last at less end =
       rising_by before a last (filter p (range_with_len (a + 1) n)) (p a) (at a (omega arith) (omega arith)) less
       (λ x l. rising x (a + 1) n last (λ t low high. at t (omega (arith, low)) (omega (arith, high))) l (omega (arith, end)))
 
-  here : (a tick : ℕ) (ticks : List ℕ) (b : Bool) → b ≡ true → a ≡ tick → (place : ℕ) × (slice_get (map f (if b then a ∷ ticks else ticks)) place ≡ Some (f tick))
+  here : (a tick : ℕ) (ticks : List ℕ) (b : Bool) → b ≡ true → a ≡ tick
+      → (place : ℕ) × (slice_get (map f (if b then a ∷ ticks else ticks)) place ≡ Some (f tick))
   here a tick ticks true e same = (0, ap (λ (t : ℕ). Some (f t)) same)
   here a tick ticks false e same = cc
 
-  further : (a tick : ℕ) (ticks : List ℕ) (b : Bool) → (place : ℕ) × (slice_get (map f ticks) place ≡ Some (f tick)) → (place : ℕ) × (slice_get (map f (if b then a ∷ ticks else ticks)) place ≡ Some (f tick))
+  further : (a tick : ℕ) (ticks : List ℕ) (b : Bool) → (place : ℕ) × (slice_get (map f ticks) place ≡ Some (f tick))
+      → (place : ℕ) × (slice_get (map f (if b then a ∷ ticks else ticks)) place ≡ Some (f tick))
   further a tick ticks true at = (suc at.0, at.1)
   further a tick ticks false at = at
 
-  place_of : (a n tick : ℕ) → a ≤ tick → tick < a + n → p tick ≡ true → (place : ℕ) × (slice_get (map f (filter p (range_with_len a n))) place ≡ Some (f tick))
+  place_of : (a n tick : ℕ) → a ≤ tick → tick < a + n → p tick ≡ true
+      → (place : ℕ) × (slice_get (map f (filter p (range_with_len a n))) place ≡ Some (f tick))
   place_of a zero tick low high told = absurd (omega (arith, low, high))
   place_of a (suc n) tick low high told =
       elim (eqb_tells a tick) [
         | inl h ↦ here a tick (filter p (range_with_len (a + 1) n)) (p a) (ap p h.1 ∙ told) h.1
-        | inr h ↦ (let apart = h.1 in further a tick (filter p (range_with_len (a + 1) n)) (p a) (place_of (a + 1) n tick (omega (arith, low, apart)) (omega (arith, high)) told))
+        | inr h ↦
+            (let apart =
+            h.1 in
+            further a tick (filter p (range_with_len (a + 1) n)) (p a)
+            (place_of (a + 1) n tick (omega (arith, low, apart)) (omega (arith, high)) told))
       ]
 
 pub rise : StepsRise
 rise site kept moments =
-    rising (λ t. step_of site kept (up_to t moments)) (is_told site kept moments) 0 1 (tick_of moments) (tick_of moments) (λ t low high. up_to_tick t moments (omega (arith, high))) (omega arith) (omega arith)
+    rising (λ t. step_of site kept (up_to t moments)) (is_told site kept moments) 0 1 (tick_of moments) (tick_of moments)
+    (λ t low high. up_to_tick t moments (omega (arith, high))) (omega arith) (omega arith)
 
 pub told_are_steps : ToldTicksAreSteps
 told_are_steps site kept moments tick low high told =
@@ -73,6 +83,8 @@ none (x ∷ xs) e = let zero_long : length (x ∷ xs) ≡ 0 = (Decides-eqb (leng
 
 pub untold_is_same : UntoldTicksChangeNothing
 untold_is_same site kept moments tick e =
-    let one = neither (same_faces (faces_of site kept (up_to tick moments)) (faces_of site kept (up_to (tick - 1) moments))) (has_answer site kept (up_to tick moments)) e in
+    let one =
+    neither (same_faces (faces_of site kept (up_to tick moments)) (faces_of site kept (up_to (tick - 1) moments)))
+    (has_answer site kept (up_to tick moments)) e in
     let two = neither (length (answers_now site kept (up_to tick moments)) == 0) (failed_now site kept (up_to tick moments)) one.1 in
     (same_faces_are _ _ one.0, none _ two.0, two.1)

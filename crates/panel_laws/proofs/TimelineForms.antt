@@ -1,5 +1,7 @@
 -- The timeline of a run is in form.
-use Rattle.std.proofs.Common.{◌≡◌, ◌≢◌, ◌⊎◌, ℕ, zero, suc, ◌+◌, ◌-◌, ◌^◌, ◌≤◌, ◌<◌, ◌==◌, inl, inr, not, Bool, true, false, List, [], ◌∷◌, length, map, Some, slice_get, if◌then◌else◌, refl, sym, ◌∙◌, ap, arith}
+use Rattle.std.proofs.Common.{◌≡◌, ◌≢◌, ◌⊎◌, ℕ, zero, suc, ◌+◌, ◌-◌, ◌^◌, ◌≤◌, ◌<◌, ◌==◌, inl, inr, not, Bool, true}
+use Rattle.std.proofs.Common.{false, List, [], ◌∷◌, length, map, Some, slice_get, if◌then◌else◌, refl, sym, ◌∙◌, ap}
+use Rattle.std.proofs.Common.{arith}
 use Rattle.std.specs.Prelude.{filter, nat_le, option_map}
 use Rattle.std.specs.List.{range_with_len}
 use Rattle.std.specs.Cmp.Lexicographic.{pointwise}
@@ -34,10 +36,12 @@ use Rattle.panel_rules.proofs.Turns.{run_tail}
 
 -- ---- a history up to a tick can be told
 
-requests_next : (site : Site) (moment : Moment) (before : List Moment) (k : ℕ) (r : Request) → slice_get (requests site before) k ≡ Some r → slice_get (requests site (moment ∷ before)) k ≡ Some r
+requests_next : (site : Site) (moment : Moment) (before : List Moment) (k : ℕ) (r : Request) → slice_get (requests site before) k ≡ Some r
+    → slice_get (requests site (moment ∷ before)) k ≡ Some r
 requests_next site Began before k r h = h
 requests_next site (Happened (Op panel code operation)) before k r h =
-    get_front (requests site before) (request_of (tick_of before) panel (level_of site (option_map (λ label. label.bytes) code)) operation (requests site before) ∷ []) k r h
+    get_front (requests site before) (request_of (tick_of before) panel (level_of site (option_map (λ label. label.bytes) code)) operation
+    (requests site before) ∷ []) k r h
 requests_next site (Happened (Point point state)) before k r h = h
 requests_next site (Happened (Cable panel line piece state)) before k r h = h
 requests_next site (Happened (Supply panel kind bad)) before k r h = h
@@ -46,7 +50,8 @@ requests_next site (Happened (Confirmed output)) before k r h = h
 requests_next site (Turned panel task) before k r h = h
 requests_next site (Kept failed) before k r h = h
 
-requests_front : (site : Site) (past moments : List Moment) (k : ℕ) (r : Request) → IsPast past moments → slice_get (requests site past) k ≡ Some r → slice_get (requests site moments) k ≡ Some r
+requests_front : (site : Site) (past moments : List Moment) (k : ℕ) (r : Request) → IsPast past moments → slice_get (requests site past) k ≡ Some r
+    → slice_get (requests site moments) k ≡ Some r
 requests_front site past moments k r present h = h
 requests_front site past moments k r (later moment before p) h = requests_next site moment before k r (requests_front site past before k r p h)
 
@@ -78,7 +83,8 @@ turned_tick panel task (Began ∷ before) f = omega arith
 turned_tick panel task (Happened event ∷ before) f = turned_tick panel task before f
 turned_tick panel task (Turned other_panel other ∷ before) f = go (is_turn panel task other_panel other) f (turned_tick panel task before)
   where
-    go : (b : Bool) → (if b then true else has_turned panel task before) ≡ false → (has_turned panel task before ≡ false → 1 ≤ tick_of before) → 1 ≤ tick_of before
+    go : (b : Bool) → (if b then true else has_turned panel task before) ≡ false → (has_turned panel task before ≡ false → 1 ≤ tick_of before)
+        → 1 ≤ tick_of before
     go true f ih = absurd cc
     go false f ih = ih f
 turned_tick panel task (Kept failed ∷ before) f = turned_tick panel task before f
@@ -96,9 +102,12 @@ above a b l = elim (leb_tells a b) [ inl h ↦ (let k = h.1 in absurd (omega (ar
 up_to_none : (panels : ℕ) (moments : List Moment) → IsRun panels moments → up_to 0 moments ≡ []
 up_to_none panels [] run = refl
 up_to_none panels (Began ∷ before) run = rw (above (tick_of before + 1) 0 (omega arith)) (up_to_none panels before run.0)
-up_to_none panels (Happened event ∷ before) run = let l = fresh_tick before run.1 in rw (above (tick_of before) 0 (omega (arith, l))) (up_to_none panels before run.0)
-up_to_none panels (Turned panel task ∷ before) run = let l = turned_tick panel task before run.1 in rw (above (tick_of before) 0 (omega (arith, l))) (up_to_none panels before run.0)
-up_to_none panels (Kept failed ∷ before) run = let l = kept_tick before run.1 in rw (above (tick_of before) 0 (omega (arith, l))) (up_to_none panels before run.0)
+up_to_none panels (Happened event ∷ before) run = let l = fresh_tick before run.1 in
+    rw (above (tick_of before) 0 (omega (arith, l))) (up_to_none panels before run.0)
+up_to_none panels (Turned panel task ∷ before) run = let l = turned_tick panel task before run.1 in
+    rw (above (tick_of before) 0 (omega (arith, l))) (up_to_none panels before run.0)
+up_to_none panels (Kept failed ∷ before) run = let l = kept_tick before run.1 in
+    rw (above (tick_of before) 0 (omega (arith, l))) (up_to_none panels before run.0)
 
 ticks_few : (moments : List Moment) → tick_of moments ≤ length moments
 ticks_few [] = omega arith
@@ -154,7 +163,9 @@ told_ticks_tell site kept moments tick can told =
     let after = faces_of site kept (up_to tick moments) in
     let earlier = faces_of site kept (up_to (tick - 1) moments) in
     elim (either (not (same_faces after earlier)) (has_answer site kept (up_to tick moments)) told) [
-      | inl h ↦ inl (λ e. differ (same_faces after earlier) (ap (λ faces. same_faces faces earlier) e ∙ faces_self earlier) (not_false (same_faces after earlier) h))
+      | inl h ↦
+          inl (λ e. differ (same_faces after earlier) (ap (λ faces. same_faces faces earlier) e ∙ faces_self earlier)
+          (not_false (same_faces after earlier) h))
       | inr h ↦ inr (tells site kept (up_to tick moments) (can_past site kept (up_to tick moments) moments (up_to_is_past tick moments) can) h)
     ]
 
@@ -168,7 +179,8 @@ module _ (site : Site) (kept : Retained) (moments : List Moment) (can : CanBeTol
   abbrev steps_in : ℕ → ℕ → List Step
   steps_in from many = map step_at (filter (is_told site kept moments) (range_with_len from many))
 
-  steps_from : (many from before : ℕ) (shown : List Face) → before < from → from + many ≡ tick_of moments + 1 → shown ≡ faces_at (from - 1) → AreSteps site before shown (tick_of moments) (steps_in from many)
+  steps_from : (many from before : ℕ) (shown : List Face) → before < from → from + many ≡ tick_of moments + 1 → shown ≡ faces_at (from - 1)
+      → AreSteps site before shown (tick_of moments) (steps_in from many)
   steps_from zero from before shown less end same = omega (arith, less, end)
   steps_from (suc many) from before shown less end same =
       by (is_told site kept moments from) refl (λ next faces l e. steps_from many (from + 1) next faces l (omega (arith, end)) e)
@@ -186,8 +198,12 @@ module _ (site : Site) (kept : Retained) (moments : List Moment) (can : CanBeTol
             | inr h ↦ inr h
           ]
 
-      by : (b : Bool) → is_told site kept moments from ≡ b → ((next : ℕ) (faces : List Face) → next < from + 1 → faces ≡ faces_at ((from + 1) - 1) → AreSteps site next faces (tick_of moments) (steps_in (from + 1) many)) →
-          AreSteps site before shown (tick_of moments) (map step_at (if b then from ∷ filter (is_told site kept moments) (range_with_len (from + 1) many) else filter (is_told site kept moments) (range_with_len (from + 1) many)))
+      by : (b : Bool) → is_told site kept moments from ≡ b
+          → ((next : ℕ) (faces : List Face) → next < from + 1 → faces ≡ faces_at ((from + 1) - 1)
+          → AreSteps site next faces (tick_of moments) (steps_in (from + 1) many)) →
+          AreSteps site before shown (tick_of moments)
+          (map step_at (if b then from ∷ filter (is_told site kept moments) (range_with_len (from + 1) many) else filter
+          (is_told site kept moments) (range_with_len (from + 1) many)))
       by false told ih = ih before shown (omega (arith, less)) (same ∙ sym (untold_is_same site kept moments from told).0 ∙ ap faces_at back)
       by true told ih = (
         omega (arith, less, at),
@@ -201,7 +217,9 @@ module _ (site : Site) (kept : Retained) (moments : List Moment) (can : CanBeTol
   is_in_form =
       record {
         opened = faces_in_form site kept [] can.counters;
-        steps = steps_from (tick_of moments) 1 0 (faces_of site kept []) (omega arith) (omega arith) (ap (faces_of site kept) (sym (up_to_none site.panels moments can.run)));
+        steps =
+            steps_from (tick_of moments) 1 0 (faces_of site kept []) (omega arith) (omega arith)
+            (ap (faces_of site kept) (sym (up_to_none site.panels moments can.run)));
         last = few_of (2 ^ 64) (tick_of moments) (length moments) (ticks_few moments) can.few;
       }
 

@@ -8,13 +8,16 @@ use Rattle.panel_rules.specs.Outputs.{panel_of_output, is_requested, goes_on}
 use Rattle.panel_rules.specs.OutputLaws.{UnaskedIsOff}
 
 -- what makes false makes the other false
-both_off : (panel : ℕ) (task : Task) (f g : List Moment → Bool) (m : List Moment) → ((b : List Moment) → f b ≡ false → g b ≡ false) → made_latest false panel task f m ≡ false → made_latest false panel task g m ≡ false
+both_off : (panel : ℕ) (task : Task) (f g : List Moment → Bool) (m : List Moment) → ((b : List Moment) → f b ≡ false → g b ≡ false)
+    → made_latest false panel task f m ≡ false → made_latest false panel task g m ≡ false
 both_off panel task f g [] h e = refl
 both_off panel task f g (Began ∷ before) h e = both_off panel task f g before h e
 both_off panel task f g (Happened event ∷ before) h e = both_off panel task f g before h e
 both_off panel task f g (Turned other_panel other ∷ before) h e = go (is_turn panel task other_panel other) (both_off panel task f g before h) e
   where
-    go : (t : Bool) → (made_latest false panel task f before ≡ false → made_latest false panel task g before ≡ false) → (if t then f before else made_latest false panel task f before) ≡ false → (if t then g before else made_latest false panel task g before) ≡ false
+    go : (t : Bool) → (made_latest false panel task f before ≡ false → made_latest false panel task g before ≡ false)
+        → (if t then f before else made_latest false panel task f before) ≡ false
+        → (if t then g before else made_latest false panel task g before) ≡ false
     go true ih e = h before e
     go false ih e = ih e
 both_off panel task f g (Kept failed ∷ before) h e = both_off panel task f g before h e

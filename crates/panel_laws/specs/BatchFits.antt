@@ -28,7 +28,8 @@ is_change_of site (Count panel entries) = is_panel site panel
 is_change_of site (Clear panel) = is_panel site panel
 is_change_of site (Test panel number on) = list_any (is_numbered panel number) site.zones
 
--- at most 64 operations wait for Keep, and once it has had its turn only the 32 that Desks may accept in a tick
+-- at most 64 operations wait for Keep, and once it has had its turn only the 32 that Desks may accept in a
+-- tick
 abbrev pub FewWait : Type 0
 FewWait =
     (site : Site) (kept : Retained) (moments : List Moment)
@@ -41,7 +42,8 @@ abbrev pub BatchesFit : Type 0
 BatchesFit =
     (site : Site) (kept : Retained) (moments : List Moment)
     → IsValid site → IsRun site.panels moments → AreOfSite site moments
-    → (length (batch site kept moments) ≤ 72) × (list_all (is_change_of site) (batch site kept moments) ≡ true)
+    → (length (batch site kept moments) ≤ 72)
+    × (list_all (is_change_of site) (batch site kept moments) ≡ true)
 
 -- the address of a point lies within a loop of the site's format
 abbrev pub IsWithinLoops : Site → Change → Type 0

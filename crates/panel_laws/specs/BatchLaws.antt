@@ -1,4 +1,5 @@
--- What follows for the batches of Keep: an operation that is done is in one that was committed, and a counter that was
+-- What follows for the batches of Keep: an operation that is done is in one that was committed, and a counter
+-- that was
 -- cleared counts from 0.
 use Rattle.std.specs.Prelude.{◌≡◌, ◌≤◌, ◌-◌, ◌==◌, ℕ, min, Bool, true, false, List, ◌∷◌, length, Some, slice_get}
 use Rattle.std.specs.List.{list_any}
@@ -56,7 +57,8 @@ abbrev pub is_cleared_now : Site → Retained → ℕ → List Moment → Bool
 is_cleared_now site kept panel before = list_any (is_clearing_of panel) (batch site kept before)
 
 -- what befell before the last turn of Keep that cleared the counter of a panel and did not fail
-pub record IsLastCleared (site : Site) (kept : Retained) (panel : ℕ) (before moments : List Moment) : Type 0 where
+pub record IsLastCleared (site : Site) (kept : Retained) (panel : ℕ) (before moments : List Moment) :
+    Type 0 where
   pub turn : IsPast (Kept false ∷ before) moments
   pub clears : is_cleared_now site kept panel before ≡ true
   pub last : (after : List Moment) → IsPast (Kept false ∷ before) after → IsPast (Kept false ∷ after) moments
@@ -68,7 +70,8 @@ counted_since site kept panel past moments =
     counted_entries site kept (operations site kept moments).done panel moments
     - counted_entries site kept (operations site kept moments).done panel past
 
--- the counter of a panel is what was counted since it was cleared, up to 999,999; the entries that the batch that
+-- the counter of a panel is what was counted since it was cleared, up to 999,999; the entries that the batch
+-- that
 -- cleared it counted were cleared with it
 abbrev pub ClearedCountsFromZero : Type 0
 ClearedCountsFromZero =

@@ -7,7 +7,8 @@ use Rattle.panel_rules.specs.Moments.{Moment, IsRun}
 use Rattle.panel_rules.specs.Kept.{heard}
 use Rattle.panel_rules.specs.Words.{kept_word_of, word_of}
 
--- the word that a panel keeps of a panel, itself included, is that panel's word of the tick that was heard of it
+-- the word that a panel keeps of a panel, itself included, is that panel's word of the tick that was heard of
+-- it
 abbrev pub KeptIsWord : Type 0
 KeptIsWord =
     (site : Site) (kept : Retained) (done : List Done) (told : ℕ → List Moment → Bool) (moments : List Moment)

@@ -10,4 +10,5 @@ SolutionSolves = (site : Site) (facts : Facts) → HasNoCycle site → IsSolutio
 
 -- and all values that do are its values
 abbrev pub OneSolution : Type 0
-OneSolution = (site : Site) (facts : Facts) (values : ℕ → Bool) → HasNoCycle site → IsSolution site facts values → (marker : ℕ) → values marker ≡ solution site facts marker
+OneSolution = (site : Site) (facts : Facts) (values : ℕ → Bool) → HasNoCycle site
+    → IsSolution site facts values → (marker : ℕ) → values marker ≡ solution site facts marker

@@ -29,7 +29,8 @@ is_setting_at site panel (InTest zone) = has_zone site panel zone
 is_setting_at site panel (DelaysOff other) = other == panel
 is_setting_at site panel (Counter other) = other == panel
 
--- the face of its panel shows a setting: the thing as disabled, the zone as in test, the delays as off; a counter is
+-- the face of its panel shows a setting: the thing as disabled, the zone as in test, the delays as off; a
+-- counter is
 -- shown as a number, and never so
 abbrev pub shows_setting : Site → Face → Setting → Bool
 shows_setting site face (PointOff point) =
@@ -61,12 +62,15 @@ pub record WasAccepted (site : Site) (kept : Retained) (moments : List Moment) (
   pub stored : (tick : ℕ) → a.request.tick ≤ tick → tick ≤ a.request.tick + 1
       → list_any (λ failed. failed == tick) (failed_ticks moments) ≡ false
 
--- from the second tick after an accepted operation on, the face of its panel shows the setting as the operation set it,
+-- from the second tick after an accepted operation on, the face of its panel shows the setting as the
+-- operation set it,
 -- until another operation on the setting is done: a disablement is shown, a test, and that delays are off
 abbrev pub AcceptedIsShown : Type 0
 AcceptedIsShown =
-    (site : Site) (kept : Retained) (stored : Retained) (moments : List Moment) (a : Answered) (setting : Setting)
-    → IsValid site → IsRun site.panels moments → AreOfSite site moments → WasAccepted site kept moments a setting
+    (site : Site) (kept : Retained) (stored : Retained) (moments : List Moment) (a : Answered) (setting :
+    Setting)
+    → IsValid site → IsRun site.panels moments → AreOfSite site moments
+    → WasAccepted site kept moments a setting
     → a.request.tick + 2 ≤ tick_of moments
     → NoneBetween setting a.tick (tick_of moments) (operations site kept moments).done
     → shows_setting site

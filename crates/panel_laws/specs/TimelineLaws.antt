@@ -1,8 +1,11 @@
--- What the timeline of a run tells, and how entries into the fire alarm condition are counted, whatever befell.
-use Rattle.std.specs.Prelude.{◌≡◌, ◌≤◌, ◌<◌, ◌+◌, ◌-◌, ◌==◌, ◌&&◌, ℕ, min, Bool, true, false, List, [], ◌∷◌, length, Some, slice_get, if◌then◌else◌}
+-- What the timeline of a run tells, and how entries into the fire alarm condition are counted, whatever
+-- befell.
+use Rattle.std.specs.Prelude.{◌≡◌, ◌≤◌, ◌<◌, ◌+◌, ◌-◌, ◌==◌, ◌&&◌, ℕ, min, Bool, true, false, List, [], ◌∷◌, length}
+use Rattle.std.specs.Prelude.{Some, slice_get, if◌then◌else◌}
 use Rattle.std.specs.List.{list_any}
 use Rattle.site_types.specs.declared.operation.Operation.{Operation}
-use Rattle.site_types.specs.declared.operation.Operation.TheVariants.{Mute, Override, Silence, Resound, Reset, Cancel, Disable, Enable, Test, Untest, Delays, Clear}
+use Rattle.site_types.specs.declared.operation.Operation.TheVariants.{Mute, Override, Silence, Resound, Reset, Cancel}
+use Rattle.site_types.specs.declared.operation.Operation.TheVariants.{Disable, Enable, Test, Untest, Delays, Clear}
 use Rattle.site_types.specs.declared.retained.Retained.{Retained}
 use Rattle.site_types.specs.declared.site.Site.{Site}
 use Rattle.site_types.specs.Changes.{AreCounters}
@@ -22,19 +25,25 @@ AreRising before last (step ∷ steps) = (before < step.tick.0) × AreRising ste
 
 -- the ticks of the steps rise, are at least 1 and don't pass the last
 abbrev pub StepsRise : Type 0
-StepsRise = (site : Site) (kept : Retained) (moments : List Moment) → AreRising 0 (tick_of moments) (timeline_of site kept moments).steps
+StepsRise = (site : Site) (kept : Retained) (moments : List Moment)
+    → AreRising 0 (tick_of moments) (timeline_of site kept moments).steps
 
 -- each tick that is told has its step
 abbrev pub ToldTicksAreSteps : Type 0
 ToldTicksAreSteps =
-    (site : Site) (kept : Retained) (moments : List Moment) (tick : ℕ) → 1 ≤ tick → tick ≤ tick_of moments → is_told site kept moments tick ≡ true
-    → (place : ℕ) × (slice_get (timeline_of site kept moments).steps place ≡ Some (step_of site kept (up_to tick moments)))
+    (site : Site) (kept : Retained) (moments : List Moment) (tick : ℕ) → 1 ≤ tick → tick ≤ tick_of moments
+    → is_told site kept moments tick ≡ true
+    → (place : ℕ)
+    × (slice_get (timeline_of site kept moments).steps place
+    ≡ Some (step_of site kept (up_to tick moments)))
 
 -- in a tick that is not told no face changed, nothing was answered and Keep's turn did not fail
 abbrev pub UntoldTicksChangeNothing : Type 0
 UntoldTicksChangeNothing =
-    (site : Site) (kept : Retained) (moments : List Moment) (tick : ℕ) → is_told site kept moments tick ≡ false
-    → (faces_of site kept (up_to tick moments) ≡ faces_of site kept (up_to (tick - 1) moments)) × (answers_now site kept (up_to tick moments) ≡ [])
+    (site : Site) (kept : Retained) (moments : List Moment) (tick : ℕ)
+    → is_told site kept moments tick ≡ false
+    → (faces_of site kept (up_to tick moments) ≡ faces_of site kept (up_to (tick - 1) moments))
+    × (answers_now site kept (up_to tick moments) ≡ [])
     × (failed_now site kept (up_to tick moments) ≡ false)
 
 module _ (site : Site) (kept : Retained) (done : List Done) (panel : ℕ) where
@@ -44,13 +53,16 @@ module _ (site : Site) (kept : Retained) (done : List Done) (panel : ℕ) where
   counted_entries (Began ∷ before) = counted_entries before
   counted_entries (Happened event ∷ before) = counted_entries before
   counted_entries (Turned other task ∷ before) = counted_entries before
-  counted_entries (Kept failed ∷ before) = if failed then counted_entries before else counted_entries before + length (new_entries site kept done panel before)
+  counted_entries (Kept failed ∷ before) =
+      if failed then counted_entries before else counted_entries before + length
+      (new_entries site kept done panel before)
 
 -- each entry into the fire alarm condition is counted by one turn of Keep, or is yet to be counted
 abbrev pub EntriesAreCountedOnce : Type 0
 EntriesAreCountedOnce =
     (site : Site) (kept : Retained) (done : List Done) (panel : ℕ) (moments : List Moment) →
-    length (entries site kept done panel moments) ≡ counted_entries site kept done panel moments + length (new_entries site kept done panel moments)
+    length (entries site kept done panel moments) ≡ counted_entries site kept done panel moments + length
+    (new_entries site kept done panel moments)
 
 -- the operation is the clearing of a counter
 abbrev pub is_clearing : Operation → Bool
@@ -71,9 +83,13 @@ is_clearing (Delays on) = false
 abbrev pub clears_counter : ℕ → Done → Bool
 clears_counter panel done = is_clearing done.operation && (done.panel - 1 == panel - 1)
 
--- the counter of a panel that nobody cleared is the one at opening and the entries that were counted, up to 999,999
+-- the counter of a panel that nobody cleared is the one at opening and the entries that were counted, up to
+-- 999,999
 abbrev pub CountersAddUp : Type 0
 CountersAddUp =
-    (site : Site) (kept : Retained) (moments : List Moment) (panel : ℕ) → site.panels ≤ 8 → IsPanel site.panels panel → length kept.counters ≡ 8 → AreCounters kept.counters
+    (site : Site) (kept : Retained) (moments : List Moment) (panel : ℕ) → site.panels ≤ 8
+    → IsPanel site.panels panel → length kept.counters ≡ 8 → AreCounters kept.counters
     → list_any (clears_counter panel) (operations site kept moments).done ≡ false
-    → counter_in panel (kept_after site kept moments) ≡ min (counter_in panel kept + counted_entries site kept (operations site kept moments).done panel moments) greatest_count
+    → counter_in panel (kept_after site kept moments)
+    ≡ min (counter_in panel kept + counted_entries site kept (operations site kept moments).done panel
+    moments) greatest_count

@@ -1,14 +1,16 @@
-ghost use Rattle.panel_laws.specs.FaceLaws.{DueZoneIsShown, ShownZoneIsCaused, DueOutputIsShown, ShownOutputIsCaused, LoneZoneIsShown, FireIsCounted};
+ghost use Rattle.panel_laws.specs.FaceLaws.{DueZoneIsShown, ShownZoneIsCaused, DueOutputIsShown, ShownOutputIsCaused};
+ghost use Rattle.panel_laws.specs.FaceLaws.{LoneZoneIsShown, FireIsCounted};
 ghost use Rattle.panel_laws.specs.ShownOutputs.{IndicatedOutputIsShown};
 
-/// **A zone that is due at a panel is shown in its face after the tick**, whatever the orders of turns: at the zone's own panel after
-/// the profile's ticks of a signal, and at each panel that was joined with it within the network's.
+/// **A zone that is due at a panel is shown in its face after the tick**, whatever the orders of turns: at
+/// the zone's own panel after the profile's ticks of a signal, and at each panel that was joined with it
+/// within the network's.
 pub fn due_zone_is_shown()
     ensures { DueZoneIsShown }
 {}
 
-/// No zone is shown in the face of a panel without a cause: an answer confirmed it, and no floor undid it by the tick in which its own
-/// panel shows it, or by the stamp that another panel has heard.
+/// No zone is shown in the face of a panel without a cause: an answer confirmed it, and no floor undid it by
+/// the tick in which its own panel shows it, or by the stamp that another panel has heard.
 pub fn shown_zone_is_caused()
     ensures { ShownZoneIsCaused }
 {}
@@ -34,7 +36,8 @@ pub fn lone_zone_is_shown()
     ensures { LoneZoneIsShown }
 {}
 
-/// The fire alarm condition of a panel is told by its face exactly where it stands, and it is the one whose entries are counted.
+/// The fire alarm condition of a panel is told by its face exactly where it stands, and it is the one whose
+/// entries are counted.
 pub fn fire_is_counted()
     ensures { FireIsCounted }
 {}

@@ -1,4 +1,5 @@
-ghost use Rattle.panel_laws.specs.FormLaws.{AnswersRise, CountersHaveAnEnd, FacesAreByPanel, FacesAreOfSite, TextsTellTimelines, TimelineIsInForm, ToldTicksTell};
+ghost use Rattle.panel_laws.specs.FormLaws.{AnswersRise, CountersHaveAnEnd, FacesAreByPanel, FacesAreOfSite};
+ghost use Rattle.panel_laws.specs.FormLaws.{TextsTellTimelines, TimelineIsInForm, ToldTicksTell};
 
 /// There is one face for each panel, in the order of panels.
 pub fn faces_are_by_panel()
@@ -15,7 +16,8 @@ pub fn counters_have_an_end()
     ensures { CountersHaveAnEnd }
 {}
 
-/// The answers of a tick rise by number, at most 64 of them; a denied operation needed level 2 to 4 and had less; and only panels of the site are busy.
+/// The answers of a tick rise by number, at most 64 of them; a denied operation needed level 2 to 4 and had
+/// less; and only panels of the site are busy.
 pub fn answers_rise()
     ensures { AnswersRise }
 {}
@@ -25,7 +27,8 @@ pub fn told_ticks_tell()
     ensures { ToldTicksTell }
 {}
 
-/// **The timeline of a run is in form**: faces of all panels with things of the site alone, steps that rise and tell something, answers by number.
+/// **The timeline of a run is in form**: faces of all panels with things of the site alone, steps that rise
+/// and tell something, answers by number.
 pub fn timeline_is_in_form()
     ensures { TimelineIsInForm }
 {}

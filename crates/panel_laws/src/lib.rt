@@ -1,10 +1,10 @@
 //! The laws of the whole: what follows from the definitions of `panel_rules` in every run of a valid site.
 //!
-//! Each function here is a law: its contract says it, and its body does nothing. Begin with [`due_zone_is_shown`] and
-//! [`due_output_is_shown`], the deadlines of zones and outputs, [`shown_zone_is_caused`] and [`shown_output_is_caused`],
-//! which say that nothing is shown or on without a cause, and [`answered_by_the_next_tick`], the one answer of each
-//! operation. Whether code does what the definitions say is the business of the crates above; a change of a law's proof
-//! proves none of them anew.
+//! Each function here is a law: its contract says it, and its body does nothing. Begin with
+//! [`due_zone_is_shown`] and [`due_output_is_shown`], the deadlines of zones and outputs,
+//! [`shown_zone_is_caused`] and [`shown_output_is_caused`], which say that nothing is shown or on without a
+//! cause, and [`answered_by_the_next_tick`], the one answer of each operation. Whether code does what the
+//! definitions say is the business of the crates above; a change of a law's proof proves none of them anew.
 #![tactic(auto)]
 
 mod batches;

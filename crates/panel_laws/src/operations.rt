@@ -1,4 +1,5 @@
-ghost use Rattle.panel_laws.specs.OperationLaws.{AnsweredOnce, AnswersAreToRequests, AnsweredByTheNextTick, AnswersStay, OperationsAreOfSite, SettingsChangeOnce, KeptIsInForce};
+ghost use Rattle.panel_laws.specs.OperationLaws.{AnsweredOnce, AnswersAreToRequests, AnsweredByTheNextTick};
+ghost use Rattle.panel_laws.specs.OperationLaws.{AnswersStay, OperationsAreOfSite, SettingsChangeOnce, KeptIsInForce};
 
 /// Each operation has at most one answer.
 pub fn answered_once()
@@ -25,7 +26,8 @@ pub fn settings_change_once()
     ensures { SettingsChangeOnce }
 {}
 
-/// Where each event is of the site, as a record's events are, each operation is at a panel of the site, which has what it names.
+/// Where each event is of the site, as a record's events are, each operation is at a panel of the site, which
+/// has what it names.
 pub fn operations_are_of_site()
     ensures { OperationsAreOfSite }
 {}

@@ -1,7 +1,8 @@
-ghost use Rattle.panel_laws.specs.OtherDeadlines.{StandsAgain, PieceIsShown, LinkIsShown, AwayIsMissing, BadSupplyIsShown, CutOffIsSilent, AcceptedIsInForce};
+ghost use Rattle.panel_laws.specs.OtherDeadlines.{StandsAgain, PieceIsShown, LinkIsShown, AwayIsMissing};
+ghost use Rattle.panel_laws.specs.OtherDeadlines.{BadSupplyIsShown, CutOffIsSilent, AcceptedIsInForce};
 
-/// What still signals after a reset is shown again on the zone's own panel within the profile's ticks of a reset; the time that a
-/// single detector of type A needs comes on top.
+/// What still signals after a reset is shown again on the zone's own panel within the profile's ticks of a
+/// reset; the time that a single detector of type A needs comes on top.
 pub fn stands_again()
     ensures { StandsAgain }
 {}
@@ -16,8 +17,8 @@ pub fn link_is_shown()
     ensures { LinkIsShown }
 {}
 
-/// A point that was gone or not reached for the profile's ticks of a fault is shown as missing, where neither it nor its zone is
-/// disabled.
+/// A point that was gone or not reached for the profile's ticks of a fault is shown as missing, where neither
+/// it nor its zone is disabled.
 pub fn away_is_missing()
     ensures { AwayIsMissing }
 {}
@@ -27,13 +28,14 @@ pub fn bad_supply_is_shown()
     ensures { BadSupplyIsShown }
 {}
 
-/// A panel to which one link on each of the two ways round was down for the profile's ticks of a fault is shown as silent.
+/// A panel to which one link on each of the two ways round was down for the profile's ticks of a fault is
+/// shown as silent.
 pub fn cut_off_is_silent()
     ensures { CutOffIsSilent }
 {}
 
-/// An operation on a setting that Desk accepted is done by the tick after its own, where no turn of Keep failed in the two, and holds
-/// from the tick after on until another operation on the setting is done.
+/// An operation on a setting that Desk accepted is done by the tick after its own, where no turn of Keep
+/// failed in the two, and holds from the tick after on until another operation on the setting is done.
 pub fn accepted_is_in_force()
     ensures { AcceptedIsInForce }
 {}

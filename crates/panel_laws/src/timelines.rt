@@ -1,4 +1,5 @@
-ghost use Rattle.panel_laws.specs.TimelineLaws.{CountersAddUp, EntriesAreCountedOnce, StepsRise, ToldTicksAreSteps, UntoldTicksChangeNothing};
+ghost use Rattle.panel_laws.specs.TimelineLaws.{CountersAddUp, EntriesAreCountedOnce, StepsRise, ToldTicksAreSteps};
+ghost use Rattle.panel_laws.specs.TimelineLaws.{UntoldTicksChangeNothing};
 
 /// The ticks of a timeline's steps rise, are at least 1 and don't pass the last tick.
 pub fn steps_rise()
@@ -10,7 +11,8 @@ pub fn told_ticks_are_steps()
     ensures { ToldTicksAreSteps }
 {}
 
-/// **Between steps nothing happens that a text could tell**: no face changes, nothing is answered, and no turn of Keep fails.
+/// **Between steps nothing happens that a text could tell**: no face changes, nothing is answered, and no
+/// turn of Keep fails.
 pub fn untold_ticks_change_nothing()
     ensures { UntoldTicksChangeNothing }
 {}
@@ -20,7 +22,8 @@ pub fn entries_are_counted_once()
     ensures { EntriesAreCountedOnce }
 {}
 
-/// **The counter of a panel that nobody cleared is the one at opening and the entries that were counted**, up to 999,999.
+/// **The counter of a panel that nobody cleared is the one at opening and the entries that were counted**, up
+/// to 999,999.
 pub fn counters_add_up()
     ensures { CountersAddUp }
 {}

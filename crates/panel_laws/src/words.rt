@@ -1,9 +1,11 @@
-ghost use Rattle.panel_rules.specs.Laws.{DueZoneIsKept, DueReleaseIsKept, DueHandIsKept, KeptZoneIsCaused, KeptReleaseIsCaused, KeptHandIsCaused};
+ghost use Rattle.panel_rules.specs.Laws.{DueZoneIsKept, DueReleaseIsKept, DueHandIsKept, KeptZoneIsCaused};
+ghost use Rattle.panel_rules.specs.Laws.{KeptReleaseIsCaused, KeptHandIsCaused};
 ghost use Rattle.panel_laws.specs.HeardWords.{KeptIsWord, HeardIsStamp};
 ghost use Rattle.panel_rules.specs.WordLaws.{KeptByTheRing, NewestOverChains};
 
-/// After a tick a zone that is due at a panel is in alarm in the word that the panel keeps of the zone's panel, whatever the
-/// orders of turns. It is due there once it was joined for long enough, so that each panel shows it within the network's ticks.
+/// After a tick a zone that is due at a panel is in alarm in the word that the panel keeps of the zone's
+/// panel, whatever the orders of turns. It is due there once it was joined for long enough, so that each
+/// panel shows it within the network's ticks.
 pub fn due_zone_is_kept()
     ensures { DueZoneIsKept }
 {}
@@ -38,7 +40,8 @@ pub fn kept_by_the_ring()
     ensures { KeptByTheRing }
 {}
 
-/// It is the word of the greatest stamp that came over any chain of turns, along links that were up, in ticks that carried it.
+/// It is the word of the greatest stamp that came over any chain of turns, along links that were up, in ticks
+/// that carried it.
 pub fn newest_over_chains()
     ensures { NewestOverChains }
 {}

@@ -1,4 +1,5 @@
-ghost use Rattle.panel_rules.specs.Laws.{OwnZoneIsShown, OwnZoneIsReleased, OwnZoneIsByHand, OwnZoneIsCaused, OwnHandIsCaused, OwnReleaseIsCaused, LoneSignalIsShown};
+ghost use Rattle.panel_rules.specs.Laws.{OwnZoneIsShown, OwnZoneIsReleased, OwnZoneIsByHand, OwnZoneIsCaused};
+ghost use Rattle.panel_rules.specs.Laws.{OwnHandIsCaused, OwnReleaseIsCaused, LoneSignalIsShown};
 
 /// After a tick a zone that is due at its own panel is in alarm there, whatever the orders of turns.
 pub fn own_zone_is_shown()

@@ -1,5 +1,6 @@
 -- The frame that a panel sends over a link in a tick, and what its receiver keeps.
-use Rattle.std.specs.Prelude.{ℕ, ◌+◌, ◌-◌, ◌*◌, ◌/◌, ◌%◌, ◌==◌, ◌&&◌, nat_le, List, [], ◌∷◌, slice_index_or, if◌then◌else◌}
+use Rattle.std.specs.Prelude.{ℕ, ◌+◌, ◌-◌, ◌*◌, ◌/◌, ◌%◌, ◌==◌, ◌&&◌, nat_le, List, [], ◌∷◌, slice_index_or}
+use Rattle.std.specs.Prelude.{if◌then◌else◌}
 use Rattle.site_types.specs.declared.word.Word.{Word}
 use Rattle.site_types.specs.Words.{empty_word}
 use Rattle.panel_links.specs.Kept.{newest}
@@ -11,9 +12,12 @@ word_in panels group words place =
 
 -- the four words of a group
 abbrev pub group_words : ℕ → ℕ → (ℕ → Word) → List Word
-group_words panels group words = word_in panels group words 0 ∷ word_in panels group words 1 ∷ word_in panels group words 2 ∷ word_in panels group words 3 ∷ []
+group_words panels group words = word_in panels group words 0 ∷ word_in panels group words 1
+    ∷ word_in panels group words 2 ∷ word_in panels group words 3 ∷ []
 
 -- what a panel keeps of another after a frame was received
 abbrev pub after_frame : ℕ → ℕ → List Word → ℕ → ℕ → Word → Word
 after_frame receiver group words at from kept =
-    if (at == receiver) && (((from - 1) / 4) == group) then newest kept (slice_index_or words ((from - 1) % 4) empty_word) else kept
+    if (at == receiver)
+    && (((from - 1) / 4) == group) then newest kept (slice_index_or words ((from - 1) % 4) empty_word)
+    else kept

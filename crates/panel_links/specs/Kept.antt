@@ -16,10 +16,12 @@ after_word comes kept other = if comes then newest kept other else kept
 abbrev pub comes_over : ℕ → ℕ → ℕ → Bool → Bool
 comes_over panels tick from up = nat_lt 1 panels && (up && carries panels tick from)
 
--- what a panel keeps of a panel after its turn, from what it kept before, or its own word, and what its neighbours keep
+-- what a panel keeps of a panel after its turn, from what it kept before, or its own word, and what its
+-- neighbours keep
 abbrev pub after_turn : ℕ → ℕ → ℕ → Bool → Bool → Word → Word → Word → Word
 after_turn panels tick from left_up right_up own left right =
-    after_word (comes_over panels tick from right_up) (after_word (comes_over panels tick from left_up) own left) right
+    after_word (comes_over panels tick from right_up)
+    (after_word (comes_over panels tick from left_up) own left) right
 
 -- what a panel keeps of another
 abbrev pub kept_word : ℕ → ℕ → ℕ → List Call → Word
@@ -27,5 +29,7 @@ kept_word panels from at [] = empty_word
 kept_word panels from at (Linked link up ∷ before) = kept_word panels from at before
 kept_word panels from at (Took tick panel own ∷ before) =
     if panel == at
-    then after_turn panels tick from (is_up (left_of panels at) before) (is_up at before) (if from == at then own else kept_word panels from at before) (kept_word panels from (left_of panels at) before) (kept_word panels from (right_of panels at) before)
+    then after_turn panels tick from (is_up (left_of panels at) before) (is_up at before)
+    (if from == at then own else kept_word panels from at before)
+    (kept_word panels from (left_of panels at) before) (kept_word panels from (right_of panels at) before)
     else kept_word panels from at before

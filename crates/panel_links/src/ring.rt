@@ -124,8 +124,12 @@ impl Ring {
     /// What a panel sends over its links in a tick.
     pub fn frame(&self, from: u8, now: Tick) -> Frame
         requires { HasPanel self.now from }
-        ensures { result ≡ record { from = from; group = group_of self.now.panels now.0; words =
-            group_words self.now.panels (group_of self.now.panels now.0) (kept_in self.now from) } }
+        ensures { result ≡ record {
+          from = from;
+          group = group_of self.now.panels now.0;
+          words =
+              group_words self.now.panels (group_of self.now.panels now.0) (kept_in self.now from);
+        } }
     {
         let group = if self.panels <= 4 || now.0 % 2 == 1 {
             0
@@ -221,8 +225,8 @@ impl Ring {
         requires at { HasPanel self.old at }
         requires from { HasPanel self.old of }
         ensures words { (a o : ℕ) → HasPanel self.old a → HasPanel self.old o
-            → kept_in self.new a o ≡ (if (a == at) && (o == of) then word else kept_in self.old a o)
-            }
+            → kept_in self.new a o
+            ≡ (if (a == at) && (o == of) then word else kept_in self.old a o) }
         ensures panels { self.new.panels ≡ self.old.panels }
         ensures links { self.new.up ≡ self.old.up }
     {

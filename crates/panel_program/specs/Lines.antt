@@ -5,8 +5,10 @@ use Rattle.site_types.specs.declared.site.Site.{Site}
 -- the counts of an accepted site
 abbrev pub counts_line : Site → List ℕ
 counts_line site =
-    codes "ok panels " ++ decimal site.panels ++ codes " points " ++ decimal (length site.points) ++ codes " zones " ++ decimal (length site.zones)
-    ++ codes " outputs " ++ decimal (length site.outputs) ++ codes " markers " ++ decimal (length site.markers) ++ codes "\n"
+    codes "ok panels " ++ decimal site.panels ++ codes " points " ++ decimal (length site.points)
+    ++ codes " zones " ++ decimal (length site.zones)
+    ++ codes " outputs " ++ decimal (length site.outputs) ++ codes " markers "
+    ++ decimal (length site.markers) ++ codes "\n"
 
 -- the usage of the whole program
 unfoldable pub usage_line : List ℕ

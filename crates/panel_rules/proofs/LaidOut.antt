@@ -19,4 +19,5 @@ pub record PointLies (site : Site) (point : ℕ) (plan : Point) : Type 0 where
 pub record IsLaidOut (site : Site) : Type 0 where
   pub format : (1 ≤ site.format) × (site.format ≤ 2)
   pub points : (point : ℕ) (plan : Point) → slice_get site.points point ≡ Some plan → PointLies site point plan
-  pub partners : (zone other : ℕ) (plan : Zone) → slice_get site.zones zone ≡ Some plan → plan.partner ≡ Some other → panel_of_zone site other ≡ plan.panel
+  pub partners : (zone other : ℕ) (plan : Zone) → slice_get site.zones zone ≡ Some plan → plan.partner ≡ Some other
+      → panel_of_zone site other ≡ plan.panel

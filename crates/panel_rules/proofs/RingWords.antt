@@ -32,17 +32,22 @@ module _ (site : Site) (kept : Retained) (done : List Done) (told : ℕ → List
   stamp_is source [] = refl
   stamp_is source (moment ∷ before) = refl
 
-  newest_same : (source : ℕ) (a b : List Moment) → newest (word_made site kept done told source a) (word_made site kept done told source b) ≡ word_made site kept done told source (newer a b)
+  newest_same : (source : ℕ) (a b : List Moment) → newest (word_made site kept done told source a) (word_made site kept done told source b)
+      ≡ word_made site kept done told source (newer a b)
   newest_same source a b =
-      ap (λ s. if nat_lt s (word_made site kept done told source b).stamp.0 then word_made site kept done told source b else word_made site kept done told source a) (stamp_is source a)
+      ap (λ s. if nat_lt s (word_made site kept done told source b).stamp.0 then word_made site kept done told source b else word_made site kept done
+      told source a) (stamp_is source a)
       ∙ ap (λ s. if nat_lt (tick_of a) s then word_made site kept done told source b else word_made site kept done told source a) (stamp_is source b)
       ∙ either (nat_lt (tick_of a) (tick_of b))
     where
-      either : (t : Bool) → (if t then word_made site kept done told source b else word_made site kept done told source a) ≡ word_made site kept done told source (if t then b else a)
+      either : (t : Bool) → (if t then word_made site kept done told source b else word_made site kept done told source a)
+          ≡ word_made site kept done told source (if t then b else a)
       either true = refl
       either false = refl
 
-  taken_same : (source : ℕ) (up carried : Bool) (a b : List Moment) → after_word (up && carried) (word_made site kept done told source a) (word_made site kept done told source b) ≡ word_made site kept done told source (taken_over up carried a b)
+  taken_same : (source : ℕ) (up carried : Bool) (a b : List Moment)
+      → after_word (up && carried) (word_made site kept done told source a) (word_made site kept done told source b) ≡ word_made site kept done told
+      source (taken_over up carried a b)
   taken_same source true true a b = newest_same source a b
   taken_same source true false a b = refl
   taken_same source false carried a b = refl
@@ -61,8 +66,10 @@ module _ (site : Site) (kept : Retained) (done : List Done) (told : ℕ → List
   up_same link (Kept failed ∷ before) = up_same link before
 
   -- a turn of Link, with several panels
-  joined_turn : (source : ℕ) (first second carried : Bool) (own left right : Word) (a b c : List Moment) → own ≡ word_made site kept done told source a → left ≡ word_made site kept done told source b → right ≡ word_made site kept done told source c
-      → after_word (second && carried) (after_word (first && carried) own left) right ≡ word_made site kept done told source (taken_over second carried (taken_over first carried a b) c)
+  joined_turn : (source : ℕ) (first second carried : Bool) (own left right : Word) (a b c : List Moment)
+      → own ≡ word_made site kept done told source a → left ≡ word_made site kept done told source b → right ≡ word_made site kept done told source c
+      → after_word (second && carried) (after_word (first && carried) own left) right ≡ word_made site kept done told source
+      (taken_over second carried (taken_over first carried a b) c)
   joined_turn source first second carried own left right a b c o l r =
       ap (λ w. after_word (second && carried) (after_word (first && carried) w left) right) o
       ∙ ap (λ w. after_word (second && carried) (after_word (first && carried) (word_made site kept done told source a) w) right) l
@@ -71,66 +78,107 @@ module _ (site : Site) (kept : Retained) (done : List Done) (told : ℕ → List
       ∙ taken_same source second carried (taken_over first carried a b) c
 
   -- what the panel begins with
-  own_same : (panel source other : ℕ) (before : List Moment) (was : Word) → other ≡ panel → was ≡ word_made site kept done told source (kept_at site.panels panel source before)
-      → (if source == panel then latest_word site kept done told other before else was) ≡ word_made site kept done told source (if panel == source then made_at panel before else kept_at site.panels panel source before)
+  own_same : (panel source other : ℕ) (before : List Moment) (was : Word) → other ≡ panel
+      → was ≡ word_made site kept done told source (kept_at site.panels panel source before)
+      → (if source == panel then latest_word site kept done told other before else was) ≡ word_made site kept done told source
+      (if panel == source then made_at panel before else kept_at site.panels panel source before)
   own_same panel source other before was same h =
       elim (eqb_tells source panel) [
-        | inl t ↦ rw (t.0, eq_swap panel source, t.0) (ap (λ p. word_made site kept done told p (made_at p before)) same ∙ ap (λ p. word_made site kept done told p (made_at panel before)) (sym t.1))
+        | inl t ↦
+            rw (t.0, eq_swap panel source, t.0)
+            (ap (λ p. word_made site kept done told p (made_at p before)) same ∙ ap (λ p. word_made site kept done told p (made_at panel before))
+            (sym t.1))
         | inr t ↦ rw (t.0, eq_swap panel source, t.0) h
       ]
 
   module _ (few : site.panels ≤ 8) where
     -- a panel alone keeps its own word
     alone : (panel source : ℕ) (before : List Moment) → IsPanel site.panels panel → IsPanel site.panels source → site.panels ≤ 1
-        → taken_over (is_up panel before) (carries site.panels (tick_of before) source) (taken_over (is_up (left_of site.panels panel) before) (carries site.panels (tick_of before) source) (if panel == source then made_at panel before else kept_at site.panels panel source before) (kept_at site.panels (left_of site.panels panel) source before)) (kept_at site.panels (right_of site.panels panel) source before)
+        → taken_over (is_up panel before) (carries site.panels (tick_of before) source)
+        (taken_over (is_up (left_of site.panels panel) before) (carries site.panels (tick_of before) source)
+        (if panel == source then made_at panel before else kept_at site.panels panel source before)
+        (kept_at site.panels (left_of site.panels panel) source before)) (kept_at site.panels (right_of site.panels panel) source before)
         ≡ (if panel == source then made_at panel before else kept_at site.panels panel source before)
     alone panel source before p s one =
         elim (eqb_tells panel source) [
           | inl t ↦ rw t.0
-              (let mine : tick_of (made_at panel before) ≡ latest_turn source Hold before = ap (λ q. tick_of (made_at q before)) t.1 ∙ made_tick source before in
+              (let mine : tick_of (made_at panel before) ≡ latest_turn source Hold before =
+              ap (λ q. tick_of (made_at q before)) t.1 ∙ made_tick source before in
               let down = heard_past site.panels (left_of site.panels panel) source before in
               let up = heard_past site.panels (right_of site.panels panel) source before in
-              let first = taken_older (is_up (left_of site.panels panel) before) (carries site.panels (tick_of before) source) (made_at panel before) (kept_at site.panels (left_of site.panels panel) source before) (omega (arith, mine, down)) in
+              let first =
+              taken_older (is_up (left_of site.panels panel) before) (carries site.panels (tick_of before) source) (made_at panel before)
+              (kept_at site.panels (left_of site.panels panel) source before) (omega (arith, mine, down)) in
               ap (λ k. taken_over (is_up panel before) (carries site.panels (tick_of before) source) k (kept_at site.panels (right_of site.panels panel) source before)) first
-              ∙ taken_older (is_up panel before) (carries site.panels (tick_of before) source) (made_at panel before) (kept_at site.panels (right_of site.panels panel) source before) (omega (arith, mine, up)))
+              ∙ taken_older (is_up panel before) (carries site.panels (tick_of before) source) (made_at panel before)
+              (kept_at site.panels (right_of site.panels panel) source before) (omega (arith, mine, up)))
           | inr t ↦ absurd (t.1 (omega (arith, p.0, p.1, s.0, s.1, one)))
         ]
 
     -- the turn of a panel itself
     turn : (other panel source : ℕ) (before : List Moment) → other ≡ panel → IsPanel site.panels panel → IsPanel site.panels source
         → kept_word site.panels source panel (ring_calls site kept done told before) ≡ kept_word_of site kept done told panel source before
-        → kept_word site.panels source (left_of site.panels panel) (ring_calls site kept done told before) ≡ kept_word_of site kept done told (left_of site.panels panel) source before
-        → kept_word site.panels source (right_of site.panels panel) (ring_calls site kept done told before) ≡ kept_word_of site kept done told (right_of site.panels panel) source before
-        → after_turn site.panels (tick_of before) source (ring_is_up (left_of site.panels panel) (ring_calls site kept done told before)) (ring_is_up panel (ring_calls site kept done told before)) (if source == panel then latest_word site kept done told other before else kept_word site.panels source panel (ring_calls site kept done told before)) (kept_word site.panels source (left_of site.panels panel) (ring_calls site kept done told before)) (kept_word site.panels source (right_of site.panels panel) (ring_calls site kept done told before))
-        ≡ word_made site kept done told source (taken_over (is_up panel before) (carries site.panels (tick_of before) source) (taken_over (is_up (left_of site.panels panel) before) (carries site.panels (tick_of before) source) (if panel == source then made_at panel before else kept_at site.panels panel source before) (kept_at site.panels (left_of site.panels panel) source before)) (kept_at site.panels (right_of site.panels panel) source before))
+        → kept_word site.panels source (left_of site.panels panel) (ring_calls site kept done told before) ≡ kept_word_of site kept done told
+        (left_of site.panels panel) source before
+        → kept_word site.panels source (right_of site.panels panel) (ring_calls site kept done told before) ≡ kept_word_of site kept done told
+        (right_of site.panels panel) source before
+        → after_turn site.panels (tick_of before) source (ring_is_up (left_of site.panels panel) (ring_calls site kept done told before))
+        (ring_is_up panel (ring_calls site kept done told before))
+        (if source == panel then latest_word site kept done told other before else kept_word site.panels source panel
+        (ring_calls site kept done told before))
+        (kept_word site.panels source (left_of site.panels panel) (ring_calls site kept done told before))
+        (kept_word site.panels source (right_of site.panels panel) (ring_calls site kept done told before))
+        ≡ word_made site kept done told source
+        (taken_over (is_up panel before) (carries site.panels (tick_of before) source)
+        (taken_over (is_up (left_of site.panels panel) before) (carries site.panels (tick_of before) source)
+        (if panel == source then made_at panel before else kept_at site.panels panel source before)
+        (kept_at site.panels (left_of site.panels panel) source before)) (kept_at site.panels (right_of site.panels panel) source before))
     turn other panel source before same p s mine down up =
         elim (leb_tells 2 site.panels) [
           | inl several ↦
-              several_turn (ring_is_up (left_of site.panels panel) (ring_calls site kept done told before)) (is_up (left_of site.panels panel) before) (ring_is_up panel (ring_calls site kept done told before)) (is_up panel before)
+              several_turn (ring_is_up (left_of site.panels panel) (ring_calls site kept done told before)) (is_up (left_of site.panels panel) before)
+              (ring_is_up panel (ring_calls site kept done told before)) (is_up panel before)
               (up_same (left_of site.panels panel) before) (up_same panel before) (lt_true 1 site.panels (let l = several.1 in omega (arith, l)))
-              (if source == panel then latest_word site kept done told other before else kept_word site.panels source panel (ring_calls site kept done told before)) (kept_word site.panels source (left_of site.panels panel) (ring_calls site kept done told before)) (kept_word site.panels source (right_of site.panels panel) (ring_calls site kept done told before))
-              (if panel == source then made_at panel before else kept_at site.panels panel source before) (kept_at site.panels (left_of site.panels panel) source before) (kept_at site.panels (right_of site.panels panel) source before)
+              (if source == panel then latest_word site kept done told other before else kept_word site.panels source panel
+              (ring_calls site kept done told before))
+              (kept_word site.panels source (left_of site.panels panel) (ring_calls site kept done told before))
+              (kept_word site.panels source (right_of site.panels panel) (ring_calls site kept done told before))
+              (if panel == source then made_at panel before else kept_at site.panels panel source before)
+              (kept_at site.panels (left_of site.panels panel) source before) (kept_at site.panels (right_of site.panels panel) source before)
               (own_same panel source other before (kept_word site.panels source panel (ring_calls site kept done told before)) same mine)
               down up
           | inr one ↦
-              one_turn (lt_false 1 site.panels (let l = one.1 in omega (arith, l))) (ring_is_up (left_of site.panels panel) (ring_calls site kept done told before)) (ring_is_up panel (ring_calls site kept done told before))
-              (if source == panel then latest_word site kept done told other before else kept_word site.panels source panel (ring_calls site kept done told before)) (kept_word site.panels source (left_of site.panels panel) (ring_calls site kept done told before)) (kept_word site.panels source (right_of site.panels panel) (ring_calls site kept done told before))
+              one_turn (lt_false 1 site.panels (let l = one.1 in omega (arith, l)))
+              (ring_is_up (left_of site.panels panel) (ring_calls site kept done told before))
+              (ring_is_up panel (ring_calls site kept done told before))
+              (if source == panel then latest_word site kept done told other before else kept_word site.panels source panel
+              (ring_calls site kept done told before))
+              (kept_word site.panels source (left_of site.panels panel) (ring_calls site kept done told before))
+              (kept_word site.panels source (right_of site.panels panel) (ring_calls site kept done told before))
               ∙ own_same panel source other before (kept_word site.panels source panel (ring_calls site kept done told before)) same mine
               ∙ ap (word_made site kept done told source) (sym (alone panel source before p s (let l = one.1 in omega (arith, l))))
         ]
       where
-        several_turn : (r1 u1 r2 u2 : Bool) → r1 ≡ u1 → r2 ≡ u2 → nat_lt 1 site.panels ≡ true → (own left right : Word) (a b c : List Moment) → own ≡ word_made site kept done told source a → left ≡ word_made site kept done told source b → right ≡ word_made site kept done told source c
-            → after_turn site.panels (tick_of before) source r1 r2 own left right ≡ word_made site kept done told source (taken_over u2 (carries site.panels (tick_of before) source) (taken_over u1 (carries site.panels (tick_of before) source) a b) c)
+        several_turn : (r1 u1 r2 u2 : Bool) → r1 ≡ u1 → r2 ≡ u2 → nat_lt 1 site.panels ≡ true → (own left right : Word) (a b c : List Moment)
+            → own ≡ word_made site kept done told source a → left ≡ word_made site kept done told source b
+            → right ≡ word_made site kept done told source c
+            → after_turn site.panels (tick_of before) source r1 r2 own left right ≡ word_made site kept done told source
+            (taken_over u2 (carries site.panels (tick_of before) source) (taken_over u1 (carries site.panels (tick_of before) source) a b) c)
         several_turn r1 u1 r2 u2 e1 e2 lt own left right a b c o l r =
             ap (λ x. after_word (x && (r2 && carries site.panels (tick_of before) source)) (after_word (x && (r1 && carries site.panels (tick_of before) source)) own left) right) lt
             ∙ ap (λ x. after_word (r2 && carries site.panels (tick_of before) source) (after_word (x && carries site.panels (tick_of before) source) own left) right) e1
             ∙ ap (λ x. after_word (x && carries site.panels (tick_of before) source) (after_word (u1 && carries site.panels (tick_of before) source) own left) right) e2
             ∙ joined_turn source u1 u2 (carries site.panels (tick_of before) source) own left right a b c o l r
 
-        one_turn : nat_lt 1 site.panels ≡ false → (r1 r2 : Bool) (own left right : Word) → after_turn site.panels (tick_of before) source r1 r2 own left right ≡ own
-        one_turn lt r1 r2 own left right = ap (λ x. after_word (x && (r2 && carries site.panels (tick_of before) source)) (after_word (x && (r1 && carries site.panels (tick_of before) source)) own left) right) lt
+        one_turn : nat_lt 1 site.panels ≡ false → (r1 r2 : Bool) (own left right : Word)
+            → after_turn site.panels (tick_of before) source r1 r2 own left right ≡ own
+        one_turn lt r1 r2 own left right =
+            ap
+            (λ x. after_word (x && (r2 && carries site.panels (tick_of before) source))
+            (after_word (x && (r1 && carries site.panels (tick_of before) source)) own left) right) lt
 
-    keeps_same : (m : List Moment) (panel source : ℕ) → IsPanel site.panels panel → IsPanel site.panels source → kept_word site.panels source panel (ring_calls site kept done told m) ≡ kept_word_of site kept done told panel source m
+    keeps_same : (m : List Moment) (panel source : ℕ) → IsPanel site.panels panel → IsPanel site.panels source
+        → kept_word site.panels source panel (ring_calls site kept done told m) ≡ kept_word_of site kept done told panel source m
     keeps_same [] panel source p s = refl
     keeps_same (Began ∷ before) panel source p s = keeps_same before panel source p s
     keeps_same (Happened (Link link up) ∷ before) panel source p s = keeps_same before panel source p s
@@ -141,7 +189,11 @@ module _ (site : Site) (kept : Retained) (done : List Done) (told : ℕ → List
     keeps_same (Happened (Confirmed output) ∷ before) panel source p s = keeps_same before panel source p s
     keeps_same (Turned other LinkTask ∷ before) panel source p s =
         elim (eqb_tells other panel) [
-          | inl t ↦ rw t.0 (turn other panel source before t.1 p s (keeps_same before panel source p s) (keeps_same before (left_of site.panels panel) source (left_member site.panels panel p) s) (keeps_same before (right_of site.panels panel) source (right_member site.panels panel p) s))
+          | inl t ↦
+              rw t.0
+              (turn other panel source before t.1 p s (keeps_same before panel source p s)
+              (keeps_same before (left_of site.panels panel) source (left_member site.panels panel p) s)
+              (keeps_same before (right_of site.panels panel) source (right_member site.panels panel p) s))
           | inr t ↦ rw t.0 (keeps_same before panel source p s)
         ]
     keeps_same (Turned other task ∷ before) panel source p s = keeps_same before panel source p s
@@ -165,7 +217,8 @@ module _ (site : Site) (kept : Retained) (done : List Done) (told : ℕ → List
     where
       latest_stamp : (other : ℕ) (before : List Moment) → (latest_word site kept done told other before).stamp.0 ≡ latest_turn other Hold before
       latest_stamp other before = stamp_is other (made_at other before) ∙ made_tick other before
-  stamp_by panel (Turned other task ∷ before) = let r = latest_rises panel Hold (Turned other task) before in let ih = stamp_by panel before in omega (arith, r, ih)
+  stamp_by panel (Turned other task ∷ before) = let r = latest_rises panel Hold (Turned other task) before in let ih = stamp_by panel before in
+      omega (arith, r, ih)
   stamp_by panel (Kept failed ∷ before) = stamp_by panel before
 
   stamps_rise : (m : List Moment) → OwnStampsRise (ring_calls site kept done told m)
@@ -177,7 +230,11 @@ module _ (site : Site) (kept : Retained) (done : List Done) (told : ℕ → List
   stamps_rise (Happened (Cable who line piece state) ∷ before) = stamps_rise before
   stamps_rise (Happened (Supply who kind bad) ∷ before) = stamps_rise before
   stamps_rise (Happened (Confirmed output) ∷ before) = stamps_rise before
-  stamps_rise (Turned panel LinkTask ∷ before) = (let s = stamp_is panel (made_at panel before) in let t = made_tick panel before in let l = stamp_by panel before in omega (arith, s, t, l), stamps_rise before)
+  stamps_rise (Turned panel LinkTask ∷ before) = (
+    let s = stamp_is panel (made_at panel before) in let t = made_tick panel before in let l =
+        stamp_by panel before in omega (arith, s, t, l),
+    stamps_rise before,
+  )
   stamps_rise (Turned panel task ∷ before) = stamps_rise before
   stamps_rise (Kept failed ∷ before) = stamps_rise before
 
@@ -186,4 +243,6 @@ kept_by_ring site kept done told moments panel source few p s = keeps_same site 
 
 pub newest_over_chains : NewestOverChains
 newest_over_chains site kept done told moments panel source few p s =
-    subst (λ w. IsNewest site.panels source panel (ring_calls site kept done told moments) w) (keeps_same site kept done told few moments panel source p s) (kept_is_newest site.panels source panel (ring_calls site kept done told moments) (stamps_rise site kept done told moments))
+    subst (λ w. IsNewest site.panels source panel (ring_calls site kept done told moments) w)
+    (keeps_same site kept done told few moments panel source p s)
+    (kept_is_newest site.panels source panel (ring_calls site kept done told moments) (stamps_rise site kept done told moments))

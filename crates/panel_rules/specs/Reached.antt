@@ -9,4 +9,5 @@ use Rattle.site_types.specs.Things.{loop_of}
 -- a point is reached where its panel, loop and address are, with the pieces by panel and loop
 abbrev pub is_point_reached : Site → Option Point → (ℕ → ℕ → ℕ → PieceState) → Bool
 is_point_reached site None pieces = false
-is_point_reached site (Some p) pieces = is_reached_on (loop_of site p.panel p.line) (pieces p.panel p.line) p.address
+is_point_reached site (Some p) pieces =
+    is_reached_on (loop_of site p.panel p.line) (pieces p.panel p.line) p.address

@@ -1,5 +1,7 @@
--- What the poller of a panel is told of what befell: the events on its points, and on the cables of its loops.
-use Rattle.std.specs.Prelude.{ℕ, ◌==◌, ◌&&◌, nat_le, Bool, false, List, [], ◌∷◌, Option, Some, None, slice_get, if◌then◌else◌}
+-- What the poller of a panel is told of what befell: the events on its points, and on the cables of its
+-- loops.
+use Rattle.std.specs.Prelude.{ℕ, ◌==◌, ◌&&◌, nat_le, Bool, false, List, [], ◌∷◌, Option, Some, None, slice_get}
+use Rattle.std.specs.Prelude.{if◌then◌else◌}
 use Rattle.site_types.specs.declared.event.Event.{Event}
 use Rattle.site_types.specs.declared.event.Event.TheVariants.{Point, Cable}
 use Rattle.site_types.specs.declared.point.Point.{Point as PointPlan}

@@ -6,10 +6,10 @@
 //! another, which outputs are on, which faults stand, what a face shows, and what is due and caused. Where an auditor
 //! or a node has another source for operations, words or links, it hands in its own.
 //!
-//! Begin with specs/Moments, and go on with Operations, Zones, Words, Outputs, Faults and Faces; Due and Caused say
-//! what the panel owes. What follows from the definitions stands in `panel_laws`. Here are only the laws that the code of the
-//! system rests on: how lanes fill ([`lanes_hold_few`]) and that records are runs ([`records_are_runs`]), with the
-//! lemmas in proofs/ that the crates above cite.
+//! Begin with specs/Moments, and go on with Operations, Zones, Words, Outputs, Faults and Faces; Due and
+//! Caused say what the panel owes. What follows from the definitions stands in `panel_laws`. Here are only
+//! the laws that the code of the system rests on: how lanes fill ([`lanes_hold_few`]) and that records are
+//! runs ([`records_are_runs`]), with the lemmas in proofs/ that the crates above cite.
 #![tactic(auto)]
 
 mod lanes;

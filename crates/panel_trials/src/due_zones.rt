@@ -1,5 +1,5 @@
-//! Drawn records of points without operations: each zone that is due by a plain program is shown, whatever the orders of turns, and a zone
-//! that is shown has an answer that confirms it.
+//! Drawn records of points without operations: each zone that is due by a plain program is shown, whatever
+//! the orders of turns, and a zone that is shown has an answer that confirms it.
 
 use crate::system_ticks::{Report, opened, order_of, run_tick, shown};
 use site_types::{Answer, Heard, PointState, Rule, Site, Zone, has_bit_32};
@@ -28,7 +28,8 @@ struct Held {
     first: u64,
 }
 
-/// From which tick on a zone is due, and from which on an answer confirms it; a tick that never comes, where there is none.
+/// From which tick on a zone is due, and from which on an answer confirms it; a tick that never comes, where
+/// there is none.
 #[derive(Clone, Copy)]
 struct Bounds {
     number: u8,
@@ -129,8 +130,8 @@ fn all_answers(alloc: Global, site: &Site, reports: &[Report]) -> Result<Vec<Ans
     Ok(answers)
 }
 
-// The least tick from which on a second detector is held after a first one, so that the second's round ends within the window: both of the
-// zone, or one of it and one of its partner.
+// The least tick from which on a second detector is held after a first one, so that the second's round ends
+// within the window: both of the zone, or one of it and one of its partner.
 fn settled_by_two(
     alloc: Global,
     place: u16,

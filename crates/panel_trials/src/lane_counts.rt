@@ -39,7 +39,8 @@ fn full_panel(alloc: Global) -> Result<String, Fail> {
     Ok(text)
 }
 
-// In a reversed tick Poll is last, and in the canonical one after it first: so twice 32 answers lie before Decide, which takes half of them.
+// In a reversed tick Poll is last, and in the canonical one after it first: so twice 32 answers lie before
+// Decide, which takes half of them.
 #[test]
 fn two_batches_lie_in_a_lane_at_most(rt: HostRuntime) -> Result<(), Fail> {
     let alloc = rt.alloc();

@@ -1,4 +1,5 @@
-//! Which zones a panel shows in whole records, in the canonical and in the reversed order of turns, against what was worked out by hand.
+//! Which zones a panel shows in whole records, in the canonical and in the reversed order of turns, against
+//! what was worked out by hand.
 
 use crate::system_ticks::{Report, opened, order_of, run_tick, shown};
 use site_types::PointState;
@@ -10,7 +11,8 @@ use trial_base::{ONE, PARTNERS, TYPE_A, site_of};
 /// From a tick on these zones are shown in alarm, and these in first state.
 type Shown = (u64, u32, u32);
 
-// Drives a site of one panel to a last tick, each tick in this order. What it shows changes as is wanted, and not otherwise.
+// Drives a site of one panel to a last tick, each tick in this order. What it shows changes as is wanted, and
+// not otherwise.
 fn drive(
     rt: &impl Abort,
     alloc: Global,

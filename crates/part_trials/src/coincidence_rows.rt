@@ -1,4 +1,5 @@
-//! What the answers of whole records confirm and release, found by Decide and by the plain program, against what was worked out by hand.
+//! What the answers of whole records confirm and release, found by Decide and by the plain program, against
+//! what was worked out by hand.
 
 ghost use Rattle.part_trials.specs.Bench.{IsReady};
 
@@ -15,7 +16,8 @@ use trial_base::{DoneAt, ONE, PARTNERS, PlainRules, RELEASING, TYPE_A};
 /// From a tick on a point, by its place, gives this answer.
 type Report = (u64, u16, Heard);
 
-/// A finding of an answer that counts: its tick and point, then masks of the zones for which it counts, which it confirms, by hand, and releases.
+/// A finding of an answer that counts: its tick and point, then masks of the zones for which it counts, which
+/// it confirms, by hand, and releases.
 type Told = (u64, u16, u32, u32, u32, u32);
 
 // What a point gives in a tick.
@@ -63,8 +65,10 @@ fn drive_tick(
     done: &[DoneAt],
     tick: u64,
 ) -> Result<ArrayVec<Finding, 32>, Fail>
-    requires { IsReady bench.old.site bench.old.panel bench.old.decide bench.old.answers bench.old.findings bench.old.stamp.0 bench.old.point bench.old.at.0 }
-    ensures { IsReady bench.new.site bench.new.panel bench.new.decide bench.new.answers bench.new.findings bench.new.stamp.0 bench.new.point bench.new.at.0 }
+    requires { IsReady bench.old.site bench.old.panel bench.old.decide bench.old.answers
+        bench.old.findings bench.old.stamp.0 bench.old.point bench.old.at.0 }
+    ensures { IsReady bench.new.site bench.new.panel bench.new.decide bench.new.answers
+        bench.new.findings bench.new.stamp.0 bench.new.point bench.new.at.0 }
 {
     for answer in answers {
         bench.put(answer)?;
@@ -325,7 +329,8 @@ fn a_cancelled_first_answer_makes_no_pair(rt: HostRuntime) -> Result<(), Fail> {
     )
 }
 
-// Points of the site with zones of type C: two detectors and a manual call point of one zone, a detector of its partner, and one of neither.
+// Points of the site with zones of type C: two detectors and a manual call point of one zone, a detector of
+// its partner, and one of neither.
 const Y1: u16 = 0;
 
 const Y2: u16 = 1;

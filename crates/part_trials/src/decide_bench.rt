@@ -31,7 +31,8 @@ impl DecideBench {
 
     /// A panel of a site, with nothing retained.
     pub(crate) fn open(alloc: Global, text: &str, panel: u8) -> Result<DecideBench, Fail>
-        ensures { IfOk result (λ bench. IsReady bench.site bench.panel bench.decide bench.answers bench.findings bench.stamp.0 bench.point bench.at.0) }
+        ensures { IfOk result (λ bench. IsReady bench.site bench.panel bench.decide bench.answers
+            bench.findings bench.stamp.0 bench.point bench.at.0) }
     {
         let site = site_of(alloc, text)?;
         let decide = Decide::new(alloc, &site, panel, &Retained::empty())?;
@@ -51,8 +52,10 @@ impl DecideBench {
 
     /// Begins anew, with no answer given and nothing done.
     pub(crate) fn begin_anew(&mut self, alloc: Global) -> Result<(), Fail>
-        requires { IsReady self.old.site self.old.panel self.old.decide self.old.answers self.old.findings self.old.stamp.0 self.old.point self.old.at.0 }
-        ensures { IsReady self.new.site self.new.panel self.new.decide self.new.answers self.new.findings self.new.stamp.0 self.new.point self.new.at.0 }
+        requires { IsReady self.old.site self.old.panel self.old.decide self.old.answers
+            self.old.findings self.old.stamp.0 self.old.point self.old.at.0 }
+        ensures { IsReady self.new.site self.new.panel self.new.decide self.new.answers
+            self.new.findings self.new.stamp.0 self.new.point self.new.at.0 }
     {
         let decide = Decide::new(alloc, &self.site, self.panel, &Retained::empty())?;
         let answers = Lane::new(alloc, 32, 64)?;
@@ -70,10 +73,13 @@ impl DecideBench {
         &self.site
     }
 
-    /// Puts an answer before Decide, later than those before it: of a later tick, or of a point that stands later in the site's list.
+    /// Puts an answer before Decide, later than those before it: of a later tick, or of a point that stands
+    /// later in the site's list.
     pub(crate) fn put(&mut self, answer: &Answer) -> Result<(), Fail>
-        requires { IsReady self.old.site self.old.panel self.old.decide self.old.answers self.old.findings self.old.stamp.0 self.old.point self.old.at.0 }
-        ensures { IsReady self.new.site self.new.panel self.new.decide self.new.answers self.new.findings self.new.stamp.0 self.new.point self.new.at.0 }
+        requires { IsReady self.old.site self.old.panel self.old.decide self.old.answers
+            self.old.findings self.old.stamp.0 self.old.point self.old.at.0 }
+        ensures { IsReady self.new.site self.new.panel self.new.decide self.new.answers
+            self.new.findings self.new.stamp.0 self.new.point self.new.at.0 }
     {
         if !self.may_put(answer) {
             return Err(Fail::from("an answer that may not come next"));
@@ -85,7 +91,9 @@ impl DecideBench {
     }
 
     fn may_put(&self, answer: &Answer) -> bool
-        ensures { result ≡ true → MayPut self.now.site self.now.panel self.now.answers self.now.stamp.0 self.now.point self.now.at.0 answer.now }
+        ensures { result ≡ true
+            → MayPut self.now.site self.now.panel self.now.answers self.now.stamp.0 self.now.point
+            self.now.at.0 answer.now }
     {
         let later = answer.stamp.0 > self.stamp.0
             || answer.stamp.0 == self.stamp.0 && answer.point > self.point;
@@ -104,8 +112,10 @@ impl DecideBench {
 
     /// Decide has its turn; what it finds, one for each answer that was put.
     pub(crate) fn turn(&mut self) -> Result<ArrayVec<Finding, 32>, Fail>
-        requires { IsReady self.old.site self.old.panel self.old.decide self.old.answers self.old.findings self.old.stamp.0 self.old.point self.old.at.0 }
-        ensures { IsReady self.new.site self.new.panel self.new.decide self.new.answers self.new.findings self.new.stamp.0 self.new.point self.new.at.0 }
+        requires { IsReady self.old.site self.old.panel self.old.decide self.old.answers
+            self.old.findings self.old.stamp.0 self.old.point self.old.at.0 }
+        ensures { IsReady self.new.site self.new.panel self.new.decide self.new.answers
+            self.new.findings self.new.stamp.0 self.new.point self.new.at.0 }
     {
         if self.findings.len() > 0 || self.findings.put_count() >= 1_000_000 {
             return Err(Fail::from("no room for what is found"));
@@ -116,10 +126,13 @@ impl DecideBench {
         Ok(found)
     }
 
-    /// An operation was done in a tick, later than the last one and not earlier than the last answer, of which none may lie before Decide.
+    /// An operation was done in a tick, later than the last one and not earlier than the last answer, of
+    /// which none may lie before Decide.
     pub(crate) fn apply(&mut self, operation: &Operation, at: Tick) -> Result<(), Fail>
-        requires { IsReady self.old.site self.old.panel self.old.decide self.old.answers self.old.findings self.old.stamp.0 self.old.point self.old.at.0 }
-        ensures { IsReady self.new.site self.new.panel self.new.decide self.new.answers self.new.findings self.new.stamp.0 self.new.point self.new.at.0 }
+        requires { IsReady self.old.site self.old.panel self.old.decide self.old.answers
+            self.old.findings self.old.stamp.0 self.old.point self.old.at.0 }
+        ensures { IsReady self.new.site self.new.panel self.new.decide self.new.answers
+            self.new.findings self.new.stamp.0 self.new.point self.new.at.0 }
     {
         if !self.may_apply(operation, at) {
             return Err(Fail::from("an operation that may not come next"));
@@ -130,7 +143,9 @@ impl DecideBench {
     }
 
     fn may_apply(&self, operation: &Operation, at: Tick) -> bool
-        ensures { result ≡ true → MayDo self.now.site self.now.panel self.now.answers self.now.stamp.0 self.now.at.0 operation.now at.0 }
+        ensures { result ≡ true
+            → MayDo self.now.site self.now.panel self.now.answers self.now.stamp.0 self.now.at.0
+            operation.now at.0 }
     {
         let event = Event::Op {
             panel: self.panel,

@@ -103,14 +103,17 @@ fn drawn_operation(draws: &mut Draws) -> Operation {
     }
 }
 
-// The answers up to the next operation, taken in turns of a few, and then the operation, done in the tick of the last answer or the next one.
+// The answers up to the next operation, taken in turns of a few, and then the operation, done in the tick of
+// the last answer or the next one.
 fn draw_stretch(
     bench: &mut DecideBench,
     history: &mut History,
     draws: &mut Draws,
 ) -> Result<(), Fail>
-    requires { IsReady bench.old.site bench.old.panel bench.old.decide bench.old.answers bench.old.findings bench.old.stamp.0 bench.old.point bench.old.at.0 }
-    ensures { IsReady bench.new.site bench.new.panel bench.new.decide bench.new.answers bench.new.findings bench.new.stamp.0 bench.new.point bench.new.at.0 }
+    requires { IsReady bench.old.site bench.old.panel bench.old.decide bench.old.answers
+        bench.old.findings bench.old.stamp.0 bench.old.point bench.old.at.0 }
+    ensures { IsReady bench.new.site bench.new.panel bench.new.decide bench.new.answers
+        bench.new.findings bench.new.stamp.0 bench.new.point bench.new.at.0 }
 {
     for _given in 0..STRETCH {
         history.go_on(draws);
@@ -145,8 +148,10 @@ fn draw_stretch(
 
 // Decide has its turn.
 fn take(bench: &mut DecideBench, history: &mut History) -> Result<(), Fail>
-    requires { IsReady bench.old.site bench.old.panel bench.old.decide bench.old.answers bench.old.findings bench.old.stamp.0 bench.old.point bench.old.at.0 }
-    ensures { IsReady bench.new.site bench.new.panel bench.new.decide bench.new.answers bench.new.findings bench.new.stamp.0 bench.new.point bench.new.at.0 }
+    requires { IsReady bench.old.site bench.old.panel bench.old.decide bench.old.answers
+        bench.old.findings bench.old.stamp.0 bench.old.point bench.old.at.0 }
+    ensures { IsReady bench.new.site bench.new.panel bench.new.decide bench.new.answers
+        bench.new.findings bench.new.stamp.0 bench.new.point bench.new.at.0 }
 {
     let found = bench.turn()?;
     for finding in found.as_slice() {

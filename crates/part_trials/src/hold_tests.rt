@@ -1,4 +1,5 @@
-//! Hold alone at work on sites that were read: what it shows of zones, first states and faults, what its buzzer sounds, and its counter.
+//! Hold alone at work on sites that were read: what it shows of zones, first states and faults, what its
+//! buzzer sounds, and its counter.
 
 ghost use Rattle.std.specs.Prelude.{◌≤◌, IfOk};
 
@@ -19,7 +20,8 @@ const LAB_DETECTOR: u16 = 3;
 
 const HALL: u16 = 0;
 
-// Zones in alarm, in alarm by hand and in first state, the faults, the buzzer, and how often the panel entered the fire alarm condition.
+// Zones in alarm, in alarm by hand and in first state, the faults, the buzzer, and how often the panel
+// entered the fire alarm condition.
 type Seen = (u32, u32, u32, FaultSet, Buzzer, u64);
 
 // What comes in a tick, the operation done after its turn, and what is shown then.
@@ -157,7 +159,8 @@ fn missing(one: u8, other: u8) -> FaultSet {
     }
 }
 
-// The call point of the hall is pressed: the hall is in alarm, and by hand, until a reset. A detector's alarm is not by hand.
+// The call point of the hall is pressed: the hall is in alarm, and by hand, until a reset. A detector's alarm
+// is not by hand.
 #[test]
 fn tells_an_alarm_by_hand(rt: HostRuntime) -> Result<(), Fail> {
     let by_hand_seen = (1, 1, 0, FaultSet::default(), Buzzer::Fire, 1);
@@ -174,8 +177,8 @@ fn tells_an_alarm_by_hand(rt: HostRuntime) -> Result<(), Fail> {
     )
 }
 
-// A detector is in alarm from tick 1 on, and a reset is done in tick 13, in which it is asked again: that answer shows nothing, the next one
-// does, and the panel enters the fire alarm condition anew.
+// A detector is in alarm from tick 1 on, and a reset is done in tick 13, in which it is asked again: that
+// answer shows nothing, the next one does, and the panel enters the fire alarm condition anew.
 #[test]
 fn shows_a_zone_again_after_a_reset(rt: HostRuntime) -> Result<(), Fail> {
     drive(
@@ -197,8 +200,9 @@ fn shows_a_zone_again_after_a_reset(rt: HostRuntime) -> Result<(), Fail> {
     )
 }
 
-// Two partner zones of type B, 600 ticks apart at most. The second answer 600 ticks after the first one puts both in alarm; one tick later the
-// first state has ended by time alone, and the other zone begins its own, which ends by time alone too.
+// Two partner zones of type B, 600 ticks apart at most. The second answer 600 ticks after the first one puts
+// both in alarm; one tick later the first state has ended by time alone, and the other zone begins its own,
+// which ends by time alone too.
 #[test]
 fn ends_a_first_state_by_an_alarm_or_by_time(rt: HostRuntime) -> Result<(), Fail> {
     let alloc = rt.alloc();
@@ -287,7 +291,8 @@ fn shows_a_short_an_open_piece_and_missing_points(rt: HostRuntime) -> Result<(),
     )
 }
 
-// A point is disabled in tick 2 and enabled in tick 30: in between it isn't shown as missing, and its answers count for nothing.
+// A point is disabled in tick 2 and enabled in tick 30: in between it isn't shown as missing, and its answers
+// count for nothing.
 #[test]
 fn shows_nothing_of_a_disabled_point(rt: HostRuntime) -> Result<(), Fail> {
     let off = Some(Operation::Disable(Item::Point(HALL_DETECTOR)));
@@ -342,7 +347,8 @@ fn shows_a_supply_fault(rt: HostRuntime) -> Result<(), Fail> {
     )
 }
 
-// A mute in tick 1 silences the buzzer from tick 2 on. A zone that is disabled in tick 2 shows no missing point from tick 3 on. An alarm sounds.
+// A mute in tick 1 silences the buzzer from tick 2 on. A zone that is disabled in tick 2 shows no missing
+// point from tick 3 on. An alarm sounds.
 #[test]
 fn mutes_until_something_new_is_shown(rt: HostRuntime) -> Result<(), Fail> {
     let off = Some(Operation::Disable(Item::Zone(HALL)));

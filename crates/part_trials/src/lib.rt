@@ -1,11 +1,13 @@
-//! Trials of single parts over sites that are read from their files: polling, coincidence, conditions, links, outputs, markers, levels.
+//! Trials of single parts over sites that are read from their files: polling, coincidence, conditions, links,
+//! outputs, markers, levels.
 //!
-//! Nothing stands on this crate and it promises nothing. Its tests compare what a part does with values worked out by hand, or, where histories
-//! are drawn from a seed, with plain slow programs that go by the rules alone. What a clause of another crate says for all inputs isn't tried
-//! again here, but for the examples that show that the clause says what was meant.
+//! Nothing stands on this crate and it promises nothing. Its tests compare what a part does with values
+//! worked out by hand, or, where histories are drawn from a seed, with plain slow programs that go by the
+//! rules alone. What a clause of another crate says for all inputs isn't tried again here, but for the
+//! examples that show that the clause says what was meant.
 //!
-//! A part whose calls have conditions is driven by a bench: it tests what a call asks for and refuses what may not come next, so that the tests
-//! need no proof of their own. [`decide_bench`] drives a Decide.
+//! A part whose calls have conditions is driven by a bench: it tests what a call asks for and refuses what
+//! may not come next, so that the tests need no proof of their own. [`decide_bench`] drives a Decide.
 #![tactic(auto)]
 
 #[cfg(test)]

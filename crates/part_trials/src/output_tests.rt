@@ -12,7 +12,8 @@ const BELLS: u32 = 0b01;
 
 const FANS: u32 = 0b10;
 
-// A run of a panel whose bells and fans are asked for from tick 1 on, but in one tick; the fans have a delay of 1,200 ticks.
+// A run of a panel whose bells and fans are asked for from tick 1 on, but in one tick; the fans have a delay
+// of 1,200 ticks.
 #[derive(Clone, Copy)]
 struct Run {
     // The fans are asked for by hand from this tick on.

@@ -205,8 +205,8 @@ fn full_site(alloc: Global, format: u8, last: u8) -> Result<String, Fail> {
     Ok(text)
 }
 
-// Asks a full site for two rounds. In each tick those points answer of whose address less 1 the eighth part is the tick within its round, in order
-// of loop, then address.
+// Asks a full site for two rounds. In each tick those points answer of whose address less 1 the eighth part
+// is the tick within its round, in order of loop, then address.
 fn try_full_site(alloc: Global, format: u8, last: u8, round: u64) -> Result<(), Fail>
     requires { (1 ≤ round) × (round ≤ 24) }
 {

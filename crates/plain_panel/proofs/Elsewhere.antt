@@ -24,10 +24,12 @@ nothing_over true false kept other none none_other = none
 nothing_over false carried kept other none none_other = none
 
 -- nor after a turn of Link, where nothing was kept by the neighbours and the panel itself
-linked : (here up carried low_up same : Bool) (made own down above_kept : List Moment) → same ≡ false → own ≡ [] → down ≡ [] → above_kept ≡ [] → (if here then taken_over up carried (taken_over low_up carried (if same then made else own) down) above_kept else own) ≡ []
+linked : (here up carried low_up same : Bool) (made own down above_kept : List Moment) → same ≡ false → own ≡ [] → down ≡ [] → above_kept ≡ []
+    → (if here then taken_over up carried (taken_over low_up carried (if same then made else own) down) above_kept else own) ≡ []
 linked true up carried low_up same made own down above_kept other own_is down_is above_is =
     let kept : (if same then made else own) ≡ [] = rw other own_is in
-    nothing_over up carried (taken_over low_up carried (if same then made else own) down) above_kept (nothing_over low_up carried (if same then made else own) down kept down_is) above_is
+    nothing_over up carried (taken_over low_up carried (if same then made else own) down) above_kept
+    (nothing_over low_up carried (if same then made else own) down kept down_is) above_is
 linked false up carried low_up same made own down above_kept other own_is down_is above_is = own_is
 
 not_same : (a b : ℕ) → a < b → (a == b) ≡ false
@@ -41,11 +43,15 @@ module _ (panels source : ℕ) (none : panels < source) where
   keeps_nothing panel (Turned other Link ∷ before) low high =
       let up = right_member panels panel (low, high) in
       let down = left_member panels panel (low, high) in
-      linked (other == panel) (is_up panel before) (carries panels (tick_of before) source) (is_up (left_of panels panel) before) (panel == source) (made_at panel before) (kept_at panels panel source before) (kept_at panels (left_of panels panel) source before) (kept_at panels (right_of panels panel) source before) (not_same panel source (omega arith)) (keeps_nothing panel before low high) (keeps_nothing (left_of panels panel) before down.0 down.1) (keeps_nothing (right_of panels panel) before up.0 up.1)
+      linked (other == panel) (is_up panel before) (carries panels (tick_of before) source) (is_up (left_of panels panel) before) (panel == source)
+      (made_at panel before) (kept_at panels panel source before) (kept_at panels (left_of panels panel) source before)
+      (kept_at panels (right_of panels panel) source before) (not_same panel source (omega arith)) (keeps_nothing panel before low high)
+      (keeps_nothing (left_of panels panel) before down.0 down.1) (keeps_nothing (right_of panels panel) before up.0 up.1)
   keeps_nothing panel (Turned other task ∷ before) low high = keeps_nothing panel before low high
   keeps_nothing panel (Kept failed ∷ before) low high = keeps_nothing panel before low high
 
-pub shows_nothing : (site : Site) (kept : Retained) (done : List Done) (panel : ℕ) (before : List Moment) (source : ℕ) → IsPanel site panel → site.panels < source → empty_word ≡ shown_word site kept done panel before source
+pub shows_nothing : (site : Site) (kept : Retained) (done : List Done) (panel : ℕ) (before : List Moment) (source : ℕ) → IsPanel site panel
+    → site.panels < source → empty_word ≡ shown_word site kept done panel before source
 shows_nothing site kept done panel before source own none =
     let other : (source == panel) ≡ false = apart source panel (omega arith) in
     let nothing : kept_at site.panels panel source before ≡ [] = keeps_nothing site.panels source none panel before own.0 own.1 in

@@ -29,16 +29,19 @@ other_task Drive apart = tt
 other_task Keep apart = tt
 
 -- a turn is of one panel
-pub same_panel : (moment : Moment) (panel other : ℕ) (task other_task : Task) → moment ≡ Turned panel task → moment_of moment ≡ TurnedOf other other_task → panel ≡ other
+pub same_panel : (moment : Moment) (panel other : ℕ) (task other_task : Task) → moment ≡ Turned panel task
+    → moment_of moment ≡ TurnedOf other other_task → panel ≡ other
 same_panel moment panel other task other_task is told =
     let both : TurnedOf panel task ≡ TurnedOf other other_task = sym (ap moment_of is) ∙ told in cc
 
 -- the first moments, one more of them
-pub history_at : (moments : List Moment) (k : ℕ) (d : Moment) → k < length moments → history (take (k + 1) moments) ≡ moment_of (get_or moments k d) ∷ history (take k moments)
+pub history_at : (moments : List Moment) (k : ℕ) (d : Moment) → k < length moments → history (take (k + 1) moments) ≡ moment_of (get_or moments k d)
+    ∷ history (take k moments)
 history_at moments k d small = ap history (take_more moments k d small) ∙ history_more (take k moments) (get_or moments k d)
 
 -- panels that were written in place
-pub items_written : (panels : Vec Entering Global) (written : List Entering) → length written ≡ length panels.items → (with_items panels written).items ≡ written
+pub items_written : (panels : Vec Entering Global) (written : List Entering) → length written ≡ length panels.items
+    → (with_items panels written).items ≡ written
 items_written panels written same = let as_long : length written ≡ panels.len = omega (arith, same, panels.ok) in with_items_is panels written as_long
 
 -- the panels of a site that a step wrote in place, a moment later

@@ -13,7 +13,8 @@ use Rattle.plain_panel.specs.declared.entering.Entering.{Entering}
 use Rattle.plain_panel.specs.Askings.{AsksSome, StandsForAsking}
 
 -- the entries of a panel of a site after a history, where some operations were done
-pub record StandsForEntering (site : Site) (kept : Retained) (done : List Done) (panel : ℕ) (history : List Moment) (entering : Entering) : Type 0 where
+pub record StandsForEntering (site : Site) (kept : Retained) (done : List Done) (panel : ℕ) (history :
+    List Moment) (entering : Entering) : Type 0 where
   pub own : entering.panel ≡ panel
   pub asks : StandsForAsking site panel history entering.asking
   pub latest : entering.held_at.0 ≡ latest_turn panel Hold history
@@ -26,7 +27,8 @@ EntersSome site entering = AsksSome site entering.asking
 -- those of some panels, by number from a first on
 abbrev pub AllEnter : Site → Retained → List Done → List Moment → ℕ → List Entering → Type 0
 AllEnter site kept done history first [] = Unit {0}
-AllEnter site kept done history first (entering ∷ rest) = StandsForEntering site kept done first history entering × AllEnter site kept done history (first + 1) rest
+AllEnter site kept done history first (entering ∷ rest) =
+    StandsForEntering site kept done first history entering × AllEnter site kept done history (first + 1) rest
 
 -- a panel with a place among some from 1 on
 abbrev pub IsAmong : List Entering → ℕ → Type 0
@@ -38,7 +40,8 @@ AllAsk site [] = Unit {0}
 AllAsk site (entering ∷ rest) = EntersSome site entering × AllAsk site rest
 
 -- those of all panels of the site
-pub record AreEntering (site : Site) (kept : Retained) (done : List Done) (history : List Moment) (panels : List Entering) : Type 0 where
+pub record AreEntering (site : Site) (kept : Retained) (done : List Done) (history : List Moment) (panels :
+    List Entering) : Type 0 where
   pub all : AllEnter site kept done history 1 panels
   pub count : length panels ≡ site.panels
 
@@ -63,4 +66,5 @@ module _ (site : Site) (kept : Retained) (done : List Done) (tick : ℕ) where
 
   -- a panel is in the fire alarm condition by some answers at the tick
   abbrev pub holds_fire_alarm : List Answer → ℕ → Bool
-  holds_fire_alarm answers panel = not (zones_where site panel (λ zone. is_in_alarm site kept done answers zone tick) == 0)
+  holds_fire_alarm answers panel =
+      not (zones_where site panel (λ zone. is_in_alarm site kept done answers zone tick) == 0)

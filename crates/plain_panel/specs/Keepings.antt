@@ -14,7 +14,8 @@ use Rattle.plain_panel.specs.Desks.{StandsForDesk, all_requests}
 use Rattle.plain_panel.specs.Standings.{StandsAfter}
 
 -- the desk, what stands with the operations that it has done, and what is kept by then
-pub record StandsForKeeping (site : Site) (kept : Retained) (history : List Moment) (keeping : Keeping) : Type 0 where
+pub record StandsForKeeping (site : Site) (kept : Retained) (history : List Moment) (keeping : Keeping) :
+    Type 0 where
   pub desk : StandsForDesk site kept history keeping.desk
   pub standing : StandsAfter site kept history keeping.standing
   pub stored : keeping.stored ≡ kept_after site kept history

@@ -24,7 +24,8 @@ use Rattle.panel_rules.specs.Kept.{heard}
 use Rattle.panel_rules.specs.Words.{latest_word, ring_calls, word_made}
 use Rattle.panel_rules.specs.Zones.{held_answers}
 use Rattle.panel_rules.specs.Outputs.{outputs_where}
-use Rattle.panel_rules.specs.Faults.{broken_loops, is_unconfirmed, links_down, shorted_loops, silent_panels, supply_calls}
+use Rattle.panel_rules.specs.Faults.{broken_loops, is_unconfirmed, links_down, shorted_loops, silent_panels}
+use Rattle.panel_rules.specs.Faults.{supply_calls}
 use Rattle.panel_rules.specs.Run.{facts_of, faults_of, faults_with, tells_fault}
 use Rattle.panel_rules.specs.Faces.{last_news, shown_word}
 use Rattle.plain_panel.specs.declared.moment.Moment.{Moment}
@@ -45,7 +46,13 @@ own_in network panel = slice_index_or network.own (panel - 1) no_own
 
 -- what it shows after a turn of Hold made now
 abbrev pub own_then : Own → Tick → Word → FaultSet → Own
-own_then own now word faults = record { word = word; faults = faults; news = if is_news word faults own.word own.faults then now else own.news }
+own_then own now word faults =
+    record {
+      word = word;
+      faults = faults;
+      news =
+          if is_news word faults own.word own.faults then now else own.news;
+    }
 
 -- what stands besides missing points, with the outputs without confirmation
 abbrev pub outside_told : Site → ℕ → List MomentOf → ℕ → Outside
@@ -61,7 +68,9 @@ outside_told site panel moments unconfirmed =
 
 -- the outputs of a panel without confirmation
 abbrev pub unconfirmed_at : Site → Retained → List Done → ℕ → List MomentOf → ℕ
-unconfirmed_at site kept done panel moments = outputs_where site panel (λ output. is_unconfirmed site (facts_of site kept done) kept done output moments)
+unconfirmed_at site kept done panel moments =
+    outputs_where site panel (λ output. is_unconfirmed site (facts_of site kept done) kept done output
+    moments)
 
 -- a task that isn't Hold
 abbrev pub IsOtherTask : Task → Type 0
@@ -74,13 +83,17 @@ IsNotHold (Turned panel task) = IsOtherTask task
 IsNotHold _ = Unit {0}
 
 -- the network stands for a history
-pub record StandsFor (site : Site) (kept : Retained) (done : List Done) (before : List MomentOf) (network : Network) : Type 0 where
+pub record StandsFor (site : Site) (kept : Retained) (done : List Done) (before : List MomentOf) (network :
+    Network) : Type 0 where
   pub size : network.panels ≡ site.panels
   -- the ring has the links, and the words that panels keep
   pub ring : RingStandsFor site.panels (ring_calls site kept done (tells_fault site kept done) before) network.ring
-  pub words : (panel : ℕ) → IsPanel site.panels panel → (own_in network panel).word ≡ latest_word site kept done (tells_fault site kept done) panel before
-  pub faults : (panel : ℕ) → IsPanel site.panels panel → (own_in network panel).faults ≡ faults_of site kept done panel before
-  pub news : (panel : ℕ) → IsPanel site.panels panel → (own_in network panel).news.0 ≡ last_news site kept done panel before
+  pub words : (panel : ℕ) → IsPanel site.panels panel
+      → (own_in network panel).word ≡ latest_word site kept done (tells_fault site kept done) panel before
+  pub faults : (panel : ℕ) → IsPanel site.panels panel
+      → (own_in network panel).faults ≡ faults_of site kept done panel before
+  pub news : (panel : ℕ) → IsPanel site.panels panel
+      → (own_in network panel).news.0 ≡ last_news site kept done panel before
 
 -- a moment in a tick befalls the network, whatever the site, what is kept and done, and what befell before
 abbrev pub NetworkTakes : ℕ → MomentOf → Network → Network → Type 0

@@ -22,10 +22,12 @@ HistoryRule A = (ℕ → List Moment → Facts) → List Moment → A
 -- what is told from the moments seen is what a rule makes of their history, whatever the facts
 abbrev pub TellsOf : {A : Type 0} → Site → List Seen → HistoryRule A → A → Type 0
 TellsOf site seen rule told =
-    (facts : ℕ → List Moment → Facts) (history : List Moment) → AreSeen site facts seen history → told ≡ rule facts history
+    (facts : ℕ → List Moment → Facts) (history : List Moment) → AreSeen site facts seen history
+    → told ≡ rule facts history
 
 module _ (site : Site) (output tick : ℕ) where
-  -- the same at a turn of Drive of an output's panel in a tick, from the moments seen before that turn and those with it
+  -- the same at a turn of Drive of an output's panel in a tick, from the moments seen before that turn and those with
+  -- it
   abbrev pub TellsAtDrive : List Seen → List Seen → HistoryRule Bool → Bool → Type 0
   TellsAtDrive before with_turn rule told =
       (facts : ℕ → List Moment → Facts) (history : List Moment) → AreSeen site facts before history

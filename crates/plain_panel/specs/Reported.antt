@@ -11,12 +11,14 @@ use Rattle.panel_rules.specs.Moments.{Moment, Happened}
 
 -- a moment reports a supply of a panel bad
 abbrev pub tells_bad : ℕ → SupplyKind → Moment → Bool
-tells_bad panel kind (Happened (Supply other told bad)) = bad && ((other == panel) && (place_of kind == place_of told))
+tells_bad panel kind (Happened (Supply other told bad)) =
+    bad && ((other == panel) && (place_of kind == place_of told))
 tells_bad panel kind _ = false
 
 -- a moment reports on the cable of a loop
 abbrev pub tells_cable : ℕ → ℕ → Moment → Bool
-tells_cable panel line (Happened (Cable of_panel of_line piece state)) = (of_panel == panel) && (of_line == line)
+tells_cable panel line (Happened (Cable of_panel of_line piece state)) =
+    (of_panel == panel) && (of_line == line)
 tells_cable panel line _ = false
 
 -- the cable of a loop of a panel is told a moment, whatever its plan and what befell it before

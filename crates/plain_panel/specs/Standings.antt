@@ -16,7 +16,8 @@ use Rattle.plain_panel.specs.Enterings.{AreEntering}
 use Rattle.plain_panel.specs.Network.{StandsFor}
 
 -- answers and entries of all panels, what they show of their own and of one another, what drives outputs
-pub record StandsForStanding (site : Site) (kept : Retained) (done : List Done) (history : List Moment) (standing : Standing) : Type 0 where
+pub record StandsForStanding (site : Site) (kept : Retained) (done : List Done) (history : List Moment)
+    (standing : Standing) : Type 0 where
   pub panels : AreEntering site kept done history standing.panels.items
   pub network : StandsFor site kept done history standing.network
   pub driving : DrivesFor site (facts_of site kept done) history standing.driving

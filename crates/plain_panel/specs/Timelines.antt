@@ -1,5 +1,6 @@
 -- The timeline of a run as it is told tick by tick.
-use Rattle.std.specs.Prelude.{◌≡◌, ◌≤◌, ◌-◌, ◌&&◌, ℕ, Bool, List, Option, Some, None, filter, if◌then◌else◌, map, nat_le}
+use Rattle.std.specs.Prelude.{◌≡◌, ◌≤◌, ◌-◌, ◌&&◌, ℕ, Bool, List, Option, Some, None, filter, if◌then◌else◌, map}
+use Rattle.std.specs.Prelude.{nat_le}
 use Rattle.std.specs.List.{range_with_len}
 use Rattle.tick_units.specs.declared.tick.Tick.{Tick}
 use Rattle.site_types.specs.declared.retained.Retained.{Retained}
@@ -14,14 +15,19 @@ use Rattle.plain_panel.specs.Keepings.{StandsForKeeping}
 
 -- the steps of the ticks up to one
 abbrev pub steps_upto : Site → Retained → List Moment → ℕ → List Step
-steps_upto site kept moments last = map (λ tick. step_of site kept (up_to tick moments)) (filter (is_told site kept moments) (range_with_len 1 last))
+steps_upto site kept moments last =
+    map (λ tick. step_of site kept (up_to tick moments))
+    (filter (is_told site kept moments) (range_with_len 1 last))
 
 -- the step of the tick that began last, if one began and it is told
 abbrev pub step_closed : Site → Retained → List Moment → Option Step
-step_closed site kept moments = if nat_le 1 (tick_of moments) && is_told site kept moments (tick_of moments) then Some (step_of site kept moments) else None
+step_closed site kept moments =
+    if nat_le 1 (tick_of moments) && is_told site kept moments (tick_of moments) then Some
+    (step_of site kept moments) else None
 
 -- what was told of all ticks but the one that began last, and what is needed to tell of that one
-pub record StandsForTelling (site : Site) (kept : Retained) (moments : List Moment) (telling : Telling) : Type 0 where
+pub record StandsForTelling (site : Site) (kept : Retained) (moments : List Moment) (telling : Telling) :
+    Type 0 where
   pub keeping : StandsForKeeping site kept moments telling.keeping
   pub tick : tick_of moments ≡ telling.tick.0
   pub failed : telling.failed ≡ failed_now site kept moments

@@ -3,7 +3,9 @@
 ghost use Rattle.std.specs.Prelude.{◌≡◌, ◌+◌, nat_le};
 ghost use Rattle.std.specs.List.{list_any};
 ghost use Rattle.site_types.specs.Valid.{IsValid};
-ghost use Rattle.panel_rules.specs.Outputs.{asked_run, delay_of as delay_in, goes_on as goes_on_in, is_sounder as is_sounder_in, may_act as may_act_in, panel_of_output as panel_in};
+ghost use Rattle.panel_rules.specs.Outputs.{asked_run, delay_of as delay_in, goes_on as goes_on_in};
+ghost use Rattle.panel_rules.specs.Outputs.{is_sounder as is_sounder_in, may_act as may_act_in};
+ghost use Rattle.panel_rules.specs.Outputs.{panel_of_output as panel_in};
 ghost use Rattle.plain_panel.specs.Histories.{all_done};
 ghost use Rattle.plain_panel.specs.Outputs.{TellsAtDrive, TellsOf, TellsSilenced, ends_delay};
 
@@ -17,7 +19,8 @@ use crate::turns::is_turn;
 use site_types::{OutputKind, Retained, Site};
 use tick_units::{Task, Tick};
 
-/// Whether an output is on after a turn of Drive of its panel in a tick, from what was seen before that turn, and that turn too.
+/// Whether an output is on after a turn of Drive of its panel in a tick, from what was seen before that turn,
+/// and that turn too.
 pub(crate) fn goes_on(
     site: &Site,
     kept: &Retained,

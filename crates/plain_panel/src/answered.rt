@@ -1,7 +1,8 @@
 //! A panel's word and faults by its answers.
 
 ghost use Rattle.std.specs.Prelude.{◌≡◌};
-ghost use Rattle.panel_conditions.specs.Answered.{answered_faults as answered_faults_by, answered_word as answered_word_by};
+ghost use Rattle.panel_conditions.specs.Answered.{answered_faults as answered_faults_by};
+ghost use Rattle.panel_conditions.specs.Answered.{answered_word as answered_word_by};
 ghost use Rattle.plain_panel.specs.Histories.{all_done};
 
 use crate::done::Done;
@@ -22,7 +23,8 @@ pub fn answered_word(
     tick: Tick,
     fault: bool,
 ) -> Word
-    ensures { result ≡ answered_word_by site.now kept.now panel (all_done done.now) answers.now tick.0 fault }
+    ensures { result ≡ answered_word_by site.now kept.now panel (all_done done.now) answers.now
+        tick.0 fault }
 {
     let mask = |state| zones_in_state(state, site, kept, panel, done, answers, tick);
     Word {
@@ -45,7 +47,8 @@ pub fn answered_faults(
     tick: Tick,
     outside: &Outside,
 ) -> FaultSet
-    ensures { result ≡ answered_faults_by site.now kept.now panel (all_done done.now) answers.now tick.0 outside.now }
+    ensures { result ≡ answered_faults_by site.now kept.now panel (all_done done.now) answers.now
+        tick.0 outside.now }
 {
     FaultSet {
         missing: missing_points(site, kept, panel, done, answers, tick),
@@ -111,7 +114,9 @@ fn found_in_state(
     zone: Option<usize>,
     tick: Tick,
 ) -> bool
-    ensures { result ≡ on_zone (λ (zone : ℕ). zone_in_state_by state site.now kept.now (all_done done.now) answers.now zone tick.0) zone }
+    ensures { result
+        ≡ on_zone (λ (zone : ℕ). zone_in_state_by state site.now kept.now (all_done done.now)
+        answers.now zone tick.0) zone }
 {
     match zone {
         None => false,
@@ -129,7 +134,8 @@ fn missing_points(
     answers: &[Answer],
     tick: Tick,
 ) -> PointSet
-    ensures { result ≡ points_where site.now panel (λ (place : ℕ). is_missing_by answers.now place && not (is_off_at site.now kept.now (all_done done.now) place tick.0)) }
+    ensures { result ≡ points_where site.now panel (λ (place : ℕ). is_missing_by answers.now place
+        && not (is_off_at site.now kept.now (all_done done.now) place tick.0)) }
 {
     let half = |line, past| missing_on(site, kept, panel, done, answers, tick, line, past);
     PointSet {
@@ -154,7 +160,9 @@ fn missing_on(
     past: u8,
 ) -> u128
     requires { past ≤ 96 }
-    ensures { result ≡ addresses_where site.now panel (λ (place : ℕ). is_missing_by answers.now place && not (is_off_at site.now kept.now (all_done done.now) place tick.0)) line past }
+    ensures { result ≡ addresses_where site.now panel
+        (λ (place : ℕ). is_missing_by answers.now place
+        && not (is_off_at site.now kept.now (all_done done.now) place tick.0)) line past }
 {
     if !has_points(site, panel, line, past) {
         return 0;
@@ -199,7 +207,8 @@ fn point_is_missing(
     point: Option<usize>,
     tick: Tick,
 ) -> bool
-    ensures { result ≡ on_point (λ (place : ℕ). is_missing_by answers.now place && not (is_off_at site.now kept.now (all_done done.now) place tick.0)) point }
+    ensures { result ≡ on_point (λ (place : ℕ). is_missing_by answers.now place
+        && not (is_off_at site.now kept.now (all_done done.now) place tick.0)) point }
 {
     match point {
         None => false,
@@ -222,7 +231,8 @@ fn zone_is_off(
     point: Option<&Point>,
     tick: Tick,
 ) -> bool
-    ensures { result ≡ zone_is_off_at site.now kept.now (all_done done.now) (option_copied point.entry) tick.0 }
+    ensures { result ≡ zone_is_off_at site.now kept.now (all_done done.now)
+        (option_copied point.entry) tick.0 }
 {
     match point {
         None => false,

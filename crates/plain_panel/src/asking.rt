@@ -61,7 +61,9 @@ impl Asking {
 
     /// The answers whose findings the panel's Hold has taken.
     pub fn held(&self) -> &[Answer]
-        ensures { (site : SiteOf) (panel : ℕ) (history : List MomentOf) → StandsForAsking site panel history self.now → result.now ≡ held_answers site panel history }
+        ensures { (site : SiteOf) (panel : ℕ) (history : List MomentOf)
+            → StandsForAsking site panel history self.now
+            → result.now ≡ held_answers site panel history }
     {
         let count = self.held.min(self.answers.len());
         self.answers.as_slice().split_at(count).0
@@ -98,7 +100,8 @@ impl Asking {
 
     fn tell_piece(&mut self, site: &Site, panel: u8, line: u8, piece: u8, state: PieceState)
         requires { AsksSome site.now self.old }
-        ensures { Hears site.now (HappenedOf (CableEvent panel line piece state)) self.old self.new }
+        ensures { Hears site.now (HappenedOf (CableEvent panel line piece state)) self.old
+            self.new }
     {
         if panel == self.panel && line >= 1 && line <= 4 {
             self.poller.set_piece(line, piece, state);
@@ -142,7 +145,9 @@ impl Asking {
     // The panel's Poll has its turn: it puts what the points answer.
     fn poll(&mut self, alloc: Global, site: &Site, tick: Tick) -> Result<(), NoMemory>
         requires { AsksSome site.now self.old }
-        ensures { OnOk result ((panel : ℕ) (history : List MomentOf) → StandsForAsking site.now panel history self.old → tick_of history ≡ tick.0 → StandsForAsking site.now panel (TurnedOf panel PollTask ∷ history) self.new) }
+        ensures { OnOk result ((panel : ℕ) (history : List MomentOf)
+            → StandsForAsking site.now panel history self.old → tick_of history ≡ tick.0
+            → StandsForAsking site.now panel (TurnedOf panel PollTask ∷ history) self.new) }
     {
         let mut lane: Lane<Answer> = Lane::new(alloc, 32, 32)?;
         self.poller.turn(tick, &mut lane);

@@ -36,7 +36,8 @@ pub(crate) fn shorted_loops(site: &Site, panel: u8, moments: &[Moment]) -> u8
 
 /// What is wrong with the cable of a loop of a panel; where there is no loop, nothing.
 fn line_status(site: &Site, panel: u8, line: u8, moments: &[Moment]) -> LineStatus
-    ensures { result ≡ status_on (loop_of site.now panel line) (λ piece. piece_of panel line piece (history moments.now)) }
+    ensures { result ≡ status_on (loop_of site.now panel line)
+        (λ piece. piece_of panel line piece (history moments.now)) }
 {
     match site.loop_of(panel, line) {
         Some(plan) => plan_status(plan, panel, line, moments),
@@ -45,7 +46,8 @@ fn line_status(site: &Site, panel: u8, line: u8, moments: &[Moment]) -> LineStat
 }
 
 fn plan_status(plan: &LoopPlan, panel: u8, line: u8, moments: &[Moment]) -> LineStatus
-    ensures { result ≡ status_with plan.now (λ piece. piece_of panel line piece (history moments.now)) }
+    ensures { result ≡ status_with plan.now
+        (λ piece. piece_of panel line piece (history moments.now)) }
 {
     if !was_reported(panel, line, moments) {
         return LineStatus::default();

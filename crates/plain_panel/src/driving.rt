@@ -27,7 +27,8 @@ pub struct Driving {
 impl Driving {
     /// Nothing has befallen.
     pub fn new(alloc: Global) -> Driving
-        ensures { (site : SiteOf) (facts : ℕ → List MomentOf → FactsOf) → DrivesFor site facts [] result }
+        ensures { (site : SiteOf) (facts : ℕ → List MomentOf → FactsOf)
+            → DrivesFor site facts [] result }
     {
         Driving {
             seen: Vec::new(alloc),
@@ -37,7 +38,8 @@ impl Driving {
     /// Takes the next moment. For a turn of Effect the facts are those of that turn, for others they are not looked at.
     pub fn step(&mut self, site: &Site, moment: &Moment, facts: &Facts) -> Result<(), NoMemory>
         requires { IsValid site.now }
-        ensures { IfOk result (λ _. SeesMoment site.now (moment_of moment.now) facts.now self.old self.new) }
+        ensures { IfOk result (λ _. SeesMoment site.now (moment_of moment.now) facts.now self.old
+            self.new) }
     {
         let tick = Tick(ticks(self.seen.as_slice()));
         self.seen.push(Seen::of(site, moment, tick, facts))?;

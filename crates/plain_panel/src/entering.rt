@@ -16,7 +16,8 @@ use site_types::{Answer, Retained, Site};
 use std::alloc::Global;
 use tick_units::{NoMemory, Task, Tick};
 
-/// The answers of a panel, and how often it entered the fire alarm condition since the latest turn of Keep that did not fail.
+/// The answers of a panel, and how often it entered the fire alarm condition since the latest turn of Keep
+/// that did not fail.
 #[derive(Drop)]
 pub struct Entering {
     panel: u8,
@@ -32,7 +33,8 @@ impl Entering {
     /// A panel of a site, 1 to its panels, of which nothing befell.
     pub fn new(alloc: Global, site: &Site, panel: u8) -> Result<Entering, NoMemory>
         requires { IsValid site.now }
-        ensures { IfOk result (λ entering. (kept : RetainedOf) (done : List DoneOf) → StandsForEntering site.now kept done panel [] entering) }
+        ensures { IfOk result (λ entering. (kept : RetainedOf) (done : List DoneOf)
+            → StandsForEntering site.now kept done panel [] entering) }
     {
         Ok(Entering {
             panel,
@@ -53,7 +55,9 @@ impl Entering {
         moment: &Moment,
     ) -> Result<(), NoMemory>
         requires { EntersSome site.now self.old }
-        ensures { OnOk result (EntersWith site.now kept.now (all_done done.now) tick.0 (moment_of moment.now) self.old self.new) }
+        ensures { OnOk result
+            (EntersWith site.now kept.now (all_done done.now) tick.0 (moment_of moment.now) self.old
+            self.new) }
     {
         match *moment {
             Moment::Began => self.asking.step(alloc, site, moment, tick),
@@ -76,7 +80,9 @@ impl Entering {
 
     /// The answers whose findings the panel's Hold has taken.
     pub fn held(&self) -> &[Answer]
-        ensures { (site : SiteOf) (kept : RetainedOf) (done : List DoneOf) (panel : ℕ) (history : List MomentOf) → StandsForEntering site kept done panel history self.now → result.now ≡ held_answers site panel history }
+        ensures { (site : SiteOf) (kept : RetainedOf) (done : List DoneOf) (panel : ℕ) (history :
+            List MomentOf) → StandsForEntering site kept done panel history self.now
+            → result.now ≡ held_answers site panel history }
     {
         self.asking.held()
     }
@@ -100,7 +106,9 @@ impl Entering {
         task: Task,
     ) -> Result<(), NoMemory>
         requires { EntersSome site.now self.old }
-        ensures { OnOk result (EntersWith site.now kept.now (all_done done.now) tick.0 (TurnedOf panel task) self.old self.new) }
+        ensures { OnOk result
+            (EntersWith site.now kept.now (all_done done.now) tick.0 (TurnedOf panel task) self.old
+            self.new) }
     {
         if let Task::Hold = task {
             if panel == self.panel {
@@ -125,7 +133,8 @@ impl Entering {
         tick: Tick,
     ) -> Result<(), NoMemory>
         requires { EntersSome site.now self.old }
-        ensures { OnOk result (EntersAtHold site.now kept.now (all_done done.now) tick.0 self.old self.new) }
+        ensures { OnOk result (EntersAtHold site.now kept.now (all_done done.now) tick.0 self.old
+            self.new) }
     {
         let panel = self.panel;
         let was = is_in_fire(site, kept, done, panel, self.asking.held(), self.held_at);
@@ -157,7 +166,8 @@ fn is_in_fire(
     answers: &[Answer],
     tick: Tick,
 ) -> bool
-    ensures { result ≡ holds_fire_alarm site.now kept.now (all_done done.now) tick.0 answers.now panel }
+    ensures { result ≡ holds_fire_alarm site.now kept.now (all_done done.now) tick.0 answers.now
+        panel }
 {
     zones_in_state(ZoneState::Alarm, site, kept, panel, done, answers, tick) != 0
 }

@@ -24,7 +24,9 @@ pub fn step_all(
     moment: &Moment,
 ) -> Result<(), NoMemory>
     requires { AllAsk site.now panels.old }
-    ensures { OnOk result (AllEnterWith site.now kept.now (all_done done.now) tick.0 (moment_of moment.now) panels.old panels.new) }
+    ensures { OnOk result
+        (AllEnterWith site.now kept.now (all_done done.now) tick.0 (moment_of moment.now) panels.old
+        panels.new) }
 {
     for entering in panels.iter_mut() {
         entering.step(alloc, site, kept, done, tick, moment)?;
@@ -35,7 +37,8 @@ pub fn step_all(
 /// The panels of a site, of which nothing befell.
 pub fn all_new(alloc: Global, site: &Site) -> Result<Vec<Entering>, NoMemory>
     requires { IsValid site.now }
-    ensures { IfOk result (λ panels. (kept : RetainedOf) (done : List DoneOf) → AreEntering site.now kept done [] panels.items) }
+    ensures { IfOk result (λ panels. (kept : RetainedOf) (done : List DoneOf)
+        → AreEntering site.now kept done [] panels.items) }
 {
     let mut panels = Vec::new(alloc);
     for place in 0..site.panels {
@@ -52,7 +55,9 @@ ghost use Rattle.plain_panel.specs.Enterings.{IsAmong};
 
 /// The answers whose findings the Hold of a panel has taken, of panels from 1 on; none where there is no such panel.
 pub fn held_at(panels: &[Entering], panel: u8) -> &[Answer]
-    ensures { (site : SiteOf) (kept : RetainedOf) (done : List DoneOf) (history : List MomentOf) → AllEnter site kept done history 1 panels.now → IsAmong panels.now panel → result.now ≡ held_answers site panel history }
+    ensures { (site : SiteOf) (kept : RetainedOf) (done : List DoneOf) (history : List MomentOf)
+        → AllEnter site kept done history 1 panels.now → IsAmong panels.now panel
+        → result.now ≡ held_answers site panel history }
 {
     match panels.get(panel.saturating_sub(1) as usize) {
         None => &[],

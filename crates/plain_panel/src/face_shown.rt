@@ -32,7 +32,8 @@ pub fn face_of(
     requires valid { IsValid site.now }
     requires size { network.now.panels ≡ site.now.panels }
     requires panel { IsPanel site.now panel }
-    ensures { TellsFace site.now kept.now (all_done done.now) network.now driving.now tick.0 stored.now panel result }
+    ensures { TellsFace site.now kept.now (all_done done.now) network.now driving.now tick.0
+        stored.now panel result }
 {
     Face {
         panel,
@@ -99,7 +100,9 @@ fn word_shown(network: &Network, site: &Site, panel: u8, source: u8) -> Word
     requires size { network.now.panels ≡ site.now.panels }
     requires panel { IsPanel site.now panel }
     requires source { 1 ≤ source }
-    ensures { (kept : RetainedOf) (done : List DoneOf) (before : List MomentOf) → StandsFor site.now kept done before network.now → result ≡ shown_word site.now kept done panel before source }
+    ensures { (kept : RetainedOf) (done : List DoneOf) (before : List MomentOf)
+        → StandsFor site.now kept done before network.now
+        → result ≡ shown_word site.now kept done panel before source }
 {
     if source <= site.panels {
         network.shown_word(panel, source)

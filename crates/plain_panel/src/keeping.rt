@@ -51,7 +51,9 @@ impl Keeping {
         requires stands { StandsForKeeping site.now kept.now (history before.now) self.old }
         requires ticks { tick_of (history before.now) ≡ tick.0 }
         requires all { with_it.now ≡ before.now ++ moment.now ∷ [] }
-        ensures { OnOk result (StandsForKeeping site.now kept.now (moment_of moment.now ∷ history before.now) self.new) }
+        ensures { OnOk result
+            (StandsForKeeping site.now kept.now (moment_of moment.now ∷ history before.now)
+            self.new) }
     {
         self.store_at(site, moment);
         self.go_on(alloc, site, kept, tick, before, moment, with_it)
@@ -73,8 +75,12 @@ impl Keeping {
         requires standing { StandsAfter site.now kept.now (history before.now) self.old.standing }
         requires ticks { tick_of (history before.now) ≡ tick.0 }
         requires all { with_it.now ≡ before.now ++ moment.now ∷ [] }
-        ensures desk { OnOk result (StandsForDesk site.now kept.now (moment_of moment.now ∷ history before.now) self.new.desk) }
-        ensures standing { OnOk result (StandsAfter site.now kept.now (moment_of moment.now ∷ history before.now) self.new.standing) }
+        ensures desk { OnOk result
+            (StandsForDesk site.now kept.now (moment_of moment.now ∷ history before.now)
+            self.new.desk) }
+        ensures standing { OnOk result
+            (StandsAfter site.now kept.now (moment_of moment.now ∷ history before.now)
+            self.new.standing) }
         ensures stored { self.new.stored ≡ self.old.stored }
     {
         let changed = self.desk.step(site, kept, tick, moment)?;

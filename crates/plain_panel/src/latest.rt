@@ -2,7 +2,8 @@
 
 ghost use Rattle.std.specs.Prelude.{◌≡◌, option_map};
 ghost use Rattle.tick_units.specs.declared.tick.Tick.{Tick as TickOf};
-ghost use Rattle.site_types.specs.Done.{is_override as is_overriding, override_done_in as override_in, silence_before as last_silence, silence_then as silence_by};
+ghost use Rattle.site_types.specs.Done.{is_override as is_overriding, override_done_in as override_in};
+ghost use Rattle.site_types.specs.Done.{silence_before as last_silence, silence_then as silence_by};
 ghost use Rattle.plain_panel.specs.Histories.{all_done, done_of};
 ghost use Rattle.plain_panel.specs.Settings.{is_override_in as is_override_so, silence_after as silence_with};
 
@@ -46,7 +47,8 @@ fn is_override(operation: Operation) -> bool
 
 /// The tick of the silence that is the last silence or resound of a panel before a tick, if it is one.
 pub fn silence_before(panel: u8, tick: Tick, done: &[Done]) -> Option<Tick>
-    ensures { option_map (λ (at : TickOf). at.0) result ≡ last_silence panel tick.0 (all_done done.now) }
+    ensures { option_map (λ (at : TickOf). at.0) result ≡ last_silence panel tick.0
+        (all_done done.now) }
 {
     let mut silence = None;
     for one in done {
@@ -69,7 +71,8 @@ fn silence_after(panel: u8, tick: Tick, done: &Done, before: Option<Tick>) -> Op
 
 // For a silence its tick, for a resound none, for others what was.
 fn silence_then(operation: Operation, tick: Tick, before: Option<Tick>) -> Option<Tick>
-    ensures { option_map (λ (at : TickOf). at.0) result ≡ silence_by operation tick.0 (option_map (λ (at : TickOf). at.0) before) }
+    ensures { option_map (λ (at : TickOf). at.0) result ≡ silence_by operation tick.0
+        (option_map (λ (at : TickOf). at.0) before) }
 {
     match operation {
         Operation::Silence => Some(tick),

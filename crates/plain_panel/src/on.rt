@@ -24,7 +24,8 @@ use tick_units::{Task, Tick};
 /// Whether an output is on after the latest turn of Drive of its panel.
 pub(crate) fn is_on(site: &Site, kept: &Retained, done: &[Done], output: u16, seen: &[Seen]) -> bool
     requires { IsValid site.now }
-    ensures { TellsOf site.now seen.now (λ facts. is_on_in site.now facts kept.now (all_done done.now) output) result }
+    ensures { TellsOf site.now seen.now
+        (λ facts. is_on_in site.now facts kept.now (all_done done.now) output) result }
 {
     match seen {
         [] => false,
@@ -98,7 +99,8 @@ pub(crate) fn was_on_for(
 
 /// The last tick in which an output was confirmed from outside, else 0.
 pub(crate) fn last_confirmation(output: u16, seen: &[Seen]) -> Tick
-    ensures { (site : SiteOf) (facts : ℕ → List MomentOf → FactsOf) (history : List MomentOf) → AreSeen site facts seen.now history → result.0 ≡ greatest (confirmations output history) }
+    ensures { (site : SiteOf) (facts : ℕ → List MomentOf → FactsOf) (history : List MomentOf)
+        → AreSeen site facts seen.now history → result.0 ≡ greatest (confirmations output history) }
 {
     let mut last = Tick(0);
     for one in seen {

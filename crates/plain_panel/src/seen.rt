@@ -28,7 +28,8 @@ pub struct Seen {
 }
 
 impl Seen {
-    /// What is kept of a moment, with the tick that had begun before it. Of a turn of Effect the facts are those of that turn.
+    /// What is kept of a moment, with the tick that had begun before it. Of a turn of Effect the facts are
+    /// those of that turn.
     pub fn of(site: &Site, moment: &Moment, tick: Tick, facts: &Facts) -> Seen
         requires { IsValid site.now }
         ensures { IsSeenAt site.now (moment_of moment.now) tick.0 facts.now result }
@@ -67,7 +68,8 @@ fn is_effect(moment: &Moment) -> bool
 
 /// How many ticks have begun, at most as many as moments.
 pub(crate) fn ticks(seen: &[Seen]) -> u64
-    ensures { (site : SiteOf) (facts : ℕ → List MomentOf → FactsOf) (history : List MomentOf) → AreSeen site facts seen.now history → result ≡ tick_of history }
+    ensures { (site : SiteOf) (facts : ℕ → List MomentOf → FactsOf) (history : List MomentOf)
+        → AreSeen site facts seen.now history → result ≡ tick_of history }
 {
     let most = seen.len() as u64;
     match seen {

@@ -23,7 +23,8 @@ pub(crate) fn is_unconfirmed(
     seen: &[Seen],
 ) -> bool
     requires { IsValid site.now }
-    ensures { TellsOf site.now seen.now (λ facts. is_unconfirmed_in site.now facts kept.now (all_done done.now) output) result }
+    ensures { TellsOf site.now seen.now
+        (λ facts. is_unconfirmed_in site.now facts kept.now (all_done done.now) output) result }
 {
     asks_for_confirmation(site, output)
         && (has_lasted(site, kept, done, output, seen)
@@ -39,7 +40,8 @@ pub(crate) fn is_confirmed(
     seen: &[Seen],
 ) -> bool
     requires { IsValid site.now }
-    ensures { TellsOf site.now seen.now (λ facts. is_confirmed_out site.now facts kept.now (all_done done.now) output) result }
+    ensures { TellsOf site.now seen.now
+        (λ facts. is_confirmed_out site.now facts kept.now (all_done done.now) output) result }
 {
     let confirmed = last_confirmation(output, seen);
     confirmed.0 > 0 && was_on_for(site, kept, done, output, 1, confirmed, seen)

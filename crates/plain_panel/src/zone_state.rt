@@ -26,7 +26,8 @@ pub(crate) fn zone_in_state(
     zone: usize,
     tick: Tick,
 ) -> bool
-    ensures { result ≡ zone_in_state_by state site.now kept.now (all_done done.now) answers.now zone tick.0 }
+    ensures { result ≡ zone_in_state_by state site.now kept.now (all_done done.now) answers.now zone
+        tick.0 }
 {
     match state {
         ZoneState::Alarm => is_in_alarm(site, kept, done, answers, zone, tick),

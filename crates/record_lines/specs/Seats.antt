@@ -1,5 +1,6 @@
 -- What the seats of an order line are, and the order that they give.
-use Rattle.std.specs.Prelude.{◌+◌, ◌||◌, ℕ, zero, suc, Bool, false, min, List, [], ◌∷◌, codes, bytes_eq, length, Option, Some, None, is_some, Result, Ok, Err}
+use Rattle.std.specs.Prelude.{◌+◌, ◌||◌, ℕ, zero, suc, Bool, false, min, List, [], ◌∷◌, codes, bytes_eq, length}
+use Rattle.std.specs.Prelude.{Option, Some, None, is_some, Result, Ok, Err}
 use Rattle.site_types.specs.Numbers.{number_of}
 use Rattle.tick_units.specs.Orders.{order_fault, seat_of as seat_at, keep_seat}
 use Rattle.tick_units.specs.declared.task.Task.{Task}

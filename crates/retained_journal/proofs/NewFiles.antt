@@ -13,7 +13,9 @@ use Rattle.retained_journal.specs.declared.open_refusal.OpenRefusal.{OpenRefusal
 use Rattle.retained_journal.specs.Fields.{bytes_at, first_in, number_at, numbers_at}
 use Rattle.retained_journal.specs.Places.{log_gate, slot_place}
 use Rattle.retained_journal.specs.Slots.{HasNarrowPoints, counters_at}
-use Rattle.retained_journal.specs.Opening.{Empty, Opens, refused_or, change_out_of_form, counted, counter_too_great, cut_short, damaged, first_of, front_refusal, great_counter, is_second, kept_in, no_open_slot, not_a_journal, number_too_great, opened, other_site}
+use Rattle.retained_journal.specs.Opening.{Empty, Opens, refused_or, change_out_of_form, counted, counter_too_great}
+use Rattle.retained_journal.specs.Opening.{cut_short, damaged, first_of, front_refusal, great_counter, is_second}
+use Rattle.retained_journal.specs.Opening.{kept_in, no_open_slot, not_a_journal, number_too_great, opened, other_site}
 use Rattle.retained_journal.specs.NewFiles.{BecomesNew, IsBesideSlot, IsNewFile}
 use Rattle.retained_journal.proofs.Finding.{found-none, none_below}
 use Rattle.retained_journal.proofs.FrontAgreement.{six}
@@ -29,7 +31,9 @@ zeros_everywhere (suc n) zero = refl
 zeros_everywhere (suc n) (suc place) = zeros_everywhere n place
 
 -- what stands beside slot A was zero and stays
-pub zeros_beside : (before file : List ℕ) → ((place : ℕ) → 40 ≤ place → (place < 64) ⊎ (970 ≤ place) → slice_index file place ≡ slice_index before place) → ((place : ℕ) → slice_index before place ≡ 0) → (place : ℕ) → IsBesideSlot place → slice_index file place ≡ 0
+pub zeros_beside : (before file : List ℕ)
+    → ((place : ℕ) → 40 ≤ place → (place < 64) ⊎ (970 ≤ place) → slice_index file place ≡ slice_index before place)
+    → ((place : ℕ) → slice_index before place ≡ 0) → (place : ℕ) → IsBesideSlot place → slice_index file place ≡ 0
 zeros_beside before file same zero' place (inl between) = same place between.0 (inl between.1) ∙ zero' place
 zeros_beside before file same zero' place (inr behind) = same place (omega (arith, behind)) (inr behind) ∙ zero' place
 
@@ -41,10 +45,12 @@ beside_slot place size is (inr behind) = inr (omega (arith, is, behind))
 pub written_whole : (bytes old new : List ℕ) → length old ≡ 0 → Holds 0 bytes old new → new ≡ bytes
 written_whole bytes old new empty holds =
     let size : length new ≡ length bytes = let s = holds.size in omega (arith, s, empty) in
-    same_number_lists new bytes size (λ k less. subst (λ (i : ℕ). slice_index new i ≡ slice_index bytes k) (zero-add k) (holds.inside k (omega (arith, size, less))))
+    same_number_lists new bytes size
+    (λ k less. subst (λ (i : ℕ). slice_index new i ≡ slice_index bytes k) (zero-add k) (holds.inside k (omega (arith, size, less))))
 
 -- so an empty file becomes a new one
-pub becomes_new : (digest : List ℕ) (state : Retained) (front : List ℕ) (old new : Option (List ℕ)) → IsNewFile digest state front → IfSome old (λ file. length file ≡ 0) → Becomes (Holds 0 front) old new → Becomes (BecomesNew digest state) old new
+pub becomes_new : (digest : List ℕ) (state : Retained) (front : List ℕ) (old new : Option (List ℕ)) → IsNewFile digest state front
+    → IfSome old (λ file. length file ≡ 0) → Becomes (Holds 0 front) old new → Becomes (BecomesNew digest state) old new
 becomes_new digest state front None new is empty wrote = tt
 becomes_new digest state front (Some old) None is empty wrote = absurd wrote
 becomes_new digest state front (Some old) (Some new) is empty wrote = record {
@@ -68,11 +74,13 @@ no_great_counter at file small = none_below (great_counter at file) 8 (λ panel 
     go panel less =
         let le = small panel in
         let e = counter_of (at + 458) file panel less in
-        let test : nat_lt greatest_count (number_at 4 (at + 458 + 4 * panel) file) ≡ false = subst (λ (n : ℕ). nat_lt greatest_count n ≡ false) e (grind (arith, nat_tests)) in
+        let test : nat_lt greatest_count (number_at 4 (at + 458 + 4 * panel) file) ≡ false =
+        subst (λ (n : ℕ). nat_lt greatest_count n ≡ false) e (grind (arith, nat_tests)) in
         rw test refl
 
 -- a file that no cause refuses
-pub opens_with : (len : ℕ) → 0 < len → (front cells : Option OpenRefusal) (kept : Retained) → front ≡ None → cells ≡ None → (if len == 0 then Empty else refused_or (first_of (front ∷ cells ∷ [])) kept) ≡ Opens kept
+pub opens_with : (len : ℕ) → 0 < len → (front cells : Option OpenRefusal) (kept : Retained) → front ≡ None → cells ≡ None
+    → (if len == 0 then Empty else refused_or (first_of (front ∷ cells ∷ [])) kept) ≡ Opens kept
 opens_with len some front cells kept one two' =
     let test : (len == 0) ≡ false = grind (arith, nat_tests) in
     rw (test, one, two') refl
@@ -99,8 +107,10 @@ module _ (digest : List ℕ) (state : Retained) (file : List ℕ) (is : IsNewFil
       let gates : no_open_slot file ≡ None = rw is.slot_open refl in
       let second = new_second in
       let number : number_too_great 64 file ≡ None = rw is.number refl in
-      let counter : counter_too_great 64 file ≡ None = ap (damaged file) (no_great_counter 64 file (subst (λ (s : Retained). AreCounters s.counters) (sym (is.holds wide narrow)) counters)) in
-      six _ _ _ _ _ _ None None None None None None mark cut site gates (ap (λ b. number_too_great (slot_place b) file) second ∙ number) (ap (λ b. counter_too_great (slot_place b) file) second ∙ counter)
+      let counter : counter_too_great 64 file ≡ None =
+      ap (damaged file) (no_great_counter 64 file (subst (λ (s : Retained). AreCounters s.counters) (sym (is.holds wide narrow)) counters)) in
+      six _ _ _ _ _ _ None None None None None None mark cut site gates (ap (λ b. number_too_great (slot_place b) file) second ∙ number)
+      (ap (λ b. counter_too_great (slot_place b) file) second ∙ counter)
     where
       same_site : other_site digest file ≡ None
       same_site = let e = is.digest_kept in let t = bytes_eq_same digest in rw (e, t) refl
@@ -115,4 +125,5 @@ module _ (digest : List ℕ) (state : Retained) (file : List ℕ) (is : IsNewFil
       let holds = is.holds wide narrow in
       let form : change_out_of_form wide file ≡ None = rw cells (ap (damaged file) (found-none _)) in
       let kept : kept_in wide file ≡ state = rw (cells, none, second) holds in
-      opens_with (length file) (omega (arith, size)) (front_refusal digest (length file) file) (change_out_of_form wide file) (kept_in wide file) front form ∙ ap Opens kept
+      opens_with (length file) (omega (arith, size)) (front_refusal digest (length file) file) (change_out_of_form wide file) (kept_in wide file)
+      front form ∙ ap Opens kept

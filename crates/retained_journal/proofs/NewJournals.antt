@@ -46,10 +46,14 @@ keeps_nothing wide = record { fits = fits; narrow = narrow wide; small = small }
     narrow_halves false (suc (suc (suc (suc l)))) = refl
 
     fits : (panel : ℕ) → panel < 8 → FitLoops (get_or nothing_retained.points panel no_points).loops
-    fits panel less = subst (λ (s : PointSet). FitLoops s.loops) (sym (get_or-replicate 8 panel (record { loops = replicate 4 (replicate 2 0) }) no_points less)) (λ line few. halves line)
+    fits panel less =
+        subst (λ (s : PointSet). FitLoops s.loops) (sym (get_or-replicate 8 panel (record { loops = replicate 4 (replicate 2 0) }) no_points less))
+        (λ line few. halves line)
 
     narrow : (b : Bool) (panel : ℕ) → panel < 8 → HasNarrowLoops b (get_or nothing_retained.points panel no_points).loops
-    narrow b panel less = subst (λ (s : PointSet). HasNarrowLoops b s.loops) (sym (get_or-replicate 8 panel (record { loops = replicate 4 (replicate 2 0) }) no_points less)) (λ line few. narrow_halves b line)
+    narrow b panel less =
+        subst (λ (s : PointSet). HasNarrowLoops b s.loops)
+        (sym (get_or-replicate 8 panel (record { loops = replicate 4 (replicate 2 0) }) no_points less)) (λ line few. narrow_halves b line)
 
     small : AreCounters nothing_retained.counters
     small k = go (leb_tells 8 k)
@@ -67,16 +71,20 @@ sound_new wide digest j new = record {
 }
 
 -- a new file opens to what a new journal keeps
-pub new_opens_kept : (wide : Bool) (digest file : List ℕ) (j : Journal) → IsNewJournal wide digest j → IsNewFile digest nothing_retained file → OpensToKept j file × (counted file ≡ j.cells)
+pub new_opens_kept : (wide : Bool) (digest file : List ℕ) (j : Journal) → IsNewJournal wide digest j → IsNewFile digest nothing_retained file
+    → OpensToKept j file × (counted file ≡ j.cells)
 new_opens_kept wide digest file j new is =
     let keeps = keeps_nothing wide in
     let w = new.same_wide in
     let d = new.same_digest in
-    let k = new.kept in
-    (rw (w, d, k) (new_opens digest nothing_retained file is wide keeps.narrow keeps.small), new_counted digest nothing_retained file is ∙ sym new.cells)
+    let k = new.kept in (
+      rw (w, d, k) (new_opens digest nothing_retained file is wide keeps.narrow keeps.small),
+      new_counted digest nothing_retained file is ∙ sym new.cells,
+    )
 
 -- a new file is an image of a new journal
-pub new_image : (wide : Bool) (digest file : List ℕ) (j : Journal) → IsNewJournal wide digest j → IsNewFile digest nothing_retained file → IsKeepable wide nothing_retained → IsImage j file
+pub new_image : (wide : Bool) (digest file : List ℕ) (j : Journal) → IsNewJournal wide digest j → IsNewFile digest nothing_retained file
+    → IsKeepable wide nothing_retained → IsImage j file
 new_image wide digest file j new is keeps = record {
   size = let s = is.size in omega (arith, s);
   mark = is.mark;
@@ -84,10 +92,13 @@ new_image wide digest file j new is keeps = record {
   log = subst (λ log. HasLog log j.cells file) (sym new.log) (zero_shut _ (log_is_shut digest nothing_retained file is), new.cells);
   gate = subst (λ (b : Bool). slice_index file (slot_place b) ≡ 1) (sym new.second) is.slot_open;
   number = let s = new.second in let n = is.number in let c = new.cells in let m = new.number in rw (s, c, m, n) refl;
-  small = subst (λ (b : Bool). AreCounters (counters_at (slot_place b) file)) (sym new.second) (subst (λ (s : Retained). AreCounters s.counters) (sym (is.holds wide keeps.narrow)) keeps.small);
+  small =
+      subst (λ (b : Bool). AreCounters (counters_at (slot_place b) file)) (sym new.second)
+      (subst (λ (s : Retained). AreCounters s.counters) (sym (is.holds wide keeps.narrow)) keeps.small);
   counts = λ i less. absurd (let c = new.cells in omega (arith, c, less));
   form = λ i less. absurd (let c = new.cells in omega (arith, c, less));
-  state = let s = new.second in let c = new.cells in let n = cells-none file in let h = is.holds wide keeps.narrow in let k = new.kept in let w = new.same_wide in rw (s, c, w, n, h, k) refl;
+  state = let s = new.second in let c = new.cells in let n = cells-none file in let h = is.holds wide keeps.narrow in let k = new.kept in let w =
+      new.same_wide in rw (s, c, w, n, h, k) refl;
   next = λ may free. absurd (subst MayCount new.log may);
   other = other_shut j.slot_may_be_open new.slot;
 }
@@ -95,12 +106,17 @@ new_image wide digest file j new is keeps = record {
     zero_shut : (n : ℕ) → n ≡ 0 → n ≢ 1
     zero_shut n z o = omega (arith, z, o)
 
-    other_shut : (b : Bool) → b ≡ false → MatchBool b (IsBehind j.second (slot_number (other_of j) file) (slot_number (chosen_of j) file) ⊎ ((j.moving ≡ true) × HoldsCopy j file)) (slice_index file (other_of j) ≢ 1)
+    other_shut : (b : Bool) → b ≡ false
+        → MatchBool b (IsBehind j.second (slot_number (other_of j) file) (slot_number (chosen_of j) file) ⊎ ((j.moving ≡ true) × HoldsCopy j file))
+        (slice_index file (other_of j) ≢ 1)
     other_shut true f = absurd (cc)
-    other_shut false f = subst (λ (s : Bool). slice_index file (slot_place (not s)) ≢ 1) (sym new.second) (zero_shut _ (slot_b_is_shut digest nothing_retained file is))
+    other_shut false f =
+        subst (λ (s : Bool). slice_index file (slot_place (not s)) ≢ 1) (sym new.second)
+        (zero_shut _ (slot_b_is_shut digest nothing_retained file is))
 
 -- a new journal is read from a new file
-pub new_read : (wide : Bool) (digest file : List ℕ) (j : Journal) → IsNewJournal wide digest j → IsNewFile digest nothing_retained file → IsReadFrom wide digest file j
+pub new_read : (wide : Bool) (digest file : List ℕ) (j : Journal) → IsNewJournal wide digest j → IsNewFile digest nothing_retained file
+    → IsReadFrom wide digest file j
 new_read wide digest file j new is = record {
   same_wide = new.same_wide;
   same_digest = new.same_digest;
@@ -142,7 +158,8 @@ new_read wide digest file j new is = record {
     torn' = rw shut refl
 
 -- so a journal is read from the new file that an empty one became
-pub opened_new : (wide : Bool) (digest : List ℕ) (j : Journal) (old new : Option (List ℕ)) → IsNewJournal wide digest j → Becomes (BecomesNew digest nothing_retained) old new → Becomes (IsOpenedOn wide digest j) old new
+pub opened_new : (wide : Bool) (digest : List ℕ) (j : Journal) (old new : Option (List ℕ)) → IsNewJournal wide digest j
+    → Becomes (BecomesNew digest nothing_retained) old new → Becomes (IsOpenedOn wide digest j) old new
 opened_new wide digest j None new is became = tt
 opened_new wide digest j (Some old) None is became = absurd became
 opened_new wide digest j (Some old) (Some new) is became = record {

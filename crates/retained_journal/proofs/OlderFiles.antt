@@ -20,7 +20,8 @@ use Rattle.retained_journal.proofs.ReadImages.{both_none, none_damaged}
 use Rattle.retained_journal.proofs.Replaying.{cells-none, run_is}
 
 -- a file that opens isn't refused, and opens to what it keeps
-opens_kept : (b : Bool) (refusal : Option OpenRefusal) (kept state : Retained) → (if b then Empty else refused_or refusal kept) ≡ Opens state → (refusal ≡ None) × (kept ≡ state)
+opens_kept : (b : Bool) (refusal : Option OpenRefusal) (kept state : Retained) → (if b then Empty else refused_or refusal kept) ≡ Opens state
+    → (refusal ≡ None) × (kept ≡ state)
 opens_kept true refusal kept state is = absurd (cc)
 opens_kept false None kept state is = (refl, cc)
 opens_kept false (Some refusal) kept state is = absurd (cc)
@@ -74,7 +75,8 @@ unfolding change_at
 other_at wide at file none not_test = let kind = kind_at wide at file none in other_kind (slice_index file at) _ _ _ _ _ kind.0 kind.1 not_test
 
 -- the changes of a cell
-tests_of_cell : (count at : ℕ) (file : List ℕ) (kept : Retained) → ((k : ℕ) → k < count → IsOther (change_at (at + 8 * k) file)) → (changed_by (changes_at count at file) kept).tests ≡ kept.tests
+tests_of_cell : (count at : ℕ) (file : List ℕ) (kept : Retained) → ((k : ℕ) → k < count → IsOther (change_at (at + 8 * k) file))
+    → (changed_by (changes_at count at file) kept).tests ≡ kept.tests
 tests_of_cell zero at file kept other = sym (ap (λ (r : Retained). r.tests) (made_none at file kept))
 tests_of_cell (suc n) at file kept other =
     let before = tests_of_cell n at file kept (λ k less. other k (omega (arith, less))) in
@@ -88,7 +90,9 @@ tests_of_cell (suc n) at file kept other =
     add-one' = omega arith
 
 -- the changes of the first cells
-tests_of_cells : (file : List ℕ) (n : ℕ) (kept : Retained) → ((cell : ℕ) → cell < n → (k : ℕ) → k < cell_count (cell_place cell) file → IsOther (change_at (cell_place cell + 10 + 8 * k) file)) → (changed_by (changes_of_cells file n) kept).tests ≡ kept.tests
+tests_of_cells : (file : List ℕ) (n : ℕ) (kept : Retained)
+    → ((cell : ℕ) → cell < n → (k : ℕ) → k < cell_count (cell_place cell) file → IsOther (change_at (cell_place cell + 10 + 8 * k) file))
+    → (changed_by (changes_of_cells file n) kept).tests ≡ kept.tests
 unfolding changes_of_cells
 tests_of_cells file zero kept other = refl
 tests_of_cells file (suc n) kept other =
@@ -103,8 +107,12 @@ no_numbers = refl
 pub opens_without_tests : OpensWithoutTests
 opens_without_tests wide digest file state no_bytes no_change opens =
     let kept = opens_kept (length file == 0) (refusal_of wide digest file) (kept_in wide file) state opens in
-    let form = none_each (λ i. wrong_in_cell wide (cell_place i) file) (counted file) (none_damaged file _ (both_none (front_refusal digest (length file) file) (change_out_of_form wide file) kept.0).1) in
+    let form =
+    none_each (λ i. wrong_in_cell wide (cell_place i) file) (counted file)
+    (none_damaged file _ (both_none (front_refusal digest (length file) file) (change_out_of_form wide file) kept.0).1) in
     ap (λ (r : Retained). r.tests) (sym kept.1)
-    ∙ tests_of_cells file (counted file) (retained_at wide (chosen_place file) file) (λ cell less k few. other_at wide (cell_place cell + 10 + 8 * k) file ((cell_in_form wide (cell_place cell) file (form cell less)).each k few) (no_change cell k less few))
+    ∙ tests_of_cells file (counted file) (retained_at wide (chosen_place file) file)
+    (λ cell less k few. other_at wide (cell_place cell + 10 + 8 * k) file ((cell_in_form wide (cell_place cell) file (form cell less)).each k few)
+    (no_change cell k less few))
     ∙ numbers-agree file (chosen_place file + 874) [] 0 (record { same = no_bytes })
     ∙ no_numbers

@@ -25,7 +25,8 @@ same_digit x y p r s low low' same = go (leb_tells x y) (leb_tells y x)
         let expand : (a + 1) * p ≡ a * p + 1 * p = add-mul a 1 p in
         omega (arith, top, expand, few, e)
 
-    go : ((nat_le x y ≡ true) × (x ≤ y)) ⊎ ((nat_le x y ≡ false) × (y < x)) → ((nat_le y x ≡ true) × (y ≤ x)) ⊎ ((nat_le y x ≡ false) × (x < y)) → x ≡ y
+    go : ((nat_le x y ≡ true) × (x ≤ y)) ⊎ ((nat_le x y ≡ false) × (y < x)) → ((nat_le y x ≡ true) × (y ≤ x)) ⊎ ((nat_le y x ≡ false) × (x < y))
+        → x ≡ y
     go (inl a) (inl b) = let h = a.1 in let k = b.1 in omega (arith, h, k)
     go (inr a) other = absurd (beyond y x s r low' a.1 (sym same))
     go (inl a) (inr b) = absurd (beyond x y r s low b.1 same)
@@ -45,7 +46,9 @@ module _ (a b : List ℕ) (bytes : AreBytes a) (bytes' : AreBytes b) where
   big_same : (n at : ℕ) → big_from at n a ≡ big_from at n b → SameBytes a b at n
   big_same zero at same i less = absurd (omega (arith, less))
   big_same (suc n) at same i less =
-      let here = same_digit (slice_index a at) (slice_index b at) (256 ^ n) (big_from (suc at) n a) (big_from (suc at) n b) (big_from-lt (suc at) n a bytes) (big_from-lt (suc at) n b bytes') same in
+      let here =
+      same_digit (slice_index a at) (slice_index b at) (256 ^ n) (big_from (suc at) n a) (big_from (suc at) n b) (big_from-lt (suc at) n a bytes)
+      (big_from-lt (suc at) n b bytes') same in
       let high : slice_index a at * 256 ^ n ≡ slice_index b at * 256 ^ n = ap (λ (x : ℕ). x * 256 ^ n) here in
       let rest : big_from (suc at) n a ≡ big_from (suc at) n b = omega (arith, same, high) in
       one_more at n here (λ j few. big_same n (suc at) rest j few) i less
@@ -68,7 +71,8 @@ module _ (a b : List ℕ) (bytes : AreBytes a) (bytes' : AreBytes b) where
   mask_same n at same = little_same n at same
 
   -- the same pieces, one after the other
-  pieces : (size count at : ℕ) → ((k : ℕ) → k < count → SameBytes a b (at + size * k) size) → (i k j : ℕ) → i ≡ size * k + j → k < count → j < size → SameByte a b (at + i)
+  pieces : (size count at : ℕ) → ((k : ℕ) → k < count → SameBytes a b (at + size * k) size) → (i k j : ℕ) → i ≡ size * k + j → k < count → j < size
+      → SameByte a b (at + i)
   pieces size count at each i k j is less few = subst (SameByte a b) (omega (arith, is)) (each k less j few)
 
   numbers_same : (at : ℕ) → numbers_at at a ≡ numbers_at at b → SameBytes a b at 32
@@ -83,7 +87,8 @@ module _ (a b : List ℕ) (bytes : AreBytes a) (bytes' : AreBytes b) where
     mask_same 12 (at + 490 + 12 * k) (ap (λ xs. slice_index xs 1) same),
   )
 
-loop_of : (at panel line : ℕ) (file : List ℕ) → line < 4 → get_or (panel_points true at panel file).loops line [] ≡ loop_at true at (4 * panel + line) file
+loop_of : (at panel line : ℕ) (file : List ℕ) → line < 4
+    → get_or (panel_points true at panel file).loops line [] ≡ loop_at true at (4 * panel + line) file
 unfolding panel_points
 loop_of at panel line file less = get_or-map-range_with_len (λ l. loop_at true at (4 * panel + l) file) 0 4 line line [] less (zero-add line)
 
@@ -95,7 +100,9 @@ loops_same : (a b : List ℕ) (at : ℕ) → points_at true at a ≡ points_at t
 loops_same a b at same k less =
     subst (λ (j : ℕ). loop_at true at j a ≡ loop_at true at j b) (omega arith)
     (sym (loop_of at (k / 4) (k % 4) a (omega arith))
-    ∙ ap (λ (s : PointSet). get_or s.loops (k % 4) []) (sym (panel_of at (k / 4) a (omega (arith, less))) ∙ ap (λ (points : List PointSet). get_or points (k / 4) no_points) same ∙ panel_of at (k / 4) b (omega (arith, less)))
+    ∙ ap (λ (s : PointSet). get_or s.loops (k % 4) [])
+    (sym (panel_of at (k / 4) a (omega (arith, less))) ∙ ap (λ (points : List PointSet). get_or points (k / 4) no_points) same ∙ panel_of at
+    (k / 4) b (omega (arith, less)))
     ∙ loop_of at (k / 4) (k % 4) b (omega arith))
 
 byte_of : (n at i : ℕ) (file : List ℕ) → i < n → slice_index (bytes_at n at file) i ≡ slice_index file (at + i)
@@ -138,7 +145,8 @@ module _ (a b : List ℕ) where
 
     slot_bytes : (place : ℕ) → 65 ≤ place → place < 970 → SameByte a b place
     slot_bytes place from to =
-        parted (SameByte a b) 73 place (λ less. within 65 8 place (number_same a b one.bytes other.bytes 8 65 (one.number ∙ sym other.number)) from less)
+        parted (SameByte a b) 73 place (λ less. within 65 8 place (number_same a b one.bytes other.bytes 8 65 (one.number ∙ sym other.number)) from
+        less)
         (λ h73. parted (SameByte a b) 457 place (λ less. within 73 384 place (loop_bytes 73 (λ k few. (loops k few).0)) h73 less)
         (λ h457. parted (SameByte a b) 489 place (λ less. within 457 32 place (numbers 457 (ap (λ (r : Retained). r.zones) states)) h457 less)
         (λ h489. parted (SameByte a b) 521 place (λ less. within 489 32 place (numbers 489 (ap (λ (r : Retained). r.outputs) states)) h489 less)
@@ -161,4 +169,5 @@ module _ (a b : List ℕ) where
         (λ h970. zeros place (inr h970))))))
 
 pub one_new_file : OneNewFile
-one_new_file digest state file other is is' = same_number_lists file other (is.size ∙ sym is'.size) (λ place less. each_byte file other digest state is is' place)
+one_new_file digest state file other is is' =
+    same_number_lists file other (is.size ∙ sym is'.size) (λ place less. each_byte file other digest state is is' place)

@@ -1,5 +1,6 @@
 -- Bytes and numbers at places of a file. Where the file has no byte it is read as 0.
-use Rattle.std.specs.Prelude.{◌≡◌, ℕ, zero, suc, ◌+◌, ◌*◌, ◌<◌, ◌&&◌, nat_le, Bool, List, map, slice_index, Option, Some, None, if◌then◌else◌}
+use Rattle.std.specs.Prelude.{◌≡◌, ℕ, zero, suc, ◌+◌, ◌*◌, ◌<◌, ◌&&◌, nat_le, Bool, List, map, slice_index, Option}
+use Rattle.std.specs.Prelude.{Some, None, if◌then◌else◌}
 use Rattle.std.specs.List.{range_with_len}
 use Rattle.byteorder.specs.Endian.{big_from, little_from}
 

@@ -9,7 +9,8 @@ use Rattle.retained_journal.specs.Slots.{HasNarrowPoints, retained_at, slot_numb
 abbrev pub IsBesideSlot : ℕ → Type 0
 IsBesideSlot place = ((log_gate ≤ place) × (place < 64)) ⊎ (970 ≤ place)
 
--- The front alone: the mark, the digest of the site, and slot A, which is open, has number 1 and holds a state. All
+-- The front alone: the mark, the digest of the site, and slot A, which is open, has number 1 and holds a
+-- state. All
 -- else is zero, so the log gate and slot B are shut.
 pub record IsNewFile (digest : List ℕ) (state : Retained) (file : List ℕ) : Type 0 where
   pub size : length file ≡ front_bytes

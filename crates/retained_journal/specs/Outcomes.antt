@@ -1,6 +1,8 @@
--- What opening, creating, mending and committing leave: of the journal, of its file, and of the files that a crash
+-- What opening, creating, mending and committing leave: of the journal, of its file, and of the files that a
+-- crash
 -- may leave.
-use Rattle.std.specs.Prelude.{◌≡◌, ◌≢◌, ◌⊎◌, ◌+◌, ◌<◌, ◌≤◌, ◌^◌, ℕ, Bool, true, false, not, List, length, Option, IfSome}
+use Rattle.std.specs.Prelude.{◌≡◌, ◌≢◌, ◌⊎◌, ◌+◌, ◌<◌, ◌≤◌, ◌^◌, ℕ, Bool, true, false, not, List, length, Option}
+use Rattle.std.specs.Prelude.{IfSome}
 use Rattle.panel_edges.specs.Crashes.{LeavesOnly}
 use Rattle.site_types.specs.Changes.{changed_by, nothing_retained}
 use Rattle.site_types.specs.declared.change.Change.{Change}
@@ -19,7 +21,8 @@ abbrev pub UnlessEmpty : Option (List ℕ) → Type 0 → Type 0
 UnlessEmpty seen claim = IfSome seen (λ file. 0 < length file → claim)
 
 -- at each moment of a call a crash leaves what it might have left before
-abbrev pub LeavesAsItWas : {D : Type 0} → (D → ℕ) → (D → ℕ → List ℕ → Type 0) → (D → List ℕ → Type 0) → D → D → Type 0
+abbrev pub LeavesAsItWas : {D : Type 0} → (D → ℕ) → (D → ℕ → List ℕ → Type 0) → (D → List ℕ → Type 0) → D → D
+    → Type 0
 LeavesAsItWas moment left_since images old new = LeavesOnly moment left_since old new (images old)
 
 -- what a file keeps: nothing, where it is empty
@@ -51,7 +54,8 @@ CountsUnlessTorn journal file = journal.torn ≡ false → counted file ≡ jour
 
 -- each of these files opens to what is kept, and as many cells count as the journal says
 abbrev pub EachOpens : (List ℕ → Type 0) → Journal → Type 0
-EachOpens images journal = (file : List ℕ) → images file → OpensToKept journal file × (counted file ≡ journal.cells)
+EachOpens images journal = (file : List ℕ) → images file
+    → OpensToKept journal file × (counted file ≡ journal.cells)
 
 -- each of these files is one that a crash may leave of the journal
 abbrev pub EachMayBeLeft : (List ℕ → Type 0) → Journal → Type 0
@@ -81,9 +85,11 @@ HasAppended old new =
 
 -- a batch was kept
 abbrev pub HasKept : List Change → Journal → Journal → Type 0
-HasKept batch old new = (new.kept ≡ changed_by batch old.kept) × (new.torn ≡ false) × (new.attempt.items ≡ batch)
+HasKept batch old new = (new.kept ≡ changed_by batch old.kept) × (new.torn ≡ false)
+    × (new.attempt.items ≡ batch)
 
--- A batch was not kept: the journal is torn and keeps what it kept. The batch was attempted, or the mending before it
+-- A batch was not kept: the journal is torn and keeps what it kept. The batch was attempted, or the mending
+-- before it
 -- failed.
 abbrev pub HasFailed : List Change → Journal → Journal → Type 0
 HasFailed batch old new =
@@ -92,9 +98,11 @@ HasFailed batch old new =
 -- one commit more was tried, which gave at most two numbers
 abbrev pub HasTried : Journal → Journal → Type 0
 HasTried old new =
-    (new.wide ≡ old.wide) × (new.digest ≡ old.digest) × (new.tried ≡ old.tried + 1) × (new.number ≤ old.number + 2)
+    (new.wide ≡ old.wide) × (new.digest ≡ old.digest) × (new.tried ≡ old.tried + 1)
+    × (new.number ≤ old.number + 2)
 
--- The batch that was attempted before may be left until the mending has ended, and the new one only from then on: the
+-- The batch that was attempted before may be left until the mending has ended, and the new one only from then
+-- on: the
 -- mending failed, or the call had both parts.
 abbrev pub LeavesEachInTurn :
     {D : Type 0} → (D → ℕ) → (D → ℕ → List ℕ → Type 0) → D → D → Journal → List Change → Journal → Type 0

@@ -1,5 +1,6 @@
 -- What reading the cells of a file behind its chosen slot makes.
-use Rattle.std.specs.Prelude.{◌≡◌, ◌+◌, ◌<◌, ◌≤◌, ◌&&◌, nat_lt, ℕ, Bool, true, List, Option, Some, None, Result, Ok, Err, ◌==◌, false, slice_index}
+use Rattle.std.specs.Prelude.{◌≡◌, ◌+◌, ◌<◌, ◌≤◌, ◌&&◌, nat_lt, ℕ, Bool, true, List, Option, Some, None, Result, Ok}
+use Rattle.std.specs.Prelude.{Err, ◌==◌, false, slice_index}
 use Rattle.panel_edges.specs.Faults.{Rose}
 use Rattle.site_types.specs.Changes.{changed_by}
 use Rattle.retained_journal.specs.declared.open_refusal.OpenRefusal.{OpenRefusal}
@@ -27,7 +28,8 @@ BeginsReplay wide at front replay =
       is_next_open = false;
     }
 
--- What becomes of a replay with the bytes of the next cell: it ends where the cell doesn't count, is refused where a
+-- What becomes of a replay with the bytes of the next cell: it ends where the cell doesn't count, is refused
+-- where a
 -- byte is out of its form, and else goes on with the changes of the cell.
 abbrev pub TakesCell : Replay → List ℕ → Result Bool OpenRefusal → Replay → Type 0
 TakesCell old cell (Ok false) new =

@@ -2,7 +2,10 @@
 
 ghost use Rattle.std.specs.Prelude.{◌≡◌, ◌+◌, ◌*◌, ◌≤◌, ◌<◌, length, slice_index, None, Some, IfSome};
 ghost use Rattle.site_types.specs.Changes.{changed_by};
-ghost use Rattle.retained_journal.specs.Cells.{cell_changes, cell_count, change_at as change_in, is_in_form as in_form, is_line as line_in_form, is_number as number_in_form, is_value as value_in_form, wrong_in_change as wrong_byte, wrong_in_cell as wrong_byte_of_cell};
+ghost use Rattle.retained_journal.specs.Cells.{cell_changes, cell_count, change_at as change_in};
+ghost use Rattle.retained_journal.specs.Cells.{is_in_form as in_form, is_line as line_in_form};
+ghost use Rattle.retained_journal.specs.Cells.{is_number as number_in_form, is_value as value_in_form};
+ghost use Rattle.retained_journal.specs.Cells.{wrong_in_change as wrong_byte, wrong_in_cell as wrong_byte_of_cell};
 ghost use Rattle.retained_journal.specs.Places.{bytes_of_cell};
 
 use crate::fields::{is_within, short_number_at};

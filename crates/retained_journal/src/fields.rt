@@ -1,7 +1,8 @@
 //! Bytes and numbers at places of a file.
 
 ghost use Rattle.std.specs.Prelude.{◌≡◌, ◌⊎◌, ◌+◌, ◌<◌, ◌≤◌, ℕ, length, slice_index};
-ghost use Rattle.retained_journal.specs.Fields.{Agrees, AreBytes, bytes_at, mask_at, number_at as number_in, numbers_at, is_within as within};
+ghost use Rattle.retained_journal.specs.Fields.{Agrees, AreBytes, bytes_at, mask_at, number_at as number_in};
+ghost use Rattle.retained_journal.specs.Fields.{numbers_at, is_within as within};
 
 use byteorder::{BigEndian, ByteOrder, LittleEndian};
 

@@ -4,7 +4,9 @@ ghost use Rattle.std.specs.Prelude.{◌≡◌, ◌+◌, ◌≤◌, length, IfOk,
 ghost use Rattle.panel_edges.specs.Crashes.{Stays};
 ghost use Rattle.panel_edges.specs.Faults.{HasCause};
 ghost use Rattle.retained_journal.specs.Fields.{Agrees, first_in};
-ghost use Rattle.retained_journal.specs.Opening.{counter_too_great, cut_short, front_refusal, great_counter as great, is_second as second_counts, no_open_slot, not_a_journal, number_too_great, other_site, passes};
+ghost use Rattle.retained_journal.specs.Opening.{counter_too_great, cut_short, front_refusal, great_counter as great};
+ghost use Rattle.retained_journal.specs.Opening.{is_second as second_counts, no_open_slot, not_a_journal};
+ghost use Rattle.retained_journal.specs.Opening.{number_too_great, other_site, passes};
 ghost use Rattle.retained_journal.specs.Places.{bytes_of_slot, front_bytes};
 ghost use Rattle.retained_journal.specs.Outcomes.{LeavesAsItWas};
 

@@ -1,4 +1,5 @@
-ghost use Rattle.std.specs.Prelude.{◌≡◌, ◌≢◌, ◌⊎◌, ◌+◌, ◌<◌, ◌≤◌, ◌^◌, None, Some, ℕ, List, length, not, IfErr, IfOk, IfSome, OnErr, OnOk, ◌↔◌, false, true, if◌then◌else◌};
+ghost use Rattle.std.specs.Prelude.{◌≡◌, ◌≢◌, ◌⊎◌, ◌+◌, ◌<◌, ◌≤◌, ◌^◌, None, Some, ℕ, List, length, not, IfErr, IfOk};
+ghost use Rattle.std.specs.Prelude.{IfSome, OnErr, OnOk, ◌↔◌, false, true, if◌then◌else◌};
 ghost use Rattle.panel_edges.specs.Crashes.{LeavesOnly, Stays};
 ghost use Rattle.panel_edges.specs.Faults.{HasCause};
 ghost use Rattle.panel_edges.specs.Disks.{Becomes};
@@ -6,11 +7,16 @@ ghost use Rattle.site_types.specs.Changes.{AreCounters, changed_by, nothing_reta
 ghost use Rattle.retained_journal.specs.Batches.{IsBatch};
 ghost use Rattle.retained_journal.specs.Creating.{HasCreateCause};
 ghost use Rattle.retained_journal.specs.Fields.{Agrees, first_in};
-ghost use Rattle.retained_journal.specs.Images.{HasRoom, HasRoomForTwo, IsEarly, IsSound, KeepsAll, MayLeave, MayLeaveOr, SameFront, Stands};
-ghost use Rattle.retained_journal.specs.Journals.{IsFresh, IsLong, IsNewJournal, IsOpenedOn, IsOfFront, IsReadFrom, IsReplayOf};
+ghost use Rattle.retained_journal.specs.Images.{HasRoom, HasRoomForTwo, IsEarly, IsSound, KeepsAll, MayLeave};
+ghost use Rattle.retained_journal.specs.Images.{MayLeaveOr, SameFront, Stands};
+ghost use Rattle.retained_journal.specs.Journals.{IsFresh, IsLong, IsNewJournal, IsOpenedOn, IsOfFront, IsReadFrom};
+ghost use Rattle.retained_journal.specs.Journals.{IsReplayOf};
 ghost use Rattle.retained_journal.specs.NewFiles.{BecomesNew};
-ghost use Rattle.retained_journal.specs.Opening.{Opens, change_out_of_form, counted, great_counter, is_second as second_counts, opened, refusal_of};
-ghost use Rattle.retained_journal.specs.Outcomes.{CountsItsCells, CountsUnlessTorn, EachMayBeLeft, EachOpens, HasFailed, HasKept, HasTried, IsEarlyFor, IsKeptIn, IsLengthOf, IsRefusalOf, LeavesAsItWas, LeavesEachInTurn, UnlessEmpty};
+ghost use Rattle.retained_journal.specs.Opening.{Opens, change_out_of_form, counted, great_counter};
+ghost use Rattle.retained_journal.specs.Opening.{is_second as second_counts, opened, refusal_of};
+ghost use Rattle.retained_journal.specs.Outcomes.{CountsItsCells, CountsUnlessTorn, EachMayBeLeft, EachOpens};
+ghost use Rattle.retained_journal.specs.Outcomes.{HasFailed, HasKept, HasTried, IsEarlyFor, IsKeptIn, IsLengthOf};
+ghost use Rattle.retained_journal.specs.Outcomes.{IsRefusalOf, LeavesAsItWas, LeavesEachInTurn, UnlessEmpty};
 ghost use Rattle.retained_journal.specs.Places.{bytes_of_slot, front_bytes, slot_place as place_of_slot};
 ghost use Rattle.retained_journal.specs.Replays.{BeginsReplay, HasRefusalCause};
 ghost use Rattle.retained_journal.specs.Slots.{FitPoints, HasNarrowPoints, IsKeepable, slot_number};

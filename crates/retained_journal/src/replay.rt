@@ -1,4 +1,5 @@
-ghost use Rattle.std.specs.Prelude.{◌≡◌, ◌≢◌, ◌+◌, ◌<◌, ◌≤◌, ◌^◌, ℕ, Ok, Err, None, Some, true, false, ◌==◌, length, slice_index, IfErr, IfOk, IfSome, OnOk, ◌↔◌};
+ghost use Rattle.std.specs.Prelude.{◌≡◌, ◌≢◌, ◌+◌, ◌<◌, ◌≤◌, ◌^◌, ℕ, Ok, Err, None, Some, true, false, ◌==◌, length};
+ghost use Rattle.std.specs.Prelude.{slice_index, IfErr, IfOk, IfSome, OnOk, ◌↔◌};
 ghost use Rattle.panel_edges.specs.Crashes.{Stays};
 ghost use Rattle.panel_edges.specs.Faults.{HasCause};
 ghost use Rattle.site_types.specs.Changes.{changed_by};

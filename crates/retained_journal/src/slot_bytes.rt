@@ -2,7 +2,9 @@
 
 ghost use Rattle.std.specs.Prelude.{◌≡◌, ◌⊎◌, ◌+◌, ◌*◌, ◌^◌, ◌<◌, ◌≤◌, ℕ, Bool, length, slice_index};
 ghost use Rattle.retained_journal.specs.Fields.{mask_at, numbers_at};
-ghost use Rattle.retained_journal.specs.Slots.{AreNarrow, FitHalves, FitLoops, FitPoints, HasNarrowLoops, HasNarrowPoints, SameButLoops, loop_at, panel_points, points_at, retained_at, slot_number};
+ghost use Rattle.retained_journal.specs.Slots.{AreNarrow, FitHalves, FitLoops, FitPoints, HasNarrowLoops};
+ghost use Rattle.retained_journal.specs.Slots.{HasNarrowPoints, SameButLoops, loop_at, panel_points, points_at};
+ghost use Rattle.retained_journal.specs.Slots.{retained_at, slot_number};
 ghost use Rattle.retained_journal.specs.Places.{bytes_of_slot};
 
 use crate::fields::put;

@@ -1,7 +1,8 @@
 //! Reading a slot.
 
 ghost use Rattle.std.specs.Prelude.{◌≡◌, ◌+◌, ◌<◌, ◌≤◌, length};
-ghost use Rattle.retained_journal.specs.Slots.{loop_at, panel_points as points_of_panel, points_at, retained_at as state_at};
+ghost use Rattle.retained_journal.specs.Slots.{loop_at, panel_points as points_of_panel, points_at};
+ghost use Rattle.retained_journal.specs.Slots.{retained_at as state_at};
 ghost use Rattle.retained_journal.specs.Places.{bytes_of_slot};
 
 use crate::fields::{panel_numbers_at, points_mask_at};

@@ -17,7 +17,8 @@ impl Journal {
     ghost use Rattle.site_types.specs.Changes.{changed_by};
     ghost use Rattle.retained_journal.specs.Batches.{CanMakeAll, IsBatch};
     ghost use Rattle.retained_journal.specs.Images.{HasRoom, HasRoomForTwo, HasZeros, HoldsBatch, HoldsCopy, KeepsAll};
-    ghost use Rattle.retained_journal.specs.Images.{MayCount, OpensToKeptOrAttempt, SameFront, Stands, StaysKept, StaysSo, next_of, other_of};
+    ghost use Rattle.retained_journal.specs.Images.{MayCount, OpensToKeptOrAttempt, SameFront, Stands, StaysKept};
+    ghost use Rattle.retained_journal.specs.Images.{StaysSo, next_of, other_of};
     ghost use Rattle.retained_journal.specs.Outcomes.{HasAppended, HasMoved};
 
     // Where the other slot begins.

@@ -29,5 +29,9 @@ pub record StandsFor (site : Site) (panel limit : ℕ) (calls : List Call) (rout
   pub lines : routing.lines.items ≡ filter_map (line_of site panel calls) output_bits
   pub watched : routing.watched ≡ mask_of 32 (λ k. is_watched site panel (k + 1))
   pub on : routing.on ≡ mask_of 32 (λ k. is_watched site panel (k + 1) && is_running (run_of (k + 1) calls))
-  pub confirmed : routing.confirmed ≡ mask_of 32 (λ k. is_watched site panel (k + 1) && has_confirmation (k + 1) (run_of (k + 1) calls))
-  pub late : routing.late ≡ mask_of 32 (λ k. is_watched site panel (k + 1) && spans limit (ticks_of (run_of (k + 1) calls)))
+  pub confirmed :
+      routing.confirmed ≡ mask_of 32 (λ k. is_watched site panel (k + 1)
+      && has_confirmation (k + 1) (run_of (k + 1) calls))
+  pub late :
+      routing.late ≡ mask_of 32 (λ k. is_watched site panel (k + 1)
+      && spans limit (ticks_of (run_of (k + 1) calls)))

@@ -31,7 +31,8 @@ told_twice r draft loops claims same once e told =
     subst (λ (o : Option Refusal). Tells r o) found told
 
 -- and where nothing does, the names stand for what they stand for in the draft
-pub named_so : (r : Result (BTreeMap (String Global) Thing) SiteRefusal) (draft : Draft) (claims : List Claim) → IsOfClean draft → Tells r (twice_in draft)
+pub named_so : (r : Result (BTreeMap (String Global) Thing) SiteRefusal) (draft : Draft) (claims : List Claim) → IsOfClean draft
+    → Tells r (twice_in draft)
     → claims ≡ claims_by kept_place draft → IfOk r (λ names. (q : List ℕ) → look_up names q ≡ thing_named (onto [] claims) q)
     → IfOk r (λ names. look_up names ≡ named_in draft)
 named_so (Ok names) draft claims clean told e h =

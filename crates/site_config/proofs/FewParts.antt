@@ -89,16 +89,20 @@ module _ (draft : Draft) (forms : HasDraftForms draft) (once : twice_in draft �
   few_zones : length draft.zones ≤ 256
   few_zones = few (λ (z : DraftZone). at_panel z.panel z.number) 256 draft.zones
       (all_by_place (λ (z : DraftZone). at_panel z.panel z.number < 256) draft.zones (λ k z at. number_low z.panel z.number (zone_number k z at)))
-      (λ j k a b p q same. zones_apart draft once j k a b p q (number_apart a.panel a.number b.panel b.number (zone_number j a p) (zone_number k b q) same))
+      (λ j k a b p q same.
+      zones_apart draft once j k a b p q (number_apart a.panel a.number b.panel b.number (zone_number j a p) (zone_number k b q) same))
 
   few_outputs : length draft.outputs ≤ 256
   few_outputs = few (λ (o : DraftOutput). at_panel o.panel o.number) 256 draft.outputs
-      (all_by_place (λ (o : DraftOutput). at_panel o.panel o.number < 256) draft.outputs (λ k o at. number_low o.panel o.number (output_number k o at)))
-      (λ j k a b p q same. outputs_apart draft once j k a b p q (number_apart a.panel a.number b.panel b.number (output_number j a p) (output_number k b q) same))
+      (all_by_place (λ (o : DraftOutput). at_panel o.panel o.number < 256) draft.outputs
+      (λ k o at. number_low o.panel o.number (output_number k o at)))
+      (λ j k a b p q same.
+      outputs_apart draft once j k a b p q (number_apart a.panel a.number b.panel b.number (output_number j a p) (output_number k b q) same))
 
   few_points : length draft.points ≤ 6144
   few_points = few (λ (p : DraftPoint). at_loop p.panel p.line p.address) 6144 draft.points
-      (all_by_place (λ (p : DraftPoint). at_loop p.panel p.line p.address < 6144) draft.points (λ k p at. address_low p.panel p.line p.address (point_address k p at)))
+      (all_by_place (λ (p : DraftPoint). at_loop p.panel p.line p.address < 6144) draft.points
+      (λ k p at. address_low p.panel p.line p.address (point_address k p at)))
       (λ j k a b p q same.
       points_apart draft once j k a b p q
       (address_apart a.panel a.line a.address b.panel b.line b.address (point_address j a p) (point_address k b q) same))

@@ -1,11 +1,14 @@
--- The claims of a draft with what is kept of their places: the first that is made twice is the same, and where each list is short they are the claims themselves.
+-- The claims of a draft with what is kept of their places: the first that is made twice is the same, and where each list is short they are the claims
+-- themselves.
 use Rattle.std.proofs.Common.{◌≡◌, ◌≤◌, ◌+◌, ◌++◌, ◌||◌, ℕ, List, [], ◌∷◌, Bool, true, false, Option, Some, None, is_some, length, refl, ap, ◌∙◌, arith, if◌then◌else◌}
 use Rattle.std.specs.Str.{bytes_eq}
 use Rattle.site_types.specs.declared.named.Thing.{Thing}
 use Rattle.site_document.specs.declared.draft.Draft.{Draft}
 use Rattle.site_document.specs.Refusals.{or_later, twice}
 use Rattle.site_config.specs.declared.claim.Claim.{Claim}
-use Rattle.site_config.specs.Claims.{claims_by, claims_from, claims_of, first_twice, has_number, is_claimed, is_number_claimed, is_number_of, kept_place, marker_claim, output_claim, point_claim, thing_named, zone_claim}
+use Rattle.site_config.specs.Claims.{claims_by, claims_from, claims_of, first_twice, has_number, is_claimed}
+use Rattle.site_config.specs.Claims.{is_number_claimed, is_number_of, kept_place, marker_claim, output_claim}
+use Rattle.site_config.specs.Claims.{point_claim, thing_named, zone_claim}
 use Rattle.site_config.proofs.FewParts.{HasFewParts}
 
 -- two claims of the same name and number
@@ -86,7 +89,8 @@ kept_twice draft = like_twice [] [] (claims_by kept_place draft) (claims_of draf
 
 -- ---- short lists
 
-whole_from : {X : Type 0} (claim : ℕ → X → Claim) (n : ℕ) (xs : List X) → n + length xs ≤ 65536 → claims_from (λ place. claim (kept_place place)) n xs ≡ claims_from claim n xs
+whole_from : {X : Type 0} (claim : ℕ → X → Claim) (n : ℕ) (xs : List X) → n + length xs ≤ 65536
+    → claims_from (λ place. claim (kept_place place)) n xs ≡ claims_from claim n xs
 whole_from claim n [] few = refl
 whole_from claim n (x ∷ xs) few =
     let here : kept_place n ≡ n = omega arith in

@@ -14,12 +14,14 @@ use Rattle.site_config.specs.NoSuch.{no_such_in}
 use Rattle.site_config.specs.Partners.{unmutual_in}
 use Rattle.site_config.specs.Placing.{placed_site, site_view}
 
--- what is wrong in a draft: names and numbers given twice, then names of nothing, sections that cross zones, partners that aren't mutual
+-- what is wrong in a draft: names and numbers given twice, then names of nothing, sections that cross zones,
+-- partners that aren't mutual
 unfoldable pub draft_finding : Draft → Option Refusal
 draft_finding draft =
     or_later (twice_in draft)
     (or_later (no_such_in (named_in draft) draft)
-    (or_later (crossing_in (map (spot_of (named_in draft)) draft.points) draft.loops) (unmutual_in (named_in draft) draft.zones)))
+    (or_later (crossing_in (map (spot_of (named_in draft)) draft.points) draft.loops)
+    (unmutual_in (named_in draft) draft.zones)))
 
 -- what is wrong in a document: its keys and values first
 unfoldable pub site_finding : Members → Option Refusal

@@ -85,7 +85,8 @@ fn put_claims<T: Claimant>(
     claims: &mut Vec<Claim>,
     items: &[T],
 ) -> Result<(), AllocError>
-    ensures { OnOk result (claims.new.items ≡ claims.old.items ++ claims_from (λ place. T.claims (kept_place place)) 0 items.now) }
+    ensures { OnOk result (claims.new.items ≡ claims.old.items
+        ++ claims_from (λ place. T.claims (kept_place place)) 0 items.now) }
 {
     'items: for (index, item) in items.iter().enumerate() {
         claims.push(item.claim(alloc, place_of(index))?)?;

@@ -17,8 +17,8 @@ use site_document::{Draft, SiteRefusal, read_draft};
 use site_types::Site;
 use std::alloc::Global;
 
-/// Reads a site file of any bytes, or answers why it is refused. Takes memory some times the file's length, and time about that length
-/// times its logarithm.
+/// Reads a site file of any bytes, or answers why it is refused. Takes memory some times the file's length,
+/// and time about that length times its logarithm.
 pub fn read_site(alloc: Global, bytes: &[u8]) -> Result<Site, SiteRefusal>
     ensures site { IfOk result (IsSpelled bytes.now) }
     ensures valid { IfOk result IsValid }

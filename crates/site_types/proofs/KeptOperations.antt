@@ -34,7 +34,8 @@ item_changes site panel (ThePoint place) off h = point_changes (λ p. p.panel ==
 item_changes site panel (TheZone place) off h = zone_changes (λ z. z.panel == panel) off (slice_get site.zones place) h
 item_changes site panel (TheOutput place) off h = output_changes (λ o. o.panel == panel) off (slice_get site.outputs place) h
 
-changes_kept : (site : Site) (panel : ℕ) (operation : Operation) → has_operands site panel operation ≡ true → is_kept_operation operation ≡ is_some (operation_change site panel operation)
+changes_kept : (site : Site) (panel : ℕ) (operation : Operation) → has_operands site panel operation ≡ true
+    → is_kept_operation operation ≡ is_some (operation_change site panel operation)
 changes_kept site panel Mute h = refl
 changes_kept site panel Override h = refl
 changes_kept site panel Silence h = refl

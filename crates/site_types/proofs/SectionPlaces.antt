@@ -58,7 +58,8 @@ ends_at [] last address = inl refl
 ends_at (place ∷ rest) last address =
     elim (leb_tells address place) [
       | inl t ↦ subst (λ n. (n ≡ last) ⊎ ((n ≡ place) ⊎ IsIn n rest)) (rw t.0 refl) (less (section_end rest last address) (ends_at rest last address))
-      | inr t ↦ subst (λ n. (n ≡ last) ⊎ ((n ≡ place) ⊎ IsIn n rest)) (rw t.0 refl) (later (section_end rest last address) (ends_at rest last address))
+      | inr t ↦
+          subst (λ n. (n ≡ last) ⊎ ((n ≡ place) ⊎ IsIn n rest)) (rw t.0 refl) (later (section_end rest last address) (ends_at rest last address))
     ]
   where
     less : (n : ℕ) → (n ≡ last) ⊎ IsIn n rest → (min place n ≡ last) ⊎ ((min place n ≡ place) ⊎ IsIn (min place n) rest)
@@ -90,9 +91,17 @@ module _ (isolators : List ℕ) (last address other : ℕ) (one : 1 ≤ address)
       same : section_of isolators address ≡ section_of isolators other
       same = eqb-true (section_of isolators address) (section_of isolators other) together
 
-      past : section_end isolators last address < other → (section_end isolators last address ≡ last) ⊎ IsIn (section_end isolators last address) isolators → ⊥
+      past : section_end isolators last address < other → (section_end isolators last address ≡ last)
+          ⊎ IsIn (section_end isolators last address) isolators → ⊥
       past less (inl whole) = omega (arith, less, whole, inside)
-      past less (inr there) = omega (arith, begins_behind isolators other (section_end isolators last address) there less, same, begins_before isolators address one, ends_after isolators last address within)
+      past less (inr there) =
+          omega (
+            arith,
+            begins_behind isolators other (section_end isolators last address) there less,
+            same,
+            begins_before isolators address one,
+            ends_after isolators last address within,
+          )
 
       up_to : other ≤ section_end isolators last address
       up_to = elim (leb_tells other (section_end isolators last address)) [ inl h ↦ h.1 | inr h ↦ absurd (past h.1 (ends_at isolators last address)) ]
@@ -100,7 +109,8 @@ module _ (isolators : List ℕ) (last address other : ℕ) (one : 1 ≤ address)
   holds : section_of isolators address < other → other ≤ section_end isolators last address → is_one_section isolators address other ≡ true
   holds begun ended = elim (eqb_tells (section_of isolators address) (section_of isolators other)) [ inl t ↦ t.0 | inr t ↦ absurd (t.1 same) ]
     where
-      from : (section_of isolators address ≡ 0) ⊎ IsIn (section_of isolators address) isolators → section_of isolators address ≤ section_of isolators other
+      from : (section_of isolators address ≡ 0) ⊎ IsIn (section_of isolators address) isolators
+          → section_of isolators address ≤ section_of isolators other
       from (inl none) = omega (arith, none)
       from (inr there) = begins_behind isolators other (section_of isolators address) there begun
 
@@ -108,7 +118,13 @@ module _ (isolators : List ℕ) (last address other : ℕ) (one : 1 ≤ address)
       to (inl none) = omega (arith, none)
       to (inr there) =
           elim (leb_tells address (section_of isolators other)) [
-            | inl h ↦ absurd (omega (arith, ends_before isolators last address (section_of isolators other) there h.1, begins_before isolators other some, ended))
+            | inl h ↦
+                absurd (omega (
+                  arith,
+                  ends_before isolators last address (section_of isolators other) there h.1,
+                  begins_before isolators other some,
+                  ended,
+                ))
             | inr h ↦ begins_behind isolators address (section_of isolators other) there h.1
           ]
 

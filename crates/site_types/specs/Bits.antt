@@ -1,5 +1,6 @@
 -- Masks: numbers whose bits are tests, and sets of points made of them.
-use Rattle.std.specs.Prelude.{◌≤◌, ◌+◌, ◌-◌, ◌*◌, ◌/◌, ◌%◌, ◌^◌, ◌==◌, ◌||◌, ℕ, zero, suc, Bool, false, [], replicate, slice_index, slice_index_or, slice_set, bit_or, bit_and, if◌then◌else◌}
+use Rattle.std.specs.Prelude.{◌≤◌, ◌+◌, ◌-◌, ◌*◌, ◌/◌, ◌%◌, ◌^◌, ◌==◌, ◌||◌, ℕ, zero, suc, Bool, false, [], replicate}
+use Rattle.std.specs.Prelude.{slice_index, slice_index_or, slice_set, bit_or, bit_and, if◌then◌else◌}
 use Rattle.std.specs.Int.{Width, w128, bit_at, bit_not}
 use mir.Val.{bits}
 use Rattle.site_types.specs.declared.point_set.PointSet.{PointSet}
@@ -36,7 +37,8 @@ IsPlace line address = (1 ≤ line) × (line ≤ 4) × (1 ≤ address) × (addre
 
 -- whether a set of points has the point of a line and an address
 abbrev pub has_point : PointSet → ℕ → ℕ → Bool
-has_point set line address = has_bit (slice_index (slice_index_or set.loops (line - 1) []) (half_of address)) (bit_of address)
+has_point set line address =
+    has_bit (slice_index (slice_index_or set.loops (line - 1) []) (half_of address)) (bit_of address)
 
 -- the set without a point
 abbrev pub no_set : PointSet
@@ -47,5 +49,8 @@ abbrev pub with_point : PointSet → ℕ → ℕ → Bool → PointSet
 with_point set line address on =
     let halves = slice_index_or set.loops (line - 1) [] in
     record set {
-      loops = slice_set set.loops (line - 1) (slice_set halves (half_of address) (with_bit w128 (slice_index halves (half_of address)) (bit_of address) on));
+      loops =
+          slice_set set.loops (line - 1)
+          (slice_set halves (half_of address)
+          (with_bit w128 (slice_index halves (half_of address)) (bit_of address) on));
     }

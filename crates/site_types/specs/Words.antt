@@ -6,8 +6,25 @@ use Rattle.site_types.specs.Bits.{no_set}
 
 -- the word of a panel of which nothing was heard
 abbrev pub empty_word : Word
-empty_word = record { stamp = record { 0 = 0 }; alarm = 0; manual = 0; released = 0; first = 0; fault = false }
+empty_word = record {
+  stamp = record { 0 = 0 };
+  alarm = 0;
+  manual = 0;
+  released = 0;
+  first = 0;
+  fault =
+      false;
+}
 
 -- no fault is shown
 abbrev pub no_faults : FaultSet
-no_faults = record { missing = no_set; broken = 0; shorted = 0; supply = 0; silent = 0; links = 0; unconfirmed = 0 }
+no_faults = record {
+  missing = no_set;
+  broken = 0;
+  shorted = 0;
+  supply = 0;
+  silent = 0;
+  links =
+      0;
+  unconfirmed = 0;
+}

@@ -13,4 +13,5 @@ returns-clause-err g c =
     let text : c.tick_line.result.bytes ++ changes ≡ tick_text c.args.site.now c.args.tick c.args.before c.args.after =
     ap (λ line. line ++ changes) c.tick_line.ensures.text ∙ sym (ap (λ b. if b then [] else (tick_line c.args.tick ++ changes)) same)
     in
-    subst (λ t. OnErr c.write_under.result (GrowsByFront (g.K.Stream.written c.args.out.now) (g.K.Stream.written c.write_under.new.out) t)) text c.write_under.ensures.err
+    subst (λ t. OnErr c.write_under.result (GrowsByFront (g.K.Stream.written c.args.out.now) (g.K.Stream.written c.write_under.new.out) t)) text
+    c.write_under.ensures.err

@@ -17,7 +17,8 @@ overflow_add-mask c =
 pub loop-bit-preserved : goal.loop-bit-preserved
 loop-bit-preserved c =
     let test = zone_test c.args.state c.args.site.now c.args.kept.now c.args.panel (all_done c.args.done.now) c.args.answers.now c.args.tick.0 in
-    let told = λ (value : Bool) (so : c.found_in_state.result ≡ value). zone_told c.args.site.now c.args.kept.now c.args.panel (all_done c.args.done.now) c.args.answers.now c.args.tick.0 c.args.state c.loop-bit.bit c.zone_at-zone.result c.found_in_state.result value c.zone_at-zone.ensures c.found_in_state.ensures so in
+    let told = λ (value : Bool) (so : c.found_in_state.result ≡ value). zone_told c.args.site.now c.args.kept.now c.args.panel (all_done c.args.done.now) c.args.answers.now c.args.tick.0 c.args.state
+    c.loop-bit.bit c.zone_at-zone.result c.found_in_state.result value c.zone_at-zone.ensures c.found_in_state.ensures so in
     elim c.if-found_in_state.branch [
       | then-found_in_state w ↦ rw w.mask-is (mask_on 32 c.loop-bit.bit c.loop-bit.mask test c.loop-bit-test.true c.loop-bit.invariant (told _ w.if-found_in_state.true))
       | else-found_in_state w ↦ rw w.mask-is (mask_off c.loop-bit.bit c.loop-bit.mask test c.loop-bit.invariant (told _ w.if-found_in_state.false))
@@ -28,4 +29,5 @@ loop-bit-init c = sym (mask_none (zone_test c.args.state c.args.site.now c.args.
 
 pub returns : goal.returns
 unfolding zones_where
-returns c = whole 32 c.loop-bit.bit c.loop-bit.mask (zone_test c.args.state c.args.site.now c.args.kept.now c.args.panel (all_done c.args.done.now) c.args.answers.now c.args.tick.0) (omega arith) c.loop-bit.invariant
+returns c = whole 32 c.loop-bit.bit c.loop-bit.mask (zone_test c.args.state c.args.site.now c.args.kept.now c.args.panel (all_done c.args.done.now) c.args.answers.now c.args.tick.0) (omega arith)
+    c.loop-bit.invariant

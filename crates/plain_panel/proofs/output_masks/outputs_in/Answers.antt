@@ -24,7 +24,8 @@ loop-place-preserved c =
     record {
       wide = length-set c.loop-place.flags c.loop-place.place _ ∙ c.loop-place.invariant.wide;
       told = λ facts history stands.
-          told_next c.loop-place.flags (λ (k : ℕ). is_in_state c.args.state c.args.site.now facts c.args.kept.now (all_done c.args.done.now) k history) c.loop-place.place _ (omega (arith, few, all, c.loop-place.invariant.wide))
+          told_next c.loop-place.flags (λ (k : ℕ). is_in_state c.args.state c.args.site.now facts c.args.kept.now (all_done c.args.done.now) k history) c.loop-place.place _
+          (omega (arith, few, all, c.loop-place.invariant.wide))
           (c.is_in.ensures facts history stands) (c.loop-place.invariant.told facts history stands);
     }
 

@@ -5,4 +5,9 @@ use Rattle.record_lines.proofs.order_lines.read_seats.Given as goal
 
 -- the seats so far, and those that are left
 abbrev pub invariant-loop-seat : goal.invariant-loop-seat
-invariant-loop-seat l = record { seats : l.seats.items ++ seats_of (l.count - l._seat) l.rest ≡ seats_of l.count (after_space l.text); many : length l.seats.items ≡ l._seat }
+invariant-loop-seat l =
+    record {
+      seats : l.seats.items ++ seats_of (l.count - l._seat) l.rest ≡ seats_of l.count (after_space l.text);
+      many :
+          length l.seats.items ≡ l._seat;
+    }

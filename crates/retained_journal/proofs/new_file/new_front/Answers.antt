@@ -12,10 +12,18 @@ returns c =
     let digest = c.args.digest.now in
     let slot = c.slot_bytes.result in
     let long : length slot ≡ 906 = omega arith in
-    let mark = still 8 0 64 (length slot) file_mark mid last (still 8 0 8 (length digest) file_mark c.put.new.bytes mid c.put.ensures.inside c.put-2.ensures.outside (inl (omega arith))) c.put-3.ensures.outside (inl (omega arith)) in
-    let site = still 32 8 64 (length slot) digest mid last (sized 32 (length digest) mid 8 digest c.told-digest c.put-2.ensures.inside) c.put-3.ensures.outside (inl (omega arith)) in
+    let mark =
+    still 8 0 64 (length slot) file_mark mid last
+    (still 8 0 8 (length digest) file_mark c.put.new.bytes mid c.put.ensures.inside c.put-2.ensures.outside (inl (omega arith)))
+    c.put-3.ensures.outside (inl (omega arith)) in
+    let site =
+    still 32 8 64 (length slot) digest mid last (sized 32 (length digest) mid 8 digest c.told-digest c.put-2.ensures.inside)
+    c.put-3.ensures.outside (inl (omega arith)) in
     let there = sized 906 (length slot) last 64 slot long c.put-3.ensures.inside in
-    let zeros = zeros_beside (replicate 2048 0) last (λ place from apart. c.put-3.ensures.outside place (beside_slot place (length slot) long apart) ∙ c.put-2.ensures.outside place (inr (omega (arith, from))) ∙ c.put.ensures.outside place (inr (omega (arith, from)))) (zeros_everywhere 2048) in
+    let zeros =
+    zeros_beside (replicate 2048 0) last (λ place from apart. c.put-3.ensures.outside place (beside_slot place (length slot) long apart) ∙
+    c.put-2.ensures.outside place (inr (omega (arith, from))) ∙ c.put.ensures.outside place (inr (omega (arith, from)))) (zeros_everywhere 2048)
+    in
     record {
       size = omega arith;
       bytes = c.put-3.ensures.are_bytes;

@@ -10,6 +10,7 @@ returns-clause-told c =
 pub returns-clause-named : goal.returns-clause-named
 returns-clause-named c =
     let claims = c.as_slice-2.ensures.value ∙ c.in_ok-claims.ensures in
-    let told = told_twice c.check_claims.result c.args.draft.now c.as_slice.result.now c.as_slice-2.result.now c.as_slice.ensures c.in_ok-check_loops.ensures
+    let told =
+    told_twice c.check_claims.result c.args.draft.now c.as_slice.result.now c.as_slice-2.result.now c.as_slice.ensures c.in_ok-check_loops.ensures
     claims c.check_claims.ensures.told in
     named_so c.check_claims.result c.args.draft.now c.as_slice-2.result.now c.requires told claims c.check_claims.ensures.named

@@ -22,5 +22,6 @@ returns-clause-marks c site valid users m small =
     let before = c.args.before.now in
     let after = c.args.after.now in
     c.mark_word-2.ensures m small ∙
-    (ap (λ b. b || uses_word lists 768 before.faults after.faults m) (c.loop-panel.invariant m small ∙ ap (λ n. any_below n (uses_panel lists before after m)) whole) ∙
+    (ap (λ b. b || uses_word lists 768 before.faults after.faults m)
+    (c.loop-panel.invariant m small ∙ ap (λ n. any_below n (uses_panel lists before after m)) whole) ∙
     facts_mark site valid lists before after m users)

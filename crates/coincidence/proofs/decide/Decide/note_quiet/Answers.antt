@@ -6,7 +6,8 @@ use Rattle.coincidence.proofs.decide.Decide.note_quiet.Goals as goal
 pub index_mut-watch-requires : goal.index_mut-watch-requires
 index_mut-watch-requires c =
     let q = c.requires in
-    subst (λ n. c.args.answer.now.point < n) (sym c.args.self.now.points.ok.0) (point_small q.stands c.args.answer.now.point (q.may.own 0 c.args.answer.now refl))
+    subst (λ n. c.args.answer.now.point < n) (sym c.args.self.now.points.ok.0)
+    (point_small q.stands c.args.answer.now.point (q.may.own 0 c.args.answer.now refl))
 
 pub returns : goal.returns
 returns c quiet site kept panel done taken stands may =

@@ -48,7 +48,8 @@ loop-line-preserved c =
       put = λ site panel calls stands.
           let line = stands.lines k (get_or lines k c.line-item.result) (slice_get-get_or lines k c.line-item.result (omega arith)) in
           let round : c.round.result ≡ round_of site.format = c.round.ensures ∙ ap round_of stands.format in
-          let from : (c.args.now.0 % c.round.result) * 8 + 1 ≡ 8 * (c.args.now.0 % round_of site.format) + 1 = ap (λ r. (c.args.now.0 % r) * 8 + 1) round ∙ omega arith in
+          let from : (c.args.now.0 % c.round.result) * 8 + 1 ≡ 8 * (c.args.now.0 % round_of site.format) + 1 =
+          ap (λ r. (c.args.now.0 % r) * 8 + 1) round ∙ omega arith in
           put_line (asked_on site panel (told_point calls) (told_cable calls) c.args.now.0) k c.args.answers.now c.loop-line.answers c.ask.new.answers
           (c.loop-line.invariant.put site panel calls stands)
           (c.ask.ensures.put site panel (k + 1) (told_point calls) (told_cable calls) stands.valid line

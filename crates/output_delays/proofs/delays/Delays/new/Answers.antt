@@ -20,10 +20,13 @@ loop-place-preserved c =
     let more = found_more (timer_of site panel []) place in
     elim c.if-delay-gt0.branch [
       | then-delay-gt0 w ↦ (
-          let items : c.if-delay-gt0.timers.items ≡ c.loop-place.timers.items ++ record { place = place; delay = delay; since = None } ∷ [] = ap (λ v. v.items) w.timers-is ∙ w.push.ensures.items in
+          let items : c.if-delay-gt0.timers.items ≡ c.loop-place.timers.items ++ record { place = place; delay = delay; since = None } ∷ [] =
+          ap (λ v. v.items) w.timers-is ∙ w.push.ensures.items in
           let timer = timer_delayed site panel place delay c.delay_of-delay.ensures w.if-delay-gt0.true in
           record {
-            timers = items ∙ ap (λ xs. xs ++ record { place = place; delay = delay; since = None } ∷ []) inv.timers ∙ sym (more ∙ ap (λ o. filter_map (timer_of site panel []) (range_with_len 0 place) ++ cons_option o []) timer);
+            timers =
+                items ∙ ap (λ xs. xs ++ record { place = place; delay = delay; since = None } ∷ []) inv.timers ∙ sym
+                (more ∙ ap (λ o. filter_map (timer_of site panel []) (range_with_len 0 place) ++ cons_option o []) timer);
             few = rw items (grind (arith, common_steps, inv.few));
             placed = rw items (one_more_placed c.loop-place.timers.items (record { place = place; delay = delay; since = None }) inv.placed small);
           }
@@ -32,7 +35,9 @@ loop-place-preserved c =
           let items : c.if-delay-gt0.timers.items ≡ c.loop-place.timers.items = ap (λ v. v.items) w.timers-is in
           let timer = timer_undelayed site panel place delay c.delay_of-delay.ensures (omega (arith, w.if-delay-gt0.false)) in
           record {
-            timers = items ∙ inv.timers ∙ sym (more ∙ ap (λ o. filter_map (timer_of site panel []) (range_with_len 0 place) ++ cons_option o []) timer ∙ append-nil (filter_map (timer_of site panel []) (range_with_len 0 place)));
+            timers =
+                items ∙ inv.timers ∙ sym (more ∙ ap (λ o. filter_map (timer_of site panel []) (range_with_len 0 place) ++ cons_option o []) timer ∙
+                append-nil (filter_map (timer_of site panel []) (range_with_len 0 place)));
             few = rw items (omega (arith, inv.few));
             placed = rw items inv.placed;
           }

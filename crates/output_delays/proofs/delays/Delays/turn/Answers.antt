@@ -19,11 +19,13 @@ use Rattle.output_delays.proofs.Steps.{turned_timers, placed_timers}
 use Rattle.output_delays.proofs.delays.Delays.turn.Goals as goal
 
 -- the timers after a turn
-found : (site : Site) (panel : ℕ) (calls : List Call) (now : Tick) (requests : Requests) (items : List Timer) → items ≡ filter_map (timer_of site panel calls) output_bits →
+found : (site : Site) (panel : ℕ) (calls : List Call) (now : Tick) (requests : Requests) (items : List Timer)
+    → items ≡ filter_map (timer_of site panel calls) output_bits →
     map (turned_by now requests.asked) items ≡ filter_map (timer_of site panel (Turned now.0 requests ∷ calls)) output_bits
 found site panel calls now requests items is =
     ap (map (turned_by now requests.asked)) is
-    ∙ map_found (turned_by now requests.asked) (timer_of site panel calls) (timer_of site panel (Turned now.0 requests ∷ calls)) output_bits (timer_turned site panel calls now requests)
+    ∙ map_found (turned_by now requests.asked) (timer_of site panel calls) (timer_of site panel (Turned now.0 requests ∷ calls)) output_bits
+    (timer_turned site panel calls now requests)
 
 pub returns-then-self-clause-stands : goal.returns-then-self-clause-stands
 returns-then-self-clause-stands c site panel first calls stands =
@@ -62,9 +64,11 @@ returns-then-self-clause-value c site panel first calls stands up =
     let latest : overridden ≡ last_before now.0 (overrides_of calls) = c.last_before-overridden.ensures (overrides_of calls) stands.overrides up in
     let on : are_active first calls ≡ true = sym stands.active ∙ c.if-self.true in
     c.without_32-then-self.ensures
-    ∙ mask_same 32 (λ k. has_bit requests.asked k && not (has_bit c.without_32.result k)) (λ k. is_through site panel first calls now.0 requests (k + 1))
+    ∙ mask_same 32 (λ k. has_bit requests.asked k && not (has_bit c.without_32.result k))
+    (λ k. is_through site panel first calls now.0 requests (k + 1))
     (λ k small.
-    ap (λ b. has_bit requests.asked k && not b) (bit_is c.without_32.result (λ j. has_bit held j && not (has_bit requests.manual j)) c.without_32.ensures k small)
+    ap (λ b. has_bit requests.asked k && not b)
+    (bit_is c.without_32.result (λ j. has_bit held j && not (has_bit requests.manual j)) c.without_32.ensures k small)
     ∙ ap (λ b. has_bit requests.asked k && not (b && not (has_bit requests.manual k)))
     (bit_is held (λ j. list_any (λ timer. (timer.place == j) && is_holding now overridden timer) timers) c.turn_timers-held.ensures.held k small
     ∙ ap (list_any (λ timer. (timer.place == k) && is_holding now overridden timer)) all

@@ -15,7 +15,9 @@ returns c valid = record {
     points = c.in_ok-points.ensures valid;
     muted = subst (TellsLast (mutes c.args.panel) []) (sym c.never.ensures) (told_never (mutes c.args.panel));
   };
-  shows = subst (Shows c.args.site.now c.args.kept.now c.args.panel [] []) (sym c.nothing.ensures) (shows_nothing c.args.site.now c.args.kept.now c.args.panel);
+  shows =
+      subst (Shows c.args.site.now c.args.kept.now c.args.panel [] []) (sym c.nothing.ensures)
+      (shows_nothing c.args.site.now c.args.kept.now c.args.panel);
   settled = settled_first c.args.site.now c.args.panel c.in_ok-zones.zones c.in_ok-zones.ensures.0 c.in_ok-zones.ensures.1;
   stays = stays_first _ c.nothing.ensures;
   rising = tt;

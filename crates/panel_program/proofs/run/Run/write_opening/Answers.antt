@@ -13,7 +13,8 @@ returns-clause-ok g c =
     let new = g.K.Stream.written c.write_opening.new.out in
     on_ok c.write_opening.result
     (λ wrote site h. subst (λ shown. Grows old new (opening_line site ++ changes_text site nothing_shown shown)) h.shown
-    (subst (λ s. Grows old new (opening_line s ++ changes_text s nothing_shown c.args.self.now.shown)) (c.site.ensures site nothing_retained (moments_in at_beginning) h.system) wrote))
+    (subst (λ s. Grows old new (opening_line s ++ changes_text s nothing_shown c.args.self.now.shown))
+    (c.site.ensures site nothing_retained (moments_in at_beginning) h.system) wrote))
     c.write_opening.ensures.ok
 
 pub returns-clause-err : goal.returns-clause-err
@@ -22,5 +23,6 @@ returns-clause-err g c =
     let new = g.K.Stream.written c.write_opening.new.out in
     on_err c.write_opening.result
     (λ wrote site h. subst (λ shown. GrowsByFront old new (opening_line site ++ changes_text site nothing_shown shown)) h.shown
-    (subst (λ s. GrowsByFront old new (opening_line s ++ changes_text s nothing_shown c.args.self.now.shown)) (c.site.ensures site nothing_retained (moments_in at_beginning) h.system) wrote))
+    (subst (λ s. GrowsByFront old new (opening_line s ++ changes_text s nothing_shown c.args.self.now.shown))
+    (c.site.ensures site nothing_retained (moments_in at_beginning) h.system) wrote))
     c.write_opening.ensures.err

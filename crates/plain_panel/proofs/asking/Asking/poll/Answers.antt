@@ -20,7 +20,8 @@ returns c panel history s at =
     let put = c.turn.ensures.asked c.args.site.now panel told s.told in
     let few = asked_few c.args.site.now panel (told_point told) (told_cable told) c.args.tick.0 (is_known c.args.site.now panel history c.args.self.now c.args.self.now s) in
     let moved =
-    all_moved (asked_in c.args.site.now panel (told_point told) (told_cable told) c.args.tick.0) c.in_ok-lane.lane c.turn.new.answers c.take_turn.new.into.items
+    all_moved (asked_in c.args.site.now panel (told_point told) (told_cable told) c.args.tick.0) c.in_ok-lane.lane c.turn.new.answers
+    c.take_turn.new.into.items
     (record { empty = c.in_ok-lane.ensures; put = put; few = few }) c.take_turn.ensures.moved in
     after_poll c.args.site.now panel history c.args.self.now _ s c.args.tick.0 refl refl refl refl at
     (c.in_ok-extend_from_slice.ensures.items ∙ ap (λ xs. c.args.self.now.answers.items ++ xs) (c.as_slice.ensures.value ∙ moved))

@@ -19,7 +19,8 @@ returns-in-Some c =
     let turned : moment_of c.args.moment.now ≡ Turned panel Hold = ap moment_of c.in-Some.ensures in
     let all : AllEnter site kept done (Turned panel Hold ∷ before) 1 c.deref.result.now =
     subst (λ (m : MomentOf). AllEnter site kept done (m ∷ before) 1 c.deref.result.now) turned
-    (subst (λ (xs : List Entering). AllEnter site kept done (moment_of c.args.moment.now ∷ before) 1 xs) (sym c.deref.ensures.value) c.requires.panels.all) in
+    (subst (λ (xs : List Entering). AllEnter site kept done (moment_of c.args.moment.now ∷ before) 1 xs) (sym c.deref.ensures.value)
+    c.requires.panels.all) in
     let drives = subst (λ (m : MomentOf). DrivesFor site (facts_of site kept done) (m ∷ before) c.args.self.now.driving) turned c.requires.driving in
     record {
       panels = refl;
