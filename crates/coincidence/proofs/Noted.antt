@@ -346,7 +346,13 @@ module _ {site : Site} {kept : Retained} {panel : ℕ} {done : List Done} {taken
       let manual : s.manual ≡ r.manual = ap (λ (o : PointWatch). o.manual) (sym point) in
       let zone : zone_noted pairs answer.point answer.stamp z ≡ y =
       sym (ey ∙ ap (λ t. zone_noted t answer.point answer.stamp z) (eb ∙ ap (λ m. counted && (is_type_C z.rule || not m)) manual)) in
-      subst (λ (o : ZoneWatch). DecidesFor site kept panel done (taken ++ answer ∷ []) (record { panel = decide.panel; points = with_item decide.points answer.point s; zones = with_item decide.zones r.zone o; reset = decide.reset })) zone
+      subst (λ (o : ZoneWatch). DecidesFor site kept panel done (taken ++ answer ∷ []) (record {
+        panel = decide.panel;
+        points =
+            with_item decide.points answer.point s;
+        zones = with_item decide.zones r.zone o;
+        reset = decide.reset;
+      })) zone
       (subst
       (λ (o : PointWatch). DecidesFor site kept panel done (taken ++ answer ∷ [])
       (record {

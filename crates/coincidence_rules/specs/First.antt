@@ -16,7 +16,9 @@ use Rattle.coincidence_rules.specs.Alarm.{is_in_alarm}
 abbrev pub tells_first : Site → Retained → List Done → ℕ → ℕ → ℕ → Answer → Bool
 tells_first site kept done within zone tick answer =
     ((is_of site zone answer.point && is_detector site answer.point) && is_counted site kept done answer)
-    && ((nat_lt (floor_before site zone tick done) answer.stamp.0 && nat_lt (cancelled_before zone tick done) answer.stamp.0) && nat_le tick (answer.stamp.0 + within))
+    && ((nat_lt (floor_before site zone tick done) answer.stamp.0
+    && nat_lt (cancelled_before zone tick done) answer.stamp.0)
+    && nat_le tick (answer.stamp.0 + within))
 
 abbrev pub is_first_by : Site → Retained → List Done → List Answer → ℕ → ℕ → Option Rule → Bool
 is_first_by site kept done answers zone tick (Some (B within)) =

@@ -41,7 +41,14 @@ impl Model for ToldSoFar {
 
     ghost Value = { Told };
 
-    ghost view = { λ t. record { opened = t.opened.items; steps = t.steps.items; tick = t.tick; faces = t.faces.items; answers = t.answers; rank = t.rank } };
+    ghost view = { λ t. record {
+      opened = t.opened.items;
+      steps = t.steps.items;
+      tick = t.tick;
+      faces = t.faces.items;
+      answers = t.answers;
+      rank = t.rank;
+    } };
 }
 
 impl ToldSoFar {

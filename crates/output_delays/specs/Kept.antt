@@ -3,7 +3,7 @@ use Rattle.std.specs.Prelude.{◌≡◌, ℕ, List, [], ◌∷◌, Option, Some,
 use Rattle.tick_units.specs.declared.tick.Tick.{Tick}
 use Rattle.tick_units.specs.Earliest.{IsFalling}
 use Rattle.output_delays.specs.declared.overrides.Overrides.{Overrides}
-use Rattle.output_delays.specs.Overrides.{AllUpTo, last_before}
+use Rattle.output_delays.specs.Overrides.{last_before}
 
 abbrev pub latest_of : List ℕ → Option Tick
 latest_of [] = None

@@ -2,7 +2,6 @@
 -- newest first.
 use Rattle.std.specs.Prelude.{ℕ, ◌-◌, ◌==◌, ◌&&◌, ◌||◌, Bool, not, List, [], ◌∷◌, Option, Some, None, if◌then◌else◌}
 use Rattle.std.specs.Prelude.{nat_le}
-use Rattle.std.specs.List.{find}
 use Rattle.site_types.specs.declared.output.Output.{Output}
 use Rattle.site_types.specs.declared.requests.Requests.{Requests}
 use Rattle.site_types.specs.declared.site.Site.{Site}

@@ -1,10 +1,10 @@
 -- What is kept of the turns, overrides and switches so far.
-use Rattle.std.specs.Prelude.{◌≡◌, ◌+◌, ◌==◌, ℕ, Bool, List, [], ◌∷◌, Option, Some, None, if◌then◌else◌}
-use Rattle.std.specs.List.{filter_map, range_with_len}
+use Rattle.std.specs.Prelude.{◌≡◌, ◌+◌, ◌==◌, ℕ, Bool, List, Option, Some, None, if◌then◌else◌}
+use Rattle.std.specs.List.{filter_map}
 use Rattle.tick_units.specs.declared.tick.Tick.{Tick}
 use Rattle.site_types.specs.declared.site.Site.{Site}
 use Rattle.site_types.specs.Limits.{output_bits}
-use Rattle.tick_units.specs.Earliest.{earliest, earliest_of}
+use Rattle.tick_units.specs.Earliest.{earliest_of}
 use Rattle.output_delays.specs.declared.delays.Delays.{Delays}
 use Rattle.output_delays.specs.declared.timer.Timer.{Timer}
 use Rattle.output_delays.specs.Kept.{Keeps}

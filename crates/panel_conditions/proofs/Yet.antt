@@ -54,9 +54,11 @@ module _ (site : Site) (kept : Retained) (panel : ℕ) (d : Done) (done : List D
     first_told-yet : (zone within : ℕ)
         → list_any (tells_first site (d ∷ done) within zone tick) taken ≡ list_any (tells_first site done within zone tick) taken
     first_told-yet zone within =
-        ap (λ floor. list_any (λ f. (tells site zone f.counted && not (tells site zone f.manual)) && ((nat_lt floor f.stamp.0 && nat_lt (cancelled_before zone tick (d ∷ done)) f.stamp.0) && nat_le tick (f.stamp.0 + within))) taken)
+        ap (λ floor. list_any (λ f. (tells site zone f.counted && not (tells site zone f.manual))
+        && ((nat_lt floor f.stamp.0 && nat_lt (cancelled_before zone tick (d ∷ done)) f.stamp.0) && nat_le tick (f.stamp.0 + within))) taken)
         (floor-yet site zone tick d done le)
-        ∙ ap (λ cancelled. list_any (λ f. (tells site zone f.counted && not (tells site zone f.manual)) && ((nat_lt (floor_before site zone tick done) f.stamp.0 && nat_lt cancelled f.stamp.0) && nat_le tick (f.stamp.0 + within))) taken)
+        ∙ ap (λ cancelled. list_any (λ f. (tells site zone f.counted && not (tells site zone f.manual))
+        && ((nat_lt (floor_before site zone tick done) f.stamp.0 && nat_lt cancelled f.stamp.0) && nat_le tick (f.stamp.0 + within))) taken)
         (cancelled-yet zone tick d done le)
 
     first_by-yet : (zone : ℕ) (rule : Option Rule)

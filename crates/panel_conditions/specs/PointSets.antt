@@ -1,5 +1,5 @@
 -- What is made of sets of points: one point put in or taken out, and two sets joined or parted.
-use Rattle.std.specs.Prelude.{ℕ, Bool, List, [], ◌∷◌, Option, Some, None, replicate, slice_index, slice_index_or}
+use Rattle.std.specs.Prelude.{ℕ, Bool, List, [], ◌∷◌, Option, Some, None, slice_index, slice_index_or}
 use Rattle.std.specs.Prelude.{bit_or, bit_and, ◌&&◌, ◌==◌, nat_le, if◌then◌else◌}
 use Rattle.std.specs.Int.{w128, bit_not}
 use Rattle.site_types.specs.declared.point.Point.{Point}

@@ -1,6 +1,6 @@
 -- What of a panel's own is newly shown at a turn, when its buzzer sounds, and how often it entered the fire
 -- alarm condition. Each zone in alarm, each first state and each fault is one thing.
-use Rattle.std.specs.Prelude.{ℕ, zero, suc, ◌+◌, Bool, false, not, List, [], ◌∷◌, slice_index, slice_index_or, ◌==◌}
+use Rattle.std.specs.Prelude.{ℕ, ◌+◌, Bool, not, List, [], ◌∷◌, slice_index, slice_index_or, ◌==◌}
 use Rattle.std.specs.Prelude.{◌&&◌, ◌||◌, nat_lt, if◌then◌else◌}
 use Rattle.site_types.specs.declared.site.Site.{Site}
 use Rattle.site_types.specs.declared.retained.Retained.{Retained}

@@ -1,5 +1,5 @@
 -- The faults that a panel shows after a turn, and the word that it tells the others.
-use Rattle.std.specs.Prelude.{ℕ, Bool, false, not, List, [], ◌∷◌, ◌==◌, ◌||◌, replicate, slice_index, slice_index_or}
+use Rattle.std.specs.Prelude.{ℕ, Bool, not, List, [], ◌∷◌, ◌==◌, ◌||◌, slice_index, slice_index_or}
 use Rattle.site_types.specs.declared.site.Site.{Site}
 use Rattle.site_types.specs.declared.retained.Retained.{Retained}
 use Rattle.site_types.specs.declared.fault_set.FaultSet.{FaultSet}

@@ -43,7 +43,8 @@ release_found site done taken zone tick =
 abbrev pub tells_first : Site → List Done → ℕ → ℕ → ℕ → Finding → Bool
 tells_first site done within zone tick f =
     (tells site zone f.counted && not (tells site zone f.manual))
-    && ((nat_lt (floor_before site zone tick done) f.stamp.0 && nat_lt (cancelled_before zone tick done) f.stamp.0) && nat_le tick (f.stamp.0 + within))
+    && ((nat_lt (floor_before site zone tick done) f.stamp.0
+    && nat_lt (cancelled_before zone tick done) f.stamp.0) && nat_le tick (f.stamp.0 + within))
 
 abbrev pub first_found_by : Site → List Done → List Finding → ℕ → ℕ → Option Rule → Bool
 first_found_by site done taken zone tick (Some (B within)) =

@@ -62,7 +62,14 @@ outside_is site panel cables one two three four' broken shorted a b c d x y =
     (four (λ line. (status_on (loop_of site panel line) (cables line)).shorted) one.shorted two.shorted three.shorted four'.shorted
     (ap (λ s. s.shorted) a) (ap (λ s. s.shorted) b) (ap (λ s. s.shorted) c) (ap (λ s. s.shorted) d)) in
     ap (λ n. (let o : Outside = record { supply = 0; broken = n; shorted = shorted; silent = 0; links = 0; unconfirmed = 0 } in o)) opened
-    ∙ ap (λ n. (let o : Outside = record { supply = 0; broken = mask_of 4 (λ k. (status_on (loop_of site panel (k + 1)) (cables (k + 1))).broken); shorted = n; silent = 0; links = 0; unconfirmed = 0 } in o)) shorts
+    ∙ ap (λ n. (let o : Outside = record {
+      supply = 0;
+      broken = mask_of 4 (λ k. (status_on (loop_of site panel (k + 1)) (cables (k + 1))).broken);
+      shorted = n;
+      silent = 0;
+      links = 0;
+      unconfirmed = 0;
+    } in o)) shorts
 
 -- what the poller was told of the cables is what they are at
 module _ (site : Site) (panel : ℕ) (before : List Moment) where
@@ -77,8 +84,30 @@ module _ (site : Site) (panel : ℕ) (before : List Moment) where
 
   outside_told : outside_of site panel (told_cable (reports site panel before)) ≡ outside_at site panel before
   outside_told =
-      ap (λ n. (let o : Outside = record { supply = 0; broken = n; shorted = mask_of 4 (λ k. (status_on (loop_of site panel (k + 1)) (cables_told (k + 1))).shorted); silent = 0; links = 0; unconfirmed = 0 } in o)) (mask_same 4 (λ k. (status_on (loop_of site panel (k + 1)) (cables_told (k + 1))).broken) (λ k. (status_on (loop_of site panel (k + 1)) (cables_stood (k + 1))).broken) (λ k small. ap (λ c. (status_on (loop_of site panel (k + 1)) c).broken) (same_cables (k + 1) (omega arith) (omega (arith, small)))))
-      ∙ ap (λ n. (let o : Outside = record { supply = 0; broken = mask_of 4 (λ k. (status_on (loop_of site panel (k + 1)) (cables_stood (k + 1))).broken); shorted = n; silent = 0; links = 0; unconfirmed = 0 } in o)) (mask_same 4 (λ k. (status_on (loop_of site panel (k + 1)) (cables_told (k + 1))).shorted) (λ k. (status_on (loop_of site panel (k + 1)) (cables_stood (k + 1))).shorted) (λ k small. ap (λ c. (status_on (loop_of site panel (k + 1)) c).shorted) (same_cables (k + 1) (omega arith) (omega (arith, small)))))
+      ap (λ n. (let o : Outside = record {
+        supply = 0;
+        broken = n;
+        shorted =
+            mask_of 4 (λ k. (status_on (loop_of site panel (k + 1)) (cables_told (k + 1))).shorted);
+        silent = 0;
+        links = 0;
+        unconfirmed = 0;
+      } in
+      o)) (mask_same 4 (λ k. (status_on (loop_of site panel (k + 1)) (cables_told (k + 1))).broken) (λ k.
+      (status_on (loop_of site panel (k + 1)) (cables_stood (k + 1))).broken) (λ k small.
+      ap (λ c. (status_on (loop_of site panel (k + 1)) c).broken) (same_cables (k + 1) (omega arith) (omega (arith, small)))))
+      ∙ ap (λ n. (let o : Outside = record {
+        supply = 0;
+        broken =
+            mask_of 4 (λ k. (status_on (loop_of site panel (k + 1)) (cables_stood (k + 1))).broken);
+        shorted = n;
+        silent = 0;
+        links = 0;
+        unconfirmed =
+            0;
+      } in o)) (mask_same 4 (λ k. (status_on (loop_of site panel (k + 1)) (cables_told (k + 1))).shorted) (λ k.
+      (status_on (loop_of site panel (k + 1)) (cables_stood (k + 1))).shorted) (λ k small.
+      ap (λ c. (status_on (loop_of site panel (k + 1)) c).shorted) (same_cables (k + 1) (omega arith) (omega (arith, small)))))
 
 own_turn : (site : Site) (kept : Retained) (done : List Done) (panel : ℕ) (before : List Moment)
     → hold_turns site kept done panel (Turned panel Hold ∷ before) ≡ hold_turn site kept done panel before ∷ hold_turns site kept done panel before

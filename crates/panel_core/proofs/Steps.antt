@@ -100,7 +100,8 @@ module _ (site : Site) (kept : Retained) (done : List Done) (panel : ℕ) (befor
       found_count site kept panel done (decided site panel before) ys ∙ length-take (turn_count (answer_lane site panel before))
       (answer_lane site panel before).items ∙ omega arith in
       lane_is _ _ _ _ _ _
-      (sym (drop-append-le (taken_by_hold site panel before) (found site kept done panel before) (findings_after site kept panel done (decided site panel before) ys) few) ∙ ap (drop (taken_by_hold site panel before)) found_after_decide)
+      (sym (drop-append-le (taken_by_hold site panel before) (found site kept done panel before) (findings_after site kept panel done
+      (decided site panel before) ys) few) ∙ ap (drop (taken_by_hold site panel before)) found_after_decide)
       (omega (arith, count, decide_takes site panel before, taken_decide site panel before))
       refl
 

@@ -117,7 +117,13 @@ module _ (site : Site) (kept : Retained) (done : List Done) (valid : IsValid sit
 pub lone_zone_shown : LoneZoneIsShown
 lone_zone_shown site kept done stored m zone plan after is signal =
     let of = of_plan site kept done after.valid zone plan is in
-    elim (lone_shown site kept done m zone (record { valid = after.valid; run = after.run; ended = after.ended; panel = subst (IsPanel site.panels) (sym of) (plan_panel site kept done after.valid zone plan is) }) signal) [
+    elim (lone_shown site kept done m zone (record {
+      valid = after.valid;
+      run = after.run;
+      ended = after.ended;
+      panel =
+          subst (IsPanel site.panels) (sym of) (plan_panel site kept done after.valid zone plan is);
+    }) signal) [
       | inl h ↦ inl (alarm_in_own site kept done after.valid zone plan is m (subst (λ q. holds_alarm site kept done q m zone ≡ true) of h))
       | inr h ↦ inr (first_in_own site kept done after.valid zone plan is m (subst (λ q. holds_first site kept done q m zone ≡ true) of h))
     ]

@@ -64,7 +64,8 @@ module _ (site : Site) (kept : Retained) (done : List Done) (output : ℕ) (vali
           let t = at_drive in
           within_latest site (facts_of site kept done) (panel_of_output site output) k
           (released_at_drive site (facts_of site kept done) (panel_of_output site output) (up_to k m)) m (omega (arith, t, one))
-          ∙ ap (λ h. stays_within site (facts_of site kept done) (panel_of_output site output) k (released_at_drive site (facts_of site kept done) (panel_of_output site output) h) (Turned (panel_of_output site output) Drive ∷ before_turn (panel_of_output site output) Drive m))
+          ∙ ap (λ h. stays_within site (facts_of site kept done) (panel_of_output site output) k (released_at_drive site (facts_of site kept done)
+          (panel_of_output site output) h) (Turned (panel_of_output site output) Drive ∷ before_turn (panel_of_output site output) Drive m))
           (up_to_past k (Turned (panel_of_output site output) Drive ∷ before_turn (panel_of_output site output) Drive m) m
           (turn_past (panel_of_output site output) Drive m (omega (arith, t, one))) (omega (arith, l, d)))
 
@@ -166,9 +167,11 @@ module _ (site : Site) (kept : Retained) (done : List Done) (m : List Moment) (o
       (facts_of site kept done (panel_of_output site output) (before_effect site kept done m (panel_of_output site output)))
   own_grow = record {
     released = λ zone l t. (let g = parts (panel_of_zone site zone == panel_of_output site output) _ t in
-        subst (λ q. holds_released site kept done q (kept_at site.panels (panel_of_output site output) q (before_effect site kept done m (panel_of_output site output))) zone ≡ true) (sym (eq_is (panel_of_zone site zone) (panel_of_output site output) g.0)) g.1);
+        subst (λ q. holds_released site kept done q (kept_at site.panels (panel_of_output site output) q (before_effect site kept done m
+        (panel_of_output site output))) zone ≡ true) (sym (eq_is (panel_of_zone site zone) (panel_of_output site output) g.0)) g.1);
     by_hand = λ zone l t. (let g = parts (panel_of_zone site zone == panel_of_output site output) _ t in
-        subst (λ q. holds_by_hand site kept done q (kept_at site.panels (panel_of_output site output) q (before_effect site kept done m (panel_of_output site output))) zone ≡ true) (sym (eq_is (panel_of_zone site zone) (panel_of_output site output) g.0)) g.1);
+        subst (λ q. holds_by_hand site kept done q (kept_at site.panels (panel_of_output site output) q (before_effect site kept done m
+        (panel_of_output site output))) zone ≡ true) (sym (eq_is (panel_of_zone site zone) (panel_of_output site output) g.0)) g.1);
     faulty = λ source t. absurd cc;
   }
 

@@ -144,5 +144,7 @@ ConfirmedWhileOn =
 abbrev pub LastsFrom : Type 0
 LastsFrom =
     (site : Site) (zone : ZonePlan) (output : Output) (marker : Marker)
-    → map (λ tick. has_lasted 2 (on_run (with_output site zone output marker Routing 0) (facts_between 2 6 7 never) nothing_retained [] 0 (moments (idle_ticks tick)))) (1 ∷ 2 ∷ 3 ∷ 4 ∷ 5 ∷ 6 ∷ 7 ∷ 8 ∷ 9 ∷ [])
+    → map (λ tick. has_lasted 2 (on_run (with_output site zone output marker Routing 0) (facts_between 2
+    6 7 never) nothing_retained [] 0 (moments (idle_ticks tick)))) (1 ∷ 2 ∷ 3 ∷ 4 ∷ 5 ∷ 6 ∷ 7 ∷ 8 ∷ 9
+    ∷ [])
     ≡ false ∷ false ∷ false ∷ true ∷ true ∷ false ∷ false ∷ false ∷ true ∷ []

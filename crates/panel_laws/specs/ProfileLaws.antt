@@ -109,5 +109,6 @@ DisablementIsShown =
     → NoneBetween setting a.tick (tick_of moments) (operations site kept moments).done
     → (in_force site kept setting (tick_of moments) (operations site kept moments).done
     ≡ value_set a.request.operation)
-    × (shows_setting site (face_with site kept (operations site kept moments).done stored a.request.panel moments) setting
+    × (shows_setting site (face_with site kept (operations site kept moments).done stored a.request.panel
+    moments) setting
     ≡ value_set a.request.operation)

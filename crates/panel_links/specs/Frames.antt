@@ -17,7 +17,8 @@ abbrev pub group_words : ℕ → ℕ → (ℕ → Word) → List Word
 group_words panels group words = word_in panels group words 0 ∷ word_in panels group words 1
     ∷ word_in panels group words 2 ∷ word_in panels group words 3 ∷ []
 
--- what a panel sends over its links in a tick: its number, the group that the tick carries, and the words that it keeps of that
+-- what a panel sends over its links in a tick: its number, the group that the tick carries, and the
+-- words that it keeps of that
 abbrev pub frame_of : ℕ → (ℕ → Word) → ℕ → ℕ → Frame
 frame_of panels words from tick =
     record { from = from; group = group_of panels tick; words = group_words panels (group_of panels tick) words }

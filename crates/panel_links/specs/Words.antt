@@ -1,5 +1,5 @@
 -- How the words of panels go round a ring.
-use Rattle.std.specs.Prelude.{◌≡◌, ◌⊎◌, ℕ, ◌+◌, ◌-◌, ◌/◌, ◌%◌, ◌<◌, ◌≤◌, ◌==◌, nat_le, Bool, true, false, List, []}
+use Rattle.std.specs.Prelude.{◌≡◌, ◌⊎◌, ℕ, ◌+◌, ◌-◌, ◌/◌, ◌%◌, ◌<◌, ◌≤◌, ◌==◌, nat_le, Bool, true, List, []}
 use Rattle.std.specs.Prelude.{◌∷◌, if◌then◌else◌}
 use Rattle.site_types.specs.declared.word.Word.{Word}
 use Rattle.site_types.specs.Words.{empty_word}

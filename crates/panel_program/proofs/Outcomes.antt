@@ -40,7 +40,16 @@ ran_nothing site bytes old outcome status ticks = inl (record { status = status;
 pub ran_opening : (site : Site) (bytes : List ℕ) (old new : Option (List ℕ)) (outcome : Outcome) → IsValid site → outcome.status ≡ 7
     → outcome.ticks ≡ 0 → GrowsByFront old new (text_of site []) → Ran site bytes old new outcome
 ran_opening site bytes old new outcome valid status ticks broke =
-    inr (inr (record { consumed = []; rest = bytes; whole = refl; ticks = ticks; promises = keeps site [] valid tt; status = status; broke = front_whole site bytes [] bytes old new refl (omega arith) broke }))
+    inr (inr (record {
+      consumed = [];
+      rest = bytes;
+      whole = refl;
+      ticks = ticks;
+      promises = keeps site [] valid tt;
+      status = status;
+      broke =
+          front_whole site bytes [] bytes old new refl (omega arith) broke;
+    }))
 
 -- a later write failed
 pub ran_until : (site : Site) (bytes : List ℕ) (old mid new : Option (List ℕ)) (run : Run) (outcome : Outcome) → IsValid site → outcome.status ≡ 7

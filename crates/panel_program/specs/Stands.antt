@@ -27,7 +27,8 @@ use Rattle.panel_core.specs.Stands.{StandsFor as SystemStands}
 use Rattle.panel_program.specs.declared.run.Run.{Run}
 use Rattle.panel_program.specs.declared.run_end.RunEnd.{RunEnd}
 use Rattle.panel_program.specs.declared.run_end.RunEnd.TheVariants.{Ended, Refused, NotBuilt, TooManyBytes, ReadFault}
-use Rattle.panel_program.specs.Records.{Block, Progress, at_beginning, closed, after_line, new_block, progress_of, moments_in}
+use Rattle.panel_program.specs.Records.{Block, Progress, at_beginning, closed, after_line, new_block, progress_of}
+use Rattle.panel_program.specs.Records.{moments_in}
 use Rattle.panel_program.specs.Records.{is_built, is_built_event, built_lines, ticks_run}
 use Rattle.panel_program.specs.declared.taken.Taken.{Taken}
 use Rattle.panel_program.specs.Endings.{number_behind}

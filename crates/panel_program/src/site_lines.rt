@@ -4,7 +4,8 @@ ghost use Rattle.std.specs.Prelude.{◌≡◌, ◌≤◌, ◌+◌, ◌++◌, OnO
 ghost use Rattle.std.specs.Fmt.{signed_decimal};
 ghost use Rattle.panel_edges.specs.Contents.{Grows, GrowsByFront};
 ghost use Rattle.panel_edges.specs.Faults.{HasCause, Rose};
-ghost use Rattle.panel_program.specs.Refusals.{named_text, range_text, refusal_status, refusal_text, stop_status, stop_text};
+ghost use Rattle.panel_program.specs.Refusals.{named_text, range_text, refusal_status, refusal_text, stop_status};
+ghost use Rattle.panel_program.specs.Refusals.{stop_text};
 ghost use Rattle.panel_program.specs.Writings.{Says};
 
 use crate::outcome::Outcome;

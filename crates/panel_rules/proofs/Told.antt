@@ -217,12 +217,14 @@ asked_finds : (site : Site) (panel : ℕ) (before : List Moment) (place point : 
     (tick_of before) (line_at place) (address_at site.format (tick_of before) place) point)
 unfolding places
 asked_finds site panel before place point known few h =
-    subst (λ xs. IsFound xs (answer_of site panel (λ p. state_of p before) (λ line piece. piece_of panel line piece before) (tick_of before) (line_at place) (address_at site.format (tick_of before) place) point))
+    subst (λ xs. IsFound xs (answer_of site panel (λ p. state_of p before) (λ line piece. piece_of panel line piece before) (tick_of before)
+    (line_at place) (address_at site.format (tick_of before) place) point))
     (sym (asked_in_places site panel (λ p. state_of p before) (λ line piece. piece_of panel line piece before) (tick_of before) known))
     (found_in (answer_at site panel (λ p. state_of p before) (λ line piece. piece_of panel line piece before) (tick_of before)) (range_with_len 0 32)
     place place _
     (range_get 0 32 place few ∙ ap Some (omega arith))
-    (ap (option_map (answer_of site panel (λ p. state_of p before) (λ line piece. piece_of panel line piece before) (tick_of before) (line_at place) (address_at site.format (tick_of before) place))) h))
+    (ap (option_map (answer_of site panel (λ p. state_of p before) (λ line piece. piece_of panel line piece before) (tick_of before) (line_at place)
+    (address_at site.format (tick_of before) place))) h))
 
 -- an answer of a point with a stamp is there
 pub record IsAnswered (xs : List Answer) (point tick : ℕ) : Type 0 where
@@ -253,11 +255,13 @@ polled site panels panel moments point plan tick lies of_panel turn asks =
     let found = asked_finds site panel before place point (omega (arith, lies.address.0, lies.address.1)) (omega (arith, lies.line.0, lies.line.1))
     stands in
     let there = get_behind (answers site panel before) (asked site panel before) found.place ∙ found.is in
+    let at = found.place + length (answers site panel before) in
+    let own = ap (λ xs. slice_get xs at) (own_answers site panel before) ∙ there in
     record {
-      place = found.place + length (answers site panel before);
+      place = at;
       answer = answer_of site panel (λ p. state_of p before) (λ line piece. piece_of panel line piece before) (tick_of before) (line_at place)
           (address_at site.format (tick_of before) place) point;
-      is = answers_front site panel (Turned panel Poll ∷ before) moments _ _ turn.turn (ap (λ xs. slice_get xs (found.place + length (answers site panel before))) (own_answers site panel before) ∙ there);
+      is = answers_front site panel (Turned panel Poll ∷ before) moments _ _ turn.turn own;
       point_is = refl;
       stamp_is = turn.at;
     }

@@ -12,6 +12,7 @@ use Rattle.coincidence_rules.specs.declared.finding.Finding.{Finding}
 use Rattle.coincidence.specs.declared.decide.Decide.{Decide}
 use Rattle.coincidence.specs.Premises.{IsOwn, MayTake}
 use Rattle.coincidence.specs.Stands.{DecidesFor}
+use Rattle.part_trials.specs.declared.decide_bench.DecideBench.{DecideBench}
 
 -- the answer stands before another one, or is it: it was given in an earlier tick, or in the same one by a
 -- point that isn't later in the site's list
@@ -34,6 +35,10 @@ pub record IsReady (site : Site) (panel : ℕ) (decide : Decide) (answers : Lane
   pub lanes : (answers.quota ≡ 32) × (answers.capacity ≡ 64) × (findings.quota ≡ 32)
       × (findings.capacity ≡ 64)
   pub few : length answers.items ≤ 32
+
+-- a bench may go on: its part is ready
+abbrev pub MayGoOn : DecideBench → Type 0
+MayGoOn bench = IsReady bench.site bench.panel bench.decide bench.answers bench.findings bench.stamp.0 bench.point bench.at.0
 
 -- an answer later than all before it may be put, and there is room for it
 pub record MayPut (site : Site) (panel : ℕ) (answers : LaneState Answer) (stamp point at : ℕ) (answer :

@@ -2,13 +2,12 @@
 
 ghost use Rattle.std.specs.Prelude.{◌≡◌, true, IfOk};
 
+use anyhow::{Result, bail};
 use arrayvec::ArrayVec;
 use coincidence::{Decide, Finding};
 use site_types::{Answer, Event, Operation, Retained, Site};
 use std::alloc::Global;
-use std::test::Fail;
 use tick_units::{Lane, Tick};
-use trial_base::site_of;
 
 /// A Decide, and what lies before and behind it. It refuses an answer or an operation that may not come next.
 #[derive(Drop)]
@@ -26,18 +25,22 @@ pub(crate) struct DecideBench {
 }
 
 impl DecideBench {
-    ghost use Rattle.part_trials.specs.Bench.{IsReady, MayPut, MayDo};
+    ghost use Rattle.part_trials.specs.Bench.{MayDo, MayGoOn, MayPut};
     ghost use Rattle.coincidence.specs.Premises.{IsOwn};
+    ghost use Rattle.site_types.specs.Valid.{IsValid};
 
     /// A panel of a site, with nothing retained.
-    pub(crate) fn open(alloc: Global, text: &str, panel: u8) -> Result<DecideBench, Fail>
-        ensures { IfOk result (λ bench. IsReady bench.site bench.panel bench.decide bench.answers
-            bench.findings bench.stamp.0 bench.point bench.at.0) }
+    pub(crate) fn open(alloc: Global, site: Site, panel: u8) -> Result<DecideBench>
+        requires { IsValid site }
+        ensures { IfOk result MayGoOn }
     {
-        let site = site_of(alloc, text)?;
-        let decide = Decide::new(alloc, &site, panel, &Retained::empty())?;
-        let answers = Lane::new(alloc, 32, 64)?;
-        let findings = Lane::new(alloc, 32, 64)?;
+        let (Ok(decide), Ok(answers), Ok(findings)) = (
+            Decide::new(alloc, &site, panel, &Retained::empty()),
+            Lane::new(alloc, 32, 64),
+            Lane::new(alloc, 32, 64),
+        ) else {
+            bail!("no memory");
+        };
         Ok(DecideBench {
             site,
             panel,
@@ -51,15 +54,17 @@ impl DecideBench {
     }
 
     /// Begins anew, with no answer given and nothing done.
-    pub(crate) fn begin_anew(&mut self, alloc: Global) -> Result<(), Fail>
-        requires { IsReady self.old.site self.old.panel self.old.decide self.old.answers
-            self.old.findings self.old.stamp.0 self.old.point self.old.at.0 }
-        ensures { IsReady self.new.site self.new.panel self.new.decide self.new.answers
-            self.new.findings self.new.stamp.0 self.new.point self.new.at.0 }
+    pub(crate) fn begin_anew(&mut self, alloc: Global) -> Result<()>
+        requires { MayGoOn self.old }
+        ensures { MayGoOn self.new }
     {
-        let decide = Decide::new(alloc, &self.site, self.panel, &Retained::empty())?;
-        let answers = Lane::new(alloc, 32, 64)?;
-        let findings = Lane::new(alloc, 32, 64)?;
+        let (Ok(decide), Ok(answers), Ok(findings)) = (
+            Decide::new(alloc, &self.site, self.panel, &Retained::empty()),
+            Lane::new(alloc, 32, 64),
+            Lane::new(alloc, 32, 64),
+        ) else {
+            bail!("no memory");
+        };
         self.decide = decide;
         self.answers = answers;
         self.findings = findings;
@@ -73,16 +78,13 @@ impl DecideBench {
         &self.site
     }
 
-    /// Puts an answer before Decide, later than those before it: of a later tick, or of a point that stands
-    /// later in the site's list.
-    pub(crate) fn put(&mut self, answer: &Answer) -> Result<(), Fail>
-        requires { IsReady self.old.site self.old.panel self.old.decide self.old.answers
-            self.old.findings self.old.stamp.0 self.old.point self.old.at.0 }
-        ensures { IsReady self.new.site self.new.panel self.new.decide self.new.answers
-            self.new.findings self.new.stamp.0 self.new.point self.new.at.0 }
+    /// Puts an answer before Decide, later than those before it: of a later tick, or of a point that stands later in the site's list.
+    pub(crate) fn put(&mut self, answer: &Answer) -> Result<()>
+        requires { MayGoOn self.old }
+        ensures { MayGoOn self.new }
     {
         if !self.may_put(answer) {
-            return Err(Fail::from("an answer that may not come next"));
+            bail!("an answer that may not come next");
         }
         self.answers.put(*answer);
         self.stamp = answer.stamp;
@@ -91,9 +93,7 @@ impl DecideBench {
     }
 
     fn may_put(&self, answer: &Answer) -> bool
-        ensures { result ≡ true
-            → MayPut self.now.site self.now.panel self.now.answers self.now.stamp.0 self.now.point
-            self.now.at.0 answer.now }
+        ensures { result ≡ true → MayPut self.now.site self.now.panel self.now.answers self.now.stamp.0 self.now.point self.now.at.0 answer.now }
     {
         let later = answer.stamp.0 > self.stamp.0
             || answer.stamp.0 == self.stamp.0 && answer.point > self.point;
@@ -111,14 +111,12 @@ impl DecideBench {
     }
 
     /// Decide has its turn; what it finds, one for each answer that was put.
-    pub(crate) fn turn(&mut self) -> Result<ArrayVec<Finding, 32>, Fail>
-        requires { IsReady self.old.site self.old.panel self.old.decide self.old.answers
-            self.old.findings self.old.stamp.0 self.old.point self.old.at.0 }
-        ensures { IsReady self.new.site self.new.panel self.new.decide self.new.answers
-            self.new.findings self.new.stamp.0 self.new.point self.new.at.0 }
+    pub(crate) fn turn(&mut self) -> Result<ArrayVec<Finding, 32>>
+        requires { MayGoOn self.old }
+        ensures { MayGoOn self.new }
     {
         if self.findings.len() > 0 || self.findings.put_count() >= 1_000_000 {
-            return Err(Fail::from("no room for what is found"));
+            bail!("no room for what is found");
         }
         self.decide.turn(&mut self.answers, &mut self.findings);
         let mut found = ArrayVec::new();
@@ -126,16 +124,13 @@ impl DecideBench {
         Ok(found)
     }
 
-    /// An operation was done in a tick, later than the last one and not earlier than the last answer, of
-    /// which none may lie before Decide.
-    pub(crate) fn apply(&mut self, operation: &Operation, at: Tick) -> Result<(), Fail>
-        requires { IsReady self.old.site self.old.panel self.old.decide self.old.answers
-            self.old.findings self.old.stamp.0 self.old.point self.old.at.0 }
-        ensures { IsReady self.new.site self.new.panel self.new.decide self.new.answers
-            self.new.findings self.new.stamp.0 self.new.point self.new.at.0 }
+    /// An operation was done in a tick, later than the last one and not earlier than the last answer, of which none may lie before Decide.
+    pub(crate) fn apply(&mut self, operation: &Operation, at: Tick) -> Result<()>
+        requires { MayGoOn self.old }
+        ensures { MayGoOn self.new }
     {
         if !self.may_apply(operation, at) {
-            return Err(Fail::from("an operation that may not come next"));
+            bail!("an operation that may not come next");
         }
         self.decide.apply(operation, at);
         self.at = at;
@@ -143,9 +138,7 @@ impl DecideBench {
     }
 
     fn may_apply(&self, operation: &Operation, at: Tick) -> bool
-        ensures { result ≡ true
-            → MayDo self.now.site self.now.panel self.now.answers self.now.stamp.0 self.now.at.0
-            operation.now at.0 }
+        ensures { result ≡ true → MayDo self.now.site self.now.panel self.now.answers self.now.stamp.0 self.now.at.0 operation.now at.0 }
     {
         let event = Event::Op {
             panel: self.panel,

@@ -1,23 +1,27 @@
-//! Drawn histories of a site with zones of all types, through Decide and through the plain program.
+//! Drawn histories of a site with eight zones of all types and 32 points, through Decide and through the plain rules.
 
-ghost use Rattle.part_trials.specs.Bench.{IsReady};
+ghost use Rattle.part_trials.specs.Bench.{MayGoOn};
+ghost use Rattle.site_types.specs.Valid.{IsValid};
 
 use crate::decide_bench::DecideBench;
+use anyhow::Result;
 use coincidence::Finding;
-use site_types::{Answer, Heard, Item, Operation};
-use std::alloc::Global;
-use std::process::Abort;
-use std::test::Fail;
+use rand_pcg::Pcg32;
+use site_types::{Answer, Heard, Item, Operation, Site};
+use std::alloc::{AllocError, Global};
 use tick_units::Tick;
-use trial_base::{ALL_TYPES, Cases, DoneAt, Draws, PlainRules};
-
-const HISTORIES: u64 = 2000;
+use trial_base::{Cases, DoneAt, PlainRules};
+use trial_cases::{Sample, below};
 
 const OPERATIONS: usize = 20;
 /// The answers between two operations.
 const STRETCH: usize = 10;
 
 const POINTS: u16 = 32;
+/// How often each case is to come.
+const OFTEN: u32 = 50;
+/// The stream of numbers that is drawn from.
+const STREAM: u64 = 54;
 
 /// How many answers confirmed a zone by each case.
 #[derive(Clone, Copy, Default)]
@@ -38,6 +42,22 @@ impl Tally {
         self.verified = self.verified.saturating_add(cases.verified as u32);
         self.two = self.two.saturating_add(cases.two as u32);
         self.b = self.b.saturating_add(cases.b as u32);
+    }
+
+    // Whether each case is tried often.
+    fn words(&self) -> &'static str {
+        let least = self
+            .manual
+            .min(self.plain)
+            .min(self.c)
+            .min(self.verified)
+            .min(self.two)
+            .min(self.b);
+        if least >= OFTEN {
+            "all alike, and each way to confirm a zone came 50 times or more"
+        } else {
+            "all alike, but some way to confirm a zone came less than 50 times"
+        }
     }
 }
 
@@ -63,34 +83,34 @@ impl History {
     }
 
     // Goes on to the tick and point of the next answer: often in the same tick, at times after a long while.
-    fn go_on(&mut self, draws: &mut Draws) {
-        let next = self.point.saturating_add(1 + draws.below(4) as u16);
-        if draws.below(2) == 0 && next < POINTS {
+    fn go_on(&mut self, draws: &mut Pcg32) {
+        let next = self.point.saturating_add(1 + below(draws, 4) as u16);
+        if below(draws, 2) == 0 && next < POINTS {
             self.point = next;
         } else {
-            let ahead = if draws.below(60) == 0 {
-                draws.below(750)
+            let ahead = if below(draws, 60) == 0 {
+                below(draws, 750)
             } else {
-                draws.below(3)
+                below(draws, 3)
             };
             self.tick = self.tick.saturating_add(1 + ahead);
-            self.point = draws.below(POINTS as u64) as u16;
+            self.point = below(draws, POINTS as u64) as u16;
         }
     }
 }
 
-fn drawn_heard(draws: &mut Draws) -> Heard {
-    match draws.below(8) {
+fn drawn_heard(draws: &mut Pcg32) -> Heard {
+    match below(draws, 8) {
         0 => Heard::Quiet,
         1 => Heard::Silent,
         _ => Heard::Alarm,
     }
 }
 
-fn drawn_operation(draws: &mut Draws) -> Operation {
-    let zone = draws.below(8) as u16;
-    let point = draws.below(POINTS as u64) as u16;
-    match draws.below(12) {
+fn drawn_operation(draws: &mut Pcg32) -> Operation {
+    let zone = below(draws, 8) as u16;
+    let point = below(draws, POINTS as u64) as u16;
+    match below(draws, 12) {
         0 => Operation::Reset,
         1 | 2 => Operation::Cancel(zone),
         3 => Operation::Disable(Item::Zone(zone)),
@@ -103,17 +123,10 @@ fn drawn_operation(draws: &mut Draws) -> Operation {
     }
 }
 
-// The answers up to the next operation, taken in turns of a few, and then the operation, done in the tick of
-// the last answer or the next one.
-fn draw_stretch(
-    bench: &mut DecideBench,
-    history: &mut History,
-    draws: &mut Draws,
-) -> Result<(), Fail>
-    requires { IsReady bench.old.site bench.old.panel bench.old.decide bench.old.answers
-        bench.old.findings bench.old.stamp.0 bench.old.point bench.old.at.0 }
-    ensures { IsReady bench.new.site bench.new.panel bench.new.decide bench.new.answers
-        bench.new.findings bench.new.stamp.0 bench.new.point bench.new.at.0 }
+// The answers up to the next operation, taken in turns of a few, and then the operation, done in the tick of the last answer or the next one.
+fn draw_stretch(bench: &mut DecideBench, history: &mut History, draws: &mut Pcg32) -> Result<()>
+    requires { MayGoOn bench.old }
+    ensures { MayGoOn bench.new }
 {
     for _given in 0..STRETCH {
         history.go_on(draws);
@@ -124,7 +137,7 @@ fn draw_stretch(
         };
         bench.put(&answer)?;
         history.answers.push(answer)?;
-        if draws.below(3) == 0 {
+        if below(draws, 3) == 0 {
             take(bench, history)?;
         }
     }
@@ -133,7 +146,7 @@ fn draw_stretch(
         None => 0,
         Some(done) => done.tick,
     };
-    if history.tick == last || draws.below(2) == 0 {
+    if history.tick == last || below(draws, 2) == 0 {
         history.tick = history.tick.saturating_add(1);
         history.point = 0;
     }
@@ -147,11 +160,9 @@ fn draw_stretch(
 }
 
 // Decide has its turn.
-fn take(bench: &mut DecideBench, history: &mut History) -> Result<(), Fail>
-    requires { IsReady bench.old.site bench.old.panel bench.old.decide bench.old.answers
-        bench.old.findings bench.old.stamp.0 bench.old.point bench.old.at.0 }
-    ensures { IsReady bench.new.site bench.new.panel bench.new.decide bench.new.answers
-        bench.new.findings bench.new.stamp.0 bench.new.point bench.new.at.0 }
+fn take(bench: &mut DecideBench, history: &mut History) -> Result<()>
+    requires { MayGoOn bench.old }
+    ensures { MayGoOn bench.new }
 {
     let found = bench.turn()?;
     for finding in found.as_slice() {
@@ -160,44 +171,52 @@ fn take(bench: &mut DecideBench, history: &mut History) -> Result<(), Fail>
     Ok(())
 }
 
-// Each finding is what the plain program makes of the whole lists.
-fn compare(
-    rt: &impl Abort,
+// Whether each finding is what the plain rules make of the whole lists; and how many answers confirmed by each case.
+fn is_alike(
     alloc: Global,
     bench: &DecideBench,
     history: &History,
-    number: u64,
     tally: &mut Tally,
-) -> Result<(), Fail> {
+) -> Result<bool, AllocError> {
     let plain = PlainRules {
         site: bench.site(),
         panel: 1,
         done: &history.done,
     };
     let judged = plain.judge_all(alloc, &history.answers)?;
-    assert_eq!(rt; history.findings.len(), judged.len());
+    let mut alike = judged.len() == history.findings.len();
     for (plain, finding) in judged.iter().zip(history.findings.iter()) {
-        assert_eq!(rt; plain.finding, *finding, "history {number}");
+        alike = alike && plain.finding == *finding;
         tally.add(&plain.cases);
     }
-    Ok(())
+    Ok(alike)
 }
 
-#[test]
-fn decides_drawn_histories_as_the_plain_program_does(rt: HostRuntime) -> Result<(), Fail> {
-    let alloc = rt.alloc();
-    let mut draws = Draws::from_seed(1);
-    let mut tally = Tally::default();
-    let mut bench = DecideBench::open(alloc, ALL_TYPES, 1)?;
-    for number in 0..HISTORIES {
-        bench.begin_anew(alloc)?;
-        let mut history = History::new(alloc);
-        for _stretch in 0..OPERATIONS {
-            draw_stretch(&mut bench, &mut history, &mut draws)?;
-        }
-        compare(&rt, alloc, &bench, &history, number, &mut tally)?;
+// A drawn history, through both.
+fn try_history(alloc: Global, bench: &mut DecideBench, seed: u64, tally: &mut Tally) -> Result<bool>
+    requires { MayGoOn bench.old }
+    ensures { MayGoOn bench.new }
+{
+    bench.begin_anew(alloc)?;
+    let mut draws = Pcg32::new(seed, STREAM);
+    let mut history = History::new(alloc);
+    for _stretch in 0..OPERATIONS {
+        draw_stretch(bench, &mut history, &mut draws)?;
     }
-    assert!(rt; tally.manual >= 50 && tally.plain >= 50 && tally.c >= 50);
-    assert!(rt; tally.verified >= 50 && tally.two >= 50 && tally.b >= 50);
-    Ok(())
+    Ok(is_alike(alloc, bench, &history, tally)?)
+}
+
+/// As many drawn histories as a sample has: whether what Decide finds is what the plain rules make of each.
+pub(crate) fn try_histories(alloc: Global, site: Site, line: &str) -> Result<String>
+    requires { IsValid site }
+{
+    let sample = Sample::read(line)?;
+    let mut tally = Tally::default();
+    let mut bench = DecideBench::open(alloc, site, 1)?;
+    for seed in sample.seeds() {
+        if !try_history(alloc, &mut bench, seed, &mut tally)? {
+            return Ok(format!(in alloc; "    otherwise by the plain rules: seed {seed}\n")?);
+        }
+    }
+    Ok(format!(in alloc; "    {} histories: {}\n", sample.count, tally.words())?)
 }

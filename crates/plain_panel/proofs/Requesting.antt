@@ -70,7 +70,8 @@ module _ (site : Site) (facts : ℕ → List MomentOf → Facts) where
   pub by_hand_none : (output panel : ℕ) → panel ≡ panel_of_output site output → (history : List MomentOf) → before_latest panel Effect history ≡ None
       → false ≡ is_requested_by_hand site facts output history
   by_hand_none output panel is history none =
-      sym (made_none false (panel_of_output site output) Effect (λ before. is_true_over site output (hand_facts (facts (panel_of_output site output) before))) history (subst (λ (p : ℕ). before_latest p Effect history ≡ None) is none))
+      sym (made_none false (panel_of_output site output) Effect (λ before. is_true_over site output (hand_facts (facts (panel_of_output site output) before))) history
+      (subst (λ (p : ℕ). before_latest p Effect history ≡ None) is none))
 
   pub requested_some : IsValid site → (output panel : ℕ) → panel ≡ panel_of_output site output
       → (seen : List Seen) (history : List MomentOf) (place : ℕ) (d : Seen) →

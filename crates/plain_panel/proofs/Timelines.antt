@@ -16,9 +16,9 @@ use Rattle.face_text.specs.declared.step.Step.{Step}
 use Rattle.face_text.specs.Faces.{same_faces}
 use Rattle.loop_poller.proofs.Windows.{range-more}
 use Rattle.panel_rules.specs.Moments.{Moment, Began, Happened, Turned, Kept, tick_of, up_to}
-use Rattle.panel_rules.specs.Timeline.{answers_now, faces_of, failed_now, failed_ticks, has_answer, is_told, step_of, told}
+use Rattle.panel_rules.specs.Timeline.{answers_now, faces_of, failed_now, failed_ticks, has_answer, is_told, step_of}
 use Rattle.panel_rules.proofs.Stays.{up_to_here}
-use Rattle.plain_panel.specs.Timelines.{step_closed, steps_upto}
+use Rattle.plain_panel.specs.Timelines.{step_closed, step_with, steps_upto}
 
 -- what goes by numbers of a range that pass a test
 filtered_same : {X : Type 0} (f g : ℕ → X) (p q : ℕ → Bool) (first n : ℕ) → ((k : ℕ) → k < first + n → p k ≡ q k)
@@ -59,9 +59,6 @@ up_to_later moment before tick less = rw (after (tick_of (moment ∷ before)) ti
 
 abbrev the_tick : ℕ → Tick
 the_tick n = record { 0 = n }
-
-abbrev the_step : Tick → List Face → List Answered → Bool → Step
-the_step tick faces now failed = record { tick = tick; faces = faces; answers = told now failed }
 
 module _ (site : Site) (kept : Retained) where
   abbrev told_by : List Moment → List Moment → Bool
@@ -169,14 +166,13 @@ module _ (site : Site) (kept : Retained) where
           ∙ ap (λ now. nat_le 1 (tick_of moments) && told_by now (up_to (tick_of moments - 1) moments)) (sym (up_to_here moments))
 
   -- the step, by what is known of it
-  pub step_is : (moments : List Moment) (tick : Tick) (faces : List Face) (now : List Answered) (failed : Bool) → tick_of moments ≡ tick.0
-      → faces ≡ faces_of site kept moments → now ≡ answers_now site kept moments → failed ≡ failed_now site kept moments
-      → the_step tick faces now failed ≡ step_of site kept moments
+  pub step_is : (moments : List Moment) (tick : Tick) (faces : List Face) (now : List Answered) (failed : Bool) → tick_of moments ≡ tick.0 → faces ≡ faces_of site kept moments
+      → now ≡ answers_now site kept moments → failed ≡ failed_now site kept moments → step_with tick faces now failed ≡ step_of site kept moments
   step_is moments tick faces now failed at faces_is now_is failed_is =
-      ap (λ t. the_step t faces now failed) (ap (λ n. the_tick n) (sym at))
-      ∙ ap (λ xs. the_step (the_tick (tick_of moments)) xs now failed) faces_is
-      ∙ ap (λ xs. the_step (the_tick (tick_of moments)) (faces_of site kept moments) xs failed) now_is
-      ∙ ap (λ b. the_step (the_tick (tick_of moments)) (faces_of site kept moments) (answers_now site kept moments) b) failed_is
+      ap (λ t. step_with t faces now failed) (ap (λ n. the_tick n) (sym at))
+      ∙ ap (λ xs. step_with (the_tick (tick_of moments)) xs now failed) faces_is
+      ∙ ap (λ xs. step_with (the_tick (tick_of moments)) (faces_of site kept moments) xs failed) now_is
+      ∙ ap (λ b. step_with (the_tick (tick_of moments)) (faces_of site kept moments) (answers_now site kept moments) b) failed_is
 
   pub closed_is : (moments : List Moment) (b : Bool) (value : Bool) → b ≡ (nat_le 1 (tick_of moments) && is_told site kept moments (tick_of moments))
       → b ≡ value → (if value then Some (step_of site kept moments) else None) ≡ step_closed site kept moments

@@ -28,3 +28,7 @@ pub record Watches (panel : ℕ) (kind : SupplyKind) (before : List Moment) (wat
   pub tick : watched.tick ≡ tick_of before
   pub bad : watched.bad ≡ is_bad kind (supply_calls panel before)
   pub run : watched.run ≡ run_of (bad_turns kind (supply_calls panel before))
+
+-- the run after a turn of Supply in a tick, at which the supply is bad or isn't
+abbrev pub run_with : ℕ → Bool → Option BadRun → Option BadRun
+run_with tick bad run = if bad then Some (record { latest = tick; least = least_of tick run }) else None

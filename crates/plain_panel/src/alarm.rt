@@ -24,8 +24,8 @@ pub fn is_in_alarm(
     zone: usize,
     tick: Tick,
 ) -> bool
-    ensures { result ≡ is_in_alarm_by site.now kept.now (all_done done.now) answers.now zone
-        tick.0 }
+    ensures { result
+        ≡ is_in_alarm_by site.now kept.now (all_done done.now) answers.now zone tick.0 }
 {
     let floor = floor_before(site, zone, tick, done);
     answers.iter().any(|answer| {
@@ -57,8 +57,8 @@ pub fn is_released(
     zone: usize,
     tick: Tick,
 ) -> bool
-    ensures { result ≡ is_released_by site.now kept.now (all_done done.now) answers.now zone
-        tick.0 }
+    ensures { result
+        ≡ is_released_by site.now kept.now (all_done done.now) answers.now zone tick.0 }
 {
     let floor = floor_before(site, zone, tick, done);
     answers.iter().any(|answer| {

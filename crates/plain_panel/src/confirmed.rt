@@ -20,8 +20,8 @@ pub(crate) fn confirms(
     zone: usize,
     answer: &Answer,
 ) -> bool
-    ensures { result ≡ confirms_by site.now kept.now (all_done done.now) answers.now zone
-        answer.now }
+    ensures { result
+        ≡ confirms_by site.now kept.now (all_done done.now) answers.now zone answer.now }
 {
     is_counted(site, kept, done, answer)
         && (is_by_call_point(site, zone, answer.point)

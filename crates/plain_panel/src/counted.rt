@@ -37,8 +37,8 @@ pub(crate) fn is_second(
     answer: &Answer,
     other: &Answer,
 ) -> bool
-    ensures { result ≡ is_second_by site.now kept.now (all_done done.now) zone answer.now
-        other.now }
+    ensures { result
+        ≡ is_second_by site.now kept.now (all_done done.now) zone answer.now other.now }
 {
     let floor = floor_before(site, zone, answer.stamp, done);
     is_of(site, zone, other.point)

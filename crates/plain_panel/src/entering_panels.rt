@@ -3,7 +3,7 @@ ghost use Rattle.site_types.specs.declared.retained.Retained.{Retained as Retain
 ghost use Rattle.site_types.specs.Done.{Done as DoneOf};
 ghost use Rattle.site_types.specs.Valid.{IsValid};
 ghost use Rattle.panel_rules.specs.Moments.{Moment as MomentOf, tick_of};
-ghost use Rattle.plain_panel.specs.Enterings.{AllAsk, AllEnter};
+ghost use Rattle.plain_panel.specs.Enterings.{AllAsk, AllEnter, AllEnterWith};
 ghost use Rattle.plain_panel.specs.Histories.{all_done, moment_of};
 
 use crate::done::Done;
@@ -24,10 +24,8 @@ pub fn step_all(
     moment: &Moment,
 ) -> Result<(), NoMemory>
     requires { AllAsk site.now panels.old }
-    ensures { OnOk result ((first : ℕ) (history : List MomentOf)
-        → AllEnter site.now kept.now (all_done done.now) history first panels.old
-        → tick_of history ≡ tick.0
-        → AllEnter site.now kept.now (all_done done.now) (moment_of moment.now ∷ history) first
+    ensures { OnOk result
+        (AllEnterWith site.now kept.now (all_done done.now) tick.0 (moment_of moment.now) panels.old
         panels.new) }
 {
     for entering in panels.iter_mut() {

@@ -39,8 +39,8 @@ pub struct Network {
 }
 
 impl Network {
-    ghost use Rattle.plain_panel.specs.Network.{HasPanel, IsNotHold, IsOtherTask, StandsFor, outside_told, own_in};
-    ghost use Rattle.plain_panel.specs.Network.{unconfirmed_at};
+    ghost use Rattle.plain_panel.specs.Network.{HasPanel, IsNotHold, IsOtherTask, NetworkHears, NetworkTakes};
+    ghost use Rattle.plain_panel.specs.Network.{ShowsAtHold, StandsFor, TakesHold, TellsOutside, own_in};
 
     /// The panels of a site before its first tick.
     pub fn new(site: &Site) -> Network
@@ -69,16 +69,8 @@ impl Network {
         answers: &[Answer],
         unconfirmed: u32,
     )
-        ensures stands { StandsFor site.now kept.now (all_done done.now) (history before.now)
-            self.old → now.0 ≡ tick_of (history before.now)
-            → (IsPanel site.now panel
-            → answers.now ≡ held_answers site.now panel (TurnedOf panel HoldTask
-            ∷ history before.now))
-            → (IsPanel site.now panel
-            → unconfirmed ≡ unconfirmed_at site.now kept.now (all_done done.now) panel
-            (TurnedOf panel HoldTask ∷ history before.now))
-            → StandsFor site.now kept.now (all_done done.now) (TurnedOf panel HoldTask
-            ∷ history before.now) self.new }
+        ensures stands { TakesHold site.now (history before.now) now.0 panel unconfirmed
+            kept.now (all_done done.now) answers.now self.old self.new }
         ensures panels { self.new.panels ≡ self.old.panels }
     {
         if panel >= 1 && panel <= self.panels {
@@ -100,13 +92,7 @@ impl Network {
     // Shows what a turn of Hold of a panel made.
     fn show(&mut self, now: Tick, panel: u8, word: Word, faults: FaultSet)
         requires { HasPanel self.old panel }
-        ensures stands { (site : SiteOf) (kept : RetainedOf) (done : List DoneOf) (before :
-            List MomentOf) → StandsFor site kept done before self.old → now.0 ≡ tick_of before
-            → faults ≡ faults_with site kept done (tells_fault site kept done) panel
-            (TurnedOf panel HoldTask ∷ before)
-            → word ≡ word_made site kept done (tells_fault site kept done) panel
-            (TurnedOf panel HoldTask ∷ before)
-            → StandsFor site kept done (TurnedOf panel HoldTask ∷ before) self.new }
+        ensures stands { ShowsAtHold now.0 panel word faults self.old self.new }
         ensures panels { self.new.panels ≡ self.old.panels }
     {
         let own = self.own(panel);
@@ -123,10 +109,8 @@ impl Network {
         unconfirmed: u32,
     ) -> Outside
         requires { HasPanel self.now panel }
-        ensures { (kept : RetainedOf) (done : List DoneOf)
-            → StandsFor site.now kept done (history before.now) self.now
-            → now.0 ≡ tick_of (history before.now)
-            → result ≡ outside_told site.now panel (history before.now) unconfirmed }
+        ensures { TellsOutside site.now (history before.now) now.0 panel unconfirmed self.now
+            result }
     {
         Outside {
             supply: shown_supplies(&site.waits, panel, before),
@@ -140,10 +124,8 @@ impl Network {
 
     /// Anything but a turn of Hold befalls the site, after the tick that began last.
     pub fn step(&mut self, now: Tick, moment: &Moment)
-        ensures stands { (site : SiteOf) (kept : RetainedOf) (done : List DoneOf) (before :
-            List MomentOf) → StandsFor site kept done before self.old → now.0 ≡ tick_of before
-            → IsNotHold moment.now
-            → StandsFor site kept done (moment_of moment.now ∷ before) self.new }
+        ensures stands { IsNotHold moment.now
+            → NetworkTakes now.0 (moment_of moment.now) self.old self.new }
         ensures panels { self.new.panels ≡ self.old.panels }
     {
         match *moment {
@@ -155,9 +137,7 @@ impl Network {
     }
 
     fn hear(&mut self, event: &Event)
-        ensures stands { (site : SiteOf) (kept : RetainedOf) (done : List DoneOf) (before :
-            List MomentOf) → StandsFor site kept done before self.old
-            → StandsFor site kept done (HappenedOf event.now ∷ before) self.new }
+        ensures stands { NetworkHears event.now self.old self.new }
         ensures panels { self.new.panels ≡ self.old.panels }
     {
         match *event {
@@ -171,9 +151,7 @@ impl Network {
     }
 
     fn set_link(&mut self, link: u8, up: bool)
-        ensures stands { (site : SiteOf) (kept : RetainedOf) (done : List DoneOf) (before :
-            List MomentOf) → StandsFor site kept done before self.old
-            → StandsFor site kept done (HappenedOf (LinkTold link up) ∷ before) self.new }
+        ensures stands { NetworkHears (LinkTold link up) self.old self.new }
         ensures panels { self.new.panels ≡ self.old.panels }
     {
         if link >= 1 && link <= 8 {
@@ -182,9 +160,8 @@ impl Network {
     }
 
     fn turn(&mut self, now: Tick, panel: u8, task: Task)
-        ensures stands { (site : SiteOf) (kept : RetainedOf) (done : List DoneOf) (before :
-            List MomentOf) → StandsFor site kept done before self.old → now.0 ≡ tick_of before
-            → IsOtherTask task → StandsFor site kept done (TurnedOf panel task ∷ before) self.new }
+        ensures stands { IsOtherTask task
+            → NetworkTakes now.0 (TurnedOf panel task) self.old self.new }
         ensures panels { self.new.panels ≡ self.old.panels }
     {
         match task {
@@ -201,9 +178,7 @@ impl Network {
     }
 
     fn relay(&mut self, now: Tick, panel: u8)
-        ensures stands { (site : SiteOf) (kept : RetainedOf) (done : List DoneOf) (before :
-            List MomentOf) → StandsFor site kept done before self.old → now.0 ≡ tick_of before
-            → StandsFor site kept done (TurnedOf panel LinkTask ∷ before) self.new }
+        ensures stands { NetworkTakes now.0 (TurnedOf panel LinkTask) self.old self.new }
         ensures panels { self.new.panels ≡ self.old.panels }
     {
         if panel >= 1 && panel <= self.panels {

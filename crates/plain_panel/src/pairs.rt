@@ -22,8 +22,7 @@ pub(crate) fn has_pair(
     zone: usize,
     answer: &Answer,
 ) -> bool
-    ensures { result ≡ pairs_up site.now zone answer.now.point
-        (λ (near : ℕ).
+    ensures { result ≡ pairs_up site.now zone answer.now.point (λ (near : ℕ).
         list_any (is_uncancelled_by site.now kept.now (all_done done.now) within near answer.now)
         answers.now) }
 {

@@ -10,6 +10,7 @@ ghost use Rattle.panel_rules.specs.Outputs.{is_requested_by_hand as is_requested
 ghost use Rattle.panel_rules.specs.Outputs.{panel_of_output as panel_in, released_at_drive as released_at_drive_in};
 ghost use Rattle.panel_rules.specs.Outputs.{released_at_effect as released_at_effect_in};
 ghost use Rattle.plain_panel.specs.Drives.{AreSeen, AreZones};
+ghost use Rattle.plain_panel.specs.Outputs.{TellsOf};
 
 use crate::seen::Seen;
 use crate::turns::before_latest;
@@ -41,9 +42,7 @@ fn is_true(site: &Site, output: u16, values: &Values) -> bool
 /// Whether the latest turn of Effect requests an output.
 pub(crate) fn is_requested(site: &Site, output: u16, seen: &[Seen]) -> bool
     requires { IsValid site.now }
-    ensures { (facts : ℕ → List MomentOf → FactsOf) (history : List MomentOf)
-        → AreSeen site.now facts seen.now history
-        → result ≡ is_requested_in site.now facts output history }
+    ensures { TellsOf site.now seen.now (λ facts. is_requested_in site.now facts output) result }
 {
     match before_latest(panel_of_output(site, output), Task::Effect, seen) {
         None => false,
@@ -54,9 +53,8 @@ pub(crate) fn is_requested(site: &Site, output: u16, seen: &[Seen]) -> bool
 /// Whether the latest turn of Effect requests an output by hand.
 pub(crate) fn is_requested_by_hand(site: &Site, output: u16, seen: &[Seen]) -> bool
     requires { IsValid site.now }
-    ensures { (facts : ℕ → List MomentOf → FactsOf) (history : List MomentOf)
-        → AreSeen site.now facts seen.now history
-        → result ≡ is_requested_by_hand_in site.now facts output history }
+    ensures { TellsOf site.now seen.now (λ facts. is_requested_by_hand_in site.now facts output)
+        result }
 {
     match before_latest(panel_of_output(site, output), Task::Effect, seen) {
         None => false,

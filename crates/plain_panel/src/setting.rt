@@ -22,8 +22,8 @@ pub enum Setting {
 /// The value of a setting at a tick: by the latest operation on it that was done in a tick before, else the
 /// one that is kept.
 pub fn in_force(site: &Site, kept: &Retained, setting: Setting, tick: Tick, done: &[Done]) -> bool
-    ensures { result ≡ value_at site.now kept.now (setting_from setting) tick.0
-        (all_done done.now) }
+    ensures { result
+        ≡ value_at site.now kept.now (setting_from setting) tick.0 (all_done done.now) }
 {
     let mut value = at_opening(site, kept, setting);
     for one in done {

@@ -68,17 +68,16 @@ pub fn points_off(site: &Site, kept: &Retained, panel: u8, done: &[Done], tick: 
     }
 }
 
-ghost use Rattle.std.specs.Prelude.{◌≤◌, false, slice_index_or, length, ◌<◌, Bool};
+ghost use Rattle.std.specs.Prelude.{◌≤◌, Bool, false, slice_index_or};
 ghost use Rattle.coincidence_rules.specs.Places.{on_zone};
 ghost use Rattle.panel_conditions.specs.Points.{addresses_where, on_point};
 ghost use Rattle.panel_rules.specs.Outputs.{on_place, output_numbered};
+ghost use Rattle.plain_panel.specs.Outputs.{AreFlags};
 ghost use Rattle.plain_panel.specs.Settings.{zone_setting};
 
 /// The outputs of a panel that pass a test, of which a flag is given for each output of the site.
 pub fn outputs_that(site: &Site, panel: u8, flags: &[bool]) -> u32
-    ensures { (test : ℕ → Bool)
-        → ((place : ℕ) → place < length site.now.outputs
-        → slice_index_or flags.now place false ≡ test place)
+    ensures { (test : ℕ → Bool) → AreFlags site.now flags.now test
         → result ≡ outputs_where site.now panel test }
 {
     outputs_flagged(site, panel, flags)

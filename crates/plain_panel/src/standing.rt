@@ -12,7 +12,8 @@ use crate::entering::Entering;
 use crate::entering_panels::{all_new, held_at, step_all};
 use crate::moment::Moment;
 use crate::network::Network;
-use crate::output_masks::outputs_unconfirmed;
+use crate::output_masks::outputs_in;
+use crate::output_state::OutputState;
 use crate::ticking::tick_after;
 use marker_table::Facts;
 use site_types::{Retained, Site};
@@ -115,7 +116,8 @@ impl Standing {
         match holder(moment) {
             None => self.network.step(tick, moment),
             Some(panel) => {
-                let unconfirmed = outputs_unconfirmed(&self.driving, site, kept, done, panel);
+                let state = OutputState::Unconfirmed;
+                let unconfirmed = outputs_in(state, &self.driving, site, kept, done, panel);
                 let held = held_at(&self.panels, panel);
                 self.network
                     .hold(site, kept, done, before, tick, panel, held, unconfirmed);
@@ -125,11 +127,11 @@ impl Standing {
 }
 
 ghost use Rattle.site_types.specs.Valid.{IsPanel};
-ghost use Rattle.std.specs.Prelude.{ℕ, MatchOption};
-ghost use Rattle.tick_units.specs.declared.task.Task.TheVariants.{Effect as EffectTask, Hold as HoldTask};
-ghost use Rattle.panel_rules.specs.Moments.{Moment as MomentOf, Turned as TurnedOf};
+ghost use Rattle.std.specs.Prelude.{MatchOption};
+ghost use Rattle.tick_units.specs.declared.task.Task.TheVariants.{Hold as HoldTask};
+ghost use Rattle.panel_rules.specs.Moments.{Moment as MomentOf};
 ghost use Rattle.panel_rules.specs.Run.{facts_of};
-ghost use Rattle.plain_panel.specs.Drives.{AreFacts, DrivesFor};
+ghost use Rattle.plain_panel.specs.Drives.{AreFacts, AreFactsOfTurn, DrivesFor};
 ghost use Rattle.plain_panel.specs.Enterings.{AreEntering};
 ghost use Rattle.plain_panel.specs.Network.{IsNotHold, StandsFor};
 
@@ -156,9 +158,8 @@ fn holder(moment: &Moment) -> Option<u8>
 fn facts_now(network: &Network, site: &Site, moment: &Moment) -> Facts
     requires { network.now.panels ≡ site.now.panels }
     ensures { (kept : RetainedOf) (done : List DoneOf) (before : List MomentOf) → IsValid site.now
-        → StandsFor site.now kept done before network.now → (panel : ℕ) → IsPanel site.now panel
-        → moment_of moment.now ≡ TurnedOf panel EffectTask
-        → AreFacts site.now (facts_of site.now kept done panel before) result }
+        → StandsFor site.now kept done before network.now → AreFactsOfTurn site.now
+        (facts_of site.now kept done) before (moment_of moment.now) result }
 {
     match *moment {
         Moment::Turned { panel, .. } => facts_at(network, site, panel),

@@ -202,10 +202,9 @@ impl Telling {
 ghost use Rattle.std.specs.Prelude.{◌==◌, ◌&&◌, ◌||◌, length, map, nat_le, not};
 ghost use Rattle.std.specs.List.{cons_option};
 ghost use Rattle.face_text.specs.Faces.{same_faces};
-ghost use Rattle.panel_rules.specs.Timeline.{told as told_by};
 ghost use Rattle.plain_panel.specs.Desks.{answered_of};
 ghost use Rattle.plain_panel.specs.Keepings.{StandsForKeeping};
-ghost use Rattle.plain_panel.specs.Timelines.{step_closed};
+ghost use Rattle.plain_panel.specs.Timelines.{step_closed, step_with};
 
 // Whether a tick is told: it was counted, and a face is not as it was or something was answered.
 fn is_told(tick: Tick, faces: &[Face], last: &[Face], now: &[OpAnswered], failed: bool) -> bool
@@ -230,12 +229,8 @@ fn made(
     now: &[OpAnswered],
     failed: bool,
 ) -> Result<Step, NoMemory>
-    ensures { IfOk result (λ step. step ≡ record {
-      tick = tick;
-      faces = faces.now;
-      answers =
-          told_by (map answered_of now.now) failed;
-    }) }
+    ensures { IfOk result (λ step. step ≡ step_with tick faces.now (map answered_of now.now)
+        failed) }
 {
     let answers = told(now, failed)?;
     let faces = Vec::from_slice(alloc, faces)?;

@@ -1,10 +1,10 @@
-ghost use Rattle.std.specs.Prelude.{◌≡◌, ◌+◌, ◌≤◌, ◌<◌, ◌^◌, ◌∷◌, [], List, ℕ, Some, None, if◌then◌else◌};
+ghost use Rattle.std.specs.Prelude.{◌≡◌, ◌+◌, ◌≤◌, ◌<◌, ◌^◌, ◌∷◌, [], List, ℕ};
 ghost use Rattle.site_types.specs.declared.supply_kind.SupplyKind.{SupplyKind as KindOf};
 ghost use Rattle.supply_monitor.specs.Supply.{Call as CallOf, bad_turns, is_bad, place_of};
 ghost use Rattle.panel_rules.specs.Faults.{and_supply, supply_calls};
 ghost use Rattle.panel_rules.specs.Moments.{Moment as MomentOf, Turned as TurnedOf};
 ghost use Rattle.plain_panel.specs.Histories.{moment_of};
-ghost use Rattle.plain_panel.specs.BadRuns.{Watches, least_of, run_of, shows};
+ghost use Rattle.plain_panel.specs.BadRuns.{Watches, least_of, run_of, run_with, shows};
 
 use crate::bad_run::BadRun;
 use crate::moment::Moment;
@@ -87,8 +87,7 @@ impl Watched {
 
     // The run after a turn of Supply made now.
     fn run_now(self) -> Option<BadRun>
-        ensures { result
-            ≡ (if self.bad then Some (record { latest = self.tick; least = least_of self.tick self.run }) else None) }
+        ensures { result ≡ run_with self.tick self.bad self.run }
     {
         if self.bad {
             Some(BadRun {

@@ -53,8 +53,10 @@ lettered letter task panel known plain below =
     let digits = decimal panel in
     let number = number_back digits panel refl small in
     let short = length-decimal-le 3 panel (omega arith) (omega (arith, below)) small in
+    let all_plain = and_from (is_plain letter) (list_all is_plain digits) plain (decimal_plain panel small) in
+    let few = le-leb (length (letter ∷ digits)) 5 (omega (arith, short)) in
     record {
-      fit = and_from (is_plain letter && list_all is_plain digits) (nat_le (length (letter ∷ digits)) 5) (and_from (is_plain letter) (list_all is_plain digits) plain (decimal_plain panel small)) (le-leb (length (letter ∷ digits)) 5 (omega (arith, short)));
+      fit = and_from (is_plain letter && list_all is_plain digits) (nat_le (length (letter ∷ digits)) 5) all_plain few;
       is = or_right (bytes_eq (letter ∷ digits) (codes "k")) (is_some (task_of letter)) (ap is_some known);
       numbered = or_right (bytes_eq (letter ∷ digits) (codes "k")) (is_some (number_of digits)) (ap is_some number);
       back = ap (λ t. seat_with t digits) known ∙ ap (λ n. seat_at (panel_of n) task) number ∙ ap (λ p. seat_at p task) (panel_back panel below);

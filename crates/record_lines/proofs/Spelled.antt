@@ -65,8 +65,9 @@ spelled_here : (fields : List ℕ) (seats : List Seat) → 1 ≤ space_count (or
 spelled_here fields seats some seated numbered back =
     let text = order_text fields in
     let all = each_field is_seat (space_count text) (after_space text) in
+    let formed = and_from (nat_le 2 (field_count text)) all (le-leb 2 (field_count text) (omega (arith, some))) seated in
     record {
-      row = order_row text refl ∙ passed (nat_le 2 (field_count text) && all) (Some OrderForm) None (and_from (nat_le 2 (field_count text)) all (le-leb 2 (field_count text) (omega (arith, some))) seated);
+      row = order_row text refl ∙ passed (nat_le 2 (field_count text) && all) (Some OrderForm) None formed;
       numbered = numbered;
       back = back;
     }

@@ -1,5 +1,5 @@
 -- The fields of a line: what stands before, between and behind its spaces.
-use Rattle.std.specs.Prelude.{◌+◌, ◌==◌, ◌&&◌, ℕ, zero, suc, Bool, true, List, [], ◌∷◌, if◌then◌else◌}
+use Rattle.std.specs.Prelude.{◌+◌, ◌==◌, ◌&&◌, ℕ, zero, suc, Bool, true, List}
 use Rattle.std.specs.List.{count_by}
 use Rattle.site_types.specs.Fields.{after_space, before_space}
 

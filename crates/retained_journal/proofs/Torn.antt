@@ -162,7 +162,8 @@ module _ (j : Journal) (d c : List ℕ) (at n : ℕ) (image : IsImage j d) (torn
           → MatchBool b ((number_at 8 (next_of j + 1) d ≢ j.number + 1) ⊎ HoldsBatch j d) (slice_index d (next_of j) ≢ 1)
           → MatchBool b ((number_at 8 (next_of j + 1) c ≢ j.number + 1) ⊎ HoldsBatch j c) (slice_index c (next_of j) ≢ 1)
       next_kept may free true apart (inl other) =
-          inl (λ same. other (sym (number-agrees 8 c (next_of j + 1) d (next_of j + 1) (sooner 592 c (next_of j + 1) d (next_of j + 1) 8 (unharmed at n (next_of j + 1) 592 d c torn (let w = whole may in omega (arith, w, free)) apart) (omega arith))) ∙ same))
+          inl (λ same. other (sym (number-agrees 8 c (next_of j + 1) d (next_of j + 1) (sooner 592 c (next_of j + 1) d (next_of j + 1) 8
+          (unharmed at n (next_of j + 1) 592 d c torn (let w = whole may in omega (arith, w, free)) apart) (omega arith))) ∙ same))
       next_kept may free true apart (inr holds) =
           inr (batch_kept may free (unharmed at n (next_of j + 1) 592 d c torn (let w = whole may in omega (arith, w, free)) apart) holds)
       next_kept may free false apart shut =

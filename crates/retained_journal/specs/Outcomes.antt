@@ -93,7 +93,8 @@ abbrev pub HasFailed : List Change → Journal → Journal → Type 0
 HasFailed batch old new =
     (new.kept ≡ old.kept) × (new.torn ≡ true) × ((new.attempt.items ≡ batch) ⊎ (new.attempt ≡ old.attempt))
 
--- no cell counts, unless the log gate was open; of the journal only what is known of the log gate and of the next cell's gate changed
+-- no cell counts, unless the log gate was open; of the journal only what is known of the log gate and of
+-- the next cell's gate changed
 abbrev pub HasPreparedCells : Journal → Journal → Type 0
 HasPreparedCells old new =
     MayCount new.log × (new ≡ record old { log = new.log; cell_may_be_open = new.cell_may_be_open })

@@ -1,11 +1,11 @@
 -- What is kept of the turns and confirmations so far.
 use Rattle.std.specs.Prelude.{◌≡◌, ◌+◌, ◌&&◌, ℕ, Bool, true, false, List, [], ◌∷◌, Option, Some, None, if◌then◌else◌}
-use Rattle.std.specs.List.{filter_map, range_with_len}
+use Rattle.std.specs.List.{filter_map}
 use Rattle.tick_units.specs.declared.tick.Tick.{Tick}
 use Rattle.site_types.specs.declared.site.Site.{Site}
 use Rattle.site_types.specs.Bits.{mask_of}
 use Rattle.site_types.specs.Limits.{output_bits}
-use Rattle.tick_units.specs.Earliest.{earliest, earliest_of}
+use Rattle.tick_units.specs.Earliest.{earliest_of}
 use Rattle.routing_outputs.specs.declared.line.Line.{Line}
 use Rattle.routing_outputs.specs.declared.routing.Routing.{Routing}
 use Rattle.routing_outputs.specs.Confirmations.{Call, is_watched, run_of, has_confirmation, ticks_of, spans}

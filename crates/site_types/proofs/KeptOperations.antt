@@ -11,7 +11,7 @@ use Rattle.site_types.specs.declared.site.Site.{Site}
 use Rattle.site_types.specs.declared.zone.Zone.{Zone}
 use Rattle.site_types.specs.Changes.{KeptAreChanges, item_change, operation_change, output_change, point_change, test_change, zone_change}
 use Rattle.site_types.specs.Done.{is_kept_operation, operation_setting}
-use Rattle.site_types.specs.Events.{has_item, has_operands, has_zone, is_some_with}
+use Rattle.site_types.specs.Events.{has_item, has_operands, is_some_with}
 
 point_changes : (test : Point → Bool) (off : Bool) (o : Option Point) → is_some_with test o ≡ true → true ≡ is_some (point_change o off)
 point_changes test off None h = cc

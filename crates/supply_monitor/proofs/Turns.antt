@@ -1,12 +1,12 @@
 -- What a turn does to what is kept of a supply.
-use Rattle.std.proofs.Common.{◌≡◌, ℕ, ◌+◌, ◌-◌, ◌<◌, ◌≤◌, List, [], ◌∷◌, Bool, true, false, nat_le, Option, Some, None, unwrap_or, if◌then◌else◌, refl, sym, ◌∙◌, ap, arith, rules}
+use Rattle.std.proofs.Common.{◌≡◌, ℕ, ◌-◌, ◌≤◌, List, [], ◌∷◌, true, false, nat_le, Some, None, unwrap_or, if◌then◌else◌, refl, sym, ◌∙◌, ap, arith}
 use Rattle.std.specs.List.{list_any, AllByRecursion}
 use Rattle.std.proofs.lemmas.Bool.Decides.{nat_tests}
 use Rattle.tick_units.specs.declared.tick.Tick.{Tick}
 use Rattle.site_types.specs.declared.supply_kind.SupplyKind.{SupplyKind}
 use Rattle.tick_units.proofs.Earliest.{earliest_more}
 use Rattle.supply_monitor.specs.declared.watch.Watch.{Watch}
-use Rattle.supply_monitor.specs.Supply.{Call, Reported, Turned, is_bad, bad_turns, lasts, AllBefore}
+use Rattle.supply_monitor.specs.Supply.{Call, Reported, Turned, is_bad, bad_turns, AllBefore}
 use Rattle.supply_monitor.specs.Stands.{Keeps}
 use Rattle.tick_units.specs.Earliest.{IsFalling, earliest_of}
 

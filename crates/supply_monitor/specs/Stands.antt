@@ -1,7 +1,5 @@
 -- What a monitor keeps of the reports and turns so far.
-use Rattle.std.specs.Prelude.{◌≡◌, ℕ, ◌≤◌, List, [], ◌∷◌, Option, Some, None}
-use Rattle.std.specs.List.{AllByRecursion}
-use Rattle.tick_units.specs.declared.tick.Tick.{Tick}
+use Rattle.std.specs.Prelude.{◌≡◌, ℕ, List}
 use Rattle.site_types.specs.declared.supply_kind.SupplyKind.{SupplyKind}
 use Rattle.site_types.specs.declared.supply_kind.SupplyKind.TheVariants.{Mains, Standby, Voltage, Charger}
 use Rattle.site_types.specs.declared.waits.Waits.{Waits}

@@ -11,17 +11,14 @@ use Rattle.plain_panel.proofs.asking.Asking.poll.Goals as goal
 pub take_turn-requires : goal.take_turn-requires
 take_turn-requires c =
     let put = c.turn.ensures.asked c.args.site.now c.requires.panel (reports c.args.site.now c.requires.panel c.requires.history) c.requires.stands.told in
-    let few : c.turn.new.answers.quota ≤ 32 =
-    omega (arith, ap (λ (l : LaneState Answer). l.quota) put, ap (λ (l : LaneState Answer). l.quota) c.in_ok-lane.ensures) in
+    let few : c.turn.new.answers.quota ≤ 32 = omega (arith, ap (λ (l : LaneState Answer). l.quota) put, ap (λ (l : LaneState Answer). l.quota) c.in_ok-lane.ensures) in
     (omega arith, (c.new-batch.ensures, few))
 
 pub returns : goal.returns
 returns c panel history s at =
     let told = reports c.args.site.now panel history in
     let put = c.turn.ensures.asked c.args.site.now panel told s.told in
-    let few =
-    asked_few c.args.site.now panel (told_point told) (told_cable told) c.args.tick.0
-    (is_known c.args.site.now panel history c.args.self.now c.args.self.now s) in
+    let few = asked_few c.args.site.now panel (told_point told) (told_cable told) c.args.tick.0 (is_known c.args.site.now panel history c.args.self.now c.args.self.now s) in
     let moved =
     all_moved (asked_in c.args.site.now panel (told_point told) (told_cable told) c.args.tick.0) c.in_ok-lane.lane c.turn.new.answers
     c.take_turn.new.into.items

@@ -30,7 +30,7 @@ returns-in-Some c =
           (λ is.
           let last : panel ≤ length c.deref.result.now = omega (arith, is.1, c.requires.panels.count, ap length c.deref.ensures.value) in
           c.held_at-held.ensures site kept done (Turned panel Hold ∷ before) all (is.0, last))
-          (λ is. c.outputs_unconfirmed-unconfirmed.ensures (facts_of site kept done) (Turned panel Hold ∷ before) drives));
+          (λ is. c.outputs_in-unconfirmed.ensures (facts_of site kept done) (Turned panel Hold ∷ before) drives));
       driving = refl;
     }
 
@@ -38,7 +38,6 @@ pub returns-in-None : goal.returns-in-None
 returns-in-None c =
     record {
       panels = refl;
-      network = c.step.ensures.stands c.args.site.now c.args.kept.now (all_done c.args.done.now) (history c.args.before.now) c.requires.network
-          (sym c.requires.ticks) c.in-None.ensures;
+      network = c.step.ensures.stands c.in-None.ensures c.args.site.now c.args.kept.now (all_done c.args.done.now) (history c.args.before.now) c.requires.network (sym c.requires.ticks);
       driving = refl;
     }

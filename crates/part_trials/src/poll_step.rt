@@ -1,0 +1,44 @@
+ghost use Rattle.site_types.specs.Valid.{IsValid};
+
+use anyhow::{Result, bail};
+use site_types::{Event, PieceState, PointState, Site};
+use std::alloc::Global;
+use trial_cases::event_of;
+
+/// What befalls a point or a piece of cable of panel 1.
+#[derive(Clone, Copy)]
+pub(crate) enum PollStep {
+    Point {
+        point: u16,
+        state: PointState,
+    },
+    Cable {
+        line: u8,
+        piece: u8,
+        state: PieceState,
+    },
+}
+
+impl PollStep {
+    /// The step that a record's line spells.
+    pub(crate) fn read(alloc: Global, site: &Site, words: &str) -> Result<PollStep>
+        requires { IsValid site.now }
+    {
+        match event_of(alloc, site, words)? {
+            Event::Point { point, state } => Ok(PollStep::Point { point, state }),
+            Event::Cable {
+                panel,
+                line,
+                piece,
+                state,
+            } => {
+                if panel != 1 {
+                    bail!("a cable of another panel: {words}");
+                }
+                Ok(PollStep::Cable { line, piece, state })
+            }
+            Event::Op { operation, .. } => bail!("{operation:?} befalls no point"),
+            _ => bail!("nothing that befalls a point or a cable: {words}"),
+        }
+    }
+}
