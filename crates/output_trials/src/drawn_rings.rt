@@ -1,14 +1,17 @@
-//! Words that go round a ring, against a plain program that walks all chains of turns.
+//! Words that go round drawn rings, against a plain program that walks all chains of turns.
 
 ghost use Rattle.std.specs.Prelude.{◌≡◌, ◌≤◌};
 
+use anyhow::{Result, bail};
 use panel_links::Ring;
+use rand_pcg::Pcg32;
 use site_types::Word;
 use std::alloc::Global;
-use std::process::Abort;
-use std::test::Fail;
 use tick_units::Tick;
-use trial_base::Draws;
+use trial_cases::{Sample, below};
+
+/// The stream of numbers that is drawn from.
+const STREAM: u64 = 54;
 
 /// A turn of a panel, in which it had a word of its own with this stamp, and the links that were up in its tick, link 1 first.
 #[derive(Clone, Copy)]
@@ -56,7 +59,7 @@ fn carries(panels: u8, tick: u64, panel: u8) -> bool {
 
 // The greatest stamp over all chains of turns from a panel to another, 0 where there is none. A chain begins with a turn of the one, each
 // further turn is later and of a neighbour of the panel before, over a link that is up, in a tick that carries the word, and the last is of the other.
-fn heard_by_chains(alloc: Global, panels: u8, turns: &[Turn], at: u8, of: u8) -> Result<u64, Fail> {
+fn heard_by_chains(alloc: Global, panels: u8, turns: &[Turn], at: u8, of: u8) -> Result<u64> {
     let mut heard = 0;
     let mut ends: Vec<(usize, u64)> = Vec::new(alloc);
     for (place, turn) in turns.iter().enumerate() {
@@ -69,7 +72,7 @@ fn heard_by_chains(alloc: Global, panels: u8, turns: &[Turn], at: u8, of: u8) ->
             return Ok(heard);
         };
         let Some(last) = turns.get(end) else {
-            return Err(Fail::from("no such turn"));
+            bail!("no such turn");
         };
         if last.panel == at && stamp > heard {
             heard = stamp;
@@ -83,17 +86,17 @@ fn heard_by_chains(alloc: Global, panels: u8, turns: &[Turn], at: u8, of: u8) ->
             }
         }
     }
-    Err(Fail::from("too many chains"))
+    bail!("too many chains")
 }
 
 // The panels in a drawn order.
-fn drawn_order(alloc: Global, panels: u8, draws: &mut Draws) -> Result<Vec<u8>, Fail> {
+fn drawn_order(alloc: Global, panels: u8, draws: &mut Pcg32) -> Result<Vec<u8>> {
     let mut order: Vec<u8> = Vec::new(alloc);
     for before in 0..panels {
         order.push(before.saturating_add(1))?;
     }
     for place in 0..order.len() {
-        let other = draws.below(panels as u64) as usize;
+        let other = below(draws, panels as u64) as usize;
         if other < order.len() && place < order.len() {
             order.swap(place, other);
         }
@@ -102,16 +105,16 @@ fn drawn_order(alloc: Global, panels: u8, draws: &mut Draws) -> Result<Vec<u8>, 
 }
 
 // The links in a drawn tick: three of four are up.
-fn drawn_links(draws: &mut Draws) -> [bool; 8] {
+fn drawn_links(draws: &mut Pcg32) -> [bool; 8] {
     [
-        draws.below(4) > 0,
-        draws.below(4) > 0,
-        draws.below(4) > 0,
-        draws.below(4) > 0,
-        draws.below(4) > 0,
-        draws.below(4) > 0,
-        draws.below(4) > 0,
-        draws.below(4) > 0,
+        below(draws, 4) > 0,
+        below(draws, 4) > 0,
+        below(draws, 4) > 0,
+        below(draws, 4) > 0,
+        below(draws, 4) > 0,
+        below(draws, 4) > 0,
+        below(draws, 4) > 0,
+        below(draws, 4) > 0,
     ]
 }
 
@@ -125,85 +128,92 @@ fn set_links(ring: &mut Ring, panels: u8, up: &[bool; 8])
     }
 }
 
-fn make_turn(rt: &impl Abort, ring: &mut Ring, panels: u8, turn: &Turn)
+fn make_turn(ring: &mut Ring, panels: u8, turn: &Turn)
     requires { ring.old.panels ≡ panels }
     ensures { ring.new.panels ≡ panels }
 {
-    assert!(rt; turn.panel >= 1 && turn.panel <= panels);
-    ring.turn(Tick(turn.tick), turn.panel, word_of(turn.panel, turn.stamp));
+    if turn.panel >= 1 && turn.panel <= panels {
+        ring.turn(Tick(turn.tick), turn.panel, word_of(turn.panel, turn.stamp));
+    }
 }
 
-// What each panel keeps of each is what the chains so far make of it.
-fn compare(
-    rt: &impl Abort,
-    alloc: Global,
-    ring: &Ring,
-    panels: u8,
-    turns: &[Turn],
-) -> Result<(), Fail>
+// Whether each panel keeps of each what the chains so far make of it.
+fn is_kept(alloc: Global, ring: &Ring, panels: u8, turns: &[Turn]) -> Result<bool>
     requires { ring.now.panels ≡ panels }
 {
     for at in 1..panels + 1 {
         for of in 1..panels + 1 {
             let heard = heard_by_chains(alloc, panels, turns, at, of)?;
-            assert_eq!(rt;
-                ring.heard(at, of).0,
-                heard,
-                "{at} of {of} after {}",
-                turns.len()
-            );
-            assert_eq!(rt; ring.word(at, of), word_of(of, heard));
+            if ring.heard(at, of).0 != heard || ring.word(at, of) != word_of(of, heard) {
+                return Ok(false);
+            }
         }
     }
-    Ok(())
+    Ok(true)
 }
 
-// So many ticks of drawn orders and links. The word of a panel is of its tick or of the one before.
-fn drive(
-    rt: &impl Abort,
-    alloc: Global,
-    panels: u8,
-    ticks: u64,
-    draws: &mut Draws,
-) -> Result<(), Fail>
+// The turns of a tick in a drawn order, over drawn links. The word of a panel is of its tick or of the one before.
+fn drawn_turns(alloc: Global, panels: u8, tick: u64, draws: &mut Pcg32) -> Result<Vec<Turn>>
+    requires { 1 ≤ tick }
+{
+    let up = drawn_links(draws);
+    let order = drawn_order(alloc, panels, draws)?;
+    let mut turns: Vec<Turn> = Vec::new(alloc);
+    for panel in &order {
+        turns.push(Turn {
+            tick,
+            panel: *panel,
+            stamp: tick - below(draws, 2),
+            up,
+        })?;
+    }
+    Ok(turns)
+}
+
+// The turns of a tick, each link being as it is told.
+fn make_turns(ring: &mut Ring, panels: u8, turns: &[Turn])
+    requires { ring.old.panels ≡ panels }
+    ensures { ring.new.panels ≡ panels }
+{
+    for turn in turns {
+        set_links(ring, panels, &turn.up);
+        make_turn(ring, panels, turn);
+    }
+}
+
+// So many ticks: whether what is kept is what the chains make, after each.
+fn try_ring(alloc: Global, panels: u8, ticks: u64, seed: u64) -> Result<bool>
     requires { (1 ≤ panels) × (panels ≤ 8) }
 {
+    let mut draws = Pcg32::new(seed, STREAM);
     let mut ring = Ring::new(panels);
-    let mut turns: Vec<Turn> = Vec::new(alloc);
+    let mut made: Vec<Turn> = Vec::new(alloc);
     for tick in 1..=ticks {
-        let up = drawn_links(draws);
-        set_links(&mut ring, panels, &up);
-        let order = drawn_order(alloc, panels, draws)?;
-        for panel in &order {
-            let made = Turn {
-                tick,
-                panel: *panel,
-                stamp: tick - draws.below(2),
-                up,
-            };
-            make_turn(rt, &mut ring, panels, &made);
-            turns.push(made)?;
+        let turns = drawn_turns(alloc, panels, tick, &mut draws)?;
+        make_turns(&mut ring, panels, &turns);
+        made.extend_from_slice(&turns)?;
+        if !is_kept(alloc, &ring, panels, &made)? {
+            return Ok(false);
         }
-        compare(rt, alloc, &ring, panels, &turns)?;
     }
-    Ok(())
+    Ok(true)
 }
 
-#[test]
-fn four_panels_keep_what_comes_by_chains(rt: HostRuntime) -> Result<(), Fail> {
-    let mut draws = Draws::from_seed(2);
-    for _ in 0..50 {
-        drive(&rt, rt.alloc(), 4, 6, &mut draws)?;
+/// Whether the panels of drawn rings keep the words that come by chains of turns: `6 ticks, 50 from seed 2`.
+pub(crate) fn try_rings(alloc: Global, panels: &str, line: &str) -> Result<String> {
+    let panels = panels.parse::<u8>()?;
+    let Some((ticks, sample)) = line.split_once(" ticks, ") else {
+        bail!("no ticks: {line}");
+    };
+    let ticks = ticks.parse::<u8>()? as u64;
+    let sample = Sample::read(sample)?;
+    if panels < 1 || panels > 8 {
+        bail!("{panels} panels");
     }
-    Ok(())
-}
-
-#[test]
-fn rings_of_other_sizes_keep_what_comes_by_chains(rt: HostRuntime) -> Result<(), Fail> {
-    let mut draws = Draws::from_seed(3);
-    for panels in 1..9 {
-        drive(&rt, rt.alloc(), panels, 4, &mut draws)?;
-        drive(&rt, rt.alloc(), panels, 4, &mut draws)?;
+    for seed in sample.seeds() {
+        if !try_ring(alloc, panels, ticks, seed)? {
+            return Ok(format!(in alloc; "    otherwise by the chains: seed {seed}\n")?);
+        }
     }
-    Ok(())
+    Ok(format!(in alloc; "    {} histories: all alike\n", sample.count)?)
 }
