@@ -1,59 +1,43 @@
 //! Drawn histories of silences, delays and confirmations, against plain programs over the whole lists.
 
+use anyhow::Result;
 use output_delays::Delays;
+use rand_core::Rng;
+use rand_pcg::Pcg32;
 use routing_outputs::{Routing, RoutingState};
-use site_types::Requests;
+use site_types::{Requests, Site};
 use sounder_control::Silence;
 use std::alloc::{AllocError, Global};
-use std::test::Fail;
 use tick_units::Tick;
-use trial_base::site_of;
+use trial_cases::Sample;
 
-// Two panels with four outputs each; the numbers of one panel have other delays and kinds at the other.
-const TWO: &str = r#"
-format = 1
-site = "two"
-panels = 2
-zone = [{ name = "hall", panel = 1, number = 1 }]
-marker = [{ name = "any", kind = "any", terms = ["zone:hall"] }]
-output = [
-  { name = "o1", panel = 2, number = 1, kind = "routing", when = "any", delay = 9 },
-  { name = "p1", panel = 1, number = 1, kind = "sounder", when = "any" },
-  { name = "p3", panel = 1, number = 3, kind = "protection", when = "any", delay = 3 },
-  { name = "p2", panel = 1, number = 2, kind = "routing", when = "any", delay = 1 },
-  { name = "o3", panel = 2, number = 3, kind = "sounder", when = "any", delay = 8 },
-  { name = "p32", panel = 1, number = 32, kind = "relay", when = "any", delay = 6 },
-]
-"#;
+/// The turns of a history.
+const TURNS: u64 = 60;
+/// The stream of numbers that is drawn from.
+const STREAM: u64 = 54;
 
-// The outputs of panel 1 with their delays and whether they confirm.
+// The outputs of panel 1 of the site of two panels, with their delays and whether they confirm.
 const OUTPUTS: [(u8, u64, bool); 4] = [(1, 0, false), (2, 1, true), (3, 3, true), (32, 6, false)];
 
-// Numbers as they are drawn, from a seed.
-#[derive(Drop)]
-struct Draws {
-    state: u32,
+// One time in so many.
+fn is_one_in(draws: &mut Pcg32, many: u32) -> bool {
+    many > 0 && draws.next_u32() % many == 0
 }
 
-impl Draws {
-    fn next(&mut self) -> u32 {
-        self.state = self
-            .state
-            .wrapping_mul(1_664_525)
-            .wrapping_add(1_013_904_223);
-        self.state >> 16
-    }
+// A mask of the outputs above.
+fn drawn_outputs(draws: &mut Pcg32) -> u32 {
+    let bits = draws.next_u32();
+    (bits & 0b111) | ((bits & 0b1000) << 28)
+}
 
-    // One time in so many.
-    fn is_one_in(&mut self, many: u32) -> bool {
-        many > 0 && self.next() % many == 0
-    }
+// Three of four outputs, or more.
+fn most_outputs(draws: &mut Pcg32) -> u32 {
+    drawn_outputs(draws) | drawn_outputs(draws) | drawn_outputs(draws)
+}
 
-    // A mask of the outputs above.
-    fn outputs(&mut self) -> u32 {
-        let bits = self.next();
-        (bits & 0b111) | ((bits & 0b1000) << 28)
-    }
+// One of four outputs, or fewer.
+fn few_outputs(draws: &mut Pcg32) -> u32 {
+    drawn_outputs(draws) & drawn_outputs(draws) & drawn_outputs(draws)
 }
 
 fn has(mask: u32, number: u8) -> bool {
@@ -107,42 +91,65 @@ fn is_quiet(done: &[Sounders]) -> bool {
     true
 }
 
-fn drawn_zones(draws: &mut Draws) -> [u32; 8] {
-    let bits = draws.next();
+fn drawn_zones(draws: &mut Pcg32) -> [u32; 8] {
+    let bits = draws.next_u32();
     let mut zones = [0; 8];
     zones[0] = bits & 0b11;
     zones[7] = (bits & 0b100) << 29;
     zones
 }
 
-#[test]
-fn silences_as_drawn(rt: HostRuntime) -> Result<(), Fail> {
-    let alloc = rt.alloc();
-    let mut quiet = 0_u32;
-    for seed in 1..41 {
-        let mut draws = Draws { state: seed };
-        let mut silence = Silence::new();
-        let mut done = Vec::new(alloc);
-        for turn in 0..60 {
-            done.push(Sounders::Drove(drawn_zones(&mut draws)))?;
-            let Some(Sounders::Drove(zones)) = done.last() else {
-                continue;
-            };
-            let told = silence.quiet(zones);
-            assert_eq!(rt; told, is_quiet(&done), "seed {seed}, turn {turn}");
-            quiet = quiet.saturating_add(told as u32);
-            if draws.is_one_in(4) {
-                silence.silence();
-                done.push(Sounders::Silenced)?;
-            }
-            if draws.is_one_in(9) {
-                silence.resound();
-                done.push(Sounders::Resounded)?;
-            }
+// How many turns of a drawn history were quiet, if each is as the plain program says.
+fn quiet_turns(alloc: Global, seed: u64) -> Result<Option<u32>, AllocError> {
+    let mut draws = Pcg32::new(seed, STREAM);
+    let mut silence = Silence::new();
+    let mut done = Vec::new(alloc);
+    let mut quiet: u32 = 0;
+    for _turn in 0..TURNS {
+        let zones = drawn_zones(&mut draws);
+        done.push(Sounders::Drove(zones))?;
+        let told = silence.quiet(&zones);
+        if told != is_quiet(&done) {
+            return Ok(None);
+        }
+        quiet = quiet.saturating_add(told as u32);
+        if is_one_in(&mut draws, 4) {
+            silence.silence();
+            done.push(Sounders::Silenced)?;
+        }
+        if is_one_in(&mut draws, 9) {
+            silence.resound();
+            done.push(Sounders::Resounded)?;
         }
     }
-    assert!(rt; quiet > 100, "only {quiet} turns were quiet");
-    Ok(())
+    Ok(Some(quiet))
+}
+
+/// Whether the sounders are quiet, turn by turn.
+pub(crate) fn try_silences(alloc: Global, line: &str) -> Result<String> {
+    let sample = Sample::read(line)?;
+    let mut quiet: u32 = 0;
+    for seed in sample.seeds() {
+        match quiet_turns(alloc, seed)? {
+            Some(turns) => quiet = quiet.saturating_add(turns),
+            None => return otherwise(alloc, seed),
+        }
+    }
+    let often = if quiet > 100 { "more" } else { "not more" };
+    let count = sample.count;
+    Ok(format!(in alloc;
+        "    {count} histories: all alike, and {often} than 100 turns were quiet\n"
+    )?)
+}
+
+// What is told of a history whose answers differ.
+fn otherwise(alloc: Global, seed: u64) -> Result<String> {
+    Ok(format!(in alloc; "    otherwise by the plain program: seed {seed}\n")?)
+}
+
+// What is told where none differ.
+fn all_alike(alloc: Global, sample: &Sample) -> Result<String> {
+    Ok(format!(in alloc; "    {} histories: all alike\n", sample.count)?)
 }
 
 // ---- delays
@@ -174,47 +181,65 @@ fn is_through(
     run > 0 && (has(by_hand, number) || !active || now.saturating_sub(first) >= delay || overridden)
 }
 
-#[test]
-fn delays_as_drawn(rt: HostRuntime) -> Result<(), Fail> {
-    let alloc = rt.alloc();
-    let site = site_of(alloc, TWO)?;
-    for seed in 1..41 {
-        let mut draws = Draws { state: seed };
-        let mut active = !draws.is_one_in(4);
-        let mut delays = Delays::new(&site, 1, active);
-        let mut asked = Vec::new(alloc);
-        let mut overrides = Vec::new(alloc);
-        for now in 1..61 {
-            let early = draws.is_one_in(12);
-            if early {
-                delays.override_now(Tick(now));
-                overrides.push(now)?;
-            }
-            let requests = Requests {
-                asked: draws.outputs() | draws.outputs() | draws.outputs(),
-                manual: draws.outputs() & draws.outputs() & draws.outputs(),
-            };
-            asked.push(requests.asked)?;
-            let through = delays.turn(Tick(now), &requests);
-            for (number, delay, _) in OUTPUTS {
-                let want = is_through(&asked, requests.manual, &overrides, active, (number, delay));
-                assert_eq!(rt;
-                    has(through, number),
-                    want,
-                    "seed {seed}, tick {now}, output {number}"
-                );
-            }
-            if draws.is_one_in(12) {
-                delays.override_now(Tick(now));
-                overrides.push(now)?;
-            }
-            if draws.is_one_in(15) {
-                active = !active;
-                delays.set_delays(active);
-            }
+// Whether a turn lets each output through as it should.
+fn is_let_through(
+    asked: &[u32],
+    by_hand: u32,
+    overrides: &[u64],
+    active: bool,
+    through: u32,
+) -> bool {
+    for (number, delay, _) in OUTPUTS {
+        let output = (number, delay);
+        if has(through, number) != is_through(asked, by_hand, overrides, active, output) {
+            return false;
         }
     }
-    Ok(())
+    true
+}
+
+// Whether the delays of a drawn history are those of the plain program.
+fn has_plain_delays(alloc: Global, site: &Site, seed: u64) -> Result<bool, AllocError> {
+    let mut draws = Pcg32::new(seed, STREAM);
+    let mut active = !is_one_in(&mut draws, 4);
+    let mut delays = Delays::new(site, 1, active);
+    let mut asked = Vec::new(alloc);
+    let mut overrides = Vec::new(alloc);
+    for tick in 1..=TURNS {
+        if is_one_in(&mut draws, 12) {
+            delays.override_now(Tick(tick));
+            overrides.push(tick)?;
+        }
+        let requests = Requests {
+            asked: most_outputs(&mut draws),
+            manual: few_outputs(&mut draws),
+        };
+        asked.push(requests.asked)?;
+        let through = delays.turn(Tick(tick), &requests);
+        if !is_let_through(&asked, requests.manual, &overrides, active, through) {
+            return Ok(false);
+        }
+        if is_one_in(&mut draws, 12) {
+            delays.override_now(Tick(tick));
+            overrides.push(tick)?;
+        }
+        if is_one_in(&mut draws, 15) {
+            active = !active;
+            delays.set_delays(active);
+        }
+    }
+    Ok(true)
+}
+
+/// Whether the outputs are let through, tick by tick.
+pub(crate) fn try_delays(alloc: Global, site: &Site, line: &str) -> Result<String> {
+    let sample = Sample::read(line)?;
+    for seed in sample.seeds() {
+        if !has_plain_delays(alloc, site, seed)? {
+            return otherwise(alloc, seed);
+        }
+    }
+    all_alike(alloc, &sample)
 }
 
 // ---- confirmations
@@ -238,39 +263,55 @@ fn state_of(on: &[u32], confirmations: &[(u64, u8)], limit: u64, number: u8) -> 
     }
 }
 
-#[test]
-fn confirmations_as_drawn(rt: HostRuntime) -> Result<(), Fail> {
-    let alloc = rt.alloc();
-    let site = site_of(alloc, TWO)?;
-    for seed in 1..41 {
-        let mut draws = Draws { state: seed };
-        let limit = draws.next() as u64 % 6;
-        let mut routing = Routing::new(&site, 1, limit);
-        let mut on = Vec::new(alloc);
-        let mut confirmations = Vec::new(alloc);
-        for now in 1..61 {
-            for (number, _, _) in OUTPUTS {
-                if draws.is_one_in(6) {
-                    routing.confirm(number);
-                    confirmations.push((now, number))?;
-                }
-            }
-            let mask = draws.outputs() | draws.outputs() | draws.outputs();
-            on.push(mask)?;
-            routing.turn(Tick(now), mask);
-            for (number, _, confirms) in OUTPUTS {
-                let want = if confirms {
-                    state_of(&on, &confirmations, limit, number)
-                } else {
-                    RoutingState::Idle
-                };
-                let state = routing.state(number);
-                assert_eq!(rt; state, want, "seed {seed}, tick {now}, output {number}");
-                let (confirmed, unconfirmed) = (routing.confirmed(), routing.unconfirmed());
-                assert_eq!(rt; has(confirmed, number), want == RoutingState::Confirmed);
-                assert_eq!(rt; has(unconfirmed, number), want == RoutingState::Unconfirmed);
-            }
+// Whether each output is at what it should be, also by the masks.
+fn is_at(routing: &Routing, on: &[u32], confirmations: &[(u64, u8)], limit: u64) -> bool {
+    for (number, _, confirms) in OUTPUTS {
+        let wanted = if confirms {
+            state_of(on, confirmations, limit, number)
+        } else {
+            RoutingState::Idle
+        };
+        if routing.state(number) != wanted
+            || has(routing.confirmed(), number) != (wanted == RoutingState::Confirmed)
+            || has(routing.unconfirmed(), number) != (wanted == RoutingState::Unconfirmed)
+        {
+            return false;
         }
     }
-    Ok(())
+    true
+}
+
+// Whether the outputs of a drawn history are at what the plain program says.
+fn has_plain_states(alloc: Global, site: &Site, seed: u64) -> Result<bool, AllocError> {
+    let mut draws = Pcg32::new(seed, STREAM);
+    let limit = draws.next_u32() as u64 % 6;
+    let mut routing = Routing::new(site, 1, limit);
+    let mut on = Vec::new(alloc);
+    let mut confirmations = Vec::new(alloc);
+    for tick in 1..=TURNS {
+        for (number, _, _) in OUTPUTS {
+            if is_one_in(&mut draws, 6) {
+                routing.confirm(number);
+                confirmations.push((tick, number))?;
+            }
+        }
+        let mask = most_outputs(&mut draws);
+        on.push(mask)?;
+        routing.turn(Tick(tick), mask);
+        if !is_at(&routing, &on, &confirmations, limit) {
+            return Ok(false);
+        }
+    }
+    Ok(true)
+}
+
+/// What the outputs are at, tick by tick.
+pub(crate) fn try_confirmations(alloc: Global, site: &Site, line: &str) -> Result<String> {
+    let sample = Sample::read(line)?;
+    for seed in sample.seeds() {
+        if !has_plain_states(alloc, site, seed)? {
+            return otherwise(alloc, seed);
+        }
+    }
+    all_alike(alloc, &sample)
 }

@@ -4,17 +4,21 @@
 
 ghost use Rattle.std.specs.Prelude.{◌≡◌, ◌<◌};
 
+use anyhow::{Result, bail};
 use cause_effect::{Facts, Plan, Steps, Values, compile};
+use rand_pcg::Pcg32;
+use site_config::read_site;
 use site_types::{Combine, Marker, Site, Term};
 use std::alloc::{AllocError, Global};
 use std::marker::Brand;
 use std::sync::ledger::{Blank, Ledger};
-use std::test::Fail;
-use trial_base::{Draws, site_of};
-
-const TABLES: u64 = 120;
+use trial_cases::{Sample, below};
 
 const CHANGES: u64 = 40;
+/// How often a marker of each kind is to be true, and one to become true or false.
+const OFTEN: u32 = 1000;
+/// The stream of numbers that is drawn from.
+const STREAM: u64 = 54;
 
 /// A prime, so that each multiple of the places below it is an order of them.
 const MARKERS: u64 = 13;
@@ -52,6 +56,14 @@ impl Tally {
         self.rose = self.rose.saturating_add((after && !before) as u32);
         self.fell = self.fell.saturating_add((before && !after) as u32);
     }
+
+    fn least(&self) -> u32 {
+        self.all
+            .min(self.any)
+            .min(self.at_least)
+            .min(self.rose)
+            .min(self.fell)
+    }
 }
 
 // ---- a drawn table
@@ -64,10 +76,10 @@ struct Ranks {
 }
 
 impl Ranks {
-    fn drawn(draws: &mut Draws) -> Ranks {
+    fn drawn(draws: &mut Pcg32) -> Ranks {
         Ranks {
-            factor: 1 + draws.below(MARKERS - 1),
-            first: draws.below(MARKERS),
+            factor: 1 + below(draws, MARKERS - 1),
+            first: below(draws, MARKERS),
         }
     }
 
@@ -76,8 +88,8 @@ impl Ranks {
     }
 
     // A marker of lower rank, where there is one.
-    fn lower(self, marker: u64, draws: &mut Draws) -> Option<u64> {
-        let rank = draws.below(self.rank_of(marker));
+    fn lower(self, marker: u64, draws: &mut Pcg32) -> Option<u64> {
+        let rank = below(draws, self.rank_of(marker));
         (0..MARKERS).find(|other| self.rank_of(*other) == rank && self.rank_of(marker) > rank)
     }
 }
@@ -86,16 +98,16 @@ fn drawn_term(
     alloc: Global,
     marker: u64,
     ranks: Ranks,
-    draws: &mut Draws,
+    draws: &mut Pcg32,
 ) -> Result<String, AllocError> {
-    let zone = match draws.below(4) {
+    let zone = match below(draws, 4) {
         0 => "a",
         1 => "b",
         2 => "c",
         _ => "d",
     };
-    match (draws.below(7), ranks.lower(marker, draws)) {
-        (0, _) => format!(in alloc; "fault:{}", 1 + draws.below(3)),
+    match (below(draws, 7), ranks.lower(marker, draws)) {
+        (0, _) => format!(in alloc; "fault:{}", 1 + below(draws, 3)),
         (1, _) => format!(in alloc; "manual:{zone}"),
         (2..=4, Some(other)) => format!(in alloc; "marker:m{other}"),
         _ => format!(in alloc; "zone:{zone}"),
@@ -106,23 +118,23 @@ fn drawn_marker(
     alloc: Global,
     marker: u64,
     ranks: Ranks,
-    draws: &mut Draws,
+    draws: &mut Pcg32,
 ) -> Result<String, AllocError> {
-    let count = 1 + draws.below(5);
+    let count = 1 + below(draws, 5);
     let mut terms = drawn_term(alloc, marker, ranks, draws)?;
     for _term in 1..count {
         let term = drawn_term(alloc, marker, ranks, draws)?;
         terms = format!(in alloc; "{terms}\", \"{term}")?;
     }
-    let kind = match draws.below(3) {
+    let kind = match below(draws, 3) {
         0 => format!(in alloc; "\"all\"")?,
         1 => format!(in alloc; "\"any\"")?,
-        _ => format!(in alloc; "\"atleast\", count = {}", 1 + draws.below(count))?,
+        _ => format!(in alloc; "\"atleast\", count = {}", 1 + below(draws, count))?,
     };
     format!(in alloc; "  {{ name = \"m{marker}\", kind = {kind}, terms = [\"{terms}\"] }},\n")
 }
 
-fn drawn_text(alloc: Global, draws: &mut Draws) -> Result<String, AllocError> {
+fn drawn_text(alloc: Global, draws: &mut Pcg32) -> Result<String, AllocError> {
     let ranks = Ranks::drawn(draws);
     let mut text = format!(in alloc; "{ZONES}\n")?;
     for marker in 0..MARKERS {
@@ -135,8 +147,8 @@ fn drawn_text(alloc: Global, draws: &mut Draws) -> Result<String, AllocError> {
 // ---- drawn facts
 
 // The bits of zones and call points that some zone of the site has, and some that none has.
-fn drawn_bit(draws: &mut Draws) -> u32 {
-    match draws.below(5) {
+fn drawn_bit(draws: &mut Pcg32) -> u32 {
+    match below(draws, 5) {
         0 => 1 << 31,
         1 => 1 << 6,
         2 => 1 << 1,
@@ -145,24 +157,24 @@ fn drawn_bit(draws: &mut Draws) -> u32 {
 }
 
 // The facts with one bit turned.
-fn turned(facts: &Facts, draws: &mut Draws) -> Facts {
+fn turned(facts: &Facts, draws: &mut Pcg32) -> Facts {
     let mut after = *facts;
-    let panel = draws.below(4) as usize;
-    match draws.below(5) {
+    let panel = below(draws, 4) as usize;
+    match below(draws, 5) {
         0 => after.manual[panel] ^= drawn_bit(draws),
-        1 => after.faults ^= 1 << draws.below(4),
+        1 => after.faults ^= 1 << below(draws, 4),
         _ => after.zones[panel] ^= drawn_bit(draws),
     }
     after
 }
 
 // The facts after a change: of none, of a few, or of all.
-fn drawn_change(facts: &Facts, draws: &mut Draws) -> Facts {
-    if draws.below(20) == 0 {
+fn drawn_change(facts: &Facts, draws: &mut Pcg32) -> Facts {
+    if below(draws, 20) == 0 {
         return Facts::default();
     }
     let mut after = *facts;
-    for _turn in 0..draws.below(5) {
+    for _turn in 0..below(draws, 5) {
         after = turned(&after, draws);
     }
     after
@@ -252,12 +264,15 @@ fn tell(site: &Site, before: &Values, after: &Values, tally: &mut Tally) {
     }
 }
 
-fn try_table(alloc: Global, seed: u64, tally: &mut Tally) -> Result<bool, Fail> {
-    let mut draws = Draws::from_seed(seed);
+// Whether a drawn table is solved as by the plain program, from scratch and from change to change.
+fn try_table(alloc: Global, seed: u64, tally: &mut Tally) -> Result<bool> {
+    let mut draws = Pcg32::new(seed, STREAM);
     let text = drawn_text(alloc, &mut draws)?;
-    let site = site_of(alloc, &text)?;
+    let Ok(site) = read_site(alloc, text.as_bytes()) else {
+        bail!("a refused site");
+    };
     let Ok(plan) = compile(alloc, &site) else {
-        return Ok(false);
+        bail!("no plan");
     };
     let mut facts = Facts::default();
     let mut values = Values::none();
@@ -278,20 +293,18 @@ fn try_table(alloc: Global, seed: u64, tally: &mut Tally) -> Result<bool, Fail> 
     Ok(true)
 }
 
-#[test]
-fn solves_drawn_tables_as_the_plain_program_does(rt: HostRuntime) -> Result<(), Fail> {
+/// Whether drawn tables of markers are solved as by the plain program.
+pub(crate) fn try_markers(alloc: Global, line: &str) -> Result<String> {
+    let sample = Sample::read(line)?;
     let mut tally = Tally::default();
-    for seed in 1..=TABLES {
-        assert!(rt; try_table(rt.alloc(), seed, &mut tally)?, "seed {seed}");
+    for seed in sample.seeds() {
+        if !try_table(alloc, seed, &mut tally)? {
+            return Ok(format!(in alloc; "    otherwise by the plain program: seed {seed}\n")?);
+        }
     }
-    for (count, what) in [
-        (tally.all, "all of"),
-        (tally.any, "any of"),
-        (tally.at_least, "at least"),
-        (tally.rose, "became true"),
-        (tally.fell, "became false"),
-    ] {
-        assert!(rt; count >= 1000, "{what} {count}");
-    }
-    Ok(())
+    let often = if tally.least() >= OFTEN { "" } else { "not " };
+    Ok(format!(in alloc;
+        "    {} tables: all alike, and {often}each kind of marker was true, and markers rose and fell, 1000 times or more\n",
+        sample.count
+    )?)
 }
