@@ -38,7 +38,8 @@ pub record IsReady (site : Site) (panel : ℕ) (decide : Decide) (answers : Lane
 
 -- a bench may go on: its part is ready
 abbrev pub MayGoOn : DecideBench → Type 0
-MayGoOn bench = IsReady bench.site bench.panel bench.decide bench.answers bench.findings bench.stamp.0 bench.point bench.at.0
+MayGoOn bench =
+    IsReady bench.site bench.panel bench.decide bench.answers bench.findings bench.stamp.0 bench.point bench.at.0
 
 -- an answer later than all before it may be put, and there is room for it
 pub record MayPut (site : Site) (panel : ℕ) (answers : LaneState Answer) (stamp point at : ℕ) (answer :
