@@ -174,7 +174,7 @@ fn sink(alloc: Global, fails: Vec<u64>) -> Result<MemorySink, Fail> {
 }
 
 // A run of a record at the example's site over such an outside.
-fn tried(alloc: Global, record: &str, outside: Outside) -> Result<Tried, Fail>
+fn try_run(alloc: Global, record: &str, outside: Outside) -> Result<Tried, Fail>
     requires { (0 < outside.read_bytes) × (0 < outside.write_bytes) }
 {
     let words = words(alloc)?;
@@ -219,7 +219,7 @@ fn writes_the_same_however_the_outside_cuts(rt: HostRuntime) -> Result<(), Fail>
             write_bytes,
             ..FINE
         };
-        let run = tried(alloc, record.as_str(), outside)?;
+        let run = try_run(alloc, record.as_str(), outside)?;
         let is_same = run.text.as_str() == whole.as_str() && run.outcome == Outcome::after(0, 72);
         if !is_same || (write_bytes > 1 && run.writes != 5) {
             return Err(Fail::from(format!(in alloc;
@@ -258,12 +258,12 @@ fn ends_where_a_read_fails(rt: HostRuntime) -> Result<(), Fail> {
         read_bytes: 7,
         ..FINE
     };
-    for before in 0..tried(alloc, record, sevens)?.reads {
+    for before in 0..try_run(alloc, record, sevens)?.reads {
         let outside = Outside {
             failing_read: before + 1,
             ..sevens
         };
-        let run = tried(alloc, record, outside)?;
+        let run = try_run(alloc, record, outside)?;
         let ticks = ticks_begun(record.as_bytes(), before.saturating_mul(7)).saturating_sub(1);
         let told = TOLD.iter().filter(|tick| **tick <= ticks).count();
         let wanted = format!(in alloc; "{}fault read\n", PIECES[..told + 1].concat(alloc)?)?;
@@ -286,12 +286,12 @@ fn ends_where_a_write_fails(rt: HostRuntime) -> Result<(), Fail> {
             write_bytes,
             ..FINE
         };
-        for before in 0..tried(alloc, record, cut)?.writes {
+        for before in 0..try_run(alloc, record, cut)?.writes {
             let outside = Outside {
                 failing_write: before + 1,
                 ..cut
             };
-            let run = tried(alloc, record, outside)?;
+            let run = try_run(alloc, record, outside)?;
             let text = run.text.as_str();
             let is_front = whole.as_str().starts_with(text) && text.len() < whole.len();
             if run.outcome.status != 7 || !is_front {
@@ -312,7 +312,7 @@ fn refuses_the_record_cut_behind_any_line(rt: HostRuntime) -> Result<(), Fail> {
         lines = lines.wrapping_add(1);
         front.push_str(line)?;
         front.push_str("\n")?;
-        let run = tried(alloc, front.as_str(), FINE)?;
+        let run = try_run(alloc, front.as_str(), FINE)?;
         let (status, last) = if line == "end" {
             (0, String::from_str(alloc, "end 72\n")?)
         } else {
