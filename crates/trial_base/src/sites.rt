@@ -82,7 +82,9 @@ output = [
   { name = "doors", panel = 2, number = 2, kind = "relay", when = "east" },
 ]
 marker = [
-  { name = "any-zone", kind = "any", terms = ["zone:hall", "zone:gym", "zone:kitchen", "zone:office", "zone:lab", "zone:store", "zone:aula", "zone:cellar"] },
+  { name = "any-zone", kind = "any", terms = [
+    "zone:hall", "zone:gym", "zone:kitchen", "zone:office", "zone:lab", "zone:store", "zone:aula", "zone:cellar",
+  ] },
   { name = "east", kind = "any", terms = ["zone:lab", "zone:store", "zone:aula", "zone:cellar"] },
 ]
 "#;
