@@ -61,7 +61,8 @@ pub level_of_code : (site : Site) (code : List ℕ) → IsLevelOf site (Some cod
 level_of_code site code =
     record {
       opens =
-          opened site code _ _ _ (holds-Decides (slice_index_or site.codes 2 []) (sha256 code)).0 (holds-Decides (slice_index_or site.codes 1 []) (sha256 code)).0 (holds-Decides (slice_index_or site.codes 0 []) (sha256 code)).0;
+          opened site code _ _ _ (holds-Decides (slice_index_or site.codes 2 []) (sha256 code)).0
+          (holds-Decides (slice_index_or site.codes 1 []) (sha256 code)).0 (holds-Decides (slice_index_or site.codes 0 []) (sha256 code)).0;
       greatest = greatest site code;
     }
 

@@ -22,7 +22,8 @@ pub fn level_of(code: Option<&str>, site: &Site) -> u8
 /// Whether a level is enough for an operation.
 pub fn allowed(operation: &Operation, level: u8) -> Result<(), Denied>
     ensures allowed { needed_by operation.now ≤ level → IsOk result }
-    ensures denied { level < needed_by operation.now → result ≡ Err (record { needs = needed_by operation.now; has = level }) }
+    ensures denied { level < needed_by operation.now
+        → result ≡ Err (record { needs = needed_by operation.now; has = level }) }
 {
     let needs = needed_by(operation);
     if level < needs {

@@ -19,4 +19,5 @@ numbers_mask panel values outputs numbers size known =
     mask_same 32 (λ k. slice_index_or (slice_range numbers 1 33) k false) (λ bit. list_any (asks panel values (bit + 1)) outputs)
     (λ k less.
     let next : 1 + k ≡ k + 1 = omega arith in
-    get_or-take 32 (drop 1 numbers) k false less ∙ (get_or-drop 1 numbers k false ∙ (known (1 + k) (omega (arith, less)) ∙ ap (λ n. list_any (asks panel values n) outputs) next)))
+    get_or-take 32 (drop 1 numbers) k false less ∙
+    (get_or-drop 1 numbers k false ∙ (known (1 + k) (omega (arith, less)) ∙ ap (λ n. list_any (asks panel values n) outputs) next)))

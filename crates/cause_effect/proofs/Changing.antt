@@ -1,5 +1,7 @@
 -- One marker more is passed after a change.
-use Rattle.std.proofs.Common.{◌≡◌, ◌≤◌, ◌<◌, ◌==◌, ◌+◌, ◌-◌, ◌&&◌, ◌||◌, ◌⊎◌, inl, inr, ℕ, zero, suc, Bool, true, false, List, [], ◌∷◌, Option, Some, nat_eq, length, take, get_or, refl, sym, ap, subst, ◌∙◌, arith, if◌then◌else◌}
+use Rattle.std.proofs.Common.{◌≡◌, ◌≤◌, ◌<◌, ◌==◌, ◌+◌, ◌-◌, ◌&&◌, ◌||◌, ◌⊎◌, inl, inr, ℕ, zero, suc, Bool, true}
+use Rattle.std.proofs.Common.{false, List, [], ◌∷◌, Option, Some, nat_eq, length, take, get_or, refl, sym, ap, subst}
+use Rattle.std.proofs.Common.{◌∙◌, arith, if◌then◌else◌}
 use Rattle.std.specs.Prelude.{slice_get, slice_index_or, slice_set}
 use Rattle.std.specs.List.{list_any, IsDistinct}
 use Rattle.std.proofs.lemmas.Bool.{cases_lt}
@@ -40,13 +42,15 @@ or_false false false = refl
 pub front_next : (order : List ℕ) (k x m : ℕ) → slice_get order k ≡ Some x → is_among m (take (k + 1) order) ≡ (is_among m (take k order) || (m == x))
 front_next order k x m at =
     among_more m k order (slice_get_within order k x at) ∙
-    (or_false (is_among m (take k order)) (m == get_or order k 0) ∙ ap (λ y. is_among m (take k order) || (m == y)) (get_or_from_slice_get order k x 0 at))
+    (or_false (is_among m (take k order)) (m == get_or order k 0) ∙ ap (λ y. is_among m (take k order) || (m == y))
+    (get_or_from_slice_get order k x 0 at))
 
 or_cases : (a b : Bool) → (a || b) ≡ true → (a ≡ true) ⊎ (b ≡ true)
 or_cases true b h = inl refl
 or_cases false b h = inr h
 
-next_cases : (order : List ℕ) (k x m : ℕ) → slice_get order k ≡ Some x → is_among m (take (k + 1) order) ≡ true → (is_among m (take k order) ≡ true) ⊎ (m ≡ x)
+next_cases : (order : List ℕ) (k x m : ℕ) → slice_get order k ≡ Some x → is_among m (take (k + 1) order) ≡ true
+    → (is_among m (take k order) ≡ true) ⊎ (m ≡ x)
 next_cases order k x m at h = elim (or_cases (is_among m (take k order)) (m == x) (sym (front_next order k x m at) ∙ h)) [
   | inl before ↦ inl before
   | inr here ↦ inr (number_is m x here)
@@ -73,14 +77,16 @@ fresh_next order k x once at = not_true (is_among x (take k order)) (λ h.
 
 -- ---- marks
 
--- A marker is marked where a fact that changed is among its terms, or one of the first k markers that depends on such a fact; and only where
--- it depends on one itself.
+-- A marker is marked where a fact that changed is among its terms, or one of the first k markers that depends
+-- on such a fact; and only where it depends on one itself.
 pub record AreMarked (site : Site) (before after : Facts) (order : List ℕ) (k : ℕ) (marks : List Bool) : Type 0 where
   pub by_fact : (m : ℕ) → m < 256 → has_changed site before after m ≡ true → is_marked marks m ≡ true
-  pub by_marker : (m other : ℕ) → m < 256 → has_term site m other ≡ true → is_among other (take k order) ≡ true → DependsOnChanged site before after other → is_marked marks m ≡ true
+  pub by_marker : (m other : ℕ) → m < 256 → has_term site m other ≡ true → is_among other (take k order) ≡ true
+      → DependsOnChanged site before after other → is_marked marks m ≡ true
   pub only : (m : ℕ) → m < 256 → is_marked marks m ≡ true → DependsOnChanged site before after m
 
-pub marked_first : (site : Site) (before after : Facts) (order : List ℕ) (marks : List Bool) → ((m : ℕ) → m < 256 → is_marked marks m ≡ has_changed site before after m) →
+pub marked_first : (site : Site) (before after : Facts) (order : List ℕ) (marks : List Bool)
+    → ((m : ℕ) → m < 256 → is_marked marks m ≡ has_changed site before after m) →
     AreMarked site before after order 0 marks
 marked_first site before after order marks same = record {
   by_fact = λ m fits h. same m fits ∙ h;
@@ -89,14 +95,16 @@ marked_first site before after order marks same = record {
 }
 
 -- the next marker is marked where it depends on a change
-pub marked_here : (site : Site) (before after : Facts) (order : List ℕ) (k x : ℕ) (marks : List Bool) → IsOrder site order → slice_get order k ≡ Some x → x < 256 →
+pub marked_here : (site : Site) (before after : Facts) (order : List ℕ) (k x : ℕ) (marks : List Bool) → IsOrder site order
+    → slice_get order k ≡ Some x → x < 256 →
     AreMarked site before after order k marks → DependsOnChanged site before after x → is_marked marks x ≡ true
 marked_here site before after order k x marks is at fits w (directly m h) = w.by_fact m fits h
 marked_here site before after order k x marks is at fits w (through m next term d) = w.by_marker m next fits term (is.rising k m next at term) d
 
 -- the users of a marker that depends on a change are marked too
 pub marked_on : (site : Site) (before after : Facts) (order : List ℕ) (k x : ℕ) (marks more : List Bool) → slice_get order k ≡ Some x →
-    AreMarked site before after order k marks → DependsOnChanged site before after x → ((m : ℕ) → m < 256 → is_marked more m ≡ (is_marked marks m || has_term site m x)) →
+    AreMarked site before after order k marks → DependsOnChanged site before after x
+    → ((m : ℕ) → m < 256 → is_marked more m ≡ (is_marked marks m || has_term site m x)) →
     AreMarked site before after order (k + 1) more
 marked_on site before after order k x marks more at w depends same = record {
   by_fact = λ m fits h. same m fits ∙ or_left (is_marked marks m) (has_term site m x) (w.by_fact m fits h);
@@ -123,7 +131,8 @@ marked_still site before after order k x marks at w free = record {
 
 -- ---- counting
 
--- the markers that were evaluated are those of the first k that depend on a change, each once, and the steps rose by as many
+-- the markers that were evaluated are those of the first k that depend on a change, each once, and the steps
+-- rose by as many
 pub record AreEvaluated (site : Site) (before after : Facts) (order : List ℕ) (k start steps : ℕ) : Type 0 where
   pub members : List ℕ
   pub once : IsDistinct (λ x y. x == y) members
@@ -143,12 +152,18 @@ evaluated_first site before after order start = record {
   counted = omega arith;
 }
 
-pub evaluated_on : (site : Site) (before after : Facts) (order : List ℕ) (k x start steps : ℕ) → IsDistinct (λ a b. a == b) order → slice_get order k ≡ Some x →
-    AreEvaluated site before after order k start steps → DependsOnChanged site before after x → AreEvaluated site before after order (k + 1) start (steps + 1)
+pub evaluated_on : (site : Site) (before after : Facts) (order : List ℕ) (k x start steps : ℕ) → IsDistinct (λ a b. a == b) order
+    → slice_get order k ≡ Some x →
+    AreEvaluated site before after order k start steps → DependsOnChanged site before after x
+    → AreEvaluated site before after order (k + 1) start (steps + 1)
 unfolding IsDistinct
 evaluated_on site before after order k x start steps once at w depends = record {
   members = x ∷ w.members;
-  once = (none_equal x w.members (not_true (is_among x w.members) (λ h. let front = w.front x h in let fresh = fresh_next order k x once at in cc (front, fresh))), w.once);
+  once = (
+    none_equal x w.members (not_true (is_among x w.members) (λ h. let front = w.front x h in let fresh = fresh_next order k x once at in
+        cc (front, fresh))),
+    w.once,
+  );
   all = λ m among d. elim (next_cases order k x m at among) [
     | inl earlier ↦ or_right (m == x) (is_among m w.members) (w.all m earlier d)
     | inr here ↦ or_left (m == x) (is_among m w.members) (subst (λ n. (m == n) ≡ true) here (equal_number m))
@@ -165,7 +180,8 @@ evaluated_on site before after order k x start steps once at w depends = record 
 }
 
 pub evaluated_still : (site : Site) (before after : Facts) (order : List ℕ) (k x start steps : ℕ) → slice_get order k ≡ Some x →
-    AreEvaluated site before after order k start steps → (DependsOnChanged site before after x → ⊥) → AreEvaluated site before after order (k + 1) start steps
+    AreEvaluated site before after order k start steps → (DependsOnChanged site before after x → ⊥)
+    → AreEvaluated site before after order (k + 1) start steps
 evaluated_still site before after order k x start steps at w free = record {
   members = w.members;
   once = w.once;
@@ -207,10 +223,12 @@ evaluated_all site before after order k start steps is done w = (
 pub record AreCarried (site : Site) (before after : Facts) (order : List ℕ) (k : ℕ) (marker : List Bool) : Type 0 where
   pub each : (m : ℕ) → slice_index_or marker m false ≡ (if is_among m (take k order) then the_values site after m else the_values site before m)
 
-pub carried_first : (site : Site) (before after : Facts) (order : List ℕ) (marker : List Bool) → IsOrder site order → IsSolution site before (λ m. slice_index_or marker m false) →
+pub carried_first : (site : Site) (before after : Facts) (order : List ℕ) (marker : List Bool) → IsOrder site order
+    → IsSolution site before (λ m. slice_index_or marker m false) →
     AreCarried site before after order 0 marker
 carried_first site before after order marker is solves = record {
-  each = λ m. same_solution site before (λ m. slice_index_or marker m false) (the_values site before) (order_is_free site order is) solves (the_values_solve site before (order_is_free site order is)) m;
+  each = λ m. same_solution site before (λ m. slice_index_or marker m false) (the_values site before) (order_is_free site order is) solves
+      (the_values_solve site before (order_is_free site order is)) m;
 }
 
 front_value : (b : Bool) (x y : Bool) → b ≡ true → (if b then x else y) ≡ x
@@ -218,15 +236,18 @@ front_value true x y e = refl
 front_value false x y e = cc
 
 -- what its terms make of the next marker is its value after the change
-pub next_changed : (site : Site) (before after : Facts) (order : List ℕ) (k x : ℕ) (marker : List Bool) → IsOrder site order → slice_get order k ≡ Some x →
+pub next_changed : (site : Site) (before after : Facts) (order : List ℕ) (k x : ℕ) (marker : List Bool) → IsOrder site order
+    → slice_get order k ≡ Some x →
     AreCarried site before after order k marker → equation site after (λ m. slice_index_or marker m false) x ≡ the_values site after x
 next_changed site before after order k x marker is at known =
     equation_same site after (λ m. slice_index_or marker m false) (the_values site after) x
-    (λ other term. known.each other ∙ front_value (is_among other (take k order)) (the_values site after other) (the_values site before other) (is.rising k x other at term)) ∙
+    (λ other term. known.each other ∙ front_value (is_among other (take k order)) (the_values site after other) (the_values site before other)
+    (is.rising k x other at term)) ∙
     sym (the_values_solve site after (order_is_free site order is) x)
 
 -- the next marker has its value after the change, whether it was evaluated or not
-carried_more : (a b : Bool) (now then_ : Bool) (value : Bool) → value ≡ (if a then now else then_) → (b ≡ true → value ≡ now) → value ≡ (if a || b then now else then_)
+carried_more : (a b : Bool) (now then_ : Bool) (value : Bool) → value ≡ (if a then now else then_) → (b ≡ true → value ≡ now)
+    → value ≡ (if a || b then now else then_)
 carried_more true b now then_ value e f = e
 carried_more false true now then_ value e f = f refl
 carried_more false false now then_ value e f = e
@@ -238,33 +259,43 @@ either false x y e = e
 pub carried_still : (site : Site) (before after : Facts) (order : List ℕ) (k x : ℕ) (marker : List Bool) → slice_get order k ≡ Some x →
     AreCarried site before after order k marker → (DependsOnChanged site before after x → ⊥) → AreCarried site before after order (k + 1) marker
 carried_still site before after order k x marker at known free = record {
-  each = λ m. carried_more (is_among m (take k order)) (m == x) (the_values site after m) (the_values site before m) (slice_index_or marker m false) (known.each m)
+  each = λ m. carried_more (is_among m (take k order)) (m == x) (the_values site after m) (the_values site before m) (slice_index_or marker m false)
+      (known.each m)
       (λ here. stays m (number_is m x here)) ∙
       ap (λ b. if b then the_values site after m else the_values site before m) (sym (front_next order k x m at));
 }
   where
     stays : (m : ℕ) → m ≡ x → slice_index_or marker m false ≡ the_values site after m
     stays m same = known.each m ∙
-        either (is_among m (take k order)) (the_values site after m) (the_values site before m) (value_kept site before after m (λ d. free (subst (DependsOnChanged site before after) same d)))
+        either (is_among m (take k order)) (the_values site after m) (the_values site before m)
+        (value_kept site before after m (λ d. free (subst (DependsOnChanged site before after) same d)))
 
 still : (a b : Bool) → b ≡ false → a ≡ (a || b)
 still true b e = refl
 still false b e = sym e
 
-carried_at : (site : Site) (before after : Facts) (order : List ℕ) (k x : ℕ) (marker : List Bool) (value : Bool) → slice_get order k ≡ Some x → x < length marker →
+carried_at : (site : Site) (before after : Facts) (order : List ℕ) (k x : ℕ) (marker : List Bool) (value : Bool) → slice_get order k ≡ Some x
+    → x < length marker →
     AreCarried site before after order k marker → value ≡ the_values site after x →
-    (m : ℕ) → slice_index_or (slice_set marker x value) m false ≡ (if is_among m (take (k + 1) order) then the_values site after m else the_values site before m)
+    (m : ℕ)
+    → slice_index_or (slice_set marker x value) m false
+    ≡ (if is_among m (take (k + 1) order) then the_values site after m else the_values site before m)
 carried_at site before after order k x marker value at fits known right m = elim (eqb_tells m x) [
   | inl here ↦ (
-      let among : is_among m (take (k + 1) order) ≡ true = subst (λ n. is_among n (take (k + 1) order) ≡ true) (sym here.1) (front_has order k x at) in
-      ap (λ n. slice_index_or (slice_set marker x value) n false) here.1 ∙ (get_or-set_same marker x value false fits ∙ (right ∙ (ap (the_values site after) (sym here.1) ∙
+      let among : is_among m (take (k + 1) order) ≡ true =
+      subst (λ n. is_among n (take (k + 1) order) ≡ true) (sym here.1) (front_has order k x at) in
+      ap (λ n. slice_index_or (slice_set marker x value) n false) here.1 ∙
+      (get_or-set_same marker x value false fits ∙ (right ∙ (ap (the_values site after) (sym here.1) ∙
       sym (front_value (is_among m (take (k + 1) order)) (the_values site after m) (the_values site before m) among)))))
   | inr apart ↦ (get_or-set_other marker x m value false apart.1 ∙ (known.each m ∙
-      ap (λ b. if b then the_values site after m else the_values site before m) (still (is_among m (take k order)) (m == x) apart.0 ∙ sym (front_next order k x m at))))
+      ap (λ b. if b then the_values site after m else the_values site before m)
+      (still (is_among m (take k order)) (m == x) apart.0 ∙ sym (front_next order k x m at))))
 ]
 
-pub carried_on : (site : Site) (before after : Facts) (order : List ℕ) (k x : ℕ) (marker : List Bool) (value : Bool) → IsOrder site order → slice_get order k ≡ Some x → x < length marker →
-    AreCarried site before after order k marker → value ≡ equation site after (λ m. slice_index_or marker m false) x → AreCarried site before after order (k + 1) (slice_set marker x value)
+pub carried_on : (site : Site) (before after : Facts) (order : List ℕ) (k x : ℕ) (marker : List Bool) (value : Bool) → IsOrder site order
+    → slice_get order k ≡ Some x → x < length marker →
+    AreCarried site before after order k marker → value ≡ equation site after (λ m. slice_index_or marker m false) x
+    → AreCarried site before after order (k + 1) (slice_set marker x value)
 carried_on site before after order k x marker value is at fits known made = record {
   each = carried_at site before after order k x marker value at fits known (made ∙ next_changed site before after order k x marker is at known);
 }
@@ -288,7 +319,8 @@ whole_value site before after order is m = elim (cases_lt m (length site.markers
       (no_value site after (order_is_free site order is) m past) (no_value site before (order_is_free site order is) m past)
 ]
 
-pub carried_all : (site : Site) (before after : Facts) (order : List ℕ) (k : ℕ) (marker : List Bool) → IsOrder site order → length order ≤ k → AreCarried site before after order k marker →
+pub carried_all : (site : Site) (before after : Facts) (order : List ℕ) (k : ℕ) (marker : List Bool) → IsOrder site order → length order ≤ k
+    → AreCarried site before after order k marker →
     IsSolution site after (λ m. slice_index_or marker m false)
 carried_all site before after order k marker is done known =
     is_solution site after (λ m. slice_index_or marker m false) (order_is_free site order is)
@@ -304,19 +336,25 @@ pub record AreEqual (before after : Facts) : Type 0 where
 equal_bit : (before after : List ℕ) (found : Option Zone) → before ≡ after → differ (zone_bit before found) (zone_bit after found) ≡ false
 equal_bit before after found e = ap (λ masks. differ (zone_bit before found) (zone_bit masks found)) (sym e) ∙ differ_self (zone_bit before found)
 
-none_changed : (site : Site) (before after : Facts) → AreEqual before after → (terms : List Term) → list_any (is_changed site before after) terms ≡ false
+none_changed : (site : Site) (before after : Facts) → AreEqual before after → (terms : List Term)
+    → list_any (is_changed site before after) terms ≡ false
 none_changed site before after same [] = refl
-none_changed site before after same (ZoneTerm place ∷ terms) = or_both (equal_bit before.zones after.zones (slice_get site.zones place) same.zones) (none_changed site before after same terms)
-none_changed site before after same (ManualTerm place ∷ terms) = or_both (equal_bit before.manual after.manual (slice_get site.zones place) same.manual) (none_changed site before after same terms)
+none_changed site before after same (ZoneTerm place ∷ terms) =
+    or_both (equal_bit before.zones after.zones (slice_get site.zones place) same.zones) (none_changed site before after same terms)
+none_changed site before after same (ManualTerm place ∷ terms) =
+    or_both (equal_bit before.manual after.manual (slice_get site.zones place) same.manual) (none_changed site before after same terms)
 none_changed site before after same (FaultTerm panel ∷ terms) =
-    or_both (ap (λ mask. differ (has_bit before.faults (panel - 1)) (has_bit mask (panel - 1))) (sym same.faults) ∙ differ_self (has_bit before.faults (panel - 1))) (none_changed site before after same terms)
+    or_both (ap (λ mask. differ (has_bit before.faults (panel - 1)) (has_bit mask (panel - 1))) (sym same.faults) ∙ differ_self
+    (has_bit before.faults (panel - 1))) (none_changed site before after same terms)
 none_changed site before after same (MarkerTerm other ∷ terms) = none_changed site before after same terms
 
 none_depends : (site : Site) (before after : Facts) → AreEqual before after → (m : ℕ) → DependsOnChanged site before after m → ⊥
-none_depends site before after same m (directly n h) = let none = none_changed site before after same (terms_of (slice_get site.markers n)) in cc (h, none)
+none_depends site before after same m (directly n h) = let none = none_changed site before after same (terms_of (slice_get site.markers n)) in
+    cc (h, none)
 none_depends site before after same m (through n next term d) = none_depends site before after same next d
 
-pub rose_by_none : (site : Site) (before after : Facts) (steps : ℕ) → AreEqual before after → RoseByNumberOf (DependsOnChanged site before after) steps steps
+pub rose_by_none : (site : Site) (before after : Facts) (steps : ℕ) → AreEqual before after
+    → RoseByNumberOf (DependsOnChanged site before after) steps steps
 unfolding IsDistinct
 rose_by_none site before after steps same = (
   0,
@@ -334,7 +372,9 @@ rose_by_none site before after steps same = (
     refl_plus n = omega arith
 
 -- what `==` of two facts says
-pub equal_facts : (before after : Facts) → true ≡ (pointwise nat_eq before.zones after.zones && (pointwise nat_eq before.manual after.manual && nat_eq before.faults after.faults)) → AreEqual before after
+pub equal_facts : (before after : Facts)
+    → true ≡ (pointwise nat_eq before.zones after.zones && (pointwise nat_eq before.manual after.manual && nat_eq before.faults after.faults))
+    → AreEqual before after
 equal_facts before after h = record {
   zones = (slice_eq-Decides Decides-eqb before.zones after.zones _ refl).0 (and_first zones (manual && faults) (sym h));
   manual = (slice_eq-Decides Decides-eqb before.manual after.manual _ refl).0 (and_first manual faults (and_second zones (manual && faults) (sym h)));

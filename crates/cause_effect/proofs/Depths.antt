@@ -46,7 +46,8 @@ pub no_chain : (site : Site) (m : ℕ) → Chain site m []
 unfolding IsDistinct
 no_chain site m = record { distinct = tt; small = λ q e. cc; leads = λ q e. cc }
 
-pub chain_on : (site : Site) (m next : ℕ) (seen : List ℕ) → Chain site m seen → list_any (λ x. m == x) seen ≡ false → has_term site m next ≡ true → Chain site next (m ∷ seen)
+pub chain_on : (site : Site) (m next : ℕ) (seen : List ℕ) → Chain site m seen → list_any (λ x. m == x) seen ≡ false → has_term site m next ≡ true
+    → Chain site next (m ∷ seen)
 unfolding IsDistinct
 chain_on site m next seen w fresh term = record {
   distinct = (none_equal m seen fresh, w.distinct);
@@ -66,14 +67,16 @@ chain_fits site m seen w long = let few = length-le_from_distinct_below seen (le
 
 -- ---- existence and uniqueness
 
-settles : (site : Site) (facts : Facts) → HasNoCycle site → (depth m : ℕ) (seen : List ℕ) → Chain site m seen → length site.markers < depth + length seen →
+settles : (site : Site) (facts : Facts) → HasNoCycle site → (depth m : ℕ) (seen : List ℕ) → Chain site m seen
+    → length site.markers < depth + length seen →
     solved depth site facts m ≡ solved (suc depth) site facts m
 settles site facts free zero m seen w far = absurd (chain_fits site m seen w (omega (arith, far)))
 settles site facts free (suc depth) m seen w far = go (list_any (λ x. m == x) seen) refl
     (λ fresh. equation_same site facts (solved depth site facts) (solved (suc depth) site facts) m
     (λ other term. settles site facts free depth other (m ∷ seen) (chain_on site m other seen w fresh term) (omega (arith, far))))
   where
-    go : (b : Bool) → list_any (λ x. m == x) seen ≡ b → (list_any (λ x. m == x) seen ≡ false → solved (suc depth) site facts m ≡ solved (suc (suc depth)) site facts m) →
+    go : (b : Bool) → list_any (λ x. m == x) seen ≡ b
+        → (list_any (λ x. m == x) seen ≡ false → solved (suc depth) site facts m ≡ solved (suc (suc depth)) site facts m) →
         solved (suc depth) site facts m ≡ solved (suc (suc depth)) site facts m
     go true e f = absurd (free m (w.leads m e))
     go false e f = f e
@@ -83,7 +86,8 @@ agrees : (site : Site) (facts : Facts) (v w : ℕ → Bool) → HasNoCycle site 
 agrees site facts v w free sv sw zero m seen chain far = absurd (chain_fits site m seen chain (omega (arith, far)))
 agrees site facts v w free sv sw (suc fuel) m seen chain far = go (list_any (λ x. m == x) seen) refl
     (λ fresh. sv m ∙ (equation_same site facts v w m
-    (λ other term. agrees site facts v w free sv sw fuel other (m ∷ seen) (chain_on site m other seen chain fresh term) (omega (arith, far))) ∙ sym (sw m)))
+    (λ other term. agrees site facts v w free sv sw fuel other (m ∷ seen) (chain_on site m other seen chain fresh term) (omega (arith, far))) ∙ sym
+    (sw m)))
   where
     go : (b : Bool) → list_any (λ x. m == x) seen ≡ b → (list_any (λ x. m == x) seen ≡ false → v m ≡ w m) → v m ≡ w m
     go true e f = absurd (free m (chain.leads m e))
@@ -92,7 +96,8 @@ agrees site facts v w free sv sw (suc fuel) m seen chain far = go (list_any (λ 
 pub the_values_solve : (site : Site) (facts : Facts) → HasNoCycle site → IsSolution site facts (the_values site facts)
 the_values_solve site facts free m = settles site facts free (suc (length site.markers)) m [] (no_chain site m) (omega arith)
 
-pub same_solution : (site : Site) (facts : Facts) (v w : ℕ → Bool) → HasNoCycle site → IsSolution site facts v → IsSolution site facts w → (m : ℕ) → v m ≡ w m
+pub same_solution : (site : Site) (facts : Facts) (v w : ℕ → Bool) → HasNoCycle site → IsSolution site facts v → IsSolution site facts w → (m : ℕ)
+    → v m ≡ w m
 same_solution site facts v w free sv sw m = agrees site facts v w free sv sw (suc (length site.markers)) m [] (no_chain site m) (omega arith)
 
 pub one_solution_of : (site : Site) (facts : Facts) → HasNoCycle site → HasOneSolution site facts
@@ -102,12 +107,16 @@ one_solution_of site facts free = record {
   only = λ other is m. same_solution site facts other (the_values site facts) free is (the_values_solve site facts free) m;
 }
 
-solved_more : (site : Site) (fewer more : Facts) → AreWithin fewer more → (depth m : ℕ) → solved depth site fewer m ≡ true → solved depth site more m ≡ true
+solved_more : (site : Site) (fewer more : Facts) → AreWithin fewer more → (depth m : ℕ) → solved depth site fewer m ≡ true
+    → solved depth site more m ≡ true
 solved_more site fewer more within zero m h = h
-solved_more site fewer more within (suc depth) m h = equation_more site fewer more (solved depth site fewer) (solved depth site more) within (solved_more site fewer more within depth) m h
+solved_more site fewer more within (suc depth) m h =
+    equation_more site fewer more (solved depth site fewer) (solved depth site more) within (solved_more site fewer more within depth) m h
 
-pub more_kept : (site : Site) (fewer more : Facts) (before after : ℕ → Bool) → HasNoCycle site → AreWithin fewer more → IsSolution site fewer before → IsSolution site more after →
+pub more_kept : (site : Site) (fewer more : Facts) (before after : ℕ → Bool) → HasNoCycle site → AreWithin fewer more → IsSolution site fewer before
+    → IsSolution site more after →
     (m : ℕ) → before m ≡ true → after m ≡ true
 more_kept site fewer more before after free within sb sa m h =
     same_solution site more after (the_values site more) free sa (the_values_solve site more free) m ∙
-    solved_more site fewer more within (suc (length site.markers)) m (sym (same_solution site fewer before (the_values site fewer) free sb (the_values_solve site fewer free) m) ∙ h)
+    solved_more site fewer more within (suc (length site.markers)) m
+    (sym (same_solution site fewer before (the_values site fewer) free sb (the_values_solve site fewer free) m) ∙ h)

@@ -22,13 +22,15 @@ term_within (marker ∷ markers) (suc m) other h = let less = term_within marker
 pub has_within : (site : Site) (m other : ℕ) → has_term site m other ≡ true → m < length site.markers
 has_within site m other h = term_within site.markers m other h
 
-holds_same : (site : Site) (facts : Facts) (v w : ℕ → Bool) (term : Term) → ((other : ℕ) → is_marker other term ≡ true → v other ≡ w other) → holds site facts v term ≡ holds site facts w term
+holds_same : (site : Site) (facts : Facts) (v w : ℕ → Bool) (term : Term) → ((other : ℕ) → is_marker other term ≡ true → v other ≡ w other)
+    → holds site facts v term ≡ holds site facts w term
 holds_same site facts v w (ZoneTerm place) same = refl
 holds_same site facts v w (ManualTerm place) same = refl
 holds_same site facts v w (FaultTerm panel) same = refl
 holds_same site facts v w (MarkerTerm other) same = same other (equal_number other)
 
-makes_same : (site : Site) (facts : Facts) (v w : ℕ → Bool) (marker : Option Marker) → ((other : ℕ) → list_any (is_marker other) (terms_of marker) ≡ true → v other ≡ w other) →
+makes_same : (site : Site) (facts : Facts) (v w : ℕ → Bool) (marker : Option Marker)
+    → ((other : ℕ) → list_any (is_marker other) (terms_of marker) ≡ true → v other ≡ w other) →
     makes_true site facts v marker ≡ makes_true site facts w marker
 makes_same site facts v w None same = refl
 makes_same site facts v w (Some marker) same =
@@ -36,10 +38,12 @@ makes_same site facts v w (Some marker) same =
     (λ k term at. holds_same site facts v w term (λ other is. same other (any_at (is_marker other) marker.terms k term at is)))
 
 -- values that agree on a marker's terms make the same of it
-pub equation_same : (site : Site) (facts : Facts) (v w : ℕ → Bool) (m : ℕ) → ((other : ℕ) → has_term site m other ≡ true → v other ≡ w other) → equation site facts v m ≡ equation site facts w m
+pub equation_same : (site : Site) (facts : Facts) (v w : ℕ → Bool) (m : ℕ) → ((other : ℕ) → has_term site m other ≡ true → v other ≡ w other)
+    → equation site facts v m ≡ equation site facts w m
 equation_same site facts v w m same = makes_same site facts v w (slice_get site.markers m) same
 
-zone_more : (fewer more : List ℕ) (zone : Option Zone) → ((z : Zone) → zone_bit fewer (Some z) ≡ true → zone_bit more (Some z) ≡ true) → zone_bit fewer zone ≡ true → zone_bit more zone ≡ true
+zone_more : (fewer more : List ℕ) (zone : Option Zone) → ((z : Zone) → zone_bit fewer (Some z) ≡ true → zone_bit more (Some z) ≡ true)
+    → zone_bit fewer zone ≡ true → zone_bit more zone ≡ true
 zone_more fewer more None within h = h
 zone_more fewer more (Some zone) within h = within zone h
 

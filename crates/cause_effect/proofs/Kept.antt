@@ -38,20 +38,24 @@ holds_kept site before after v w (ManualTerm place) e same = differ_none _ _ e
 holds_kept site before after v w (FaultTerm panel) e same = differ_none _ _ e
 holds_kept site before after v w (MarkerTerm other) e same = same other (equal_number other)
 
-makes_kept : (site : Site) (before after : Facts) (v w : ℕ → Bool) (marker : Option Marker) → list_any (is_changed site before after) (terms_of marker) ≡ false →
-    ((other : ℕ) → list_any (is_marker other) (terms_of marker) ≡ true → v other ≡ w other) → makes_true site before v marker ≡ makes_true site after w marker
+makes_kept : (site : Site) (before after : Facts) (v w : ℕ → Bool) (marker : Option Marker)
+    → list_any (is_changed site before after) (terms_of marker) ≡ false →
+    ((other : ℕ) → list_any (is_marker other) (terms_of marker) ≡ true → v other ≡ w other)
+    → makes_true site before v marker ≡ makes_true site after w marker
 makes_kept site before after v w None none same = refl
 makes_kept site before after v w (Some marker) none same =
     met_same marker.combine (holds site before v) (holds site after w) marker.terms
     (λ k term at. holds_kept site before after v w term (none_at (is_changed site before after) marker.terms k term at none)
     (λ other is. same other (any_at (is_marker other) marker.terms k term at is)))
 
-solved_kept : (site : Site) (before after : Facts) (depth m : ℕ) → (DependsOnChanged site before after m → ⊥) → solved depth site before m ≡ solved depth site after m
+solved_kept : (site : Site) (before after : Facts) (depth m : ℕ) → (DependsOnChanged site before after m → ⊥)
+    → solved depth site before m ≡ solved depth site after m
 solved_kept site before after zero m free = refl
 solved_kept site before after (suc depth) m free =
     makes_kept site before after (solved depth site before) (solved depth site after) (slice_get site.markers m)
     (not_true (has_changed site before after m) (λ h. free (directly m h)))
     (λ other term. solved_kept site before after depth other (λ d. free (through m other term d)))
 
-pub value_kept : (site : Site) (before after : Facts) (m : ℕ) → (DependsOnChanged site before after m → ⊥) → the_values site before m ≡ the_values site after m
+pub value_kept : (site : Site) (before after : Facts) (m : ℕ) → (DependsOnChanged site before after m → ⊥)
+    → the_values site before m ≡ the_values site after m
 value_kept site before after m free = solved_kept site before after (suc (length site.markers)) m free

@@ -25,7 +25,8 @@ record LeftTerm (placed : List Bool) (terms : List Term) : Type 0 where
 later : (placed : List Bool) (term : Term) (terms : List Term) → LeftTerm placed terms → LeftTerm placed (term ∷ terms)
 later placed term terms w = record { place = suc w.place; other = w.other; at = w.at; fresh = w.fresh }
 
-left_here : (placed : List Bool) (m : ℕ) (terms : List Term) (b : Bool) → is_placed placed m ≡ b → (list_all (is_term_placed placed) terms ≡ false → LeftTerm placed terms) →
+left_here : (placed : List Bool) (m : ℕ) (terms : List Term) (b : Bool) → is_placed placed m ≡ b
+    → (list_all (is_term_placed placed) terms ≡ false → LeftTerm placed terms) →
     (b && list_all (is_term_placed placed) terms) ≡ false → LeftTerm placed (MarkerTerm m ∷ terms)
 left_here placed m terms true e more h = later placed (MarkerTerm m) terms (more h)
 left_here placed m terms false e more h = record { place = 0; other = m; at = refl; fresh = e }
@@ -62,11 +63,13 @@ left_next site valid placed stuck m left =
     let w = not_ready placed at.0.terms (sym (ap (λ o. list_all (is_term_placed placed) (terms_of o)) at.1) ∙ stuck m left.within left.fresh) in
     record {
       next = w.other;
-      term = ap (λ o. list_any (is_marker w.other) (terms_of o)) at.1 ∙ any_at (is_marker w.other) at.0.terms w.place (MarkerTerm w.other) w.at (equal_number w.other);
+      term = ap (λ o. list_any (is_marker w.other) (terms_of o)) at.1 ∙ any_at (is_marker w.other) at.0.terms w.place (MarkerTerm w.other) w.at
+          (equal_number w.other);
       left = record { within = term_of_marker site valid m at.0 w.place (MarkerTerm w.other) at.1 w.at; fresh = w.fresh };
     }
 
-comes_on : (site : Site) (start m next : ℕ) → (start ≡ m) ⊎ Depends site start m → has_term site m next ≡ true → (start ≡ next) ⊎ Depends site start next
+comes_on : (site : Site) (start m next : ℕ) → (start ≡ m) ⊎ Depends site start m → has_term site m next ≡ true
+    → (start ≡ next) ⊎ Depends site start next
 comes_on site start m next comes term = elim comes [
   | inl same ↦ inr (subst (λ n. Depends site n next) (sym same) (directly m next term))
   | inr far ↦ inr (and_on site start m next far term)
@@ -77,16 +80,19 @@ meets_or : (site : Site) (start m : ℕ) (seen : List ℕ) → Chain site m seen
 meets_or site start m seen chain comes true e more = record { met = m; comes = comes; round = chain.leads m e }
 meets_or site start m seen chain comes false e more = more e
 
-meets_along : (site : Site) → IsValid site → (placed : List Bool) → IsStuck site placed → (start fuel m : ℕ) (seen : List ℕ) → Chain site m seen → (start ≡ m) ⊎ Depends site start m →
+meets_along : (site : Site) → IsValid site → (placed : List Bool) → IsStuck site placed → (start fuel m : ℕ) (seen : List ℕ) → Chain site m seen
+    → (start ≡ m) ⊎ Depends site start m →
     IsLeft site placed m → length site.markers < fuel + length seen → MeetsCycle site start
 meets_along site valid placed stuck start zero m seen chain comes left far = absurd (chain_fits site m seen chain (omega (arith, far)))
 meets_along site valid placed stuck start (suc fuel) m seen chain comes left far =
     let on = left_next site valid placed stuck m left in
     meets_or site start m seen chain comes (list_any (λ x. m == x) seen) refl
-    (λ fresh. meets_along site valid placed stuck start fuel on.next (m ∷ seen) (chain_on site m on.next seen chain fresh on.term) (comes_on site start m on.next comes on.term) on.left (omega (arith, far)))
+    (λ fresh. meets_along site valid placed stuck start fuel on.next (m ∷ seen) (chain_on site m on.next seen chain fresh on.term)
+    (comes_on site start m on.next comes on.term) on.left (omega (arith, far)))
 
 left_meets : (site : Site) → IsValid site → (placed : List Bool) → IsStuck site placed → (m : ℕ) → IsLeft site placed m → MeetsCycle site m
-left_meets site valid placed stuck m left = meets_along site valid placed stuck m (suc (length site.markers)) m [] (no_chain site m) (inl refl) left (omega arith)
+left_meets site valid placed stuck m left =
+    meets_along site valid placed stuck m (suc (length site.markers)) m [] (no_chain site m) (inl refl) left (omega arith)
 
 meets_within : (site : Site) (m : ℕ) → MeetsCycle site m → m < length site.markers
 meets_within site m w = elim w.comes [
@@ -94,7 +100,8 @@ meets_within site m w = elim w.comes [
   | inr far ↦ depends_within site m w.met far
 ]
 
-placed_meets_none : (site : Site) (arranged : Arranged) → Arranges site arranged → (m : ℕ) → is_placed arranged.placed m ≡ true → MeetsCycle site m → ⊥
+placed_meets_none : (site : Site) (arranged : Arranged) → Arranges site arranged → (m : ℕ) → is_placed arranged.placed m ≡ true → MeetsCycle site m
+    → ⊥
 placed_meets_none site arranged is m placed w =
     let among : is_among m arranged.order ≡ true = sym (is.same m) ∙ placed in
     free_among site arranged.order is.rising w.met (elim w.comes [
@@ -109,5 +116,10 @@ not_true false h = refl
 pub leaves_cycles : (site : Site) (arranged : Arranged) → IsValid site → Arranges site arranged → LeavesCycles site arranged.placed
 leaves_cycles site arranged valid is = record {
   meets = λ m left. left_meets site valid arranged.placed is.stuck m left;
-  left = λ m meets. record { within = meets_within site m meets; fresh = not_true (is_placed arranged.placed m) (λ placed. placed_meets_none site arranged is m placed meets) };
+  left =
+      λ m meets. record {
+        within = meets_within site m meets;
+        fresh =
+            not_true (is_placed arranged.placed m) (λ placed. placed_meets_none site arranged is m placed meets);
+      };
 }

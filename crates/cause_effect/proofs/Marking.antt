@@ -3,7 +3,7 @@ use Rattle.std.proofs.Common.{◌≡◌, ◌≤◌, ◌<◌, ◌==◌, ◌+◌, 
 use Rattle.std.specs.Prelude.{slice_get, slice_index_or}
 use Rattle.std.specs.List.{list_any}
 use Rattle.std.proofs.lemmas.Bool.{cases_lt}
-use Rattle.site_types.specs.Bits.{has_bit}
+use Rattle.site_types.specs.Bits.{any_below, has_bit}
 use Rattle.site_types.specs.Valid.{IsValid, IsTerm}
 use Rattle.site_types.specs.declared.site.Site.{Site}
 use Rattle.site_types.specs.declared.zone.Zone.{Zone}
@@ -17,9 +17,15 @@ use Rattle.marker_table.specs.Table.{zone_index, input_of}
 use Rattle.marker_table.proofs.Rows.{item_at}
 use Rattle.cause_effect.specs.Changes.{differ, is_changed, has_changed}
 use Rattle.cause_effect.specs.Cycles.{is_among, terms_of}
-use Rattle.cause_effect.specs.Users.{place_of, looks_at, users_at, AreUsersOf, any_below, uses_bit, uses_word, uses_panel}
+use Rattle.cause_effect.specs.Users.{place_of, looks_at, users_at, AreUsersOf, uses_bit, uses_word}
 use Rattle.cause_effect.proofs.Truths.{and_first, and_second, any_at, equal_number, number_is, one_passes, or_left, or_right, same_bool}
 use Rattle.cause_effect.proofs.Using.{or_more}
+
+-- a zone of a panel, or its call points, differ and have the marker among their users
+abbrev pub uses_panel : List (List ℕ) → Facts → Facts → ℕ → ℕ → Bool
+uses_panel lists before after m panel =
+    uses_word lists (32 * panel) (slice_index_or before.zones panel 0) (slice_index_or after.zones panel 0) m ||
+    uses_word lists (256 + 32 * panel) (slice_index_or before.manual panel 0) (slice_index_or after.manual panel 0) m
 
 -- ---- a test below a number
 
@@ -71,26 +77,33 @@ or_cases false b h = inr h
 -- ---- the term that looks at a place
 
 -- a panel less one and a number less one, from the place that they make
-parts : (p bit panel number : ℕ) → bit < 32 → 1 ≤ number → number ≤ 32 → 32 * p + bit ≡ 32 * (panel - 1) + (number - 1) → (p ≡ panel - 1) × (bit ≡ number - 1)
+parts : (p bit panel number : ℕ) → bit < 32 → 1 ≤ number → number ≤ 32 → 32 * p + bit ≡ 32 * (panel - 1) + (number - 1)
+    → (p ≡ panel - 1) × (bit ≡ number - 1)
 parts p bit panel number less one most e = (omega arith, omega arith)
 
 -- a mask of the zones differs in the bit of a zone
 mask_differs : (before after : List ℕ) (found : Option Zone) (z : Zone) (p bit : ℕ) → found ≡ Some z → (p ≡ z.panel - 1) × (bit ≡ z.number - 1) →
-    differ (has_bit (slice_index_or before p 0) bit) (has_bit (slice_index_or after p 0) bit) ≡ true → differ (zone_bit before found) (zone_bit after found) ≡ true
+    differ (has_bit (slice_index_or before p 0) bit) (has_bit (slice_index_or after p 0) bit) ≡ true
+    → differ (zone_bit before found) (zone_bit after found) ≡ true
 mask_differs before after found z p bit at same h = rw (at, ← same.0, ← same.1) h
 
-zone_changed : (site : Site) → IsValid site → (before after : Facts) (p bit : ℕ) (term : Term) → IsTerm site term → p < 8 → bit < 32 → 32 * p + bit ≡ place_of (input_of site term) →
-    differ (has_bit (slice_index_or before.zones p 0) bit) (has_bit (slice_index_or after.zones p 0) bit) ≡ true → is_changed site before after term ≡ true
+zone_changed : (site : Site) → IsValid site → (before after : Facts) (p bit : ℕ) (term : Term) → IsTerm site term → p < 8 → bit < 32
+    → 32 * p + bit ≡ place_of (input_of site term) →
+    differ (has_bit (slice_index_or before.zones p 0) bit) (has_bit (slice_index_or after.zones p 0) bit) ≡ true
+    → is_changed site before after term ≡ true
 zone_changed site valid before after p bit (ZoneTerm place) is few less e h =
     let at = item_at site.zones place is in
     let n = zone_numbers site valid place at.0 at.1 in
-    mask_differs before.zones after.zones (slice_get site.zones place) at.0 p bit at.1 (parts p bit at.0.panel at.0.number less n.2 n.3 (e ∙ ap zone_index at.1)) h
+    mask_differs before.zones after.zones (slice_get site.zones place) at.0 p bit at.1
+    (parts p bit at.0.panel at.0.number less n.2 n.3 (e ∙ ap zone_index at.1)) h
 zone_changed site valid before after p bit (ManualTerm place) is few less e h = absurd (omega (arith, few, less, e))
 zone_changed site valid before after p bit (FaultTerm panel) is few less e h = absurd (omega (arith, few, less, e))
 zone_changed site valid before after p bit (MarkerTerm other) is few less e h = absurd (omega (arith, few, less, e))
 
-manual_changed : (site : Site) → IsValid site → (before after : Facts) (p bit : ℕ) (term : Term) → IsTerm site term → p < 8 → bit < 32 → (256 + 32 * p) + bit ≡ place_of (input_of site term) →
-    differ (has_bit (slice_index_or before.manual p 0) bit) (has_bit (slice_index_or after.manual p 0) bit) ≡ true → is_changed site before after term ≡ true
+manual_changed : (site : Site) → IsValid site → (before after : Facts) (p bit : ℕ) (term : Term) → IsTerm site term → p < 8 → bit < 32
+    → (256 + 32 * p) + bit ≡ place_of (input_of site term) →
+    differ (has_bit (slice_index_or before.manual p 0) bit) (has_bit (slice_index_or after.manual p 0) bit) ≡ true
+    → is_changed site before after term ≡ true
 manual_changed site valid before after p bit (ZoneTerm place) is few less e h =
     let at = item_at site.zones place is in
     let n = zone_numbers site valid place at.0 at.1 in
@@ -100,11 +113,13 @@ manual_changed site valid before after p bit (ManualTerm place) is few less e h 
     let at = item_at site.zones place is in
     let n = zone_numbers site valid place at.0 at.1 in
     let f : (256 + 32 * p) + bit ≡ 256 + (32 * (at.0.panel - 1) + (at.0.number - 1)) = e ∙ ap (λ (o : Option Zone). 256 + zone_index o) at.1 in
-    mask_differs before.manual after.manual (slice_get site.zones place) at.0 p bit at.1 (parts p bit at.0.panel at.0.number less n.2 n.3 (omega (arith, f))) h
+    mask_differs before.manual after.manual (slice_get site.zones place) at.0 p bit at.1
+    (parts p bit at.0.panel at.0.number less n.2 n.3 (omega (arith, f))) h
 manual_changed site valid before after p bit (FaultTerm panel) is few less e h = absurd (omega (arith, few, less, e))
 manual_changed site valid before after p bit (MarkerTerm other) is few less e h = absurd (omega (arith, few, less, e))
 
-fault_changed : (site : Site) → IsValid site → (before after : Facts) (bit : ℕ) (term : Term) → IsTerm site term → 768 + bit ≡ place_of (input_of site term) →
+fault_changed : (site : Site) → IsValid site → (before after : Facts) (bit : ℕ) (term : Term) → IsTerm site term
+    → 768 + bit ≡ place_of (input_of site term) →
     differ (has_bit before.faults bit) (has_bit after.faults bit) ≡ true → is_changed site before after term ≡ true
 fault_changed site valid before after bit (ZoneTerm place) is e h =
     let at = item_at site.zones place is in
@@ -123,12 +138,16 @@ fault_changed site valid before after bit (MarkerTerm other) is e h = let few = 
 
 -- ---- from the marks to the terms
 
--- a marker that is a user at a place has a term that looks at it; what holds of each such term holds of one of its terms
-user_term : (site : Site) → IsValid site → (lists : List (List ℕ)) (place m : ℕ) (test : Term → Bool) → AreUsersOf site lists → is_among m (users_at lists place) ≡ true →
-    ((term : Term) → IsTerm site term → place ≡ place_of (input_of site term) → test term ≡ true) → list_any test (terms_of (slice_get site.markers m)) ≡ true
+-- a marker that is a user at a place has a term that looks at it; what holds of each such term holds of one
+-- of its terms
+user_term : (site : Site) → IsValid site → (lists : List (List ℕ)) (place m : ℕ) (test : Term → Bool) → AreUsersOf site lists
+    → is_among m (users_at lists place) ≡ true →
+    ((term : Term) → IsTerm site term → place ≡ place_of (input_of site term) → test term ≡ true)
+    → list_any test (terms_of (slice_get site.markers m)) ≡ true
 user_term site valid lists place m test users among every = of_marker (slice_get site.markers m) refl (sym (users place m) ∙ among)
   where
-    of_marker : (marker : Option Marker) → slice_get site.markers m ≡ marker → list_any (looks_at site place) (terms_of marker) ≡ true → list_any test (terms_of marker) ≡ true
+    of_marker : (marker : Option Marker) → slice_get site.markers m ≡ marker → list_any (looks_at site place) (terms_of marker) ≡ true
+        → list_any test (terms_of marker) ≡ true
     of_marker None at h = cc
     of_marker (Some marker) at h =
         let w = one_passes (looks_at site place) marker.terms h in
@@ -141,23 +160,29 @@ user_term site valid lists place m test users among every = of_marker (slice_get
 abbrev pub uses_facts : List (List ℕ) → Facts → Facts → ℕ → Bool
 uses_facts lists before after m = any_below 8 (uses_panel lists before after m) || uses_word lists 768 before.faults after.faults m
 
-user_bit : (site : Site) (lists : List (List ℕ)) (first before after m bit i : ℕ) (term : Term) → AreUsersOf site lists → bit < 32 → slice_get (terms_of (slice_get site.markers m)) i ≡ Some term →
+user_bit : (site : Site) (lists : List (List ℕ)) (first before after m bit i : ℕ) (term : Term) → AreUsersOf site lists → bit < 32
+    → slice_get (terms_of (slice_get site.markers m)) i ≡ Some term →
     first + bit ≡ place_of (input_of site term) → differ (has_bit before bit) (has_bit after bit) ≡ true → uses_word lists first before after m ≡ true
 user_bit site lists first before after m bit i term users less at place h =
-    below_some 32 (uses_bit lists first before after m) bit less (both (differ (has_bit before bit) (has_bit after bit)) (is_among m (users_at lists (first + bit))) h
+    below_some 32 (uses_bit lists first before after m) bit less
+    (both (differ (has_bit before bit) (has_bit after bit)) (is_among m (users_at lists (first + bit))) h
     (users (first + bit) m ∙ any_at (looks_at site (first + bit)) (terms_of (slice_get site.markers m)) i term at
     (subst (λ n. ((first + bit) == n) ≡ true) place (equal_number (first + bit)))))
 
-panel_marks : (lists : List (List ℕ)) (before after : Facts) (m panel : ℕ) → panel < 8 → uses_panel lists before after m panel ≡ true → uses_facts lists before after m ≡ true
+panel_marks : (lists : List (List ℕ)) (before after : Facts) (m panel : ℕ) → panel < 8 → uses_panel lists before after m panel ≡ true
+    → uses_facts lists before after m ≡ true
 panel_marks lists before after m panel less h =
-    or_left (any_below 8 (uses_panel lists before after m)) (uses_word lists 768 before.faults after.faults m) (below_some 8 (uses_panel lists before after m) panel less h)
+    or_left (any_below 8 (uses_panel lists before after m)) (uses_word lists 768 before.faults after.faults m)
+    (below_some 8 (uses_panel lists before after m) panel less h)
 
 -- the masks differ in the bit of a zone
-zone_differs : (before after : List ℕ) (found : Option Zone) (z : Zone) → found ≡ Some z → differ (zone_bit before found) (zone_bit after found) ≡ true →
+zone_differs : (before after : List ℕ) (found : Option Zone) (z : Zone) → found ≡ Some z
+    → differ (zone_bit before found) (zone_bit after found) ≡ true →
     differ (has_bit (slice_index_or before (z.panel - 1) 0) (z.number - 1)) (has_bit (slice_index_or after (z.panel - 1) 0) (z.number - 1)) ≡ true
 zone_differs before after found z at h = subst (λ (o : Option Zone). differ (zone_bit before o) (zone_bit after o) ≡ true) at h
 
-changed_marks : (site : Site) → IsValid site → (lists : List (List ℕ)) (before after : Facts) (m i : ℕ) (term : Term) → AreUsersOf site lists → IsTerm site term →
+changed_marks : (site : Site) → IsValid site → (lists : List (List ℕ)) (before after : Facts) (m i : ℕ) (term : Term) → AreUsersOf site lists
+    → IsTerm site term →
     slice_get (terms_of (slice_get site.markers m)) i ≡ Some term → is_changed site before after term ≡ true → uses_facts lists before after m ≡ true
 changed_marks site valid lists before after m i (ZoneTerm place) users is at h =
     let zone = item_at site.zones place is in
@@ -165,7 +190,8 @@ changed_marks site valid lists before after m i (ZoneTerm place) users is at h =
     let p = zone.0.panel - 1 in
     panel_marks lists before after m p (omega (arith, n))
     (or_left (uses_word lists (32 * p) (slice_index_or before.zones p 0) (slice_index_or after.zones p 0) m) _
-    (user_bit site lists (32 * p) (slice_index_or before.zones p 0) (slice_index_or after.zones p 0) m (zone.0.number - 1) i (ZoneTerm place) users (omega (arith, n)) at
+    (user_bit site lists (32 * p) (slice_index_or before.zones p 0) (slice_index_or after.zones p 0) m (zone.0.number - 1) i (ZoneTerm place) users
+    (omega (arith, n)) at
     (sym (ap zone_index zone.1)) (zone_differs before.zones after.zones (slice_get site.zones place) zone.0 zone.1 h)))
 changed_marks site valid lists before after m i (ManualTerm place) users is at h =
     let zone = item_at site.zones place is in
@@ -173,8 +199,10 @@ changed_marks site valid lists before after m i (ManualTerm place) users is at h
     let p = zone.0.panel - 1 in
     panel_marks lists before after m p (omega (arith, n))
     (or_right _ (uses_word lists (256 + 32 * p) (slice_index_or before.manual p 0) (slice_index_or after.manual p 0) m)
-    (user_bit site lists (256 + 32 * p) (slice_index_or before.manual p 0) (slice_index_or after.manual p 0) m (zone.0.number - 1) i (ManualTerm place) users (omega (arith, n)) at
-    (moved p (zone.0.number - 1) ∙ sym (ap (λ (o : Option Zone). 256 + zone_index o) zone.1)) (zone_differs before.manual after.manual (slice_get site.zones place) zone.0 zone.1 h)))
+    (user_bit site lists (256 + 32 * p) (slice_index_or before.manual p 0) (slice_index_or after.manual p 0) m (zone.0.number - 1) i
+    (ManualTerm place) users (omega (arith, n)) at
+    (moved p (zone.0.number - 1) ∙ sym (ap (λ (o : Option Zone). 256 + zone_index o) zone.1))
+    (zone_differs before.manual after.manual (slice_get site.zones place) zone.0 zone.1 h)))
   where
     moved : (p n : ℕ) → (256 + 32 * p) + n ≡ 256 + (32 * p + n)
     moved p n = omega arith
@@ -187,34 +215,43 @@ changed_marks site valid lists before after m i (MarkerTerm other) users is at h
 -- ---- both ways
 
 bit_of_word : (site : Site) → IsValid site → (lists : List (List ℕ)) (first before after m : ℕ) (test : Term → Bool) → AreUsersOf site lists →
-    ((bit : ℕ) (term : Term) → bit < 32 → IsTerm site term → first + bit ≡ place_of (input_of site term) → differ (has_bit before bit) (has_bit after bit) ≡ true → test term ≡ true) →
+    ((bit : ℕ) (term : Term) → bit < 32 → IsTerm site term → first + bit ≡ place_of (input_of site term)
+    → differ (has_bit before bit) (has_bit after bit) ≡ true → test term ≡ true) →
     uses_word lists first before after m ≡ true → list_any test (terms_of (slice_get site.markers m)) ≡ true
 bit_of_word site valid lists first before after m test users every h =
     let w = some_below 32 (uses_bit lists first before after m) h in
     let differs = and_first (differ (has_bit before w.number) (has_bit after w.number)) (is_among m (users_at lists (first + w.number))) w.passes in
-    user_term site valid lists (first + w.number) m test users (and_second (differ (has_bit before w.number) (has_bit after w.number)) (is_among m (users_at lists (first + w.number))) w.passes)
+    user_term site valid lists (first + w.number) m test users
+    (and_second (differ (has_bit before w.number) (has_bit after w.number)) (is_among m (users_at lists (first + w.number))) w.passes)
     (λ term is place. every w.number term w.below is place differs)
 
-panel_changed : (site : Site) → IsValid site → (lists : List (List ℕ)) (before after : Facts) (m panel : ℕ) → AreUsersOf site lists → panel < 8 → uses_panel lists before after m panel ≡ true →
+panel_changed : (site : Site) → IsValid site → (lists : List (List ℕ)) (before after : Facts) (m panel : ℕ) → AreUsersOf site lists → panel < 8
+    → uses_panel lists before after m panel ≡ true →
     has_changed site before after m ≡ true
 panel_changed site valid lists before after m panel users less h = elim (or_cases
     (uses_word lists (32 * panel) (slice_index_or before.zones panel 0) (slice_index_or after.zones panel 0) m)
     (uses_word lists (256 + 32 * panel) (slice_index_or before.manual panel 0) (slice_index_or after.manual panel 0) m) h) [
-      | inl zones ↦ bit_of_word site valid lists (32 * panel) (slice_index_or before.zones panel 0) (slice_index_or after.zones panel 0) m (is_changed site before after) users
+      | inl zones ↦ bit_of_word site valid lists (32 * panel) (slice_index_or before.zones panel 0) (slice_index_or after.zones panel 0) m
+          (is_changed site before after) users
           (λ bit term small is place. zone_changed site valid before after panel bit term is less small place) zones
-      | inr manual ↦ bit_of_word site valid lists (256 + 32 * panel) (slice_index_or before.manual panel 0) (slice_index_or after.manual panel 0) m (is_changed site before after) users
+      | inr manual ↦ bit_of_word site valid lists (256 + 32 * panel) (slice_index_or before.manual panel 0) (slice_index_or after.manual panel 0) m
+          (is_changed site before after) users
           (λ bit term small is place. manual_changed site valid before after panel bit term is less small place) manual
     ]
 
-facts_changed : (site : Site) → IsValid site → (lists : List (List ℕ)) (before after : Facts) (m : ℕ) → AreUsersOf site lists → uses_facts lists before after m ≡ true →
+facts_changed : (site : Site) → IsValid site → (lists : List (List ℕ)) (before after : Facts) (m : ℕ) → AreUsersOf site lists
+    → uses_facts lists before after m ≡ true →
     has_changed site before after m ≡ true
-facts_changed site valid lists before after m users h = elim (or_cases (any_below 8 (uses_panel lists before after m)) (uses_word lists 768 before.faults after.faults m) h) [
-  | inl panels ↦ (let w = some_below 8 (uses_panel lists before after m) panels in panel_changed site valid lists before after m w.number users w.below w.passes)
-  | inr faults ↦ bit_of_word site valid lists 768 before.faults after.faults m (is_changed site before after) users
-      (λ bit term small is place. fault_changed site valid before after bit term is place) faults
-]
+facts_changed site valid lists before after m users h =
+    elim (or_cases (any_below 8 (uses_panel lists before after m)) (uses_word lists 768 before.faults after.faults m) h) [
+      | inl panels ↦ (let w = some_below 8 (uses_panel lists before after m) panels in
+          panel_changed site valid lists before after m w.number users w.below w.passes)
+      | inr faults ↦ bit_of_word site valid lists 768 before.faults after.faults m (is_changed site before after) users
+          (λ bit term small is place. fault_changed site valid before after bit term is place) faults
+    ]
 
-changed_facts : (site : Site) → IsValid site → (lists : List (List ℕ)) (before after : Facts) (m : ℕ) → AreUsersOf site lists → (marker : Option Marker) → slice_get site.markers m ≡ marker →
+changed_facts : (site : Site) → IsValid site → (lists : List (List ℕ)) (before after : Facts) (m : ℕ) → AreUsersOf site lists
+    → (marker : Option Marker) → slice_get site.markers m ≡ marker →
     list_any (is_changed site before after) (terms_of marker) ≡ true → uses_facts lists before after m ≡ true
 changed_facts site valid lists before after m users None at h = cc
 changed_facts site valid lists before after m users (Some marker) at h =
@@ -223,7 +260,8 @@ changed_facts site valid lists before after m users (Some marker) at h =
     (ap (λ (o : Option Marker). slice_get (terms_of o) w.place) at ∙ w.at) w.passes
 
 -- the marks that are set at first are those of the markers that have a fact as a term that changed
-pub facts_mark : (site : Site) → IsValid site → (lists : List (List ℕ)) (before after : Facts) (m : ℕ) → AreUsersOf site lists → uses_facts lists before after m ≡ has_changed site before after m
+pub facts_mark : (site : Site) → IsValid site → (lists : List (List ℕ)) (before after : Facts) (m : ℕ) → AreUsersOf site lists
+    → uses_facts lists before after m ≡ has_changed site before after m
 facts_mark site valid lists before after m users =
     same_bool (uses_facts lists before after m) (has_changed site before after m)
     (facts_changed site valid lists before after m users)
@@ -231,7 +269,8 @@ facts_mark site valid lists before after m users =
 
 -- ---- one panel more
 
-pub panel_more : (lists : List (List ℕ)) (before after : Facts) (m panel : ℕ) (start zones manual : Bool) → start ≡ any_below panel (uses_panel lists before after m) →
+pub panel_more : (lists : List (List ℕ)) (before after : Facts) (m panel : ℕ) (start zones manual : Bool)
+    → start ≡ any_below panel (uses_panel lists before after m) →
     zones ≡ (start || uses_word lists (32 * panel) (slice_index_or before.zones panel 0) (slice_index_or after.zones panel 0) m) →
     manual ≡ (zones || uses_word lists (256 + 32 * panel) (slice_index_or before.manual panel 0) (slice_index_or after.manual panel 0) m) →
     manual ≡ any_below (panel + 1) (uses_panel lists before after m)
@@ -245,7 +284,8 @@ panel_more lists before after m panel start zones manual first second third =
     together false z m true b c e f g = cc
 
 -- one bit more of a word
-pub bit_more : (lists : List (List ℕ)) (first before after m bit : ℕ) (old start more : Bool) → start ≡ (old || any_below bit (uses_bit lists first before after m)) →
+pub bit_more : (lists : List (List ℕ)) (first before after m bit : ℕ) (old start more : Bool)
+    → start ≡ (old || any_below bit (uses_bit lists first before after m)) →
     more ≡ (start || uses_bit lists first before after m bit) → more ≡ (old || any_below (bit + 1) (uses_bit lists first before after m))
 bit_more lists first before after m bit old start more e f =
     f ∙ (ap (λ b. b || uses_bit lists first before after m bit) e ∙

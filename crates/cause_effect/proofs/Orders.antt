@@ -45,18 +45,22 @@ further m j k xs less h =
 -- ---- an order
 
 -- the terms of a marker among the first k are among them
-term_before : (site : Site) (order : List ℕ) → IsRising site order → (k m other : ℕ) → StandsBefore m k order → has_term site m other ≡ true → is_among other (take k order) ≡ true
+term_before : (site : Site) (order : List ℕ) → IsRising site order → (k m other : ℕ) → StandsBefore m k order → has_term site m other ≡ true
+    → is_among other (take k order) ≡ true
 term_before site order rising k m other w term =
     let before = w.before in
     further other w.place k order (omega (arith, before)) (rising w.place m other w.at term)
 
 -- and so is all on which it depends
-pub closed : (site : Site) (order : List ℕ) → IsRising site order → (k m other : ℕ) → is_among m (take k order) ≡ true → Depends site m other → is_among other (take k order) ≡ true
+pub closed : (site : Site) (order : List ℕ) → IsRising site order → (k m other : ℕ) → is_among m (take k order) ≡ true → Depends site m other
+    → is_among other (take k order) ≡ true
 closed site order rising k m other h (directly a b term) = term_before site order rising k a b (stands a k order h) term
-closed site order rising k m other h (through a next b term d) = closed site order rising k next b (term_before site order rising k a next (stands a k order h) term) d
+closed site order rising k m other h (through a next b term d) =
+    closed site order rising k next b (term_before site order rising k a next (stands a k order h) term) d
 
 -- what a marker that depends on itself has as its first term depends on that marker again, or is it
-first_step : (site : Site) (order : List ℕ) → IsRising site order → (j m : ℕ) → slice_get order j ≡ Some m → (other : ℕ) → Depends site m other → is_among other (take j order) ≡ true
+first_step : (site : Site) (order : List ℕ) → IsRising site order → (j m : ℕ) → slice_get order j ≡ Some m → (other : ℕ) → Depends site m other
+    → is_among other (take j order) ≡ true
 first_step site order rising j m at other (directly a b term) = rising j a b at term
 first_step site order rising j m at other (through a next b term d) = closed site order rising j next b (rising j a next at term) d
 
@@ -74,7 +78,8 @@ take_whole (x ∷ xs) = ap (λ rest. x ∷ rest) (take_whole xs)
 pub free_among : (site : Site) (order : List ℕ) → IsRising site order → (m : ℕ) → is_among m order ≡ true → Depends site m m → ⊥
 free_among site order rising m h d = free_front site order rising (length order) m (ap (is_among m) (take_whole order) ∙ h) d
 
-pub closed_among : (site : Site) (order : List ℕ) → IsRising site order → (m other : ℕ) → is_among m order ≡ true → Depends site m other → is_among other order ≡ true
+pub closed_among : (site : Site) (order : List ℕ) → IsRising site order → (m other : ℕ) → is_among m order ≡ true → Depends site m other
+    → is_among other order ≡ true
 closed_among site order rising m other h d =
     sym (ap (is_among other) (take_whole order)) ∙ closed site order rising (length order) m other (ap (is_among m) (take_whole order) ∙ h) d
 

@@ -60,13 +60,16 @@ next_value site facts order k v is less known =
     (λ other term. known other (is.rising k (get_or order k 0) other (slice_get-get_or order k 0 less) term)) ∙
     sym (the_values_solve site facts (order_is_free site order is) (get_or order k 0))
 
-solved_here : (site : Site) (facts : Facts) (order : List ℕ) (marker : List Bool) (k : ℕ) (value : Bool) (m : ℕ) → k < length order → get_or order k 0 < length marker →
+solved_here : (site : Site) (facts : Facts) (order : List ℕ) (marker : List Bool) (k : ℕ) (value : Bool) (m : ℕ) → k < length order
+    → get_or order k 0 < length marker →
     value ≡ the_values site facts (get_or order k 0) → m ≡ get_or order k 0 → (m == get_or order k 0) ≡ true →
     slice_index_or (slice_set marker (get_or order k 0) value) m false ≡ (is_among m (take (k + 1) order) && the_values site facts m)
 solved_here site facts order marker k value m less fits right same test =
     ap (λ n. slice_index_or (slice_set marker (get_or order k 0) value) n false) same ∙
     (get_or-set_same marker (get_or order k 0) value false fits ∙
-    (right ∙ (sym (ap (the_values site facts) same) ∙ sym (and_is (is_among m (take (k + 1) order)) (the_values site facts m) (among_last m k order less test)))))
+    (right ∙
+    (sym (ap (the_values site facts) same) ∙ sym
+    (and_is (is_among m (take (k + 1) order)) (the_values site facts m) (among_last m k order less test)))))
 
 solved_there : (site : Site) (facts : Facts) (order : List ℕ) (marker : List Bool) (k : ℕ) (value : Bool) (m : ℕ) → k < length order →
     slice_index_or marker m false ≡ (is_among m (take k order) && the_values site facts m) → m ≢ get_or order k 0 → (m == get_or order k 0) ≡ false →
@@ -76,35 +79,43 @@ solved_there site facts order marker k value m less known apart test =
     (known ∙ ap (λ b. b && the_values site facts m) (sym (among_before m k order less test)))
 
 pub solved_next : (site : Site) (facts : Facts) (order : List ℕ) (marker : List Bool) (k : ℕ) (value : Bool) → IsOrder site order → k < length order →
-    get_or order k 0 < length marker → AreSolved site facts order k marker → value ≡ equation site facts (λ m. slice_index_or marker m false) (get_or order k 0) →
+    get_or order k 0 < length marker → AreSolved site facts order k marker
+    → value ≡ equation site facts (λ m. slice_index_or marker m false) (get_or order k 0) →
     AreSolved site facts order (k + 1) (slice_set marker (get_or order k 0) value)
 solved_next site facts order marker k value is less fits known made m =
     let x = get_or order k 0 in
     let right : value ≡ the_values site facts x =
-    made ∙ next_value site facts order k (λ m. slice_index_or marker m false) is less (λ other among. known other ∙ and_is (is_among other (take k order)) (the_values site facts other) among) in
+    made ∙ next_value site facts order k (λ m. slice_index_or marker m false) is less
+    (λ other among. known other ∙ and_is (is_among other (take k order)) (the_values site facts other) among) in
     elim (eqb_tells m x) [
       | inl same ↦ solved_here site facts order marker k value m less fits right same.1 same.0
       | inr apart ↦ solved_there site facts order marker k value m less (known m) apart.1 apart.0
     ]
 
 -- the same, where the list that is gone over is the order
-pub solved_on : (site : Site) (facts : Facts) (order xs : List ℕ) (marker : List Bool) (k : ℕ) (value : Bool) → xs ≡ order → IsOrder site order → k < length xs →
-    get_or xs k 0 < 256 → length marker ≡ 256 → AreSolved site facts order k marker → value ≡ equation site facts (λ m. slice_index_or marker m false) (get_or xs k 0) →
+pub solved_on : (site : Site) (facts : Facts) (order xs : List ℕ) (marker : List Bool) (k : ℕ) (value : Bool) → xs ≡ order → IsOrder site order
+    → k < length xs →
+    get_or xs k 0 < 256 → length marker ≡ 256 → AreSolved site facts order k marker
+    → value ≡ equation site facts (λ m. slice_index_or marker m false) (get_or xs k 0) →
     AreSolved site facts order (k + 1) (slice_set marker (get_or xs k 0) value)
 solved_on site facts order xs marker k value e is less fits size known made m =
     let same : get_or xs k 0 ≡ get_or order k 0 = ap (λ ys. get_or ys k 0) e in
     let within : get_or order k 0 < length marker = omega (arith, same, fits, size) in
     ap (λ x. slice_index_or (slice_set marker x value) m false) same ∙
-    solved_next site facts order marker k value is (subst (λ ys. k < length ys) e less) within known (made ∙ ap (equation site facts (λ n. slice_index_or marker n false)) same) m
+    solved_next site facts order marker k value is (subst (λ ys. k < length ys) e less) within known
+    (made ∙ ap (equation site facts (λ n. slice_index_or marker n false)) same) m
 
 -- a place without a marker is false
 pub no_marker : (site : Site) (facts : Facts) (v : ℕ → Bool) (m : ℕ) → length site.markers ≤ m → equation site facts v m ≡ false
 no_marker site facts v m past = ap (makes_true site facts v) (slice_get_past site.markers m past)
 
-among_all : (site : Site) (facts : Facts) (order : List ℕ) → IsOrder site order → (m : ℕ) → (is_among m order && the_values site facts m) ≡ the_values site facts m
+among_all : (site : Site) (facts : Facts) (order : List ℕ) → IsOrder site order → (m : ℕ)
+    → (is_among m order && the_values site facts m) ≡ the_values site facts m
 among_all site facts order is m = elim (cases_lt m (length site.markers)) [
   | inl within ↦ and_is (is_among m order) (the_values site facts m) (is.whole m within)
-  | inr past ↦ and_false (is_among m order) (the_values site facts m) (the_values_solve site facts (order_is_free site order is) m ∙ no_marker site facts (the_values site facts) m past)
+  | inr past ↦
+      and_false (is_among m order) (the_values site facts m)
+      (the_values_solve site facts (order_is_free site order is) m ∙ no_marker site facts (the_values site facts) m past)
 ]
   where
     and_false : (a b : Bool) → b ≡ false → (a && b) ≡ b
@@ -116,7 +127,8 @@ pub is_solution : (site : Site) (facts : Facts) (v : ℕ → Bool) → HasNoCycl
 is_solution site facts v free same m =
     same m ∙ (the_values_solve site facts free m ∙ equation_same site facts (the_values site facts) v m (λ other term. sym (same other)))
 
-pub all_solved : (site : Site) (facts : Facts) (order : List ℕ) (k : ℕ) (marker : List Bool) → IsOrder site order → length order ≤ k → AreSolved site facts order k marker →
+pub all_solved : (site : Site) (facts : Facts) (order : List ℕ) (k : ℕ) (marker : List Bool) → IsOrder site order → length order ≤ k
+    → AreSolved site facts order k marker →
     IsSolution site facts (λ m. slice_index_or marker m false)
 all_solved site facts order k marker is done known =
     is_solution site facts (λ m. slice_index_or marker m false) (order_is_free site order is)

@@ -48,7 +48,8 @@ ImpliesOn {X} p q xs = (k : ℕ) (x : X) → slice_get xs k ≡ Some x → p x �
 all_more : {X : Type 0} (p q : X → Bool) (xs : List X) → ImpliesOn p q xs → list_all p xs ≡ true → list_all q xs ≡ true
 all_more p q [] more h = refl
 all_more p q (x ∷ xs) more h =
-    both (q x) (list_all q xs) (more 0 x refl (and_first (p x) (list_all p xs) h)) (all_more p q xs (λ k y at. more (suc k) y at) (and_second (p x) (list_all p xs) h))
+    both (q x) (list_all q xs) (more 0 x refl (and_first (p x) (list_all p xs) h))
+    (all_more p q xs (λ k y at. more (suc k) y at) (and_second (p x) (list_all p xs) h))
 
 any_more : {X : Type 0} (p q : X → Bool) (xs : List X) → ImpliesOn p q xs → list_any p xs ≡ true → list_any q xs ≡ true
 any_more p q [] more h = h
@@ -69,7 +70,8 @@ count_more p q (x ∷ xs) more =
 enough : (needed m n : ℕ) → m ≤ n → nat_le needed m ≡ true → nat_le needed n ≡ true
 enough needed m n less h = grind (arith, nat_tests, less, h)
 
-pub met_more : {X : Type 0} (combine : Combine) (p q : X → Bool) (xs : List X) → ImpliesOn p q xs → is_met combine p xs ≡ true → is_met combine q xs ≡ true
+pub met_more : {X : Type 0} (combine : Combine) (p q : X → Bool) (xs : List X) → ImpliesOn p q xs → is_met combine p xs ≡ true
+    → is_met combine q xs ≡ true
 met_more AllOf p q xs more h = all_more p q xs more h
 met_more Any p q xs more h = any_more p q xs more h
 met_more (AtLeast needed) p q xs more h = enough needed (count_by p xs) (count_by q xs) (count_more p q xs more) h
@@ -103,7 +105,8 @@ pub record Passes {X : Type 0} (p : X → Bool) (xs : List X) : Type 0 where
 later : {X : Type 0} (p : X → Bool) (x : X) (xs : List X) → Passes p xs → Passes p (x ∷ xs)
 later p x xs w = record { place = suc w.place; item = w.item; at = w.at; passes = w.passes }
 
-passes_here : {X : Type 0} (p : X → Bool) (x : X) (xs : List X) (b : Bool) → p x ≡ b → (list_any p xs ≡ true → Passes p xs) → (b || list_any p xs) ≡ true → Passes p (x ∷ xs)
+passes_here : {X : Type 0} (p : X → Bool) (x : X) (xs : List X) (b : Bool) → p x ≡ b → (list_any p xs ≡ true → Passes p xs)
+    → (b || list_any p xs) ≡ true → Passes p (x ∷ xs)
 passes_here p x xs true e more h = record { place = 0; item = x; at = refl; passes = e }
 passes_here p x xs false e more h = later p x xs (more h)
 

@@ -1,5 +1,7 @@
 -- Who has a fact or a marker as a term, term by term and marker by marker.
-use Rattle.std.proofs.Common.{◌≡◌, ◌≢◌, ◌≤◌, ◌<◌, ◌==◌, ◌+◌, ◌*◌, ◌-◌, ◌&&◌, ◌||◌, inl, inr, ℕ, zero, suc, Bool, true, false, List, [], ◌∷◌, ◌++◌, Option, Some, None, length, take, drop, get_or, replicate, not, refl, sym, ap, ◌∙◌, arith}
+use Rattle.std.proofs.Common.{◌≡◌, ◌≢◌, ◌≤◌, ◌<◌, ◌==◌, ◌+◌, ◌*◌, ◌-◌, ◌&&◌, ◌||◌, inl, inr, ℕ, zero, suc, Bool, true}
+use Rattle.std.proofs.Common.{false, List, [], ◌∷◌, ◌++◌, Option, Some, None, length, take, drop, get_or, replicate}
+use Rattle.std.proofs.Common.{not, refl, sym, ap, ◌∙◌, arith}
 use mathlib.Core.Bool.{beq}
 use Rattle.std.specs.Prelude.{slice_get, slice_index_or, slice_set, nat_lt}
 use Rattle.std.specs.List.{list_any}
@@ -43,12 +45,15 @@ pub marked_more : (first marks : List Bool) (xs : List ℕ) (k : ℕ) → k < le
     (m : ℕ) → m < 256 → is_marked (slice_set marks (get_or xs k 0) true) m ≡ (is_marked first m || is_among m (take (k + 1) xs))
 marked_more first marks xs k less fits known m small =
     let x = get_or xs k 0 in
-    let next : is_among m (take (k + 1) xs) ≡ (is_among m (take k xs) || (m == x)) = among_more m k xs less ∙ or_false (is_among m (take k xs)) (m == x) in
+    let next : is_among m (take (k + 1) xs) ≡ (is_among m (take k xs) || (m == x)) =
+    among_more m k xs less ∙ or_false (is_among m (take k xs)) (m == x) in
     elim (eqb_tells m x) [
       | inl here ↦ (ap (λ n. slice_index_or (slice_set marks x true) n false) here.1 ∙ (get_or-set_same marks x true false fits ∙
-          (or_done (is_marked first m || is_among m (take k xs)) (m == x) here.0 ∙ (or_more (is_marked first m) (is_among m (take k xs)) (m == x) ∙ ap (λ b. is_marked first m || b) (sym next)))))
+          (or_done (is_marked first m || is_among m (take k xs)) (m == x) here.0 ∙
+          (or_more (is_marked first m) (is_among m (take k xs)) (m == x) ∙ ap (λ b. is_marked first m || b) (sym next)))))
       | inr apart ↦ (get_or-set_other marks x m true false apart.1 ∙ (known m small ∙
-          (or_none (is_marked first m || is_among m (take k xs)) (m == x) apart.0 ∙ (or_more (is_marked first m) (is_among m (take k xs)) (m == x) ∙ ap (λ b. is_marked first m || b) (sym next)))))
+          (or_none (is_marked first m || is_among m (take k xs)) (m == x) apart.0 ∙
+          (or_more (is_marked first m) (is_among m (take k xs)) (m == x) ∙ ap (λ b. is_marked first m || b) (sym next)))))
     ]
 
 -- a place without a list has no users
@@ -63,10 +68,12 @@ no_list (list ∷ lists) (suc place) m at = no_list lists place m at
 pub user_pushed : (lists : List (List ℕ)) (place x : ℕ) (list : List ℕ) → place < length lists → list ≡ users_at lists place ++ x ∷ [] →
     (p m : ℕ) → is_among m (users_at (slice_set lists place list) p) ≡ (is_among m (users_at lists p) || ((m == x) && (p == place)))
 user_pushed lists place x list fits is p m = elim (eqb_tells p place) [
-  | inl here ↦ (ap (λ n. is_among m (users_at (slice_set lists place list) n)) here.1 ∙ (ap (is_among m) (get_or-set_same lists place list [] fits ∙ is) ∙
+  | inl here ↦
+      (ap (λ n. is_among m (users_at (slice_set lists place list) n)) here.1 ∙ (ap (is_among m) (get_or-set_same lists place list [] fits ∙ is) ∙
       (list_any-append (λ y. m == y) (users_at lists place) (x ∷ []) ∙ (pushed (is_among m (users_at lists place)) (m == x) (p == place) here.0 ∙
       ap (λ n. is_among m (users_at lists n) || ((m == x) && (p == place))) (sym here.1)))))
-  | inr apart ↦ (ap (is_among m) (get_or-set_other lists place p list [] apart.1) ∙ kept (is_among m (users_at lists p)) (m == x) (p == place) apart.0)
+  | inr apart ↦
+      (ap (is_among m) (get_or-set_other lists place p list [] apart.1) ∙ kept (is_among m (users_at lists p)) (m == x) (p == place) apart.0)
 ]
   where
     pushed : (a b c : Bool) → c ≡ true → (a || (b || false)) ≡ (a || (b && c))
@@ -80,10 +87,13 @@ user_pushed lists place x list fits is p m = elim (eqb_tells p place) [
     kept false false c e = refl
 
 -- the users with one more term of the marker
-pub term_added : (site : Site) (first lists : List (List ℕ)) (terms : List Term) (k x : ℕ) (term : Term) (list : List ℕ) → slice_get terms k ≡ Some term →
+pub term_added : (site : Site) (first lists : List (List ℕ)) (terms : List Term) (k x : ℕ) (term : Term) (list : List ℕ)
+    → slice_get terms k ≡ Some term →
     place_of (input_of site term) < length lists → list ≡ users_at lists (place_of (input_of site term)) ++ x ∷ [] →
     ((p m : ℕ) → is_among m (users_at lists p) ≡ (is_among m (users_at first p) || ((m == x) && list_any (looks_at site p) (take k terms)))) →
-    (p m : ℕ) → is_among m (users_at (slice_set lists (place_of (input_of site term)) list) p) ≡ (is_among m (users_at first p) || ((m == x) && list_any (looks_at site p) (take (k + 1) terms)))
+    (p m : ℕ)
+    → is_among m (users_at (slice_set lists (place_of (input_of site term)) list) p)
+    ≡ (is_among m (users_at first p) || ((m == x) && list_any (looks_at site p) (take (k + 1) terms)))
 term_added site first lists terms k x term list at fits is known p m =
     user_pushed lists (place_of (input_of site term)) x list fits is p m ∙
     (ap (λ b. b || ((m == x) && (p == place_of (input_of site term)))) (known p m) ∙
@@ -95,16 +105,20 @@ term_added site first lists terms k x term list at fits is known p m =
     together false true c d = refl
     together false false c d = refl
 
-    any_next : (test : Term → Bool) (terms : List Term) (k : ℕ) (term : Term) → slice_get terms k ≡ Some term → list_any test (take (k + 1) terms) ≡ (list_any test (take k terms) || test term)
+    any_next : (test : Term → Bool) (terms : List Term) (k : ℕ) (term : Term) → slice_get terms k ≡ Some term
+        → list_any test (take (k + 1) terms) ≡ (list_any test (take k terms) || test term)
     any_next test terms k term at =
         ap (list_any test) (take_more terms k term (slice_get_within terms k term at)) ∙
         (list_any-append test (take k terms) (get_or terms k term ∷ []) ∙
-        (or_false (list_any test (take k terms)) (test (get_or terms k term)) ∙ ap (λ t. list_any test (take k terms) || test t) (get_or_from_slice_get terms k term term at)))
+        (or_false (list_any test (take k terms)) (test (get_or terms k term)) ∙ ap (λ t. list_any test (take k terms) || test t)
+        (get_or_from_slice_get terms k term term at)))
 
 -- what a term looks at has a place
 pub place_fits : (site : Site) → IsValid site → (term : Term) → IsTerm site term → place_of (input_of site term) < 776
-place_fits site valid (ZoneTerm place) is = let at = item_at site.zones place is in let n = zone_numbers site valid place at.0 at.1 in rw at.1 (omega (arith, n))
-place_fits site valid (ManualTerm place) is = let at = item_at site.zones place is in let n = zone_numbers site valid place at.0 at.1 in rw at.1 (omega (arith, n))
+place_fits site valid (ZoneTerm place) is = let at = item_at site.zones place is in let n = zone_numbers site valid place at.0 at.1 in
+    rw at.1 (omega (arith, n))
+place_fits site valid (ManualTerm place) is = let at = item_at site.zones place is in let n = zone_numbers site valid place at.0 at.1 in
+    rw at.1 (omega (arith, n))
 place_fits site valid (FaultTerm panel) is = let most = valid.forms.panels.1 in omega (arith, is, most)
 place_fits site valid (MarkerTerm other) is = let few = valid.forms.few_markers in omega (arith, is, few)
 
@@ -129,12 +143,17 @@ no_user site n lists e place m = ap (λ xs. is_among m (users_at xs place)) e �
         first true b e = cc
         first false b e = refl
 
-pub users_next : (site : Site) (k : ℕ) (marker : Marker) (first lists : List (List ℕ)) → slice_get site.markers k ≡ Some marker → AreUsersUpTo site k first →
-    ((place m : ℕ) → is_among m (users_at lists place) ≡ (is_among m (users_at first place) || ((m == k) && list_any (looks_at site place) marker.terms))) → AreUsersUpTo site (k + 1) lists
+pub users_next : (site : Site) (k : ℕ) (marker : Marker) (first lists : List (List ℕ)) → slice_get site.markers k ≡ Some marker
+    → AreUsersUpTo site k first →
+    ((place m : ℕ)
+    → is_among m (users_at lists place) ≡ (is_among m (users_at first place) || ((m == k) && list_any (looks_at site place) marker.terms)))
+    → AreUsersUpTo site (k + 1) lists
 users_next site k marker first lists at known more place m =
     more place m ∙ (ap (λ b. b || ((m == k) && list_any (looks_at site place) marker.terms)) (known place m) ∙ elim (eqb_tells m k) [
-      | inl here ↦ last (nat_lt m k) (nat_lt m (k + 1)) (m == k) (uses site m place) (list_any (looks_at site place) marker.terms) here.0 (below_last m k here.1) (same_terms here.1)
-      | inr apart ↦ other (nat_lt m k) (nat_lt m (k + 1)) (m == k) (uses site m place) (list_any (looks_at site place) marker.terms) apart.0 (below_same m k apart.1)
+      | inl here ↦ last (nat_lt m k) (nat_lt m (k + 1)) (m == k) (uses site m place) (list_any (looks_at site place) marker.terms) here.0
+          (below_last m k here.1) (same_terms here.1)
+      | inr apart ↦ other (nat_lt m k) (nat_lt m (k + 1)) (m == k) (uses site m place) (list_any (looks_at site place) marker.terms) apart.0
+          (below_same m k apart.1)
     ])
   where
     below_last : (m k : ℕ) → m ≡ k → (nat_lt m k ≡ false) × (nat_lt m (k + 1) ≡ true)
@@ -164,7 +183,9 @@ users_next site k marker first lists at known more place m =
 pub users_all : (site : Site) (k : ℕ) (lists : List (List ℕ)) → length site.markers ≤ k → AreUsersUpTo site k lists → AreUsersOf site lists
 users_all site k lists done known place m = known place m ∙ elim (cases_lt m k) [
   | inl less ↦ ap (λ b. b && uses site m place) (below m k less)
-  | inr past ↦ (let gone : uses site m place ≡ false = ap (λ (o : Option Marker). list_any (looks_at site place) (terms_of o)) (slice_get_past site.markers m (omega (arith, done, past))) in
+  | inr past ↦
+      (let gone : uses site m place ≡ false =
+      ap (λ (o : Option Marker). list_any (looks_at site place) (terms_of o)) (slice_get_past site.markers m (omega (arith, done, past))) in
       none (nat_lt m k) (uses site m place) gone)
 ]
   where
@@ -177,7 +198,8 @@ users_all site k lists done known place m = known place m ∙ elim (cases_lt m k
 
 -- ---- the users of a marker
 
-any_same : (p q : Term → Bool) (terms : List Term) → ((k : ℕ) (term : Term) → slice_get terms k ≡ Some term → p term ≡ q term) → list_any p terms ≡ list_any q terms
+any_same : (p q : Term → Bool) (terms : List Term) → ((k : ℕ) (term : Term) → slice_get terms k ≡ Some term → p term ≡ q term)
+    → list_any p terms ≡ list_any q terms
 any_same p q [] same = refl
 any_same p q (x ∷ xs) same = ap (λ b. b || list_any p xs) (same 0 x refl) ∙ ap (λ b. q x || b) (any_same p q xs (λ k y at. same (suc k) y at))
 
@@ -196,23 +218,28 @@ looks_at_marker site valid x (ZoneTerm place) fits is =
     let n = zone_numbers site valid place at.0 at.1 in
     number_apart (512 + x) (zone_index (slice_get site.zones place)) (λ e. far (slice_get site.zones place) at.0 at.1 n e)
   where
-    far : (found : Option Zone) (z : Zone) → found ≡ Some z → (1 ≤ z.panel) × (z.panel ≤ 8) × (1 ≤ z.number) × (z.number ≤ 32) → 512 + x ≡ zone_index found → ⊥
+    far : (found : Option Zone) (z : Zone) → found ≡ Some z → (1 ≤ z.panel) × (z.panel ≤ 8) × (1 ≤ z.number) × (z.number ≤ 32)
+        → 512 + x ≡ zone_index found → ⊥
     far found z at n e = let f : 512 + x ≡ 32 * (z.panel - 1) + (z.number - 1) = e ∙ ap zone_index at in omega (arith, f, n)
 looks_at_marker site valid x (ManualTerm place) fits is =
     let at = item_at site.zones place is in
     let n = zone_numbers site valid place at.0 at.1 in
     number_apart (512 + x) (256 + zone_index (slice_get site.zones place)) (λ e. far (slice_get site.zones place) at.0 at.1 n e)
   where
-    far : (found : Option Zone) (z : Zone) → found ≡ Some z → (1 ≤ z.panel) × (z.panel ≤ 8) × (1 ≤ z.number) × (z.number ≤ 32) → 512 + x ≡ 256 + zone_index found → ⊥
-    far found z at n e = let f : 512 + x ≡ 256 + (32 * (z.panel - 1) + (z.number - 1)) = e ∙ ap (λ (o : Option Zone). 256 + zone_index o) at in omega (arith, f, n)
+    far : (found : Option Zone) (z : Zone) → found ≡ Some z → (1 ≤ z.panel) × (z.panel ≤ 8) × (1 ≤ z.number) × (z.number ≤ 32)
+        → 512 + x ≡ 256 + zone_index found → ⊥
+    far found z at n e = let f : 512 + x ≡ 256 + (32 * (z.panel - 1) + (z.number - 1)) = e ∙ ap (λ (o : Option Zone). 256 + zone_index o) at in
+        omega (arith, f, n)
 looks_at_marker site valid x (FaultTerm panel) fits is = number_apart (512 + x) (768 + (panel - 1)) (λ e. omega (arith, e, fits))
 looks_at_marker site valid x (MarkerTerm other) fits is = number_moved 512 x other
 
 -- the users at a marker's place are the markers that have it as a term
-pub users_of_marker : (site : Site) → IsValid site → (lists : List (List ℕ)) (x m : ℕ) → x < 256 → AreUsersOf site lists → is_among m (users_at lists (512 + x)) ≡ has_term site m x
+pub users_of_marker : (site : Site) → IsValid site → (lists : List (List ℕ)) (x m : ℕ) → x < 256 → AreUsersOf site lists
+    → is_among m (users_at lists (512 + x)) ≡ has_term site m x
 users_of_marker site valid lists x m fits users = users (512 + x) m ∙ same (slice_get site.markers m) refl
   where
-    same : (marker : Option Marker) → slice_get site.markers m ≡ marker → list_any (looks_at site (512 + x)) (terms_of marker) ≡ list_any (is_marker x) (terms_of marker)
+    same : (marker : Option Marker) → slice_get site.markers m ≡ marker
+        → list_any (looks_at site (512 + x)) (terms_of marker) ≡ list_any (is_marker x) (terms_of marker)
     same None at = refl
     same (Some marker) at = any_same (looks_at site (512 + x)) (is_marker x) marker.terms
         (λ k term has. looks_at_marker site valid x term fits (term_of_marker site valid m marker k term at has))

@@ -1,5 +1,7 @@
 -- The walk along the least terms from which one comes to a cycle.
-use Rattle.std.proofs.Common.{◌≡◌, ◌≤◌, ◌<◌, ◌==◌, ◌-◌, ◌||◌, inl, inr, ℕ, zero, suc, Bool, true, false, List, [], ◌∷◌, ◌++◌, Option, Some, None, length, take, drop, get_or, refl, sym, ap, subst, ◌∙◌, arith, length-append, length-drop, not}
+use Rattle.std.proofs.Common.{◌≡◌, ◌≤◌, ◌<◌, ◌==◌, ◌-◌, ◌||◌, inl, inr, ℕ, zero, suc, Bool, true, false, List, []}
+use Rattle.std.proofs.Common.{◌∷◌, ◌++◌, Option, Some, None, length, take, drop, get_or, refl, sym, ap, subst, ◌∙◌}
+use Rattle.std.proofs.Common.{arith, length-append, length-drop, not}
 use Rattle.std.proofs.Math.Seq.{drop-cons}
 use Rattle.std.specs.Prelude.{slice_get, slice_index, is_some, Result, Ok, Err, IfOk}
 use Rattle.std.specs.List.{list_any, AllByRecursion, IsDistinct}
@@ -20,7 +22,8 @@ use Rattle.cause_effect.proofs.Truths.{one_passes, number_is}
 
 -- ---- the next marker
 
-pub terms_there : (markers xs : List Marker) (m : ℕ) (d : Marker) (terms : List Term) → m < length markers → xs ≡ markers → terms ≡ (get_or xs m d).terms →
+pub terms_there : (markers xs : List Marker) (m : ℕ) (d : Marker) (terms : List Term) → m < length markers → xs ≡ markers
+    → terms ≡ (get_or xs m d).terms →
     terms ≡ terms_of (slice_get markers m)
 terms_there markers xs m d terms within same e = e ∙ (ap (λ ys. (get_or ys m d).terms) same ∙ sym (ap terms_of (slice_get-get_or markers m d within)))
 
@@ -40,7 +43,8 @@ leads_on site m w = first_term site m w.met (elim w.comes [
 ]) w.round
 
 -- a marker that is left has a term that is
-pub never_none : (site : Site) (placed : List Bool) (m : ℕ) (terms : List Term) → LeavesCycles site placed → IsLeft site placed m → terms ≡ terms_of (slice_get site.markers m) →
+pub never_none : (site : Site) (placed : List Bool) (m : ℕ) (terms : List Term) → LeavesCycles site placed → IsLeft site placed m
+    → terms ≡ terms_of (slice_get site.markers m) →
     ((k : ℕ) → list_any (is_marker k) terms ≡ true → is_placed placed k ≡ true) → ⊥
 never_none site placed m terms leaves left e none =
     let on = leads_on site m (leaves.meets m left) in
@@ -48,14 +52,16 @@ never_none site placed m terms leaves left e none =
     let placed_so = none on.next (ap (list_any (is_marker on.next)) e ∙ on.term) in
     cc (fresh, placed_so)
 
-pub next_left : (site : Site) → IsValid site → (placed : List Bool) (m : ℕ) (terms : List Term) (next : ℕ) → IsLeft site placed m → terms ≡ terms_of (slice_get site.markers m) →
+pub next_left : (site : Site) → IsValid site → (placed : List Bool) (m : ℕ) (terms : List Term) (next : ℕ) → IsLeft site placed m
+    → terms ≡ terms_of (slice_get site.markers m) →
     IsLeast (IsLeftTerm placed terms) next → IsLeft site placed next
 next_left site valid placed m terms next left e least = record {
   within = term_there site valid m next left.within (ap (list_any (is_marker next)) (sym e) ∙ least.is.term);
   fresh = least.is.fresh;
 }
 
-pub next_least : (site : Site) → IsValid site → (placed : List Bool) (m : ℕ) (terms : List Term) (next : ℕ) → LeavesCycles site placed → IsLeft site placed m →
+pub next_least : (site : Site) → IsValid site → (placed : List Bool) (m : ℕ) (terms : List Term) (next : ℕ) → LeavesCycles site placed
+    → IsLeft site placed m →
     terms ≡ terms_of (slice_get site.markers m) → IsLeast (IsLeftTerm placed terms) next → IsLeast (LeadsOn site m) next
 next_least site valid placed m terms next leaves left e least = record {
   is = record {
@@ -82,17 +88,22 @@ or_second : (a b : Bool) → (a || b) ≡ false → b ≡ false
 or_second true b h = cc
 or_second false b h = h
 
-pub distinct_push : (xs : List ℕ) (x : ℕ) → IsDistinct (λ a b. a == b) xs → list_any (λ y. x == y) xs ≡ false → IsDistinct (λ a b. a == b) (xs ++ x ∷ [])
+pub distinct_push : (xs : List ℕ) (x : ℕ) → IsDistinct (λ a b. a == b) xs → list_any (λ y. x == y) xs ≡ false
+    → IsDistinct (λ a b. a == b) (xs ++ x ∷ [])
 unfolding IsDistinct
 distinct_push [] x d fresh = (tt, tt)
-distinct_push (y ∷ ys) x d fresh =
-    (all_push (λ z. (y == z) ≡ false) ys x d.0 (flip x y (or_first (x == y) (list_any (λ z. x == z) ys) fresh)), distinct_push ys x d.1 (or_second (x == y) (list_any (λ z. x == z) ys) fresh))
+distinct_push (y ∷ ys) x d fresh = (
+  all_push (λ z. (y == z) ≡ false) ys x d.0 (flip x y (or_first (x == y) (list_any (λ z. x == z) ys) fresh)),
+  distinct_push ys x d.1 (or_second (x == y) (list_any (λ z. x == z) ys) fresh),
+)
 
-goes_push : (site : Site) (m : ℕ) (xs : List ℕ) (at next : ℕ) → GoesOn site m (xs ++ at ∷ []) → IsLeast (LeadsOn site at) next → GoesOn site m ((xs ++ at ∷ []) ++ next ∷ [])
+goes_push : (site : Site) (m : ℕ) (xs : List ℕ) (at next : ℕ) → GoesOn site m (xs ++ at ∷ []) → IsLeast (LeadsOn site at) next
+    → GoesOn site m ((xs ++ at ∷ []) ++ next ∷ [])
 goes_push site m [] at next goes least = (goes.0, (least, tt))
 goes_push site m (x ∷ xs) at next goes least = (goes.0, goes_push site x xs at next goes.1 least)
 
-walk_push : (site : Site) (path : List ℕ) (at next : ℕ) → IsWalk site (path ++ at ∷ []) → IsLeast (LeadsOn site at) next → IsWalk site ((path ++ at ∷ []) ++ next ∷ [])
+walk_push : (site : Site) (path : List ℕ) (at next : ℕ) → IsWalk site (path ++ at ∷ []) → IsLeast (LeadsOn site at) next
+    → IsWalk site ((path ++ at ∷ []) ++ next ∷ [])
 walk_push site [] at next walk least = (walk.0, (least, tt))
 walk_push site (x ∷ xs) at next walk least = (walk.0, goes_push site x xs at next walk.1 least)
 
@@ -106,7 +117,8 @@ pub record Walked (site : Site) (placed : List Bool) (path : List ℕ) (at : ℕ
   pub left : IsLeft site placed at
   pub place : PlaceIs path at met
 
-pub walk_begins : (site : Site) (placed : List Bool) (path : List ℕ) (first : ℕ) → LeavesCycles site placed → IsLeast (IsLeft site placed) first → path ≡ [] →
+pub walk_begins : (site : Site) (placed : List Bool) (path : List ℕ) (first : ℕ) → LeavesCycles site placed → IsLeast (IsLeft site placed) first
+    → path ≡ [] →
     Walked site placed path first None
 unfolding IsDistinct
 walk_begins site placed path first leaves least none = subst (λ xs. Walked site placed xs first None) (sym none) (record {
@@ -126,12 +138,15 @@ small_push site path at small within q false e h = subst (λ n. n < length site.
     last true h = refl
     last false h = h
 
-pub walk_on : (site : Site) (placed : List Bool) (path after : List ℕ) (at next : ℕ) (met : Option ℕ) → Walked site placed path at None → after ≡ path ++ at ∷ [] →
+pub walk_on : (site : Site) (placed : List Bool) (path after : List ℕ) (at next : ℕ) (met : Option ℕ) → Walked site placed path at None
+    → after ≡ path ++ at ∷ [] →
     IsLeast (LeadsOn site at) next → IsLeft site placed next → PlaceIs after next met → Walked site placed after next met
 walk_on site placed path after at next met w e least left place = record {
   walk = subst (λ xs. IsWalk site (xs ++ next ∷ [])) (sym e) (walk_push site path at next w.walk least);
   once = subst (IsDistinct (λ x y. x == y)) (sym e) (distinct_push path at w.once w.place);
-  small = λ q h. small_push site path at w.small w.left.within q (is_among q path) refl (sym (ap (is_among q) e ∙ list_any-append (λ x. q == x) path (at ∷ [])) ∙ h);
+  small =
+      λ q h. small_push site path at w.small w.left.within q (is_among q path) refl
+      (sym (ap (is_among q) e ∙ list_any-append (λ x. q == x) path (at ∷ [])) ∙ h);
   left = left;
   place = place;
 }
@@ -155,7 +170,8 @@ begins_at [] (suc k) m at = cc
 begins_at (x ∷ xs) zero m at = at
 begins_at (x ∷ xs) (suc k) m at = begins_at xs k m at
 
-pub the_cycle : (site : Site) (placed : List Bool) (path : List ℕ) (at start : ℕ) (markers : List ℕ) → Walked site placed path at (Some start) → IsFromLeast (drop start path) markers →
+pub the_cycle : (site : Site) (placed : List Bool) (path : List ℕ) (at start : ℕ) (markers : List ℕ) → Walked site placed path at (Some start)
+    → IsFromLeast (drop start path) markers →
     IsCycle site markers
 the_cycle site placed path at start markers w turned = record {
   before = take start path;
@@ -167,7 +183,8 @@ the_cycle site placed path at start markers w turned = record {
   from_least = turned;
 }
 
-pub turned : (round markers : List ℕ) (place : ℕ) → place < length round → ((k : ℕ) → k < length round → slice_index round place ≤ slice_index round k) →
+pub turned : (round markers : List ℕ) (place : ℕ) → place < length round
+    → ((k : ℕ) → k < length round → slice_index round place ≤ slice_index round k) →
     markers ≡ drop place round ++ take place round → IsFromLeast round markers
 turned round markers place less smallest e = record {
   front = take place round;
@@ -182,12 +199,15 @@ turned round markers place less smallest e = record {
       omega (arith, low, item, is));
 }
 
-pub turned_items : (round markers none first whole : List ℕ) (place : ℕ) → place < length round → ((k : ℕ) → k < length round → slice_index round place ≤ slice_index round k) →
-    none ≡ [] → first ≡ none ++ take (length round - place) (drop place round) → whole ≡ first ++ take place round → markers ≡ whole → IsFromLeast round markers
+pub turned_items : (round markers none first whole : List ℕ) (place : ℕ) → place < length round
+    → ((k : ℕ) → k < length round → slice_index round place ≤ slice_index round k) →
+    none ≡ [] → first ≡ none ++ take (length round - place) (drop place round) → whole ≡ first ++ take place round → markers ≡ whole
+    → IsFromLeast round markers
 turned_items round markers none first whole place less smallest n e f g =
     let long = length-drop place round in
     let begun = e ∙ ap (λ xs. xs ++ take (length round - place) (drop place round)) n in
-    turned round markers place less smallest (g ∙ (f ∙ ap (λ xs. xs ++ take place round) (begun ∙ take_all (length round - place) (drop place round) (omega (arith, long)))))
+    turned round markers place less smallest
+    (g ∙ (f ∙ ap (λ xs. xs ++ take place round) (begun ∙ take_all (length round - place) (drop place round) (omega (arith, long)))))
 
 -- ---- how the walk ends
 
@@ -196,10 +216,12 @@ none_is None b e t = refl
 none_is (Some x) true e t = cc
 none_is (Some x) false e t = cc
 
-pub walked_none : (site : Site) (placed : List Bool) (path : List ℕ) (at : ℕ) (met : Option ℕ) → Walked site placed path at met → met ≡ None → Walked site placed path at None
+pub walked_none : (site : Site) (placed : List Bool) (path : List ℕ) (at : ℕ) (met : Option ℕ) → Walked site placed path at met → met ≡ None
+    → Walked site placed path at None
 walked_none site placed path at met w e = subst (Walked site placed path at) e w
 
-pub met_within : (site : Site) (placed : List Bool) (path : List ℕ) (at start : ℕ) (met : Option ℕ) → Walked site placed path at met → met ≡ Some start → start < length path
+pub met_within : (site : Site) (placed : List Bool) (path : List ℕ) (at start : ℕ) (met : Option ℕ) → Walked site placed path at met
+    → met ≡ Some start → start < length path
 met_within site placed path at start met w e = slice_get_within path start at (subst (Walked site placed path at) e w).place
 
 pub less_room : (path after : List ℕ) (at : ℕ) → after ≡ path ++ at ∷ [] → length path < 256 → 256 - length after < 256 - length path

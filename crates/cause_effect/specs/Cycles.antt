@@ -1,10 +1,12 @@
 -- Markers that depend on themselves, and the cycle that is told of them.
-use Rattle.std.specs.Prelude.{◌≡◌, ◌≤◌, ◌==◌, ◌⊎◌, ℕ, Bool, true, false, List, [], ◌∷◌, ◌++◌, Option, Some, None, slice_get}
+use Rattle.std.specs.Prelude.{◌≡◌, ◌≤◌, ◌==◌, ◌⊎◌, ℕ, Bool, true, false, List, [], ◌∷◌, ◌++◌, Option, Some, None}
+use Rattle.std.specs.Prelude.{slice_get}
 use Rattle.std.specs.List.{list_any, IsDistinct}
 use Rattle.site_types.specs.declared.site.Site.{Site}
 use Rattle.site_types.specs.declared.marker.Marker.{Marker}
 use Rattle.site_types.specs.declared.term.Term.{Term}
-use Rattle.site_types.specs.declared.term.Term.TheVariants.{Zone as ZoneTerm, Manual as ManualTerm, Fault as FaultTerm, Marker as MarkerTerm}
+use Rattle.site_types.specs.declared.term.Term.TheVariants.{Zone as ZoneTerm, Manual as ManualTerm}
+use Rattle.site_types.specs.declared.term.Term.TheVariants.{Fault as FaultTerm, Marker as MarkerTerm}
 
 -- a term is this marker
 abbrev pub is_marker : ℕ → Term → Bool
@@ -70,8 +72,8 @@ pub record IsFromLeast (round markers : List ℕ) : Type 0 where
   pub listed : markers ≡ (least ∷ back) ++ front
   pub smallest : (m : ℕ) → is_among m round ≡ true → least ≤ m
 
--- The cycle is the part of the walk between the two meetings of the marker that is met twice first, without its second meeting. It is listed
--- in the order of the walk, from its least member onwards.
+-- The cycle is the part of the walk between the two meetings of the marker that is met twice first, without
+-- its second meeting. It is listed in the order of the walk, from its least member onwards.
 pub record IsCycle (site : Site) (markers : List ℕ) : Type 0 where
   pub before : List ℕ
   pub round : List ℕ

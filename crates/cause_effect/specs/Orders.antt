@@ -6,7 +6,8 @@ use Rattle.cause_effect.specs.Cycles.{has_term, is_among}
 
 -- each marker of a list comes after its terms
 abbrev pub IsRising : Site → List ℕ → Type 0
-IsRising site order = (k m other : ℕ) → slice_get order k ≡ Some m → has_term site m other ≡ true → is_among other (take k order) ≡ true
+IsRising site order = (k m other : ℕ) → slice_get order k ≡ Some m → has_term site m other ≡ true
+    → is_among other (take k order) ≡ true
 
 -- an order of all markers of the site, each once and after its terms
 pub record IsOrder (site : Site) (order : List ℕ) : Type 0 where

@@ -1,9 +1,11 @@
 -- Which markers have been placed in the order so far.
-use Rattle.std.specs.Prelude.{◌≡◌, ◌<◌, ◌==◌, ℕ, Bool, true, false, List, Option, Some, None, length, slice_get, slice_index_or}
+use Rattle.std.specs.Prelude.{◌≡◌, ◌<◌, ◌==◌, ℕ, Bool, true, false, List, Option, Some, None, length, slice_get}
+use Rattle.std.specs.Prelude.{slice_index_or}
 use Rattle.std.specs.List.{list_all, list_any, IsDistinct}
 use Rattle.site_types.specs.declared.site.Site.{Site}
 use Rattle.site_types.specs.declared.term.Term.{Term}
-use Rattle.site_types.specs.declared.term.Term.TheVariants.{Zone as ZoneTerm, Manual as ManualTerm, Fault as FaultTerm, Marker as MarkerTerm}
+use Rattle.site_types.specs.declared.term.Term.TheVariants.{Zone as ZoneTerm, Manual as ManualTerm}
+use Rattle.site_types.specs.declared.term.Term.TheVariants.{Fault as FaultTerm, Marker as MarkerTerm}
 use Rattle.cause_effect.specs.Cycles.{terms_of, is_among, is_marker, IsLeast, MeetsCycle}
 use Rattle.cause_effect.specs.Orders.{IsRising}
 use Rattle.cause_effect.specs.declared.arranged.Arranged.{Arranged}
@@ -30,7 +32,8 @@ pub record IsNext (site : Site) (placed : List Bool) (m : ℕ) : Type 0 where
 
 -- no marker that hasn't been placed can be
 abbrev pub IsStuck : Site → List Bool → Type 0
-IsStuck site placed = (m : ℕ) → m < length site.markers → is_placed placed m ≡ false → is_ready site placed m ≡ false
+IsStuck site placed = (m : ℕ) → m < length site.markers → is_placed placed m ≡ false
+    → is_ready site placed m ≡ false
 
 abbrev pub NextIs : Site → List Bool → Option ℕ → Type 0
 NextIs site placed (Some m) = IsNext site placed m

@@ -8,7 +8,8 @@ use Rattle.site_types.specs.declared.requests.Requests.{Requests}
 
 -- an output is the one of a panel with a number, and its marker is true
 abbrev pub asks : ℕ → (ℕ → Bool) → ℕ → Output → Bool
-asks panel values number output = (output.panel == panel) && ((output.number == number) && values output.marker)
+asks panel values number output =
+    (output.panel == panel) && ((output.number == number) && values output.marker)
 
 -- the outputs of a panel whose markers are true, bit `number - 1` each
 abbrev pub asked : ℕ → (ℕ → Bool) → List Output → ℕ
@@ -16,4 +17,5 @@ asked panel values outputs = mask_of 32 (λ bit. list_any (asks panel values (bi
 
 -- the outputs that are asked for by one solution, and those asked for by hand, by the other
 abbrev pub requests_of : Site → ℕ → (ℕ → Bool) → (ℕ → Bool) → Requests
-requests_of site panel normal manual = record { asked = asked panel normal site.outputs; manual = asked panel manual site.outputs }
+requests_of site panel normal manual =
+    record { asked = asked panel normal site.outputs; manual = asked panel manual site.outputs }

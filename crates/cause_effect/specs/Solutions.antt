@@ -15,8 +15,10 @@ LieWithin fewer more = (place bit : ℕ) → has_bit (fewer place) bit ≡ true 
 
 -- all that is true in some facts is true in others
 pub record AreWithin (fewer more : Facts) : Type 0 where
-  pub zones : LieWithin (λ panel. slice_index_or fewer.zones panel 0) (λ panel. slice_index_or more.zones panel 0)
-  pub manual : LieWithin (λ panel. slice_index_or fewer.manual panel 0) (λ panel. slice_index_or more.manual panel 0)
+  pub zones :
+      LieWithin (λ panel. slice_index_or fewer.zones panel 0) (λ panel. slice_index_or more.zones panel 0)
+  pub manual :
+      LieWithin (λ panel. slice_index_or fewer.manual panel 0) (λ panel. slice_index_or more.manual panel 0)
   pub faults : (bit : ℕ) → has_bit fewer.faults bit ≡ true → has_bit more.faults bit ≡ true
 
 -- there is a solution, and every other one equals it

@@ -6,7 +6,8 @@ use Rattle.cause_effect.specs.Orders.{IsOrder}
 use Rattle.cause_effect.specs.Users.{AreUsersOf}
 use Rattle.cause_effect.specs.declared.plan.Plan.{Plan}
 
--- a plan has the table of the site's markers, an order of them, the markers that have each fact and each marker as a term, and the site's outputs
+-- a plan has the table of the site's markers, an order of them, the markers that have each fact and each
+-- marker as a term, and the site's outputs
 pub record IsPlanOf (site : Site) (plan : Plan) : Type 0 where
   pub table : IsTableOf site plan.table
   pub order : IsOrder site plan.order

@@ -1,12 +1,12 @@
 -- Who has a fact or a marker as a term.
-use Rattle.std.specs.Prelude.{◌≡◌, ℕ, zero, suc, ◌+◌, ◌*◌, ◌==◌, ◌&&◌, ◌||◌, Bool, false, List, [], slice_get, slice_index_or}
+use Rattle.std.specs.Prelude.{◌≡◌, ℕ, ◌+◌, ◌==◌, ◌&&◌, Bool, false, List, [], slice_get, slice_index_or}
 use Rattle.std.specs.List.{list_any}
-use Rattle.site_types.specs.Bits.{has_bit}
+use Rattle.site_types.specs.Bits.{any_below, has_bit}
 use Rattle.site_types.specs.declared.site.Site.{Site}
 use Rattle.site_types.specs.declared.term.Term.{Term}
-use Rattle.marker_table.specs.declared.facts.Facts.{Facts}
 use Rattle.marker_table.specs.declared.input.Input.{Input}
-use Rattle.marker_table.specs.declared.input.Input.TheVariants.{Zone as ZoneInput, Manual as ManualInput, Fault as FaultInput, Marker as MarkerInput}
+use Rattle.marker_table.specs.declared.input.Input.TheVariants.{Zone as ZoneInput, Manual as ManualInput}
+use Rattle.marker_table.specs.declared.input.Input.TheVariants.{Fault as FaultInput, Marker as MarkerInput}
 use Rattle.marker_table.specs.Table.{input_of}
 use Rattle.cause_effect.specs.Cycles.{is_among, terms_of}
 use Rattle.cause_effect.specs.Changes.{differ}
@@ -38,20 +38,10 @@ AreUsersOf site lists = (place m : ℕ) → is_among m (users_at lists place) �
 abbrev pub is_marked : List Bool → ℕ → Bool
 is_marked marks m = slice_index_or marks m false
 
--- a test holds of a number below this one
-unfoldable pub any_below : ℕ → (ℕ → Bool) → Bool
-any_below zero test = false
-any_below (suc n) test = any_below n test || test n
-
 -- a bit that differs in two masks of 32 has the marker among its users, the first bit's being at this place
 abbrev pub uses_bit : List (List ℕ) → ℕ → ℕ → ℕ → ℕ → ℕ → Bool
-uses_bit lists first before after m bit = differ (has_bit before bit) (has_bit after bit) && is_among m (users_at lists (first + bit))
+uses_bit lists first before after m bit = differ (has_bit before bit) (has_bit after bit)
+    && is_among m (users_at lists (first + bit))
 
 abbrev pub uses_word : List (List ℕ) → ℕ → ℕ → ℕ → ℕ → Bool
 uses_word lists first before after m = any_below 32 (uses_bit lists first before after m)
-
--- a zone of a panel, or its call points, differ and have the marker among their users
-abbrev pub uses_panel : List (List ℕ) → Facts → Facts → ℕ → ℕ → Bool
-uses_panel lists before after m panel =
-    uses_word lists (32 * panel) (slice_index_or before.zones panel 0) (slice_index_or after.zones panel 0) m ||
-    uses_word lists (256 + 32 * panel) (slice_index_or before.manual panel 0) (slice_index_or after.manual panel 0) m

@@ -1,8 +1,10 @@
 -- Written cases: how many markers depend on a change.
-use Rattle.std.specs.Prelude.{◌≡◌, ◌≢◌, ◌<◌, ◌≤◌, ◌==◌, ℕ, zero, suc, Bool, false, List, [], ◌∷◌, length, slice_get, if◌then◌else◌}
+use Rattle.std.specs.Prelude.{◌≡◌, ◌≢◌, ◌<◌, ◌≤◌, ◌==◌, ℕ, zero, suc, Bool, false, List, [], ◌∷◌, length, slice_get}
+use Rattle.std.specs.Prelude.{if◌then◌else◌}
 use Rattle.site_types.specs.declared.site.Site.{Site}
 use Rattle.site_types.specs.declared.term.Term.{Term}
-use Rattle.site_types.specs.declared.term.Term.TheVariants.{Zone as ZoneTerm, Manual as ManualTerm, Fault as FaultTerm, Marker as MarkerTerm}
+use Rattle.site_types.specs.declared.term.Term.TheVariants.{Zone as ZoneTerm, Manual as ManualTerm}
+use Rattle.site_types.specs.declared.term.Term.TheVariants.{Fault as FaultTerm, Marker as MarkerTerm}
 use Rattle.marker_table.specs.declared.facts.Facts.{Facts}
 use Rattle.cause_effect.specs.Cycles.{terms_of}
 use Rattle.cause_effect.specs.Changes.{is_changed}
@@ -25,7 +27,8 @@ pub record AreTwo (site : Site) (hall lab : ℕ) : Type 0 where
   pub second : terms_of (slice_get site.markers 1) ≡ ZoneTerm hall ∷ []
   pub apart : hall ≢ lab
 
--- the terms in a chain of so many markers: each has the one before as its term, the first a zone, and the last another zone besides
+-- the terms in a chain of so many markers: each has the one before as its term, the first a zone, and the
+-- last another zone besides
 abbrev pub chain_terms : ℕ → ℕ → ℕ → ℕ → List Term
 chain_terms count hall lab zero = ZoneTerm hall ∷ []
 chain_terms count hall lab (suc m) = MarkerTerm m ∷ (if suc (suc m) == count then ZoneTerm lab ∷ [] else [])

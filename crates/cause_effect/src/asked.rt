@@ -19,7 +19,9 @@ pub(crate) fn asked(outputs: &[Output], panel: u8, values: &Values) -> u32
 // Which numbers have an output of the panel whose marker is true.
 fn asked_numbers(outputs: &[Output], panel: u8, values: &Values) -> [bool; 256]
     ensures size { length result ≡ 256 }
-    ensures known { (number : ℕ) → number < 256 → slice_index_or result number false ≡ list_any (asks panel (values_of values.now) number) outputs.now }
+    ensures known { (number : ℕ) → number < 256
+        → slice_index_or result number false ≡ list_any (asks panel (values_of values.now) number)
+        outputs.now }
 {
     let mut numbers = [false; 256];
     for output in outputs {

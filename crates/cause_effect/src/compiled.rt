@@ -14,9 +14,9 @@ use site_types::{Output, Site};
 use std::alloc::Global;
 use tick_units::{Items, NoMemory};
 
-/// The plan of a site's markers. Where a marker depends on itself there is none: then the answer is the cycle that a walk finds which begins
-/// at the least marker from which a cycle is met, and goes from each marker to the least of its terms from which one is. The cycle is listed
-/// from its least member onwards.
+/// The plan of a site's markers. Where a marker depends on itself there is none: then the answer is the cycle
+/// that a walk finds which begins at the least marker from which a cycle is met, and goes from each marker to
+/// the least of its terms from which one is. The cycle is listed from its least member onwards.
 pub fn compile(alloc: Global, site: &Site) -> Result<Plan, PlanRefusal>
     requires { IsValid site.now }
     ensures plan { IfOk result (λ plan. IsPlanOf site.now plan) }

@@ -24,9 +24,10 @@ pub struct Plan {
 }
 
 impl Plan {
-    /// The one solution over facts, from scratch: every marker is evaluated once.
+    /// The one solution over facts, from scratch.
     pub fn solve(&self, facts: &Facts, values: &mut Values)
-        ensures { (site : SiteOf) → IsPlanOf site self.now → IsSolution site facts.now (values_of values.new) }
+        ensures { (site : SiteOf) → IsPlanOf site self.now
+            → IsSolution site facts.now (values_of values.new) }
     {
         *values = Values::none();
         self.solve_in_order::<Brand>(facts, values, Blank::new(1))
@@ -38,7 +39,8 @@ impl Plan {
         requires parts { blank.parts ≡ L.parts }
         requires some { 0 < blank.parts }
         requires none { values.old.marker ≡ replicate 256 false }
-        ensures { (site : SiteOf) → IsPlanOf site self.now → IsSolution site facts.now (values_of values.new) }
+        ensures { (site : SiteOf) → IsPlanOf site self.now
+            → IsSolution site facts.now (values_of values.new) }
     {
         let mut steps: Steps<L> = Steps::new(blank);
         for marker in self.order.as_slice() {
@@ -49,8 +51,9 @@ impl Plan {
         }
     }
 
-    /// The one solution over the facts after a change, where the values are the solution over those before it. It evaluates the markers that
-    /// depend on a fact that changed, directly or through markers, and no other.
+    /// The one solution over the facts after a change, where the values are the solution over those before
+    /// it. It evaluates the markers that depend on a fact that changed, directly or through markers, and no
+    /// other.
     pub fn solve_changed<L: Ledger>(
         &self,
         before: &Facts,
@@ -58,8 +61,11 @@ impl Plan {
         values: &mut Values,
         steps: &mut Steps<L>,
     )
-        ensures solution { (site : SiteOf) → IsPlanOf site self.now → IsSolution site before.now (values_of values.old) → IsSolution site after.now (values_of values.new) }
-        ensures steps { (site : SiteOf) → IsPlanOf site self.now → RoseByNumberOf (DependsOnChanged site before.now after.now) steps.old steps.new }
+        ensures solution { (site : SiteOf) → IsPlanOf site self.now
+            → IsSolution site before.now (values_of values.old)
+            → IsSolution site after.now (values_of values.new) }
+        ensures steps { (site : SiteOf) → IsPlanOf site self.now
+            → RoseByNumberOf (DependsOnChanged site before.now after.now) steps.old steps.new }
     {
         if before == after {
             return;
@@ -74,9 +80,11 @@ impl Plan {
         }
     }
 
-    /// What a panel's outputs are asked for: by the solution over the facts, and by hand, by the solution over call points alone.
+    /// What a panel's outputs are asked for: by the solution over the facts, and by hand, by the solution
+    /// over call points alone.
     pub fn requests(&self, panel: u8, normal: &Values, manual: &Values) -> Requests
-        ensures { (site : SiteOf) → IsPlanOf site self.now → result ≡ requests_of site panel (values_of normal.now) (values_of manual.now) }
+        ensures { (site : SiteOf) → IsPlanOf site self.now
+            → result ≡ requests_of site panel (values_of normal.now) (values_of manual.now) }
     {
         let outputs = self.outputs.as_slice();
         Requests {

@@ -47,7 +47,8 @@ pub(crate) fn least_left(terms: &[Term], placed: &[bool; 256]) -> Option<u16>
 
 // The least marker that hasn't been placed among some terms and one more.
 fn lesser(least: Option<u16>, term: Term, placed: &[bool; 256]) -> Option<u16>
-    ensures { (terms : List TermOf) → LeastLeftIs placed.now terms least → LeastLeftIs placed.now (terms ++ term ∷ []) result }
+    ensures { (terms : List TermOf) → LeastLeftIs placed.now terms least
+        → LeastLeftIs placed.now (terms ++ term ∷ []) result }
 {
     let Term::Marker(other) = term else {
         return least;

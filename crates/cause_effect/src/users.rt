@@ -12,8 +12,8 @@ use marker_table::Facts;
 use site_types::has_bit_32;
 use tick_units::Items;
 
-/// For each fact and each marker, the markers that have it as a term: those of the 256 zones, of their call points, of the 256 markers and of
-/// the faults of 8 panels.
+/// For each fact and each marker, the markers that have it as a term: those of the 256 zones, of their call
+/// points, of the 256 markers and of the faults of 8 panels.
 #[derive(Drop)]
 pub(crate) struct Users {
     pub(crate) lists: Items<Members>,
@@ -23,7 +23,8 @@ impl Users {
     // Marks the markers that have a fact as a term that changed.
     pub(crate) fn marks_of(&self, before: &Facts, after: &Facts) -> [bool; 256]
         ensures size { length result ≡ 256 }
-        ensures marks { (site : SiteOf) → IsValid site → AreUsersOf site self.now.lists → (m : ℕ) → m < 256 → is_marked result m ≡ has_changed site before.now after.now m }
+        ensures marks { (site : SiteOf) → IsValid site → AreUsersOf site self.now.lists → (m : ℕ)
+            → m < 256 → is_marked result m ≡ has_changed site before.now after.now m }
     {
         let mut marks = [false; 256];
         for panel in 0..8 {
@@ -46,7 +47,9 @@ impl Users {
 
     // Marks the markers that have a marker as a term.
     pub(crate) fn mark_users(&self, marker: u8, marks: &mut [bool; 256])
-        ensures { (m : ℕ) → m < 256 → is_marked marks.new m ≡ (is_marked marks.old m || is_among m (users_at self.now.lists (512 + marker))) }
+        ensures { (m : ℕ) → m < 256
+            → is_marked marks.new m
+            ≡ (is_marked marks.old m || is_among m (users_at self.now.lists (512 + marker))) }
     {
         self.mark(512 + marker as usize, marks);
     }
@@ -54,7 +57,9 @@ impl Users {
     // Marks the users of the bits that differ in two masks, the first bit's being at a place.
     fn mark_word(&self, first: usize, before: u32, after: u32, marks: &mut [bool; 256])
         requires { first ≤ 768 }
-        ensures { (m : ℕ) → m < 256 → is_marked marks.new m ≡ (is_marked marks.old m || uses_word self.now.lists first before after m) }
+        ensures { (m : ℕ) → m < 256
+            → is_marked marks.new m
+            ≡ (is_marked marks.old m || uses_word self.now.lists first before after m) }
     {
         for bit in 0..32 {
             if has_bit_32(before, bit) != has_bit_32(after, bit) {
@@ -65,7 +70,9 @@ impl Users {
 
     // Marks the users of what is at a place.
     fn mark(&self, place: usize, marks: &mut [bool; 256])
-        ensures { (m : ℕ) → m < 256 → is_marked marks.new m ≡ (is_marked marks.old m || is_among m (users_at self.now.lists place)) }
+        ensures { (m : ℕ) → m < 256
+            → is_marked marks.new m
+            ≡ (is_marked marks.old m || is_among m (users_at self.now.lists place)) }
     {
         if let Some(users) = self.lists.get(place) {
             mark_each(users.as_slice(), marks);
@@ -74,7 +81,8 @@ impl Users {
 }
 
 fn mark_each(markers: &[u8], marks: &mut [bool; 256])
-    ensures { (m : ℕ) → m < 256 → is_marked marks.new m ≡ (is_marked marks.old m || is_among m markers.now) }
+    ensures { (m : ℕ) → m < 256
+        → is_marked marks.new m ≡ (is_marked marks.old m || is_among m markers.now) }
 {
     for marker in markers {
         marks[*marker as usize] = true;

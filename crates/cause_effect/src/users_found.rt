@@ -50,7 +50,9 @@ fn add_terms(site: &Site, terms: &[Term], marker: u8, lists: &mut [Members]) -> 
     requires terms { All (IsTerm site.now) terms.now }
     requires size { length lists.old ≡ 776 }
     ensures size { length lists.new ≡ 776 }
-    ensures users { IfOk result (λ _. (place m : ℕ) → is_among m (users_at lists.new place) ≡ (is_among m (users_at lists.old place) || ((m == marker) && list_any (looks_at site.now place) terms.now))) }
+    ensures users { IfOk result (λ _. (place m : ℕ)
+        → is_among m (users_at lists.new place) ≡ (is_among m (users_at lists.old place)
+        || ((m == marker) && list_any (looks_at site.now place) terms.now))) }
 {
     for term in terms {
         lists[place_of(Input::of(site, *term))].push(marker)?;

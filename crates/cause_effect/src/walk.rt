@@ -87,7 +87,8 @@ fn from_least(alloc: Global, round: &[u16]) -> Result<Items<u16>, NoMemory>
 fn place_of_least(round: &[u16]) -> usize
     requires { 0 < length round.now }
     ensures within { result < length round.now }
-    ensures least { (k : ℕ) → k < length round.now → slice_index round.now result ≤ slice_index round.now k }
+    ensures least { (k : ℕ) → k < length round.now
+        → slice_index round.now result ≤ slice_index round.now k }
 {
     let mut least = 0;
     for place in 1..round.len() {

@@ -1,5 +1,7 @@
 -- What is kept after an operation stands for one more operation.
-use Rattle.std.proofs.Common.{◌≡◌, ◌≢◌, ◌⊎◌, inl, inr, ℕ, suc, ◌<◌, ◌≤◌, max, Bool, true, false, not, List, [], ◌∷◌, length, Option, Some, None, slice_get, get_or, ◌==◌, ◌&&◌, ◌||◌, nat_lt, if◌then◌else◌, refl, sym, ◌∙◌, ap, subst, arith}
+use Rattle.std.proofs.Common.{◌≡◌, ◌≢◌, ℕ, suc, ◌<◌, ◌≤◌, Bool, true, false, not, List, [], ◌∷◌, length, Option, Some}
+use Rattle.std.proofs.Common.{None, slice_get, get_or, ◌==◌, ◌&&◌, ◌||◌, nat_lt, if◌then◌else◌, refl, sym, ◌∙◌, ap}
+use Rattle.std.proofs.Common.{subst, arith}
 use Rattle.std.proofs.lemmas.Bool.Decides.{nat_tests}
 use Rattle.tick_units.specs.declared.tick.Tick.{Tick}
 use Rattle.tick_units.specs.declared.switch.Switch.{Switch}
@@ -10,18 +12,20 @@ use Rattle.site_types.specs.declared.answer.Answer.{Answer}
 use Rattle.site_types.specs.declared.rule.Rule.{Rule}
 use Rattle.site_types.specs.declared.retained.Retained.{Retained}
 use Rattle.site_types.specs.declared.operation.Operation.{Operation}
-use Rattle.site_types.specs.Done.{Done, Setting, PointOff, ZoneOff, InTest, is_on, value_set, in_force, latest_before, floor_before, cancels, AreBy}
-use Rattle.site_types.proofs.Done.{lt_tells, lt_true, blocked-later, floor-yet}
+use Rattle.site_types.specs.Done.{Done, Setting, PointOff, ZoneOff, InTest, is_on, value_set, in_force, floor_before, cancels, AreBy}
+use Rattle.site_types.proofs.Done.{lt_true, blocked-later, floor-yet}
 use Rattle.coincidence_rules.specs.Counted.{is_alarm, is_counted}
 use Rattle.coincidence_rules.specs.Places.{is_of, is_detector}
 use Rattle.coincidence_rules.specs.Kept.{run_then, run_of, latest_besides, is_type_C, may_pair}
-use Rattle.coincidence.specs.declared.last_tick.LastTick.{LastTick}
 use Rattle.coincidence.specs.declared.point_watch.PointWatch.{PointWatch}
 use Rattle.coincidence.specs.declared.zone_watch.ZoneWatch.{ZoneWatch}
 use Rattle.coincidence.specs.declared.decide.Decide.{Decide}
-use Rattle.coincidence.specs.Parts.{switch_after, last_after, last_if}
-use Rattle.coincidence.specs.Stands.{resets, moves, set_in, TellsSetting, TellsLast, WatchesPoint, WatchesZone, IsOwnZone, DecidesFor}
-use Rattle.coincidence.specs.Premises.{IsOwn, NoneIn, MayApply}
+use Rattle.coincidence.specs.Parts.{switch_after}
+use Rattle.tick_units.specs.LastTicks.{last_if}
+use Rattle.coincidence.specs.Stands.{resets, moves, set_in, TellsSetting, WatchesPoint, WatchesZone, IsOwnZone, DecidesFor}
+use Rattle.coincidence_rules.proofs.LastDone.{told_last}
+use Rattle.coincidence_rules.specs.Applied.{NoneIn, TellsLast}
+use Rattle.coincidence.specs.Premises.{IsOwn, MayApply}
 use Rattle.coincidence.proofs.Watched.{read_is, watched, watched_zone}
 
 abbrev pub done_now : Tick → ℕ → Operation → Done
@@ -54,46 +58,14 @@ module _ (at : Tick) (panel : ℕ) (operation : Operation) where
     cancelled = last_if (cancels place d) at watch.cancelled;
   }
 
-module _ (done : List Done) (at : Tick) (panel : ℕ) (operation : Operation) (by' : AreBy at.0 done) where
-  last_then : (test : Done → Bool) (last : LastTick) → TellsLast test done last → TellsLast test (done_now at panel operation ∷ done) (last_if (test (done_now at panel operation)) at last)
-  last_then test last h = go (test (done_now at panel operation)) refl
-    where
-      again : (after : Bool) (tick earlier was : ℕ) → tick ≡ at.0 → was ≡ (if after then tick else earlier) → (if after then max at.0 was else was) ≡ (if after then tick else earlier)
-      again true tick earlier was e k = omega (arith, e, k)
-      again false tick earlier was e k = k
-
-      raised : last.tick.0 ≤ at.0 → ((nat_lt last.tick.0 at.0 ≡ true) × (last.tick.0 < at.0)) ⊎ ((nat_lt last.tick.0 at.0 ≡ false) × (at.0 ≤ last.tick.0)) → test (done_now at panel operation) ≡ true → TellsLast test (done_now at panel operation ∷ done) (last_after at last)
-      raised le (inl before) e = rw before.0 (record {
-        at = λ x since.
-            let less = before.1 in
-            let later : last.tick.0 < x = omega (arith, less, since) in
-            let was : latest_before test x done ≡ last.tick.0 = h.at x (omega (arith, later)) ∙ ap (λ b. if b then last.tick.0 else last.earlier.0) (lt_true last.tick.0 x later) in
-            ap (λ b. if b && nat_lt at.0 x then max at.0 (latest_before test x done) else latest_before test x done) e
-            ∙ ap (λ n. if nat_lt at.0 x then max at.0 n else n) was ∙ ap (λ m. if nat_lt at.0 x then m else last.tick.0) (omega (arith, less));
-        by = λ x all. all.0;
-      })
-      raised le (inr same) e = rw same.0 (record {
-        at = λ x since.
-            let more = same.1 in
-            let is : last.tick.0 ≡ at.0 = omega (arith, le, more) in
-            ap (λ b. if b && nat_lt at.0 x then max at.0 (latest_before test x done) else latest_before test x done) e
-            ∙ again (nat_lt at.0 x) last.tick.0 last.earlier.0 (latest_before test x done) is (h.at x since ∙ ap (λ t. if nat_lt t x then last.tick.0 else last.earlier.0) is)
-            ∙ ap (λ t. if nat_lt t x then last.tick.0 else last.earlier.0) (sym is);
-        by = λ x all. h.by x all.1;
-      })
-
-      go : (b : Bool) → test (done_now at panel operation) ≡ b → TellsLast test (done_now at panel operation ∷ done) (last_if b at last)
-      go false e = record {
-        at = λ x since. ap (λ b. if b && nat_lt at.0 x then max at.0 (latest_before test x done) else latest_before test x done) e ∙ h.at x since;
-        by = λ x all. h.by x all.1;
-      }
-      go true e = raised (h.by at.0 by') (lt_tells last.tick.0 at.0) e
-
 module _ (site : Site) (kept : Retained) (done : List Done) (at : Tick) (panel : ℕ) (operation : Operation) (by' : AreBy at.0 done) where
-  tells_then : (setting : Setting) (switch : Switch) → (is_on setting (done_now at panel operation) ≡ true → switch.since.0 < at.0) → TellsSetting site kept setting done switch → TellsSetting site kept setting (done_now at panel operation ∷ done) (switch_then at panel operation setting switch)
+  tells_then : (setting : Setting) (switch : Switch) → (is_on setting (done_now at panel operation) ≡ true → switch.since.0 < at.0)
+      → TellsSetting site kept setting done switch
+      → TellsSetting site kept setting (done_now at panel operation ∷ done) (switch_then at panel operation setting switch)
   tells_then setting switch before h = go (is_on setting (done_now at panel operation)) refl
     where
-      go : (b : Bool) → is_on setting (done_now at panel operation) ≡ b → TellsSetting site kept setting (done_now at panel operation ∷ done) (if b then switch_after (value_set operation) at switch else switch)
+      go : (b : Bool) → is_on setting (done_now at panel operation) ≡ b
+          → TellsSetting site kept setting (done_now at panel operation ∷ done) (if b then switch_after (value_set operation) at switch else switch)
       go false e = record {
         at = λ x since. ap (λ b. if b && nat_lt at.0 x then value_set operation else in_force site kept setting x done) e ∙ h.at x since;
         since = h.since ∙ sym (ap (λ b. if b then at.0 else set_in setting done) e);
@@ -102,33 +74,46 @@ module _ (site : Site) (kept : Retained) (done : List Done) (at : Tick) (panel :
         at = λ x since.
             let earlier = before e in
             let later : switch.since.0 < x = omega (arith, earlier, since) in
-            let was : in_force site kept setting x done ≡ switch.now = h.at x (omega (arith, later)) ∙ ap (λ b. if b then switch.now else switch.was) (lt_true switch.since.0 x later) in
-            ap (λ b. if b && nat_lt at.0 x then value_set operation else in_force site kept setting x done) e ∙ ap (λ b. if nat_lt at.0 x then value_set operation else b) was;
+            let was : in_force site kept setting x done ≡ switch.now =
+            h.at x (omega (arith, later)) ∙ ap (λ b. if b then switch.now else switch.was) (lt_true switch.since.0 x later) in
+            ap (λ b. if b && nat_lt at.0 x then value_set operation else in_force site kept setting x done) e ∙ ap
+            (λ b. if nat_lt at.0 x then value_set operation else b) was;
         since = sym (ap (λ b. if b then at.0 else set_in setting done) e);
       }
 
   -- what the answers taken up to the tick meant is what they meant
   counted_yet : (a : Answer) → a.stamp.0 ≤ at.0 → is_counted site kept (done_now at panel operation ∷ done) a ≡ is_counted site kept done a
-  counted_yet a le = ap (λ b. is_alarm a.heard && not b) (blocked-later site kept a.point a.stamp.0 ((done_now at panel operation) ∷ []) done (le, tt))
+  counted_yet a le =
+      ap (λ b. is_alarm a.heard && not b) (blocked-later site kept a.point a.stamp.0 ((done_now at panel operation) ∷ []) done (le, tt))
 
   run_yet : (zone point : ℕ) (first : Option Tick) (taken : List Answer) → ((k : ℕ) (a : Answer) → slice_get taken k ≡ Some a → a.stamp.0 ≤ at.0)
-      → run_of (is_counted site kept done) (λ x. floor_before site zone x done) point first taken ≡ run_of (is_counted site kept (done_now at panel operation ∷ done)) (λ x. floor_before site zone x (done_now at panel operation ∷ done)) point first taken
+      → run_of (is_counted site kept done) (λ x. floor_before site zone x done) point first taken
+      ≡ run_of (is_counted site kept (done_now at panel operation ∷ done)) (λ x. floor_before site zone x (done_now at panel operation ∷ done))
+      point first taken
   run_yet zone point first [] late = refl
   run_yet zone point first (x ∷ xs) late =
       let le = late 0 x refl in
-      run_yet zone point (if x.point == point then run_then (is_counted site kept done x) (floor_before site zone x.stamp.0 done) x.stamp first else first) xs (λ k a is. late (suc k) a is)
+      run_yet zone point (if x.point == point then run_then (is_counted site kept done x) (floor_before site zone x.stamp.0 done) x.stamp first else
+      first) xs (λ k a is. late (suc k) a is)
       ∙ ap (λ b. run_of (is_counted site kept (done_now at panel operation ∷ done)) (λ y. floor_before site zone y (done_now at panel operation ∷ done)) point (if x.point == point then run_then b (floor_before site zone x.stamp.0 done) x.stamp first else first) xs) (sym (counted_yet x le))
       ∙ ap (λ n. run_of (is_counted site kept (done_now at panel operation ∷ done)) (λ y. floor_before site zone y (done_now at panel operation ∷ done)) point (if x.point == point then run_then (is_counted site kept (done_now at panel operation ∷ done) x) n x.stamp first else first) xs) (sym (floor-yet site zone x.stamp.0 (done_now at panel operation) done le))
 
-  besides_yet : (zone : ℕ) (rule : Rule) (point : ℕ) (stamp : Option Tick) (taken : List Answer) → ((k : ℕ) (a : Answer) → slice_get taken k ≡ Some a → a.stamp.0 ≤ at.0)
-      → latest_besides (may_pair site kept done zone rule) point stamp taken ≡ latest_besides (may_pair site kept (done_now at panel operation ∷ done) zone rule) point stamp taken
+  besides_yet : (zone : ℕ) (rule : Rule) (point : ℕ) (stamp : Option Tick) (taken : List Answer)
+      → ((k : ℕ) (a : Answer) → slice_get taken k ≡ Some a → a.stamp.0 ≤ at.0)
+      → latest_besides (may_pair site kept done zone rule) point stamp taken
+      ≡ latest_besides (may_pair site kept (done_now at panel operation ∷ done) zone rule) point stamp taken
   besides_yet zone rule point stamp [] late = refl
   besides_yet zone rule point stamp (x ∷ xs) late =
-      besides_yet zone rule point (if may_pair site kept done zone rule x && not (x.point == point) then Some x.stamp else stamp) xs (λ k a is. late (suc k) a is)
-      ∙ ap (λ b. latest_besides (may_pair site kept (done_now at panel operation ∷ done) zone rule) point (if (is_of site zone x.point && (b && (is_type_C rule || is_detector site x.point))) && not (x.point == point) then Some x.stamp else stamp) xs) (sym (counted_yet x (late 0 x refl)))
+      besides_yet zone rule point (if may_pair site kept done zone rule x && not (x.point == point) then Some x.stamp else stamp) xs
+      (λ k a is. late (suc k) a is)
+      ∙ ap (λ b. latest_besides (may_pair site kept (done_now at panel operation ∷ done) zone rule) point
+      (if (is_of site zone x.point && (b && (is_type_C rule || is_detector site x.point))) && not (x.point == point) then Some x.stamp else stamp)
+      xs) (sym (counted_yet x (late 0 x refl)))
 
-  module _ (taken : List Answer) (late : (k : ℕ) (a : Answer) → slice_get taken k ≡ Some a → a.stamp.0 ≤ at.0) (before : (setting : Setting) → is_on setting (done_now at panel operation) ≡ true → set_in setting done < at.0) where
-    point_stands : (place : ℕ) (point : PointPlan) (watch : PointWatch) → WatchesPoint site kept done taken place point watch → WatchesPoint site kept (done_now at panel operation ∷ done) taken place point (point_then at panel operation place watch)
+  module _ (taken : List Answer) (late : (k : ℕ) (a : Answer) → slice_get taken k ≡ Some a → a.stamp.0 ≤ at.0) (before : (setting : Setting)
+      → is_on setting (done_now at panel operation) ≡ true → set_in setting done < at.0) where
+    point_stands : (place : ℕ) (point : PointPlan) (watch : PointWatch) → WatchesPoint site kept done taken place point watch
+        → WatchesPoint site kept (done_now at panel operation ∷ done) taken place point (point_then at panel operation place watch)
     point_stands place point watch h = record {
       zone = h.zone;
       manual = h.manual;
@@ -138,15 +123,16 @@ module _ (site : Site) (kept : Retained) (done : List Done) (at : Tick) (panel :
       run = h.run ∙ run_yet point.zone place None taken late;
     }
 
-    zone_stands : (place : ℕ) (zone : ZonePlan) (watch : ZoneWatch) → WatchesZone site kept done taken place zone watch → WatchesZone site kept (done_now at panel operation ∷ done) taken place zone (zone_then at panel operation place watch)
+    zone_stands : (place : ℕ) (zone : ZonePlan) (watch : ZoneWatch) → WatchesZone site kept done taken place zone watch
+        → WatchesZone site kept (done_now at panel operation ∷ done) taken place zone (zone_then at panel operation place watch)
     zone_stands place zone watch h = record {
       number = h.number;
       rule = h.rule;
       partner = h.partner;
       off = tells_then (ZoneOff place) watch.off (λ e. subst (λ n. n < at.0) (sym h.off.since) (before (ZoneOff place) e)) h.off;
       test = tells_then (InTest place) watch.test (λ e. subst (λ n. n < at.0) (sym h.test.since) (before (InTest place) e)) h.test;
-      moved = last_then done at panel operation by' (moves place) watch.moved h.moved;
-      cancelled = last_then done at panel operation by' (cancels place) watch.cancelled h.cancelled;
+      moved = told_last (moves place) (done_now at panel operation) done at watch.moved _ refl refl by' h.moved;
+      cancelled = told_last (cancels place) (done_now at panel operation) done at watch.cancelled _ refl refl by' h.cancelled;
       recent = λ point. h.recent point ∙ besides_yet place zone.rule point None taken late;
     }
 
@@ -155,8 +141,11 @@ pub record IsAfter (at : Tick) (panel : ℕ) (operation : Operation) (old next :
   pub same_panel : next.panel ≡ old.panel
   pub point_count : length next.points.items ≡ length old.points.items
   pub zone_count : length next.zones.items ≡ length old.zones.items
-  pub points : (place : ℕ) (watch : PointWatch) → slice_get next.points.items place ≡ Some watch → (was : PointWatch) × (slice_get old.points.items place ≡ Some was) × (watch ≡ record was { off = if is_on (PointOff place) (done_now at panel operation) then switch_after (value_set operation) at was.off else was.off })
-  pub zones : (place : ℕ) (watch : ZoneWatch) → slice_get next.zones.items place ≡ Some watch → (was : ZoneWatch) × (slice_get old.zones.items place ≡ Some was)
+  pub points : (place : ℕ) (watch : PointWatch) → slice_get next.points.items place ≡ Some watch
+      → (was : PointWatch) × (slice_get old.points.items place ≡ Some was)
+      × (watch ≡ record was { off = if is_on (PointOff place) (done_now at panel operation) then switch_after (value_set operation) at was.off else was.off })
+  pub zones : (place : ℕ) (watch : ZoneWatch) → slice_get next.zones.items place ≡ Some watch
+      → (was : ZoneWatch) × (slice_get old.zones.items place ≡ Some was)
       × (watch ≡ record was {
         off = if is_on (ZoneOff place) (done_now at panel operation) then switch_after (value_set operation) at was.off else was.off;
         test = if is_on (InTest place) (done_now at panel operation) then switch_after (value_set operation) at was.test else was.test;
@@ -165,10 +154,12 @@ pub record IsAfter (at : Tick) (panel : ℕ) (operation : Operation) (old next :
       })
   pub reset : next.reset ≡ last_if (resets panel (done_now at panel operation)) at old.reset
 
-pub stands_after : (site : Site) (kept : Retained) (panel : ℕ) (done : List Done) (taken : List Answer) (old next : Decide) (at : Tick) (operation : Operation) → DecidesFor site kept panel done taken old → MayApply site panel done taken operation at.0
+pub stands_after : (site : Site) (kept : Retained) (panel : ℕ) (done : List Done) (taken : List Answer) (old next : Decide) (at : Tick) (operation :
+    Operation) → DecidesFor site kept panel done taken old → MayApply site panel done taken operation at.0
     → IsAfter at panel operation old next → DecidesFor site kept panel (done_now at panel operation ∷ done) taken next
 stands_after site kept panel done taken old next at operation stands may after =
-    let before = λ (setting : Setting) (e : is_on setting (done_now at panel operation) ≡ true). set_before at.0 setting done may.from_one may.since (may.once setting e) in
+    let before = λ (setting : Setting) (e : is_on setting (done_now at panel operation) ≡ true).
+    set_before at.0 setting done may.next.from_one may.next.since (may.next.once setting e) in
     record {
       wired = stands.wired;
       at = after.same_panel ∙ stands.at;
@@ -176,11 +167,17 @@ stands_after site kept panel done taken old next at operation stands may after =
       zone_count = after.zone_count ∙ stands.zone_count;
       points = λ place watch point there is own.
           let was = after.points place watch there in
-          subst (WatchesPoint site kept (done_now at panel operation ∷ done) taken place point) (sym was.2) (point_stands site kept done at panel operation may.since taken may.late before place point was.0 (stands.points place was.0 point was.1 is own));
+          subst (WatchesPoint site kept (done_now at panel operation ∷ done) taken place point) (sym was.2)
+          (point_stands site kept done at panel operation may.next.since taken may.late before place point was.0
+          (stands.points place was.0 point was.1 is own));
       zones = λ place watch zone there is own.
           let was = after.zones place watch there in
-          subst (WatchesZone site kept (done_now at panel operation ∷ done) taken place zone) (sym was.2) (zone_stands site kept done at panel operation may.since taken may.late before place zone was.0 (stands.zones place was.0 zone was.1 is own));
-      reset = subst (TellsLast (resets panel) (done_now at panel operation ∷ done)) (sym after.reset) (last_then done at panel operation may.since (resets panel) old.reset stands.reset);
+          subst (WatchesZone site kept (done_now at panel operation ∷ done) taken place zone) (sym was.2)
+          (zone_stands site kept done at panel operation may.next.since taken may.late before place zone was.0
+          (stands.zones place was.0 zone was.1 is own));
+      reset =
+          subst (TellsLast (resets panel) (done_now at panel operation ∷ done)) (sym after.reset)
+          (told_last (resets panel) (done_now at panel operation) done at old.reset _ refl refl may.next.since stands.reset);
       order = stands.order;
       own = stands.own;
     }
@@ -192,19 +189,29 @@ eq_false : (a b : ℕ) → a ≢ b → (a == b) ≡ false
 eq_false a b h = grind (arith, nat_tests)
 
 -- a switch was last set before the tick
-pub zone_since : {site : Site} {kept : Retained} {panel : ℕ} {done : List Done} {taken : List Answer} {decide : Decide} → DecidesFor site kept panel done taken decide → (operation : Operation) (at : Tick) → MayApply site panel done taken operation at.0
+pub zone_since : {site : Site} {kept : Retained} {panel : ℕ} {done : List Done} {taken : List Answer} {decide : Decide}
+    → DecidesFor site kept panel done taken decide → (operation : Operation) (at : Tick) → MayApply site panel done taken operation at.0
     → (place : ℕ) → IsOwnZone site panel place → (watch : ZoneWatch) → watch ≡ get_or decide.zones.items place watch
-    → ((is_on (ZoneOff place) (done_now at panel operation) ≡ true) → watch.off.since.0 < at.0) × ((is_on (InTest place) (done_now at panel operation) ≡ true) → watch.test.since.0 < at.0)
+    → ((is_on (ZoneOff place) (done_now at panel operation) ≡ true) → watch.off.since.0 < at.0)
+    × ((is_on (InTest place) (done_now at panel operation) ≡ true) → watch.test.since.0 < at.0)
 zone_since {panel = panel} {done = done} {decide = decide} stands operation at may place own watch e =
     let w = watched_zone stands place own.zone own.is own.at in
     let same : watch ≡ w.over = read_is decide.zones.items place watch w.over e w.is_over in (
-      λ on. subst (λ (o : ZoneWatch). o.off.since.0 < at.0) (sym same) (subst (λ n. n < at.0) (sym w.watches.off.since) (set_before at.0 (ZoneOff place) done may.from_one may.since (may.once (ZoneOff place) on))),
-      λ on. subst (λ (o : ZoneWatch). o.test.since.0 < at.0) (sym same) (subst (λ n. n < at.0) (sym w.watches.test.since) (set_before at.0 (InTest place) done may.from_one may.since (may.once (InTest place) on))),
+      λ on. subst (λ (o : ZoneWatch). o.off.since.0 < at.0) (sym same)
+          (subst (λ n. n < at.0) (sym w.watches.off.since)
+          (set_before at.0 (ZoneOff place) done may.next.from_one may.next.since (may.next.once (ZoneOff place) on))),
+      λ on. subst (λ (o : ZoneWatch). o.test.since.0 < at.0) (sym same)
+          (subst (λ n. n < at.0) (sym w.watches.test.since)
+          (set_before at.0 (InTest place) done may.next.from_one may.next.since (may.next.once (InTest place) on))),
     )
 
-pub point_since : {site : Site} {kept : Retained} {panel : ℕ} {done : List Done} {taken : List Answer} {decide : Decide} → DecidesFor site kept panel done taken decide → (operation : Operation) (at : Tick) → MayApply site panel done taken operation at.0
-    → (place : ℕ) → IsOwn site panel place → (watch : PointWatch) → watch ≡ get_or decide.points.items place watch → (is_on (PointOff place) (done_now at panel operation) ≡ true) → watch.off.since.0 < at.0
+pub point_since : {site : Site} {kept : Retained} {panel : ℕ} {done : List Done} {taken : List Answer} {decide : Decide}
+    → DecidesFor site kept panel done taken decide → (operation : Operation) (at : Tick) → MayApply site panel done taken operation at.0
+    → (place : ℕ) → IsOwn site panel place → (watch : PointWatch) → watch ≡ get_or decide.points.items place watch
+    → (is_on (PointOff place) (done_now at panel operation) ≡ true) → watch.off.since.0 < at.0
 point_since {panel = panel} {done = done} {decide = decide} stands operation at may place own watch e on =
     let w = watched stands place own in
     let same : watch ≡ w.watch = read_is decide.points.items place watch w.watch e w.is_watch in
-    subst (λ (o : PointWatch). o.off.since.0 < at.0) (sym same) (subst (λ n. n < at.0) (sym w.watches.off.since) (set_before at.0 (PointOff place) done may.from_one may.since (may.once (PointOff place) on)))
+    subst (λ (o : PointWatch). o.off.since.0 < at.0) (sym same)
+    (subst (λ n. n < at.0) (sym w.watches.off.since)
+    (set_before at.0 (PointOff place) done may.next.from_one may.next.since (may.next.once (PointOff place) on)))

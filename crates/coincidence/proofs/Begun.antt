@@ -5,13 +5,16 @@ use Rattle.site_types.specs.declared.site.Site.{Site}
 use Rattle.site_types.specs.declared.point.Point.{Point as PointPlan}
 use Rattle.site_types.specs.declared.zone.Zone.{Zone as ZonePlan}
 use Rattle.site_types.specs.declared.retained.Retained.{Retained}
-use Rattle.site_types.specs.Done.{Done, Setting, PointOff, ZoneOff, InTest, at_opening, kept_point, kept_zone, kept_test}
+use Rattle.site_types.specs.Done.{Setting, PointOff, ZoneOff, InTest, at_opening, kept_point, kept_zone, kept_test}
 use Rattle.site_types.specs.Valid.{IsValid}
+use Rattle.coincidence_rules.proofs.LastDone.{told_never}
 use Rattle.coincidence_rules.specs.Missing.{latest_of, begins_silent}
 use Rattle.coincidence_rules.proofs.ValidWired.{wired_of}
 use Rattle.coincidence.specs.declared.decide.Decide.{Decide}
-use Rattle.coincidence.specs.Parts.{switch_begun, last_begun, point_from, zone_from}
-use Rattle.coincidence.specs.Stands.{TellsSetting, TellsLast, WatchesPoint, WatchesZone, DecidesFor}
+use Rattle.coincidence.specs.Parts.{switch_begun, point_from, zone_from}
+use Rattle.tick_units.specs.LastTicks.{never_done}
+use Rattle.coincidence.specs.Stands.{TellsSetting, WatchesPoint, WatchesZone, DecidesFor}
+use Rattle.coincidence_rules.specs.Applied.{TellsLast}
 
 length_map : {X Y : Type 0} (f : X → Y) (xs : List X) → length (map f xs) ≡ length xs
 length_map f [] = refl
@@ -26,15 +29,9 @@ same_either : (b v : Bool) → v ≡ (if b then v else v)
 same_either true v = refl
 same_either false v = refl
 
-setting_begins : (site : Site) (kept : Retained) (setting : Setting) (value : Bool) → at_opening site kept setting ≡ value → TellsSetting site kept setting [] (switch_begun value)
+setting_begins : (site : Site) (kept : Retained) (setting : Setting) (value : Bool) → at_opening site kept setting ≡ value
+    → TellsSetting site kept setting [] (switch_begun value)
 setting_begins site kept setting value e = record { at = λ x since. e ∙ same_either (nat_lt 0 x) value; since = refl }
-
-pub last_begins : (test : Done → Bool) → TellsLast test [] last_begun
-last_begins test = record { at = λ x since. zero_either (nat_lt 0 x); by = λ x all. omega arith }
-  where
-    zero_either : (b : Bool) → ◌≡◌ {A = ℕ} 0 (if b then 0 else 0)
-    zero_either true = refl
-    zero_either false = refl
 
 none_silent : (n : ℕ) → nat_le (suc n) 0 ≡ false
 none_silent n = grind (arith, nat_tests)
@@ -43,7 +40,8 @@ none_le : true ≡ nat_le 0 0
 none_le = grind (arith, nat_tests)
 
 module _ (site : Site) (kept : Retained) where
-  point_begins : (place : ℕ) (point : PointPlan) → slice_get site.points place ≡ Some point → WatchesPoint site kept [] [] place point (point_from kept point)
+  point_begins : (place : ℕ) (point : PointPlan) → slice_get site.points place ≡ Some point
+      → WatchesPoint site kept [] [] place point (point_from kept point)
   point_begins place point is = record {
     zone = refl;
     manual = refl;
@@ -64,12 +62,13 @@ module _ (site : Site) (kept : Retained) where
     partner = refl;
     off = setting_begins site kept (ZoneOff place) (kept_zone kept (Some zone)) (ap (kept_zone kept) is);
     test = setting_begins site kept (InTest place) (kept_test kept (Some zone)) (ap (kept_test kept) is);
-    moved = last_begins _;
-    cancelled = last_begins _;
+    moved = told_never _;
+    cancelled = told_never _;
     recent = λ point. refl;
   }
 
-  pub stands_begun : IsValid site → (panel : ℕ) (decide : Decide) → decide.panel ≡ panel → decide.points.items ≡ map (point_from kept) site.points → decide.zones.items ≡ map (zone_from kept) site.zones → decide.reset ≡ last_begun
+  pub stands_begun : IsValid site → (panel : ℕ) (decide : Decide) → decide.panel ≡ panel → decide.points.items ≡ map (point_from kept) site.points
+      → decide.zones.items ≡ map (zone_from kept) site.zones → decide.reset ≡ never_done
       → DecidesFor site kept panel [] [] decide
   stands_begun valid panel decide at points zones reset = record {
     wired = wired_of site valid;
@@ -77,10 +76,14 @@ module _ (site : Site) (kept : Retained) where
     point_count = ap length points ∙ length_map (point_from kept) site.points;
     zone_count = ap length zones ∙ length_map (zone_from kept) site.zones;
     points = λ place watch point there is own.
-        subst (WatchesPoint site kept [] [] place point) (sym (get_map (point_from kept) site.points place point watch (ap (λ xs. slice_get xs place) (sym points) ∙ there) is)) (point_begins place point is);
+        subst (WatchesPoint site kept [] [] place point)
+        (sym (get_map (point_from kept) site.points place point watch (ap (λ xs. slice_get xs place) (sym points) ∙ there) is))
+        (point_begins place point is);
     zones = λ place watch zone there is own.
-        subst (WatchesZone site kept [] [] place zone) (sym (get_map (zone_from kept) site.zones place zone watch (ap (λ xs. slice_get xs place) (sym zones) ∙ there) is)) (zone_begins place zone is);
-    reset = subst (TellsLast _ []) (sym reset) (last_begins _);
+        subst (WatchesZone site kept [] [] place zone)
+        (sym (get_map (zone_from kept) site.zones place zone watch (ap (λ xs. slice_get xs place) (sym zones) ∙ there) is))
+        (zone_begins place zone is);
+    reset = subst (TellsLast _ []) (sym reset) (told_never _);
     order = record { rising = λ i j a b le f g. cc; once = λ i j a b f g p s. cc };
     own = λ k a is. cc;
   }

@@ -1,4 +1,5 @@
--- An operation of another panel changes nothing of what this panel's answers mean, so that the part stands for the operations of the whole site.
+-- An operation of another panel changes nothing of what this panel's answers mean, so that the part stands
+-- for the operations of the whole site.
 use Rattle.std.proofs.Common.{◌≡◌, ◌≢◌, ℕ, suc, max, Bool, true, false, not, List, [], ◌∷◌, Option, Some, None, slice_get, ◌==◌, ◌&&◌, ◌||◌, nat_lt, if◌then◌else◌, refl, sym, ◌∙◌, ap, arith}
 use Rattle.std.proofs.lemmas.Bool.{eqb-true}
 use Rattle.std.proofs.lemmas.Bool.Decides.{nat_tests}
@@ -19,10 +20,11 @@ use Rattle.coincidence_rules.specs.Places.{is_of, is_detector}
 use Rattle.coincidence_rules.specs.Counted.{is_alarm, is_counted}
 use Rattle.coincidence_rules.specs.Kept.{run_then, run_of, latest_besides, is_type_C, may_pair}
 use Rattle.tick_units.specs.declared.switch.Switch.{Switch}
-use Rattle.coincidence.specs.declared.last_tick.LastTick.{LastTick}
+use Rattle.tick_units.specs.declared.last_done.LastDone.{LastDone}
 use Rattle.coincidence.specs.declared.decide.Decide.{Decide}
 use Rattle.coincidence.specs.Premises.{IsOwn}
-use Rattle.coincidence.specs.Stands.{resets, moves, set_in, TellsSetting, TellsLast, DecidesFor}
+use Rattle.coincidence.specs.Stands.{resets, moves, set_in, TellsSetting, DecidesFor}
+use Rattle.coincidence_rules.specs.Applied.{TellsLast}
 
 eq_false : (a b : ℕ) → a ≢ b → (a == b) ≡ false
 eq_false a b h = grind (arith, nat_tests)
@@ -38,7 +40,8 @@ pub record IsElsewhere (site : Site) (panel : ℕ) (d : Done) : Type 0 where
   pub reset : resets panel d ≡ false
 
 module _ (site : Site) (panel tick at : ℕ) (apart : at ≢ panel) where
-  zone_not : (place z : ℕ) (zone : ZonePlan) → slice_get site.zones place ≡ Some zone → zone.panel ≡ panel → (o : Option ZonePlan) → slice_get site.zones z ≡ o → is_some_with (λ (y : ZonePlan). y.panel == at) o ≡ true → place ≢ z
+  zone_not : (place z : ℕ) (zone : ZonePlan) → slice_get site.zones place ≡ Some zone → zone.panel ≡ panel → (o : Option ZonePlan)
+      → slice_get site.zones z ≡ o → is_some_with (λ (y : ZonePlan). y.panel == at) o ≡ true → place ≢ z
   zone_not place z zone is own None e h same = cc
   zone_not place z zone is own (Some y) e h same =
       let s : zone ≡ y = some_same zone y (sym is ∙ ap (slice_get site.zones) same ∙ e) in
@@ -47,7 +50,8 @@ module _ (site : Site) (panel tick at : ℕ) (apart : at ≢ panel) where
       some_same : (a b : ZonePlan) → Some a ≡ Some b → a ≡ b
       some_same a b e = cc
 
-  point_not : (place p : ℕ) (point : PointPlan) → slice_get site.points place ≡ Some point → point.panel ≡ panel → (o : Option PointPlan) → slice_get site.points p ≡ o → is_some_with (λ (y : PointPlan). y.panel == at) o ≡ true → place ≢ p
+  point_not : (place p : ℕ) (point : PointPlan) → slice_get site.points place ≡ Some point → point.panel ≡ panel → (o : Option PointPlan)
+      → slice_get site.points p ≡ o → is_some_with (λ (y : PointPlan). y.panel == at) o ≡ true → place ≢ p
   point_not place p point is own None e h same = cc
   point_not place p point is own (Some y) e h same =
       let s : point ≡ y = some_same point y (sym is ∙ ap (slice_get site.points) same ∙ e) in
@@ -59,7 +63,8 @@ module _ (site : Site) (panel tick at : ℕ) (apart : at ≢ panel) where
   abbrev done_at : Operation → Done
   done_at operation = record { tick = tick; panel = at; operation = operation }
 
-  points_not : (operation : Operation) → has_operands site at operation ≡ true → (place : ℕ) (point : PointPlan) → slice_get site.points place ≡ Some point → point.panel ≡ panel → is_on (PointOff place) (done_at operation) ≡ false
+  points_not : (operation : Operation) → has_operands site at operation ≡ true → (place : ℕ) (point : PointPlan)
+      → slice_get site.points place ≡ Some point → point.panel ≡ panel → is_on (PointOff place) (done_at operation) ≡ false
   points_not (Disable (Point p)) h place point is own = eq_false place p (point_not place p point is own (slice_get site.points p) refl h)
   points_not (Enable (Point p)) h place point is own = eq_false place p (point_not place p point is own (slice_get site.points p) refl h)
   points_not (Disable (Zone z)) h place point is own = refl
@@ -199,10 +204,12 @@ module _ (site : Site) (kept : Retained) (panel : ℕ) (done : List Done) (d : D
   latest_same : (test : Done → Bool) (x : ℕ) → test d ≡ false → latest_before test x (d ∷ done) ≡ latest_before test x done
   latest_same test x e = ap (λ b. if b && nat_lt d.tick x then max d.tick (latest_before test x done) else latest_before test x done) e
 
-  tells_same : (setting : Setting) (switch : Switch) → is_on setting d ≡ false → TellsSetting site kept setting done switch → TellsSetting site kept setting (d ∷ done) switch
-  tells_same setting switch e h = record { at = λ x since. force_same setting x e ∙ h.at x since; since = h.since ∙ sym (ap (λ b. if b then d.tick else set_in setting done) e) }
+  tells_same : (setting : Setting) (switch : Switch) → is_on setting d ≡ false → TellsSetting site kept setting done switch
+      → TellsSetting site kept setting (d ∷ done) switch
+  tells_same setting switch e h =
+      record { at = λ x since. force_same setting x e ∙ h.at x since; since = h.since ∙ sym (ap (λ b. if b then d.tick else set_in setting done) e) }
 
-  last_same : (test : Done → Bool) (last : LastTick) → test d ≡ false → TellsLast test done last → TellsLast test (d ∷ done) last
+  last_same : (test : Done → Bool) (last : LastDone) → test d ≡ false → TellsLast test done last → TellsLast test (d ∷ done) last
   last_same test last e h = record { at = λ x since. latest_same test x e ∙ h.at x since; by = λ x all. h.by x all.1 }
 
   module _ (zoned : (place : ℕ) (point : PointPlan) → slice_get site.points place ≡ Some point → HasZone site point.panel point.zone) where
@@ -211,27 +218,44 @@ module _ (site : Site) (kept : Retained) (panel : ℕ) (done : List Done) (d : D
         let zone = zoned a.point own.point own.is in
         let x = a.stamp.0 in
         ap (λ o. is_alarm a.heard && not (in_force site kept (PointOff a.point) x (d ∷ done) || is_zone_blocked site kept (d ∷ done) o x)) own.is
-        ∙ ap (λ b. is_alarm a.heard && not (b || (in_force site kept (ZoneOff own.point.zone) x (d ∷ done) || in_force site kept (InTest own.point.zone) x (d ∷ done)))) (force_same (PointOff a.point) x (away.points a.point own.point own.is own.at))
-        ∙ ap (λ b. is_alarm a.heard && not (in_force site kept (PointOff a.point) x done || (b || in_force site kept (InTest own.point.zone) x (d ∷ done)))) (force_same (ZoneOff own.point.zone) x (away.offs own.point.zone zone.zone zone.is (zone.at_panel ∙ own.at)))
-        ∙ ap (λ b. is_alarm a.heard && not (in_force site kept (PointOff a.point) x done || (in_force site kept (ZoneOff own.point.zone) x done || b))) (force_same (InTest own.point.zone) x (away.tests own.point.zone zone.zone zone.is (zone.at_panel ∙ own.at)))
+        ∙ ap (λ b. is_alarm a.heard
+        && not (b || (in_force site kept (ZoneOff own.point.zone) x (d ∷ done) || in_force site kept (InTest own.point.zone) x (d ∷ done))))
+        (force_same (PointOff a.point) x (away.points a.point own.point own.is own.at))
+        ∙ ap (λ b. is_alarm a.heard
+        && not (in_force site kept (PointOff a.point) x done || (b || in_force site kept (InTest own.point.zone) x (d ∷ done))))
+        (force_same (ZoneOff own.point.zone) x (away.offs own.point.zone zone.zone zone.is (zone.at_panel ∙ own.at)))
+        ∙ ap (λ b. is_alarm a.heard
+        && not (in_force site kept (PointOff a.point) x done || (in_force site kept (ZoneOff own.point.zone) x done || b)))
+        (force_same (InTest own.point.zone) x (away.tests own.point.zone zone.zone zone.is (zone.at_panel ∙ own.at)))
         ∙ ap (λ o. is_alarm a.heard && not (in_force site kept (PointOff a.point) x done || is_zone_blocked site kept done o x)) (sym own.is)
 
-    run_same : (zone : ℕ) (plan : ZonePlan) → slice_get site.zones zone ≡ Some plan → plan.panel ≡ panel → (point : ℕ) (first : Option Tick) (taken : List Answer) → ((k : ℕ) (a : Answer) → slice_get taken k ≡ Some a → IsOwn site panel a.point)
-        → run_of (is_counted site kept done) (λ x. floor_before site zone x done) point first taken ≡ run_of (is_counted site kept (d ∷ done)) (λ x. floor_before site zone x (d ∷ done)) point first taken
+    run_same : (zone : ℕ) (plan : ZonePlan) → slice_get site.zones zone ≡ Some plan → plan.panel ≡ panel
+        → (point : ℕ) (first : Option Tick) (taken : List Answer) → ((k : ℕ) (a : Answer) → slice_get taken k ≡ Some a → IsOwn site panel a.point)
+        → run_of (is_counted site kept done) (λ x. floor_before site zone x done) point first taken ≡ run_of (is_counted site kept (d ∷ done))
+        (λ x. floor_before site zone x (d ∷ done)) point first taken
     run_same zone plan is at point first [] own = refl
     run_same zone plan is at point first (x ∷ xs) own =
-        run_same zone plan is at point (if x.point == point then run_then (is_counted site kept done x) (floor_before site zone x.stamp.0 done) x.stamp first else first) xs (λ k a h. own (suc k) a h)
-        ∙ ap (λ b. run_of (is_counted site kept (d ∷ done)) (λ y. floor_before site zone y (d ∷ done)) point (if x.point == point then run_then b (floor_before site zone x.stamp.0 done) x.stamp first else first) xs) (sym (counted_same x (own 0 x refl)))
-        ∙ ap (λ n. run_of (is_counted site kept (d ∷ done)) (λ y. floor_before site zone y (d ∷ done)) point (if x.point == point then run_then (is_counted site kept (d ∷ done) x) n x.stamp first else first) xs) (sym (latest_same (moves_floor site zone) x.stamp.0 (away.floors zone plan is at)))
+        run_same zone plan is at point (if x.point == point then run_then (is_counted site kept done x) (floor_before site zone x.stamp.0 done)
+        x.stamp first else first) xs (λ k a h. own (suc k) a h)
+        ∙ ap (λ b. run_of (is_counted site kept (d ∷ done)) (λ y. floor_before site zone y (d ∷ done)) point
+        (if x.point == point then run_then b (floor_before site zone x.stamp.0 done) x.stamp first else first) xs)
+        (sym (counted_same x (own 0 x refl)))
+        ∙ ap (λ n. run_of (is_counted site kept (d ∷ done)) (λ y. floor_before site zone y (d ∷ done)) point
+        (if x.point == point then run_then (is_counted site kept (d ∷ done) x) n x.stamp first else first) xs)
+        (sym (latest_same (moves_floor site zone) x.stamp.0 (away.floors zone plan is at)))
 
-    besides_same : (zone : ℕ) (rule : Rule) (point : ℕ) (stamp : Option Tick) (taken : List Answer) → ((k : ℕ) (a : Answer) → slice_get taken k ≡ Some a → IsOwn site panel a.point)
-        → latest_besides (may_pair site kept done zone rule) point stamp taken ≡ latest_besides (may_pair site kept (d ∷ done) zone rule) point stamp taken
+    besides_same : (zone : ℕ) (rule : Rule) (point : ℕ) (stamp : Option Tick) (taken : List Answer)
+        → ((k : ℕ) (a : Answer) → slice_get taken k ≡ Some a → IsOwn site panel a.point)
+        → latest_besides (may_pair site kept done zone rule) point stamp taken ≡ latest_besides (may_pair site kept (d ∷ done) zone rule) point stamp
+        taken
     besides_same zone rule point stamp [] own = refl
     besides_same zone rule point stamp (x ∷ xs) own =
-        besides_same zone rule point (if may_pair site kept done zone rule x && not (x.point == point) then Some x.stamp else stamp) xs (λ k a h. own (suc k) a h)
+        besides_same zone rule point (if may_pair site kept done zone rule x && not (x.point == point) then Some x.stamp else stamp) xs
+        (λ k a h. own (suc k) a h)
         ∙ ap (λ b. latest_besides (may_pair site kept (d ∷ done) zone rule) point (if (is_of site zone x.point && (b && (is_type_C rule || is_detector site x.point))) && not (x.point == point) then Some x.stamp else stamp) xs) (sym (counted_same x (own 0 x refl)))
 
-  pub stands_elsewhere : (taken : List Answer) (decide : Decide) → DecidesFor site kept panel done taken decide → DecidesFor site kept panel (d ∷ done) taken decide
+  pub stands_elsewhere : (taken : List Answer) (decide : Decide) → DecidesFor site kept panel done taken decide
+      → DecidesFor site kept panel (d ∷ done) taken decide
   stands_elsewhere taken decide h = record {
     wired = h.wired;
     at = h.at;

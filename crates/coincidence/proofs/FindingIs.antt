@@ -33,11 +33,14 @@ abbrev pub HasBits : ℕ → ℕ → Bool → ℕ → Bool → Type 0
 HasBits mask number on other also = (k : ℕ) → k < 32 → has_bit mask k ≡ (if (k + 1) == number then on else (((k + 1) == other) && also))
 
 same_finding : (stamp : Tick) (point c d f g m n r q : ℕ) (a b : Bool) → c ≡ d → f ≡ g → m ≡ n → r ≡ q → a ≡ b
-    → ◌≡◌ {A = Finding} (record { stamp = stamp; point = point; counted = c; confirmed = f; manual = m; released = r; missing = a }) (record { stamp = stamp; point = point; counted = d; confirmed = g; manual = n; released = q; missing = b })
+    → ◌≡◌ {A = Finding} (record { stamp = stamp; point = point; counted = c; confirmed = f; manual = m; released = r; missing = a })
+    (record { stamp = stamp; point = point; counted = d; confirmed = g; manual = n; released = q; missing = b })
 same_finding stamp point c d f g m n r q a b e1 e2 e3 e4 e5 = cc
 
-module _ {site : Site} {kept : Retained} {panel : ℕ} {done : List Done} {all : List Answer} {decide : Decide} (stands : DecidesFor site kept panel done all decide) (answer : Answer) (fits : Fits site panel done all answer)
-    (r : PointWatch) (z : ZoneWatch) (e : r ≡ get_or decide.points.items answer.point r) (h : z ≡ get_or decide.zones.items r.zone z) (sight : Sight) (beside : Beside) where
+module _ {site : Site} {kept : Retained} {panel : ℕ} {done : List Done} {all : List Answer} {decide : Decide} (stands :
+    DecidesFor site kept panel done all decide) (answer : Answer) (fits : Fits site panel done all answer)
+    (r : PointWatch) (z : ZoneWatch) (e : r ≡ get_or decide.points.items answer.point r) (h : z ≡ get_or decide.zones.items r.zone z) (sight :
+    Sight) (beside : Beside) where
   abbrev w : Watched site kept panel done all decide answer.point
   w = watched stands answer.point fits.own
 
@@ -48,7 +51,8 @@ module _ {site : Site} {kept : Retained} {panel : ℕ} {done : List Done} {all :
   IsSeen = Sees site kept done all answer w.point w.zone sight
 
   -- the second bit of what confirms, and of what releases
-  second_confirmed : IsSeen → (o : Option ℕ) → w.zone.partner ≡ o → SeesBeside site w.zone o sight beside → IsSecondBit site panel (λ q. confirms site kept done all q answer) beside.number beside.confirmed o
+  second_confirmed : IsSeen → (o : Option ℕ) → w.zone.partner ≡ o → SeesBeside site w.zone o sight beside
+      → IsSecondBit site panel (λ q. confirms site kept done all q answer) beside.number beside.confirmed o
   second_confirmed sees None p b = b.1
   second_confirmed sees (Some other) p b =
       let has = stands.wired.partners w.point.zone other w.zone w.is_zone p in
@@ -58,10 +62,13 @@ module _ {site : Site} {kept : Retained} {panel : ℕ} {done : List Done} {all :
         is = has.is;
         at = has.at_panel ∙ w.zone_at;
         number_is = tells.0;
-        tests = sym (tells.1 ∙ partner_confirmed_is site kept done all answer w.point w.zone sight stands.wired w.is_point w.is_zone stands.order fits.late sees other p has.partner has.is has.type);
+        tests =
+            sym (tells.1 ∙ partner_confirmed_is site kept done all answer w.point w.zone sight stands.wired w.is_point w.is_zone stands.order
+            fits.late sees other p has.partner has.is has.type);
       }
 
-  second_released : IsSeen → (o : Option ℕ) → w.zone.partner ≡ o → SeesBeside site w.zone o sight beside → IsSecondBit site panel (λ q. releases site kept done all q answer) beside.number beside.released o
+  second_released : IsSeen → (o : Option ℕ) → w.zone.partner ≡ o → SeesBeside site w.zone o sight beside
+      → IsSecondBit site panel (λ q. releases site kept done all q answer) beside.number beside.released o
   second_released sees None p b = b.2
   second_released sees (Some other) p b =
       let has = stands.wired.partners w.point.zone other w.zone w.is_zone p in
@@ -71,33 +78,56 @@ module _ {site : Site} {kept : Retained} {panel : ℕ} {done : List Done} {all :
         is = has.is;
         at = has.at_panel ∙ w.zone_at;
         number_is = tells.0;
-        tests = sym (tells.2 ∙ partner_released_is site kept done all answer w.point w.zone sight stands.wired w.is_point w.is_zone stands.order fits.late sees other p has.partner has.is has.type);
+        tests =
+            sym (tells.2 ∙ partner_released_is site kept done all answer w.point w.zone sight stands.wired w.is_point w.is_zone stands.order fits.late
+            sees other p has.partner has.is has.type);
       }
 
-  own_bits : (mask : ℕ) (on : Bool) (other : ℕ) (also : Bool) → HasBits mask z.number on other also → (k : ℕ) → k < 32 → has_bit mask k ≡ bit_of w.zone.number on other also (k + 1)
+  own_bits : (mask : ℕ) (on : Bool) (other : ℕ) (also : Bool) → HasBits mask z.number on other also → (k : ℕ) → k < 32
+      → has_bit mask k ≡ bit_of w.zone.number on other also (k + 1)
   own_bits mask on other also bits k small = bits k small ∙ ap (λ n. bit_of n on other also (k + 1)) z_watches.number
 
-  pub finding_is : IsSeen → SeesBeside site w.zone w.zone.partner sight beside → (counted confirmed manual released : ℕ) (missing : Bool) → counted < 2 ^ 32 → confirmed < 2 ^ 32 → manual < 2 ^ 32 → released < 2 ^ 32
-      → HasBits counted z.number sight.counted z.number false → HasBits confirmed z.number (own_confirmed z.rule sight) beside.number beside.confirmed → HasBits manual z.number (sight.counted && sight.manual) z.number false
+  pub finding_is : IsSeen → SeesBeside site w.zone w.zone.partner sight beside → (counted confirmed manual released : ℕ) (missing : Bool)
+      → counted < 2 ^ 32 → confirmed < 2 ^ 32 → manual < 2 ^ 32 → released < 2 ^ 32
+      → HasBits counted z.number sight.counted z.number false → HasBits confirmed z.number (own_confirmed z.rule sight) beside.number beside.confirmed
+      → HasBits manual z.number (sight.counted && sight.manual) z.number false
       → HasBits released z.number (own_released z.rule sight) beside.number beside.released → missing ≡ nat_le 3 r.silent
-      → ◌≡◌ {A = Finding} (record { stamp = answer.stamp; point = answer.point; counted = counted; confirmed = confirmed; manual = manual; released = released; missing = missing }) (finding_among site kept panel done all answer)
+      → ◌≡◌ {A = Finding} (record {
+        stamp = answer.stamp;
+        point = answer.point;
+        counted = counted;
+        confirmed = confirmed;
+        manual = manual;
+        released =
+            released;
+        missing = missing;
+      }) (finding_among site kept panel done all answer)
   finding_is sees partner counted confirmed manual released missing c f m l cs fs ms ls miss =
       same_finding answer.stamp answer.point counted _ confirmed _ manual _ released _ missing _
-      (mask_is site stands.wired panel w.point.zone w.zone w.is_zone w.zone_at (λ q. is_counted site kept done answer && is_of site q answer.point) sight.counted
+      (mask_is site stands.wired panel w.point.zone w.zone w.is_zone w.zone_at (λ q. is_counted site kept done answer && is_of site q answer.point)
+      sight.counted
       (own_counted site kept done all answer w.point w.zone sight stands.wired w.is_point w.is_zone stands.order fits.late sees)
-      z.number false None counted c refl (λ q apart x. none_counted site kept done all answer w.point w.zone sight stands.wired w.is_point w.is_zone stands.order fits.late sees q apart) (own_bits counted sight.counted z.number false cs))
-      (mask_is site stands.wired panel w.point.zone w.zone w.is_zone w.zone_at (λ q. confirms site kept done all q answer) (own_confirmed z.rule sight)
-      (sym (ap (λ y. own_confirmed y sight) z_watches.rule ∙ own_confirmed_is site kept done all answer w.point w.zone sight stands.wired w.is_point w.is_zone stands.order fits.late sees))
+      z.number false None counted c refl (λ q apart x. none_counted site kept done all answer w.point w.zone sight stands.wired w.is_point w.is_zone
+      stands.order fits.late sees q apart) (own_bits counted sight.counted z.number false cs))
+      (mask_is site stands.wired panel w.point.zone w.zone w.is_zone w.zone_at (λ q. confirms site kept done all q answer)
+      (own_confirmed z.rule sight)
+      (sym (ap (λ y. own_confirmed y sight) z_watches.rule ∙ own_confirmed_is site kept done all answer w.point w.zone sight stands.wired w.is_point
+      w.is_zone stands.order fits.late sees))
       beside.number beside.confirmed w.zone.partner confirmed f (second_confirmed sees w.zone.partner refl partner)
-      (λ q apart x. none_confirmed site kept done all answer w.point w.zone sight stands.wired w.is_point w.is_zone stands.order fits.late sees q apart x) (own_bits confirmed (own_confirmed z.rule sight) beside.number beside.confirmed fs))
+      (λ q apart x. none_confirmed site kept done all answer w.point w.zone sight stands.wired w.is_point w.is_zone stands.order fits.late sees q
+      apart x) (own_bits confirmed (own_confirmed z.rule sight) beside.number beside.confirmed fs))
       (mask_is site stands.wired panel w.point.zone w.zone w.is_zone w.zone_at (λ q. calls site kept done q answer) (sight.counted && sight.manual)
       (own_called site kept done all answer w.point w.zone sight stands.wired w.is_point w.is_zone stands.order fits.late sees)
-      z.number false None manual m refl (λ q apart x. none_called site kept done all answer w.point w.zone sight stands.wired w.is_point w.is_zone stands.order fits.late sees q apart) (own_bits manual (sight.counted && sight.manual) z.number false ms))
+      z.number false None manual m refl (λ q apart x. none_called site kept done all answer w.point w.zone sight stands.wired w.is_point w.is_zone
+      stands.order fits.late sees q apart) (own_bits manual (sight.counted && sight.manual) z.number false ms))
       (mask_is site stands.wired panel w.point.zone w.zone w.is_zone w.zone_at (λ q. releases site kept done all q answer) (own_released z.rule sight)
-      (sym (ap (λ y. own_released y sight) z_watches.rule ∙ own_released_is site kept done all answer w.point w.zone sight stands.wired w.is_point w.is_zone stands.order fits.late sees))
+      (sym (ap (λ y. own_released y sight) z_watches.rule ∙ own_released_is site kept done all answer w.point w.zone sight stands.wired w.is_point
+      w.is_zone stands.order fits.late sees))
       beside.number beside.released w.zone.partner released l (second_released sees w.zone.partner refl partner)
-      (λ q apart x. none_released site kept done all answer w.point w.zone sight stands.wired w.is_point w.is_zone stands.order fits.late sees q apart x) (own_bits released (own_released z.rule sight) beside.number beside.released ls))
-      (miss ∙ ap (λ (o : PointWatch). nat_le 3 o.silent) (read_is decide.points.items answer.point r w.watch e w.is_watch) ∙ sym (w.watches.silent 3 (omega arith)))
+      (λ q apart x. none_released site kept done all answer w.point w.zone sight stands.wired w.is_point w.is_zone stands.order fits.late sees q apart
+      x) (own_bits released (own_released z.rule sight) beside.number beside.released ls))
+      (miss ∙ ap (λ (o : PointWatch). nat_le 3 o.silent) (read_is decide.points.items answer.point r w.watch e w.is_watch) ∙ sym
+      (w.watches.silent 3 (omega arith)))
 
 -- ---- an answer that doesn't count tells of no zone
 
@@ -106,29 +136,38 @@ nothing_on test None fails = refl
 nothing_on test (Some q) fails = sym (fails q)
 
 no_mask : (site : Site) (panel : ℕ) (test : ℕ → Bool) → ((q : ℕ) → test q ≡ false) → 0 ≡ zones_where site panel test
-no_mask site panel test fails = zones_from_bits site panel test 0 (omega arith) (λ k small. has_bit-zero k ∙ nothing_on test (numbered site panel (k + 1)) fails)
+no_mask site panel test fails =
+    zones_from_bits site panel test 0 (omega arith) (λ k small. has_bit-zero k ∙ nothing_on test (numbered site panel (k + 1)) fails)
 
-no_confirm : (site : Site) (kept : Retained) (done : List Done) (all : List Answer) (q : ℕ) (answer : Answer) → is_counted site kept done answer ≡ false → confirms site kept done all q answer ≡ false
+no_confirm : (site : Site) (kept : Retained) (done : List Done) (all : List Answer) (q : ℕ) (answer : Answer)
+    → is_counted site kept done answer ≡ false → confirms site kept done all q answer ≡ false
 no_confirm site kept done all q answer uncounted =
     ap (λ b. b && (is_by_call_point site q answer.point || (is_detector site answer.point && coincides site kept done all q (rule_of (slice_get site.zones q)) answer))) uncounted
 
-no_release : (site : Site) (kept : Retained) (done : List Done) (all : List Answer) (q : ℕ) (answer : Answer) (o : Option Rule) → is_counted site kept done answer ≡ false → releases_by site kept done all q o answer ≡ false
+no_release : (site : Site) (kept : Retained) (done : List Done) (all : List Answer) (q : ℕ) (answer : Answer) (o : Option Rule)
+    → is_counted site kept done answer ≡ false → releases_by site kept done all q o answer ≡ false
 no_release site kept done all q answer None uncounted = no_confirm site kept done all q answer uncounted
 no_release site kept done all q answer (Some Plain) uncounted = no_confirm site kept done all q answer uncounted
 no_release site kept done all q answer (Some (A verify within)) uncounted = no_confirm site kept done all q answer uncounted
 no_release site kept done all q answer (Some (B within)) uncounted = no_confirm site kept done all q answer uncounted
 no_release site kept done all q answer (Some C) uncounted =
-    ap (λ b. (b && is_by_call_point site q answer.point) || (b && pairs_up site q answer.point (λ other. list_any (is_second site kept done other answer) all))) uncounted
+    ap (λ b. (b && is_by_call_point site q answer.point)
+    || (b && pairs_up site q answer.point (λ other. list_any (is_second site kept done other answer) all))) uncounted
 
-pub quiet_is : {site : Site} {kept : Retained} {panel : ℕ} {done : List Done} {all : List Answer} {decide : Decide} → DecidesFor site kept panel done all decide → (answer : Answer) → Fits site panel done all answer → is_alarm answer.heard ≡ false →
+pub quiet_is : {site : Site} {kept : Retained} {panel : ℕ} {done : List Done} {all : List Answer} {decide : Decide}
+    → DecidesFor site kept panel done all decide → (answer : Answer) → Fits site panel done all answer → is_alarm answer.heard ≡ false →
     (r : PointWatch) → r ≡ get_or decide.points.items answer.point r → (missing : Bool) → missing ≡ nat_le 3 r.silent →
-    ◌≡◌ {A = Finding} (record { stamp = answer.stamp; point = answer.point; counted = 0; confirmed = 0; manual = 0; released = 0; missing = missing }) (finding_among site kept panel done all answer)
+    ◌≡◌ {A = Finding} (record { stamp = answer.stamp; point = answer.point; counted = 0; confirmed = 0; manual = 0; released = 0; missing = missing })
+    (finding_among site kept panel done all answer)
 quiet_is {site} {kept} {panel} {done} {all} {decide} stands answer fits quiet r e missing miss =
     let w = watched stands answer.point fits.own in
     let uncounted : is_counted site kept done answer ≡ false = ap (λ b. b && not (is_blocked site kept done answer.point answer.stamp.0)) quiet in
     same_finding answer.stamp answer.point 0 _ 0 _ 0 _ 0 _ missing _
-    (no_mask site panel (λ q. is_counted site kept done answer && is_of site q answer.point) (λ q. ap (λ b. b && is_of site q answer.point) uncounted))
+    (no_mask site panel (λ q. is_counted site kept done answer && is_of site q answer.point)
+    (λ q. ap (λ b. b && is_of site q answer.point) uncounted))
     (no_mask site panel (λ q. confirms site kept done all q answer) (λ q. no_confirm site kept done all q answer uncounted))
     (no_mask site panel (λ q. calls site kept done q answer) (λ q. ap (λ b. b && is_by_call_point site q answer.point) uncounted))
-    (no_mask site panel (λ q. releases site kept done all q answer) (λ q. no_release site kept done all q answer (rule_of (slice_get site.zones q)) uncounted))
-    (miss ∙ ap (λ (o : PointWatch). nat_le 3 o.silent) (read_is decide.points.items answer.point r w.watch e w.is_watch) ∙ sym (w.watches.silent 3 (omega arith)))
+    (no_mask site panel (λ q. releases site kept done all q answer)
+    (λ q. no_release site kept done all q answer (rule_of (slice_get site.zones q)) uncounted))
+    (miss ∙ ap (λ (o : PointWatch). nat_le 3 o.silent) (read_is decide.points.items answer.point r w.watch e w.is_watch) ∙ sym
+    (w.watches.silent 3 (omega arith)))

@@ -29,7 +29,8 @@ eq_true a b h = grind (arith, nat_tests)
 eq_false : (a b : ℕ) → a ≢ b → (a == b) ≡ false
 eq_false a b h = grind (arith, nat_tests)
 
-module _ (site : Site) (wired : IsWired site) (panel place : ℕ) (zone : Zone) (is : slice_get site.zones place ≡ Some zone) (at : zone.panel ≡ panel) (test : ℕ → Bool) (on : Bool) (tests : test place ≡ on) where
+module _ (site : Site) (wired : IsWired site) (panel place : ℕ) (zone : Zone) (is : slice_get site.zones place ≡ Some zone) (at : zone.panel ≡ panel)
+    (test : ℕ → Bool) (on : Bool) (tests : test place ≡ on) where
   own_number : numbered site panel zone.number ≡ Some place
   own_number = subst (λ n. numbered site n zone.number ≡ Some place) at (numbered_of site place zone wired is)
 
@@ -37,7 +38,8 @@ module _ (site : Site) (wired : IsWired site) (panel place : ℕ) (zone : Zone) 
   number_of other y has there = subst (λ n. numbered site n y.number ≡ Some other) there (numbered_of site other y wired has)
 
   -- a number that no zone has
-  none_has : (n number : ℕ) (also : Bool) (partner : Option ℕ) → IsSecondBit site panel test number also partner → numbered site panel n ≡ None → bit_of zone.number on number also n ≡ false
+  none_has : (n number : ℕ) (also : Bool) (partner : Option ℕ) → IsSecondBit site panel test number also partner → numbered site panel n ≡ None
+      → bit_of zone.number on number also n ≡ false
   none_has n number also partner second none =
       let apart : n ≢ zone.number = (λ e. clash n zone.number place none own_number e) in
       ap (λ b. if b then on else ((n == number) && also)) (eq_false n zone.number apart) ∙ other partner second
@@ -54,7 +56,9 @@ module _ (site : Site) (wired : IsWired site) (panel place : ℕ) (zone : Zone) 
       other (Some q) s = ap (λ b. b && also) (eq_false n number (λ e. clash n s.zone.number q none (number_of q s.zone s.is s.at) (e ∙ s.number_is)))
 
   -- the number of a zone
-  some_has : (n number : ℕ) (also : Bool) (partner : Option ℕ) → IsSecondBit site panel test number also partner → ((q : ℕ) → q ≢ place → partner ≢ Some q → test q ≡ false) → (q : ℕ) → numbered site panel n ≡ Some q → bit_of zone.number on number also n ≡ test q
+  some_has : (n number : ℕ) (also : Bool) (partner : Option ℕ) → IsSecondBit site panel test number also partner
+      → ((q : ℕ) → q ≢ place → partner ≢ Some q → test q ≡ false) → (q : ℕ) → numbered site panel n ≡ Some q
+      → bit_of zone.number on number also n ≡ test q
   some_has n number also partner second rest q found = go (eqb_tells n zone.number)
     where
       one : (a b : ℕ) → numbered site panel n ≡ Some a → numbered site panel n ≡ Some b → a ≡ b
@@ -65,7 +69,8 @@ module _ (site : Site) (wired : IsWired site) (panel place : ℕ) (zone : Zone) 
       off false e = refl
 
       same_zone : (a b : ℕ) (y z : Zone) → a ≡ b → slice_get site.zones a ≡ Some y → slice_get site.zones b ≡ Some z → y.number ≡ z.number
-      same_zone a b y z e f g = let h : slice_get site.zones b ≡ Some y = subst (λ k. slice_get site.zones k ≡ Some y) e f in let s : y ≡ z = cc (h, g) in ap (λ (x : Zone). x.number) s
+      same_zone a b y z e f g = let h : slice_get site.zones b ≡ Some y = subst (λ k. slice_get site.zones k ≡ Some y) e f in let s : y ≡ z =
+          cc (h, g) in ap (λ (x : Zone). x.number) s
 
       -- not the zone itself: its partner or another one
       beside : q ≢ place → (o : Option ℕ) → partner ≡ o → IsSecondBit site panel test number also o → ((n == number) && also) ≡ test q
@@ -74,21 +79,28 @@ module _ (site : Site) (wired : IsWired site) (panel place : ℕ) (zone : Zone) 
         | inl same ↦ (let has = of_numbered site panel n q found in
             let numbers : n ≡ number = sym has.number_is ∙ same_zone q p has.zone s.zone same.1 has.is s.is ∙ sym s.number_is in
             ap (λ b. b && also) (eq_true n number numbers) ∙ sym s.tests ∙ ap test (sym same.1))
-        | inr other ↦ ap (λ b. b && also) (eq_false n number (λ x. other.1 (one q p found (subst (λ m. numbered site panel m ≡ Some p) (sym (x ∙ s.number_is)) (number_of p s.zone s.is s.at)))))
+        | inr other ↦
+            ap (λ b. b && also)
+            (eq_false n number
+            (λ x. other.1 (one q p found (subst (λ m. numbered site panel m ≡ Some p) (sym (x ∙ s.number_is)) (number_of p s.zone s.is s.at)))))
             ∙ sym (rest q apart (λ x. other.1 (let y : Some p ≡ Some q = sym e ∙ x in cc)))
       ]
 
-      go : ((n == zone.number) ≡ true) × (n ≡ zone.number) ⊎ (((n == zone.number) ≡ false) × (n ≢ zone.number)) → bit_of zone.number on number also n ≡ test q
+      go : ((n == zone.number) ≡ true) × (n ≡ zone.number) ⊎ (((n == zone.number) ≡ false) × (n ≢ zone.number))
+          → bit_of zone.number on number also n ≡ test q
       go (inl same) =
           ap (λ b. if b then on else ((n == number) && also)) same.0 ∙ sym tests
           ∙ ap test (one place q (subst (λ m. numbered site panel m ≡ Some place) (sym same.1) own_number) found)
       go (inr other) =
           ap (λ b. if b then on else ((n == number) && also)) other.0
-          ∙ beside (λ e. other.1 (let has = of_numbered site panel n q found in sym has.number_is ∙ same_zone q place has.zone zone e has.is is)) partner refl second
+          ∙ beside (λ e. other.1 (let has = of_numbered site panel n q found in sym has.number_is ∙ same_zone q place has.zone zone e has.is is))
+          partner refl second
 
-  pub mask_is : (number : ℕ) (also : Bool) (partner : Option ℕ) (mask : ℕ) → mask < 2 ^ 32 → IsSecondBit site panel test number also partner → ((q : ℕ) → q ≢ place → partner ≢ Some q → test q ≡ false)
+  pub mask_is : (number : ℕ) (also : Bool) (partner : Option ℕ) (mask : ℕ) → mask < 2 ^ 32 → IsSecondBit site panel test number also partner
+      → ((q : ℕ) → q ≢ place → partner ≢ Some q → test q ≡ false)
       → ((k : ℕ) → k < 32 → has_bit mask k ≡ bit_of zone.number on number also (k + 1)) → mask ≡ zones_where site panel test
-  mask_is number also partner mask below second rest bits = zones_from_bits site panel test mask below (λ k small. bits k small ∙ go (k + 1) (numbered site panel (k + 1)) refl)
+  mask_is number also partner mask below second rest bits =
+      zones_from_bits site panel test mask below (λ k small. bits k small ∙ go (k + 1) (numbered site panel (k + 1)) refl)
     where
       go : (n : ℕ) (o : Option ℕ) → numbered site panel n ≡ o → bit_of zone.number on number also n ≡ on_zone test (numbered site panel n)
       go n None e = none_has n number also partner second e ∙ ap (on_zone test) (sym e)

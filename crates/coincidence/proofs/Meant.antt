@@ -32,8 +32,10 @@ eq_false : (a b : ℕ) → a ≢ b → (a == b) ≡ false
 eq_false a b h = grind (arith, nat_tests)
 
 -- a point of a site, its zone, and what is seen of an answer of it among all answers
-module _ (site : Site) (kept : Retained) (done : List Done) (all : List Answer) (answer : Answer) (point : PointPlan) (zone : ZonePlan) (sight : Sight) (wired : IsWired site)
-    (is_point : slice_get site.points answer.point ≡ Some point) (is_zone : slice_get site.zones point.zone ≡ Some zone) (order : AreInOrder all) (late : AreUpTo answer.stamp.0 all) (sees : Sees site kept done all answer point zone sight) where
+module _ (site : Site) (kept : Retained) (done : List Done) (all : List Answer) (answer : Answer) (point : PointPlan) (zone : ZonePlan) (sight :
+    Sight) (wired : IsWired site)
+    (is_point : slice_get site.points answer.point ≡ Some point) (is_zone : slice_get site.zones point.zone ≡ Some zone) (order : AreInOrder all)
+    (late : AreUpTo answer.stamp.0 all) (sees : Sees site kept done all answer point zone sight) where
   abbrev place : ℕ
   place = point.zone
 
@@ -72,7 +74,8 @@ module _ (site : Site) (kept : Retained) (done : List Done) (all : List Answer) 
   -- a pair for its own zone: with another point of it, or one of the partner
   pairs_own : (second : ℕ → Bool) → pairs_up site place answer.point second ≡ (second place || on_zone second zone.partner)
   pairs_own second =
-      own (is_of site place answer.point) (second place) (on_partner site place second) (on_zone second zone.partner) (on_partner site place (λ z. is_of site z answer.point)) of_own (on_own_partner second)
+      own (is_of site place answer.point) (second place) (on_partner site place second) (on_zone second zone.partner)
+      (on_partner site place (λ z. is_of site z answer.point)) of_own (on_own_partner second)
       (on_own_partner (λ z. is_of site z answer.point) ∙ of_partner_none zone.partner refl)
     where
       own : (o s p q r : Bool) → o ≡ true → p ≡ q → r ≡ false → ((o && (s || p)) || (r && s)) ≡ (s || q)
@@ -95,13 +98,15 @@ module _ (site : Site) (kept : Retained) (done : List Done) (all : List Answer) 
   -- a pair for the partner: with a point of the partner
   pairs_partner : (other : ℕ) → zone.partner ≡ Some other → (second : ℕ → Bool) → pairs_up site other answer.point second ≡ second other
   pairs_partner other e second =
-      theirs (is_of site other answer.point) (second other) (on_partner site other second) (on_partner site other (λ z. is_of site z answer.point)) (of_other other (partner_apart other e)) back
+      theirs (is_of site other answer.point) (second other) (on_partner site other second) (on_partner site other (λ z. is_of site z answer.point))
+      (of_other other (partner_apart other e)) back
     where
       has : HasPartner site place zone other
       has = wired.partners place other zone is_zone e
 
       back : on_partner site other (λ z. is_of site z answer.point) ≡ true
-      back = ap (λ o. on_zone (λ z. is_of site z answer.point) (partner_of o)) has.is ∙ ap (on_zone (λ z. is_of site z answer.point)) has.back ∙ of_own
+      back = ap (λ o. on_zone (λ z. is_of site z answer.point) (partner_of o)) has.is ∙ ap (on_zone (λ z. is_of site z answer.point)) has.back ∙
+          of_own
 
       theirs : (o s p r : Bool) → o ≡ false → r ≡ true → ((o && (s || p)) || (r && s)) ≡ s
       theirs false s p true a b = refl
@@ -110,7 +115,9 @@ module _ (site : Site) (kept : Retained) (done : List Done) (all : List Answer) 
 
   -- no pair for another zone
   pairs_none : (z : ℕ) → z ≢ place → zone.partner ≢ Some z → (second : ℕ → Bool) → pairs_up site z answer.point second ≡ false
-  pairs_none z apart no_partner second = none (is_of site z answer.point) (second z) (on_partner site z second) (on_partner site z (λ y. is_of site y answer.point)) (of_other z apart) (go (slice_get site.zones z) refl)
+  pairs_none z apart no_partner second =
+      none (is_of site z answer.point) (second z) (on_partner site z second) (on_partner site z (λ y. is_of site y answer.point)) (of_other z apart)
+      (go (slice_get site.zones z) refl)
     where
       none : (o s p r : Bool) → o ≡ false → r ≡ false → ((o && (s || p)) || (r && s)) ≡ false
       none false s p false a b = refl
@@ -120,7 +127,8 @@ module _ (site : Site) (kept : Retained) (done : List Done) (all : List Answer) 
       same_zone : (y w : ZonePlan) → Some y ≡ Some w → y ≡ w
       same_zone y w e = cc
 
-      of_partner : (q : ℕ) (y : ZonePlan) → slice_get site.zones z ≡ Some y → y.partner ≡ Some q → (b : Bool) → is_of site q answer.point ≡ b → b ≡ false
+      of_partner : (q : ℕ) (y : ZonePlan) → slice_get site.zones z ≡ Some y → y.partner ≡ Some q → (b : Bool) → is_of site q answer.point ≡ b
+          → b ≡ false
       of_partner q y is e false h = refl
       of_partner q y is e true h =
           let own : place ≡ q = eqb-true place q (sym (of_is q) ∙ h) in
@@ -128,7 +136,8 @@ module _ (site : Site) (kept : Retained) (done : List Done) (all : List Answer) 
           let same : has.partner ≡ zone = same_zone has.partner zone (sym has.is ∙ ap (slice_get site.zones) (sym own) ∙ is_zone) in
           absurd (no_partner (ap (λ (w : ZonePlan). w.partner) (sym same) ∙ has.back))
 
-      by_partner : (o : Option ℕ) (y : ZonePlan) → slice_get site.zones z ≡ Some y → y.partner ≡ o → on_zone (λ w. is_of site w answer.point) o ≡ false
+      by_partner : (o : Option ℕ) (y : ZonePlan) → slice_get site.zones z ≡ Some y → y.partner ≡ o
+          → on_zone (λ w. is_of site w answer.point) o ≡ false
       by_partner None y is e = refl
       by_partner (Some q) y is e = of_partner q y is e (is_of site q answer.point) refl
 
@@ -140,7 +149,8 @@ module _ (site : Site) (kept : Retained) (done : List Done) (all : List Answer) 
   near_is : (rule : Rule) → zone.rule ≡ rule → sight.near ≡ second_of site kept done all place rule answer
   near_is rule e = sees.near ∙ ap (λ r. second_of site kept done all place r answer) e
 
-  far_is : (other : ℕ) → zone.partner ≡ Some other → (y : ZonePlan) → slice_get site.zones other ≡ Some y → sight.far ≡ second_of site kept done all other y.rule answer
+  far_is : (other : ℕ) → zone.partner ≡ Some other → (y : ZonePlan) → slice_get site.zones other ≡ Some y
+      → sight.far ≡ second_of site kept done all other y.rule answer
   far_is other e y is = sees.far ∙ ap (λ o. far_of site kept done all o answer) e ∙ ap (λ o. second_by site kept done all other o answer) is
 
   no_far : zone.partner ≡ None → sight.far ≡ None
@@ -158,7 +168,8 @@ module _ (site : Site) (kept : Retained) (done : List Done) (all : List Answer) 
   partner_C (B w) h = cc
   partner_C C h = refl
 
-  far_B : (within : ℕ) → zone.rule ≡ B within → (limit : ℕ) (o : Option ℕ) → zone.partner ≡ o → is_within limit sight.stamp.0 sight.far ≡ on_zone (λ z. list_any (is_uncancelled site kept done limit z answer) all) o
+  far_B : (within : ℕ) → zone.rule ≡ B within → (limit : ℕ) (o : Option ℕ) → zone.partner ≡ o
+      → is_within limit sight.stamp.0 sight.far ≡ on_zone (λ z. list_any (is_uncancelled site kept done limit z answer) all) o
   far_B within rule limit None e = ap (is_within limit sight.stamp.0) (no_far e)
   far_B within rule limit (Some other) e =
       let has = wired.partners place other zone is_zone e in
@@ -172,18 +183,26 @@ module _ (site : Site) (kept : Retained) (done : List Done) (all : List Answer) 
   far_C rule (Some other) e =
       let has = wired.partners place other zone is_zone e in
       let type = partner_C has.partner.rule (subst (λ r. is_partner_type r has.partner.rule ≡ true) rule has.type) in
-      ap is_some (far_is other e has.partner has.is ∙ ap (λ r. second_of site kept done all other r answer) type) ∙ any_by_second site kept done all other answer order late
+      ap is_some (far_is other e has.partner has.is ∙ ap (λ r. second_of site kept done all other r answer) type) ∙ any_by_second site kept done all
+      other answer order late
 
   coincides_is : (rule : Rule) → zone.rule ≡ rule → own_coincides rule sight ≡ coincides site kept done all place (Some rule) answer
   coincides_is Plain e = sym of_own
   coincides_is C e = sym of_own
   coincides_is (A verify within) e =
-      ap (λ b. is_long verify sight.floor.0 sight.stamp.0 sight.run || b) (ap (is_within within sight.stamp.0) (near_is (A verify within) e) ∙ ap (λ t. is_within within t (second_of site kept done all place (A verify within) answer)) stamp_is ∙ near_by_second site kept done all verify within place answer order late)
+      ap (λ b. is_long verify sight.floor.0 sight.stamp.0 sight.run || b)
+      (ap (is_within within sight.stamp.0) (near_is (A verify within) e) ∙ ap
+      (λ t. is_within within t (second_of site kept done all place (A verify within) answer)) stamp_is ∙ near_by_second site kept done all verify
+      within place answer order late)
       ∙ ap (λ b. b || list_any (is_near site kept done within place answer) all)
-      (ap (λ f. is_long verify f sight.stamp.0 sight.run) sees.floor ∙ ap (λ t. is_long verify (floor_before site place x done) t sight.run) stamp_is ∙ ap (is_long verify (floor_before site place x done) x) sees.run ∙ sym (verified_by_run site kept done verify place answer all order late))
+      (ap (λ f. is_long verify f sight.stamp.0 sight.run) sees.floor ∙ ap (λ t. is_long verify (floor_before site place x done) t sight.run) stamp_is
+      ∙ ap (is_long verify (floor_before site place x done) x) sees.run ∙ sym (verified_by_run site kept done verify place answer all order late))
       ∙ ap (λ b. b && (is_verified site kept done all verify place answer || list_any (is_near site kept done within place answer) all)) (sym of_own)
   coincides_is (B within) e =
-      ap (λ b. b || is_within within sight.stamp.0 sight.far) (ap (is_within within sight.stamp.0) (near_is (B within) e) ∙ ap (λ t. is_within within t (second_of site kept done all place (B within) answer)) stamp_is ∙ uncancelled_by_second site kept done all within within place answer order late)
+      ap (λ b. b || is_within within sight.stamp.0 sight.far)
+      (ap (is_within within sight.stamp.0) (near_is (B within) e) ∙ ap
+      (λ t. is_within within t (second_of site kept done all place (B within) answer)) stamp_is ∙ uncancelled_by_second site kept done all within
+      within place answer order late)
       ∙ ap (λ b. list_any (is_uncancelled site kept done within place answer) all || b) (far_B within e within zone.partner refl)
       ∙ sym (pairs_own (λ z. list_any (is_uncancelled site kept done within z answer) all))
 
@@ -201,9 +220,15 @@ module _ (site : Site) (kept : Retained) (done : List Done) (all : List Answer) 
   own_confirmed_is =
       ap (λ b. b && (sight.manual || own_coincides zone.rule sight)) sees.counted
       ∙ ap (λ b. is_counted site kept done answer && (sight.manual || b)) (coincides_is zone.rule refl)
-      ∙ ap (λ b. is_counted site kept done answer && b) (hand_or (is_of site place answer.point) (is_detector site answer.point) sight.manual (coincides site kept done all place (Some zone.rule) answer) of_own detector_is)
-      ∙ ap (λ m. is_counted site kept done answer && ((is_of site place answer.point && m) || (is_detector site answer.point && coincides site kept done all place (Some zone.rule) answer))) (sym by_hand)
-      ∙ ap (λ r. is_counted site kept done answer && (is_by_call_point site place answer.point || (is_detector site answer.point && coincides site kept done all place r answer))) (sym rule_is)
+      ∙ ap (λ b. is_counted site kept done answer && b)
+      (hand_or (is_of site place answer.point) (is_detector site answer.point) sight.manual
+      (coincides site kept done all place (Some zone.rule) answer) of_own detector_is)
+      ∙ ap (λ m. is_counted site kept done answer
+      && ((is_of site place answer.point && m) || (is_detector site answer.point && coincides site kept done all place (Some zone.rule) answer)))
+      (sym by_hand)
+      ∙ ap (λ r. is_counted site kept done answer
+      && (is_by_call_point site place answer.point || (is_detector site answer.point && coincides site kept done all place r answer)))
+      (sym rule_is)
 
   own_released_by : (rule : Rule) → zone.rule ≡ rule → own_released rule sight ≡ releases_by site kept done all place (Some rule) answer
   own_released_by Plain e = ap (λ r. own_confirmed r sight) (sym e) ∙ own_confirmed_is
@@ -211,12 +236,18 @@ module _ (site : Site) (kept : Retained) (done : List Done) (all : List Answer) 
   own_released_by (B within) e = ap (λ r. own_confirmed r sight) (sym e) ∙ own_confirmed_is
   own_released_by C e =
       ap (λ b. b && (sight.manual || (is_some sight.near || is_some sight.far))) sees.counted
-      ∙ ap (λ b. is_counted site kept done answer && (sight.manual || (b || is_some sight.far))) (ap is_some (near_is C e) ∙ any_by_second site kept done all place answer order late)
-      ∙ ap (λ b. is_counted site kept done answer && (sight.manual || (list_any (is_second site kept done place answer) all || b))) (far_C e zone.partner refl)
+      ∙ ap (λ b. is_counted site kept done answer && (sight.manual || (b || is_some sight.far)))
+      (ap is_some (near_is C e) ∙ any_by_second site kept done all place answer order late)
+      ∙ ap (λ b. is_counted site kept done answer && (sight.manual || (list_any (is_second site kept done place answer) all || b)))
+      (far_C e zone.partner refl)
       ∙ ap (λ b. is_counted site kept done answer && (sight.manual || b)) (sym (pairs_own (λ z. list_any (is_second site kept done z answer) all)))
-      ∙ ap (λ m. is_counted site kept done answer && (m || pairs_up site place answer.point (λ z. list_any (is_second site kept done z answer) all))) (sym by_hand)
-      ∙ ap (λ o. is_counted site kept done answer && ((o && is_manual site answer.point) || pairs_up site place answer.point (λ z. list_any (is_second site kept done z answer) all))) (sym of_own)
-      ∙ spread (is_counted site kept done answer) (is_by_call_point site place answer.point) (pairs_up site place answer.point (λ z. list_any (is_second site kept done z answer) all))
+      ∙ ap (λ m. is_counted site kept done answer && (m || pairs_up site place answer.point (λ z. list_any (is_second site kept done z answer) all)))
+      (sym by_hand)
+      ∙ ap (λ o. is_counted site kept done answer
+      && ((o && is_manual site answer.point) || pairs_up site place answer.point (λ z. list_any (is_second site kept done z answer) all)))
+      (sym of_own)
+      ∙ spread (is_counted site kept done answer) (is_by_call_point site place answer.point)
+      (pairs_up site place answer.point (λ z. list_any (is_second site kept done z answer) all))
     where
       spread : (c h p : Bool) → (c && (h || p)) ≡ ((c && h) || (c && p))
       spread true h p = refl
@@ -233,8 +264,11 @@ module _ (site : Site) (kept : Retained) (done : List Done) (all : List Answer) 
   counted_none : (c o d e h : Bool) → o ≡ false → e ≡ false → (c && ((o && h) || (d && e))) ≡ false
   counted_none c o d e h a b = grind arith
 
-  partner_confirmed_by : (other : ℕ) → zone.partner ≡ Some other → (y : ZonePlan) → slice_get site.zones other ≡ Some y → (rule : Rule) → y.rule ≡ rule → is_partner_type zone.rule rule ≡ true
-      → partner_confirmed rule sight ≡ (is_counted site kept done answer && (is_by_call_point site other answer.point || (is_detector site answer.point && coincides site kept done all other (Some rule) answer)))
+  partner_confirmed_by : (other : ℕ) → zone.partner ≡ Some other → (y : ZonePlan) → slice_get site.zones other ≡ Some y → (rule : Rule)
+      → y.rule ≡ rule → is_partner_type zone.rule rule ≡ true
+      → partner_confirmed rule sight
+      ≡ (is_counted site kept done answer
+      && (is_by_call_point site other answer.point || (is_detector site answer.point && coincides site kept done all other (Some rule) answer)))
   partner_confirmed_by other e y is Plain r t = absurd (none zone.rule t)
     where
       none : (own : Rule) → is_partner_type own Plain ≡ true → ⊥
@@ -250,49 +284,69 @@ module _ (site : Site) (kept : Retained) (done : List Done) (all : List Answer) 
       none (B w) h = cc
       none C h = cc
   partner_confirmed_by other e y is C r t =
-      sym (counted_none (is_counted site kept done answer) (is_of site other answer.point) (is_detector site answer.point) (is_of site other answer.point) (is_manual site answer.point) (of_other other (partner_apart other e)) (of_other other (partner_apart other e)))
+      sym (counted_none (is_counted site kept done answer) (is_of site other answer.point) (is_detector site answer.point)
+      (is_of site other answer.point) (is_manual site answer.point) (of_other other (partner_apart other e))
+      (of_other other (partner_apart other e)))
   partner_confirmed_by other e y is (B within) r t =
       ap (λ b. b && (not sight.manual && is_within within sight.stamp.0 sight.far)) sees.counted
       ∙ ap (λ b. is_counted site kept done answer && (not sight.manual && b))
-      (ap (is_within within sight.stamp.0) (far_is other e y is ∙ ap (λ q. second_of site kept done all other q answer) r) ∙ ap (λ s. is_within within s (second_of site kept done all other (B within) answer)) stamp_is
-      ∙ uncancelled_by_second site kept done all within within other answer order late ∙ sym (pairs_partner other e (λ z. list_any (is_uncancelled site kept done within z answer) all)))
-      ∙ ap (λ b. is_counted site kept done answer && b) (partner_hand (is_of site other answer.point) (is_detector site answer.point) sight.manual (coincides site kept done all other (Some (B within)) answer) (of_other other (partner_apart other e)) detector_is)
-      ∙ ap (λ m. is_counted site kept done answer && ((is_of site other answer.point && m) || (is_detector site answer.point && coincides site kept done all other (Some (B within)) answer))) (sym by_hand)
+      (ap (is_within within sight.stamp.0) (far_is other e y is ∙ ap (λ q. second_of site kept done all other q answer) r) ∙ ap
+      (λ s. is_within within s (second_of site kept done all other (B within) answer)) stamp_is
+      ∙ uncancelled_by_second site kept done all within within other answer order late ∙ sym
+      (pairs_partner other e (λ z. list_any (is_uncancelled site kept done within z answer) all)))
+      ∙ ap (λ b. is_counted site kept done answer && b) (partner_hand (is_of site other answer.point) (is_detector site answer.point) sight.manual
+      (coincides site kept done all other (Some (B within)) answer) (of_other other (partner_apart other e)) detector_is)
+      ∙ ap (λ m. is_counted site kept done answer
+      && ((is_of site other answer.point && m) || (is_detector site answer.point && coincides site kept done all other (Some (B within)) answer)))
+      (sym by_hand)
 
-  pub partner_confirmed_is : (other : ℕ) → zone.partner ≡ Some other → (y : ZonePlan) → slice_get site.zones other ≡ Some y → is_partner_type zone.rule y.rule ≡ true → partner_confirmed y.rule sight ≡ confirms site kept done all other answer
+  pub partner_confirmed_is : (other : ℕ) → zone.partner ≡ Some other → (y : ZonePlan) → slice_get site.zones other ≡ Some y
+      → is_partner_type zone.rule y.rule ≡ true → partner_confirmed y.rule sight ≡ confirms site kept done all other answer
   partner_confirmed_is other e y is t =
       partner_confirmed_by other e y is y.rule refl t
-      ∙ ap (λ r. is_counted site kept done answer && (is_by_call_point site other answer.point || (is_detector site answer.point && coincides site kept done all other r answer))) (sym (ap rule_of is))
+      ∙ ap (λ r. is_counted site kept done answer
+      && (is_by_call_point site other answer.point || (is_detector site answer.point && coincides site kept done all other r answer)))
+      (sym (ap rule_of is))
 
-  partner_released_by : (other : ℕ) → zone.partner ≡ Some other → (y : ZonePlan) → slice_get site.zones other ≡ Some y → is_partner_type zone.rule y.rule ≡ true → (rule : Rule) → y.rule ≡ rule
+  partner_released_by : (other : ℕ) → zone.partner ≡ Some other → (y : ZonePlan) → slice_get site.zones other ≡ Some y
+      → is_partner_type zone.rule y.rule ≡ true → (rule : Rule) → y.rule ≡ rule
       → partner_released rule sight ≡ releases_by site kept done all other (Some rule) answer
   partner_released_by other e y is t Plain r = ap (λ q. partner_confirmed q sight) (sym r) ∙ partner_confirmed_is other e y is t
   partner_released_by other e y is t (A verify within) r = ap (λ q. partner_confirmed q sight) (sym r) ∙ partner_confirmed_is other e y is t
   partner_released_by other e y is t (B within) r = ap (λ q. partner_confirmed q sight) (sym r) ∙ partner_confirmed_is other e y is t
   partner_released_by other e y is t C r =
       ap (λ b. b && is_some sight.far) sees.counted
-      ∙ ap (λ b. is_counted site kept done answer && b) (ap is_some (far_is other e y is ∙ ap (λ q. second_of site kept done all other q answer) r) ∙ any_by_second site kept done all other answer order late ∙ sym (pairs_partner other e (λ z. list_any (is_second site kept done z answer) all)))
-      ∙ sym (only (is_counted site kept done answer) (is_of site other answer.point) (is_manual site answer.point) (has_second site kept done all other answer) (of_other other (partner_apart other e)))
+      ∙ ap (λ b. is_counted site kept done answer && b) (ap is_some (far_is other e y is ∙ ap (λ q. second_of site kept done all other q answer) r) ∙
+      any_by_second site kept done all other answer order late ∙ sym
+      (pairs_partner other e (λ z. list_any (is_second site kept done z answer) all)))
+      ∙ sym (only (is_counted site kept done answer) (is_of site other answer.point) (is_manual site answer.point)
+      (has_second site kept done all other answer) (of_other other (partner_apart other e)))
     where
       only : (c o m h : Bool) → o ≡ false → ((c && (o && m)) || h) ≡ h
       only true false m h a = refl
       only false o m h a = refl
       only true true m h a = cc
 
-  pub partner_released_is : (other : ℕ) → zone.partner ≡ Some other → (y : ZonePlan) → slice_get site.zones other ≡ Some y → is_partner_type zone.rule y.rule ≡ true → partner_released y.rule sight ≡ releases site kept done all other answer
-  partner_released_is other e y is t = partner_released_by other e y is t y.rule refl ∙ ap (λ r. releases_by site kept done all other r answer) (sym (ap rule_of is))
+  pub partner_released_is : (other : ℕ) → zone.partner ≡ Some other → (y : ZonePlan) → slice_get site.zones other ≡ Some y
+      → is_partner_type zone.rule y.rule ≡ true → partner_released y.rule sight ≡ releases site kept done all other answer
+  partner_released_is other e y is t =
+      partner_released_by other e y is t y.rule refl ∙ ap (λ r. releases_by site kept done all other r answer) (sym (ap rule_of is))
 
   -- it means nothing for other zones
   none_coincides : (z : ℕ) → z ≢ place → zone.partner ≢ Some z → (rule : Option Rule) → coincides site kept done all z rule answer ≡ false
   none_coincides z apart no_partner None = refl
   none_coincides z apart no_partner (Some Plain) = of_other z apart
-  none_coincides z apart no_partner (Some (A verify within)) = ap (λ b. b && (is_verified site kept done all verify z answer || list_any (is_near site kept done within z answer) all)) (of_other z apart)
-  none_coincides z apart no_partner (Some (B within)) = pairs_none z apart no_partner (λ y. list_any (is_uncancelled site kept done within y answer) all)
+  none_coincides z apart no_partner (Some (A verify within)) =
+      ap (λ b. b && (is_verified site kept done all verify z answer || list_any (is_near site kept done within z answer) all)) (of_other z apart)
+  none_coincides z apart no_partner (Some (B within)) =
+      pairs_none z apart no_partner (λ y. list_any (is_uncancelled site kept done within y answer) all)
   none_coincides z apart no_partner (Some C) = of_other z apart
 
   pub none_confirmed : (z : ℕ) → z ≢ place → zone.partner ≢ Some z → confirms site kept done all z answer ≡ false
   none_confirmed z apart no_partner =
-      counted_none (is_counted site kept done answer) (is_of site z answer.point) (is_detector site answer.point) (coincides site kept done all z (rule_of (slice_get site.zones z)) answer) (is_manual site answer.point) (of_other z apart) (none_coincides z apart no_partner (rule_of (slice_get site.zones z)))
+      counted_none (is_counted site kept done answer) (is_of site z answer.point) (is_detector site answer.point)
+      (coincides site kept done all z (rule_of (slice_get site.zones z)) answer) (is_manual site answer.point) (of_other z apart)
+      (none_coincides z apart no_partner (rule_of (slice_get site.zones z)))
 
   and_off : (a : Bool) {b : Bool} → b ≡ false → (a && b) ≡ false
   and_off true e = e

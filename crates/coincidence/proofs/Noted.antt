@@ -1,5 +1,7 @@
 -- What is kept after one more answer stands for one more answer.
-use Rattle.std.proofs.Common.{◌≡◌, ◌≢◌, ◌⊎◌, inl, inr, ⊎_elim, ℕ, zero, suc, ◌+◌, ◌≤◌, Bool, true, false, not, List, [], ◌∷◌, ◌++◌, set, length-set, reverse, filter, Option, Some, None, slice_get, get_or, ◌==◌, ◌&&◌, ◌||◌, nat_lt, nat_le, if◌then◌else◌, refl, sym, ◌∙◌, ap, subst, arith}
+use Rattle.std.proofs.Common.{◌≡◌, ◌≢◌, ◌⊎◌, inl, inr, ⊎_elim, ℕ, zero, suc, ◌+◌, ◌≤◌, Bool, true, false, not, List}
+use Rattle.std.proofs.Common.{[], ◌∷◌, ◌++◌, set, length-set, reverse, filter, Option, Some, None, slice_get, get_or}
+use Rattle.std.proofs.Common.{◌==◌, ◌&&◌, ◌||◌, nat_lt, nat_le, if◌then◌else◌, refl, sym, ◌∙◌, ap, subst, arith}
 use Rattle.std.proofs.lemmas.Bool.Decides.{nat_tests, eqb_tells}
 use Rattle.std.proofs.lemmas.List.{reverse-append, set-get_or}
 use Rattle.std.proofs.lemmas.Option.{get_or_from_slice_get}
@@ -30,7 +32,8 @@ use Rattle.coincidence.specs.Premises.{IsOwn, MayTake}
 use Rattle.coincidence.proofs.Watched.{read_is, Watched, watched, zone_read, over_read}
 
 -- what stands at a place after a write
-pub get_set : {X : Type 0} (xs : List X) (i k : ℕ) (v w : X) → slice_get (set xs i v) k ≡ Some w → ((k ≡ i) × (v ≡ w)) ⊎ ((k ≢ i) × (slice_get xs k ≡ Some w))
+pub get_set : {X : Type 0} (xs : List X) (i k : ℕ) (v w : X) → slice_get (set xs i v) k ≡ Some w
+    → ((k ≡ i) × (v ≡ w)) ⊎ ((k ≢ i) × (slice_get xs k ≡ Some w))
 get_set [] i k v w h = absurd (cc)
 get_set (x ∷ xs) zero zero v w h = inl (refl, cc)
 get_set (x ∷ xs) zero (suc k) v w h = inr (omega arith, h)
@@ -41,17 +44,24 @@ get_set (x ∷ xs) (suc i) (suc k) v w h = ⊎_elim (λ a. inl (ap suc a.0, a.1)
     pred_same e = omega (arith, e)
 
 -- one more answer: the newest first, the run, the latest of another point
-latest_more : (point : ℕ) (xs : List Answer) (x : Answer) → latest_of point (xs ++ x ∷ []) ≡ (if x.point == point then x ∷ latest_of point xs else latest_of point xs)
-latest_more point xs x = ap reverse (filter-append (λ a. a.point == point) xs (x ∷ [])) ∙ reverse-append (filter (λ a. a.point == point) xs) (filter (λ a. a.point == point) (x ∷ [])) ∙ go (x.point == point)
+latest_more : (point : ℕ) (xs : List Answer) (x : Answer)
+    → latest_of point (xs ++ x ∷ []) ≡ (if x.point == point then x ∷ latest_of point xs else latest_of point xs)
+latest_more point xs x =
+    ap reverse (filter-append (λ a. a.point == point) xs (x ∷ [])) ∙ reverse-append (filter (λ a. a.point == point) xs)
+    (filter (λ a. a.point == point) (x ∷ [])) ∙ go (x.point == point)
   where
-    go : (b : Bool) → reverse (if b then x ∷ [] else []) ++ reverse (filter (λ a. a.point == point) xs) ≡ (if b then x ∷ latest_of point xs else latest_of point xs)
+    go : (b : Bool) → reverse (if b then x ∷ [] else []) ++ reverse (filter (λ a. a.point == point) xs)
+        ≡ (if b then x ∷ latest_of point xs else latest_of point xs)
     go true = refl
     go false = refl
 
 run_more : (counted : Answer → Bool) (floor : ℕ → ℕ) (point : ℕ) (first : Option Tick) (xs : List Answer) (x : Answer)
-    → run_of counted floor point first (xs ++ x ∷ []) ≡ (if x.point == point then run_then (counted x) (floor x.stamp.0) x.stamp (run_of counted floor point first xs) else run_of counted floor point first xs)
+    → run_of counted floor point first (xs ++ x ∷ [])
+    ≡ (if x.point == point then run_then (counted x) (floor x.stamp.0) x.stamp (run_of counted floor point first xs) else run_of counted floor
+    point first xs)
 run_more counted floor point first [] x = refl
-run_more counted floor point first (y ∷ xs) x = run_more counted floor point (if y.point == point then run_then (counted y) (floor y.stamp.0) y.stamp first else first) xs x
+run_more counted floor point first (y ∷ xs) x =
+    run_more counted floor point (if y.point == point then run_then (counted y) (floor y.stamp.0) y.stamp first else first) xs x
 
 besides_more : (test : Answer → Bool) (point : ℕ) (stamp : Option Tick) (xs : List Answer) (x : Answer)
     → latest_besides test point stamp (xs ++ x ∷ []) ≡ (if test x && not (x.point == point) then Some x.stamp else latest_besides test point stamp xs)
@@ -61,7 +71,8 @@ besides_more test point stamp (y ∷ xs) x = besides_more test point (if test y 
 besides-noted : (q p : ℕ) (stamp : Tick) (recent : Recent) → besides q (noted p stamp recent) ≡ (if p == q then besides q recent else Some stamp)
 besides-noted q p stamp recent = go recent.latest (eqb_tells p q)
   where
-    shown : (seen : Sighting) (b : Bool) → p ≡ q → stamp_of (if b then recent.other else Some seen) ≡ (if b then stamp_of recent.other else Some seen.stamp)
+    shown : (seen : Sighting) (b : Bool) → p ≡ q
+        → stamp_of (if b then recent.other else Some seen) ≡ (if b then stamp_of recent.other else Some seen.stamp)
     shown seen true e = refl
     shown seen false e = refl
 
@@ -70,9 +81,14 @@ besides-noted q p stamp recent = go recent.latest (eqb_tells p q)
     same (Some seen) e = shown seen (seen.point == p) e ∙ ap (λ n. if seen.point == n then stamp_of recent.other else Some seen.stamp) e
 
     go : (latest : Option Sighting) → ((p == q) ≡ true) × (p ≡ q) ⊎ (((p == q) ≡ false) × (p ≢ q))
-        → (if p == q then stamp_of (other_after p latest recent.other) else Some stamp) ≡ (if p == q then besides_by q latest recent.other else Some stamp)
-    go latest (inl at) = ap (λ b. if b then stamp_of (other_after p latest recent.other) else Some stamp) at.0 ∙ same latest at.1 ∙ sym (ap (λ b. if b then besides_by q latest recent.other else Some stamp) at.0)
-    go latest (inr at) = ap (λ b. if b then stamp_of (other_after p latest recent.other) else Some stamp) at.0 ∙ sym (ap (λ b. if b then besides_by q latest recent.other else Some stamp) at.0)
+        → (if p == q then stamp_of (other_after p latest recent.other) else Some stamp)
+        ≡ (if p == q then besides_by q latest recent.other else Some stamp)
+    go latest (inl at) =
+        ap (λ b. if b then stamp_of (other_after p latest recent.other) else Some stamp) at.0 ∙ same latest at.1 ∙ sym
+        (ap (λ b. if b then besides_by q latest recent.other else Some stamp) at.0)
+    go latest (inr at) =
+        ap (λ b. if b then stamp_of (other_after p latest recent.other) else Some stamp) at.0 ∙ sym
+        (ap (λ b. if b then besides_by q latest recent.other else Some stamp) at.0)
 
 eq_true : (a b : ℕ) → a ≡ b → (a == b) ≡ true
 eq_true a b h = grind (arith, nat_tests)
@@ -90,13 +106,16 @@ not_le n = grind (arith, nat_tests)
 zero_le : (n : ℕ) → true ≡ nat_le 0 n
 zero_le n = grind (arith, nat_tests)
 
-silent_more : (heard : Heard) (x : Answer) (latest : List Answer) (silent : ℕ) → x.heard ≡ heard → silent ≤ 3 → ((n : ℕ) → n ≤ 3 → begins_silent n latest ≡ nat_le n silent) → (n : ℕ) → n ≤ 3 → begins_silent n (x ∷ latest) ≡ nat_le n (silent_then heard silent)
+silent_more : (heard : Heard) (x : Answer) (latest : List Answer) (silent : ℕ) → x.heard ≡ heard → silent ≤ 3
+    → ((n : ℕ) → n ≤ 3 → begins_silent n latest ≡ nat_le n silent) → (n : ℕ) → n ≤ 3
+    → begins_silent n (x ∷ latest) ≡ nat_le n (silent_then heard silent)
 silent_more Quiet x latest silent e few h zero le = refl
 silent_more Quiet x latest silent e few h (suc n) le = ap (λ b. is_silent b && begins_silent n latest) e ∙ sym (not_le n)
 silent_more Alarm x latest silent e few h zero le = refl
 silent_more Alarm x latest silent e few h (suc n) le = ap (λ b. is_silent b && begins_silent n latest) e ∙ sym (not_le n)
 silent_more Silent x latest silent e few h zero le = zero_le (silent_then Silent silent)
-silent_more Silent x latest silent e few h (suc n) le = ap (λ b. is_silent b && begins_silent n latest) e ∙ h n (omega (arith, le)) ∙ next (nat_lt silent 3) refl
+silent_more Silent x latest silent e few h (suc n) le =
+    ap (λ b. is_silent b && begins_silent n latest) e ∙ h n (omega (arith, le)) ∙ next (nat_lt silent 3) refl
   where
     next : (b : Bool) → nat_lt silent 3 ≡ b → nat_le n silent ≡ nat_le (suc n) (if b then silent + 1 else silent)
     next true t = grind (arith, nat_tests, t)
@@ -113,11 +132,14 @@ silent_few Silent silent few = next (nat_lt silent 3) refl
 
 module _ {site : Site} {kept : Retained} {done : List Done} {taken : List Answer} where
   -- a point that gave the answer, and one that didn't
-  point_more : (place : ℕ) (point : PointPlan) (watch : PointWatch) (answer : Answer) (counted : Bool) (floor : Tick) → place ≡ answer.point → counted ≡ is_counted site kept done answer → floor.0 ≡ floor_before site point.zone answer.stamp.0 done
-      → WatchesPoint site kept done taken place point watch → WatchesPoint site kept done (taken ++ answer ∷ []) place point (point_noted answer.heard counted floor answer.stamp watch)
+  point_more : (place : ℕ) (point : PointPlan) (watch : PointWatch) (answer : Answer) (counted : Bool) (floor : Tick) → place ≡ answer.point
+      → counted ≡ is_counted site kept done answer → floor.0 ≡ floor_before site point.zone answer.stamp.0 done
+      → WatchesPoint site kept done taken place point watch
+      → WatchesPoint site kept done (taken ++ answer ∷ []) place point (point_noted answer.heard counted floor answer.stamp watch)
   point_more place point watch answer counted floor here c f h =
       let test : (answer.point == place) ≡ true = eq_true answer.point place (sym here) in
-      let latest : latest_of place (taken ++ answer ∷ []) ≡ answer ∷ latest_of place taken = latest_more place taken answer ∙ ap (λ b. if b then answer ∷ latest_of place taken else latest_of place taken) test in
+      let latest : latest_of place (taken ++ answer ∷ []) ≡ answer ∷ latest_of place taken =
+      latest_more place taken answer ∙ ap (λ b. if b then answer ∷ latest_of place taken else latest_of place taken) test in
       record {
         zone = h.zone;
         manual = h.manual;
@@ -127,14 +149,17 @@ module _ {site : Site} {kept : Retained} {done : List Done} {taken : List Answer
         run =
             let fl = λ (x : ℕ). floor_before site point.zone x done in
             let old = run_of (is_counted site kept done) fl place None taken in
-            ap (λ b. run_then b floor.0 answer.stamp watch.run) c ∙ ap (λ n. run_then (is_counted site kept done answer) n answer.stamp watch.run) f ∙ ap (run_then (is_counted site kept done answer) (floor_before site point.zone answer.stamp.0 done) answer.stamp) h.run
+            ap (λ b. run_then b floor.0 answer.stamp watch.run) c ∙ ap (λ n. run_then (is_counted site kept done answer) n answer.stamp watch.run) f ∙
+            ap (run_then (is_counted site kept done answer) (floor_before site point.zone answer.stamp.0 done) answer.stamp) h.run
             ∙ sym (run_more (is_counted site kept done) fl place None taken answer ∙ ap (λ b. if b then run_then (is_counted site kept done answer) (fl answer.stamp.0) answer.stamp old else old) test);
       }
 
-  point_less : (place : ℕ) (point : PointPlan) (watch : PointWatch) (answer : Answer) → place ≢ answer.point → WatchesPoint site kept done taken place point watch → WatchesPoint site kept done (taken ++ answer ∷ []) place point watch
+  point_less : (place : ℕ) (point : PointPlan) (watch : PointWatch) (answer : Answer) → place ≢ answer.point
+      → WatchesPoint site kept done taken place point watch → WatchesPoint site kept done (taken ++ answer ∷ []) place point watch
   point_less place point watch answer apart h =
       let test : (answer.point == place) ≡ false = eq_false answer.point place (λ e. apart (sym e)) in
-      let latest : latest_of place (taken ++ answer ∷ []) ≡ latest_of place taken = latest_more place taken answer ∙ ap (λ b. if b then answer ∷ latest_of place taken else latest_of place taken) test in
+      let latest : latest_of place (taken ++ answer ∷ []) ≡ latest_of place taken =
+      latest_more place taken answer ∙ ap (λ b. if b then answer ∷ latest_of place taken else latest_of place taken) test in
       record {
         zone = h.zone;
         manual = h.manual;
@@ -144,29 +169,46 @@ module _ {site : Site} {kept : Retained} {done : List Done} {taken : List Answer
         run =
             let fl = λ (x : ℕ). floor_before site point.zone x done in
             let old = run_of (is_counted site kept done) fl place None taken in
-            h.run ∙ sym (run_more (is_counted site kept done) fl place None taken answer ∙ ap (λ b. if b then run_then (is_counted site kept done answer) (fl answer.stamp.0) answer.stamp old else old) test);
+            h.run ∙ sym
+            (run_more (is_counted site kept done) fl place None taken answer ∙ ap
+            (λ b. if b then run_then (is_counted site kept done answer) (fl answer.stamp.0) answer.stamp old else old) test);
       }
 
   -- a zone in which the answer may make a pair, and one in which it may not
-  zone_more : (place : ℕ) (zone : ZonePlan) (watch : ZoneWatch) (answer : Answer) (pairs : Bool) → pairs ≡ may_pair site kept done place zone.rule answer → WatchesZone site kept done taken place zone watch
+  zone_more : (place : ℕ) (zone : ZonePlan) (watch : ZoneWatch) (answer : Answer) (pairs : Bool)
+      → pairs ≡ may_pair site kept done place zone.rule answer → WatchesZone site kept done taken place zone watch
       → WatchesZone site kept done (taken ++ answer ∷ []) place zone (zone_noted pairs answer.point answer.stamp watch)
   zone_more place zone watch answer pairs p h = go pairs p
     where
       test : Answer → Bool
       test = may_pair site kept done place zone.rule
 
-      noted_is : (point : ℕ) → may_pair site kept done place zone.rule answer ≡ true → besides point (noted answer.point answer.stamp watch.recent) ≡ latest_besides (may_pair site kept done place zone.rule) point None (taken ++ answer ∷ [])
+      noted_is : (point : ℕ) → may_pair site kept done place zone.rule answer ≡ true
+          → besides point (noted answer.point answer.stamp watch.recent) ≡ latest_besides (may_pair site kept done place zone.rule) point None
+          (taken ++ answer ∷ [])
       noted_is point yes' =
           let old = latest_besides (may_pair site kept done place zone.rule) point None taken in
-          besides-noted point answer.point answer.stamp watch.recent ∙ ap (λ o. if answer.point == point then o else Some answer.stamp) (h.recent point) ∙ turn (answer.point == point) old
+          besides-noted point answer.point answer.stamp watch.recent ∙ ap (λ o. if answer.point == point then o else Some answer.stamp)
+          (h.recent point) ∙ turn (answer.point == point) old
           ∙ sym (besides_more (may_pair site kept done place zone.rule) point None taken answer ∙ ap (λ b. if b && not (answer.point == point) then Some answer.stamp else old) yes')
         where
           turn : (b : Bool) (old : Option Tick) → (if b then old else Some answer.stamp) ≡ (if not b then Some answer.stamp else old)
           turn true old = refl
           turn false old = refl
 
-      go : (b : Bool) → b ≡ may_pair site kept done place zone.rule answer → WatchesZone site kept done (taken ++ answer ∷ []) place zone (zone_noted b answer.point answer.stamp watch)
-      go true e = record { number = h.number; rule = h.rule; partner = h.partner; off = h.off; test = h.test; moved = h.moved; cancelled = h.cancelled; recent = λ point. noted_is point (sym e) }
+      go : (b : Bool) → b ≡ may_pair site kept done place zone.rule answer
+          → WatchesZone site kept done (taken ++ answer ∷ []) place zone (zone_noted b answer.point answer.stamp watch)
+      go true e = record {
+        number = h.number;
+        rule = h.rule;
+        partner = h.partner;
+        off = h.off;
+        test = h.test;
+        moved = h.moved;
+        cancelled =
+            h.cancelled;
+        recent = λ point. noted_is point (sym e);
+      }
       go false e = record {
         number = h.number;
         rule = h.rule;
@@ -177,11 +219,15 @@ module _ {site : Site} {kept : Retained} {done : List Done} {taken : List Answer
         cancelled = h.cancelled;
         recent = λ point.
             let old = latest_besides (may_pair site kept done place zone.rule) point None taken in
-            h.recent point ∙ sym (besides_more (may_pair site kept done place zone.rule) point None taken answer ∙ ap (λ b. if b && not (answer.point == point) then Some answer.stamp else old) (sym e));
+            h.recent point ∙ sym
+            (besides_more (may_pair site kept done place zone.rule) point None taken answer ∙ ap
+            (λ b. if b && not (answer.point == point) then Some answer.stamp else old) (sym e));
       }
 
-module _ {site : Site} {kept : Retained} {panel : ℕ} {done : List Done} {taken : List Answer} {decide : Decide} (stands : DecidesFor site kept panel done taken decide) (answer : Answer) (may : MayTake site panel done taken (answer ∷ []))
-    (r : PointWatch) (z : ZoneWatch) (e : r ≡ get_or decide.points.items answer.point r) (h : z ≡ get_or decide.zones.items r.zone z) (counted : Bool) (floor : Tick) where
+module _ {site : Site} {kept : Retained} {panel : ℕ} {done : List Done} {taken : List Answer} {decide : Decide} (stands :
+    DecidesFor site kept panel done taken decide) (answer : Answer) (may : MayTake site panel done taken (answer ∷ []))
+    (r : PointWatch) (z : ZoneWatch) (e : r ≡ get_or decide.points.items answer.point r) (h : z ≡ get_or decide.zones.items r.zone z) (counted :
+    Bool) (floor : Tick) where
   abbrev own : IsOwn site panel answer.point
   own = may.own 0 answer refl
 
@@ -219,11 +265,13 @@ module _ {site : Site} {kept : Retained} {panel : ℕ} {done : List Done} {taken
 
   not_of : (place : ℕ) (zone : ZonePlan) → place ≢ r.zone → false ≡ may_pair site kept done place zone.rule answer
   not_of place zone apart =
-      let off : is_of site place answer.point ≡ false = ap (lies_in place) w.is_point ∙ eq_false w.point.zone place (λ s. apart (sym s ∙ sym (zone_read stands answer.point own r e))) in
+      let off : is_of site place answer.point ≡ false =
+      ap (lies_in place) w.is_point ∙ eq_false w.point.zone place (λ s. apart (sym s ∙ sym (zone_read stands answer.point own r e))) in
       sym (ap (λ b. b && (is_counted site kept done answer && (is_type_C zone.rule || is_detector site answer.point))) off)
 
   points_more : counted ≡ is_counted site kept done answer → floor.0 ≡ floor_before site r.zone answer.stamp.0 done
-      → (place : ℕ) (watch : PointWatch) (point : PointPlan) → slice_get (set decide.points.items answer.point p) place ≡ Some watch → slice_get site.points place ≡ Some point → point.panel ≡ panel
+      → (place : ℕ) (watch : PointWatch) (point : PointPlan) → slice_get (set decide.points.items answer.point p) place ≡ Some watch
+      → slice_get site.points place ≡ Some point → point.panel ≡ panel
       → WatchesPoint site kept done (taken ++ answer ∷ []) place point watch
   points_more c f place watch point there is at =
       ⊎_elim
@@ -232,13 +280,15 @@ module _ {site : Site} {kept : Retained} {panel : ℕ} {done : List Done} {taken
       let read : r ≡ w.watch = read_is decide.points.items answer.point r w.watch e w.is_watch in
       let old : WatchesPoint site kept done taken place point r =
       subst (λ (o : PointPlan). WatchesPoint site kept done taken place o r) same
-      (subst (λ k. WatchesPoint site kept done taken k w.point r) (sym here.0) (subst (WatchesPoint site kept done taken answer.point w.point) (sym read) w.watches)) in
+      (subst (λ k. WatchesPoint site kept done taken k w.point r) (sym here.0)
+      (subst (WatchesPoint site kept done taken answer.point w.point) (sym read) w.watches)) in
       subst (WatchesPoint site kept done (taken ++ answer ∷ []) place point) here.1
       (point_more place point r answer counted floor here.0 c (f ∙ ap (λ k. floor_before site k answer.stamp.0 done) old.zone) old))
       (λ other. point_less place point watch answer other.0 (stands.points place watch point other.1 is at))
       (get_set decide.points.items answer.point place p watch there)
 
-  zones_more : counted ≡ is_counted site kept done answer → (place : ℕ) (watch : ZoneWatch) (zone : ZonePlan) → slice_get (set decide.zones.items r.zone (zone_noted pairs answer.point answer.stamp z)) place ≡ Some watch
+  zones_more : counted ≡ is_counted site kept done answer → (place : ℕ) (watch : ZoneWatch) (zone : ZonePlan)
+      → slice_get (set decide.zones.items r.zone (zone_noted pairs answer.point answer.stamp z)) place ≡ Some watch
       → slice_get site.zones place ≡ Some zone → zone.panel ≡ panel → WatchesZone site kept done (taken ++ answer ∷ []) place zone watch
   zones_more c place watch zone there is at =
       ⊎_elim
@@ -246,10 +296,12 @@ module _ {site : Site} {kept : Retained} {panel : ℕ} {done : List Done} {taken
       let own_zone : place ≡ w.point.zone = here.0 ∙ zone_read stands answer.point own r e in
       let same : w.zone ≡ zone = same_place site.zones w.point.zone place w.zone zone (sym own_zone) w.is_zone is in
       let read : z ≡ w.over = over_read stands answer.point own r z e h in
-      let old : WatchesZone site kept done taken w.point.zone w.zone z = subst (WatchesZone site kept done taken w.point.zone w.zone) (sym read) w.watches_zone in
+      let old : WatchesZone site kept done taken w.point.zone w.zone z =
+      subst (WatchesZone site kept done taken w.point.zone w.zone) (sym read) w.watches_zone in
       subst (WatchesZone site kept done (taken ++ answer ∷ []) place zone) here.1
       (subst (λ (o : ZonePlan). WatchesZone site kept done (taken ++ answer ∷ []) place o (zone_noted pairs answer.point answer.stamp z)) same
-      (subst (λ k. WatchesZone site kept done (taken ++ answer ∷ []) k w.zone (zone_noted pairs answer.point answer.stamp z)) (sym own_zone) (zone_more w.point.zone w.zone z answer pairs (pairs_is c) old))))
+      (subst (λ k. WatchesZone site kept done (taken ++ answer ∷ []) k w.zone (zone_noted pairs answer.point answer.stamp z)) (sym own_zone)
+      (zone_more w.point.zone w.zone z answer pairs (pairs_is c) old))))
       (λ other. zone_more place zone watch answer false (not_of place zone other.0) (stands.zones place watch zone other.1 is at))
       (get_set decide.zones.items r.zone place (zone_noted pairs answer.point answer.stamp z) watch there)
 
@@ -257,7 +309,11 @@ module _ {site : Site} {kept : Retained} {panel : ℕ} {done : List Done} {taken
   own_more k a at = ⊎_elim (λ before. stands.own k a before) (λ last. may.own last.0 a last.2) (get_either taken (answer ∷ []) k a at)
 
   pub stands_more : counted ≡ is_counted site kept done answer → floor.0 ≡ floor_before site r.zone answer.stamp.0 done
-      → DecidesFor site kept panel done (taken ++ answer ∷ []) (record decide { points = with_item decide.points answer.point p; zones = with_item decide.zones r.zone (zone_noted pairs answer.point answer.stamp z) })
+      → DecidesFor site kept panel done (taken ++ answer ∷ []) (record decide {
+        points = with_item decide.points answer.point p;
+        zones =
+            with_item decide.zones r.zone (zone_noted pairs answer.point answer.stamp z);
+      })
   stands_more c f = record {
     wired = stands.wired;
     at = stands.at;
@@ -271,21 +327,54 @@ module _ {site : Site} {kept : Retained} {panel : ℕ} {done : List Done} {taken
   }
 
   -- the same, by what the code's calls say of the new values
-  pub stands_noted : (q s : PointWatch) (y : ZoneWatch) (b : Bool) → q ≡ get_or decide.points.items answer.point q → s ≡ point_noted answer.heard counted floor answer.stamp q → b ≡ (counted && (is_type_C z.rule || not s.manual))
-      → y ≡ zone_noted b answer.point answer.stamp z → counted ≡ is_counted site kept done answer → floor.0 ≡ floor_before site r.zone answer.stamp.0 done
-      → DecidesFor site kept panel done (taken ++ answer ∷ []) (record { panel = decide.panel; points = with_item decide.points answer.point s; zones = with_item decide.zones r.zone y; reset = decide.reset })
+  pub stands_noted : (q s : PointWatch) (y : ZoneWatch) (b : Bool) → q ≡ get_or decide.points.items answer.point q
+      → s ≡ point_noted answer.heard counted floor answer.stamp q → b ≡ (counted && (is_type_C z.rule || not s.manual))
+      → y ≡ zone_noted b answer.point answer.stamp z → counted ≡ is_counted site kept done answer
+      → floor.0 ≡ floor_before site r.zone answer.stamp.0 done
+      → DecidesFor site kept panel done (taken ++ answer ∷ [])
+      (record {
+        panel = decide.panel;
+        points = with_item decide.points answer.point s;
+        zones = with_item decide.zones r.zone y;
+        reset =
+            decide.reset;
+      })
   stands_noted q s y b eq es eb ey c f =
-      let same : q ≡ r = read_is decide.points.items answer.point q w.watch eq w.is_watch ∙ sym (read_is decide.points.items answer.point r w.watch e w.is_watch) in
+      let same : q ≡ r =
+      read_is decide.points.items answer.point q w.watch eq w.is_watch ∙ sym (read_is decide.points.items answer.point r w.watch e w.is_watch) in
       let point : p ≡ s = sym (es ∙ ap (point_noted answer.heard counted floor answer.stamp) same) in
       let manual : s.manual ≡ r.manual = ap (λ (o : PointWatch). o.manual) (sym point) in
-      let zone : zone_noted pairs answer.point answer.stamp z ≡ y = sym (ey ∙ ap (λ t. zone_noted t answer.point answer.stamp z) (eb ∙ ap (λ m. counted && (is_type_C z.rule || not m)) manual)) in
-      subst (λ (o : ZoneWatch). DecidesFor site kept panel done (taken ++ answer ∷ []) (record { panel = decide.panel; points = with_item decide.points answer.point s; zones = with_item decide.zones r.zone o; reset = decide.reset })) zone
-      (subst (λ (o : PointWatch). DecidesFor site kept panel done (taken ++ answer ∷ []) (record { panel = decide.panel; points = with_item decide.points answer.point o; zones = with_item decide.zones r.zone (zone_noted pairs answer.point answer.stamp z); reset = decide.reset })) point (stands_more c f))
+      let zone : zone_noted pairs answer.point answer.stamp z ≡ y =
+      sym (ey ∙ ap (λ t. zone_noted t answer.point answer.stamp z) (eb ∙ ap (λ m. counted && (is_type_C z.rule || not m)) manual)) in
+      subst (λ (o : ZoneWatch). DecidesFor site kept panel done (taken ++ answer ∷ []) (record {
+        panel = decide.panel;
+        points =
+            with_item decide.points answer.point s;
+        zones = with_item decide.zones r.zone o;
+        reset = decide.reset;
+      })) zone
+      (subst
+      (λ (o : PointWatch). DecidesFor site kept panel done (taken ++ answer ∷ [])
+      (record {
+        panel = decide.panel;
+        points = with_item decide.points answer.point o;
+        zones =
+            with_item decide.zones r.zone (zone_noted pairs answer.point answer.stamp z);
+        reset = decide.reset;
+      })) point (stands_more c f))
 
 -- an answer that is no alarm
-pub quiet_noted : {site : Site} {kept : Retained} {panel : ℕ} {done : List Done} {taken : List Answer} {decide : Decide} (stands : DecidesFor site kept panel done taken decide) (answer : Answer) → MayTake site panel done taken (answer ∷ []) →
-    is_alarm answer.heard ≡ false → (q s : PointWatch) → q ≡ get_or decide.points.items answer.point q → s ≡ point_noted answer.heard false (record { 0 = 0 }) answer.stamp q →
-    DecidesFor site kept panel done (taken ++ answer ∷ []) (record { panel = decide.panel; points = with_item decide.points answer.point s; zones = decide.zones; reset = decide.reset })
+pub quiet_noted : {site : Site} {kept : Retained} {panel : ℕ} {done : List Done} {taken : List Answer} {decide : Decide} (stands :
+    DecidesFor site kept panel done taken decide) (answer : Answer) → MayTake site panel done taken (answer ∷ []) →
+    is_alarm answer.heard ≡ false → (q s : PointWatch) → q ≡ get_or decide.points.items answer.point q
+    → s ≡ point_noted answer.heard false (record { 0 = 0 }) answer.stamp q →
+    DecidesFor site kept panel done (taken ++ answer ∷ []) (record {
+      panel = decide.panel;
+      points = with_item decide.points answer.point s;
+      zones =
+          decide.zones;
+      reset = decide.reset;
+    })
 quiet_noted {site} {kept} {panel} {done} {taken} {decide} stands answer may quiet q s eq es =
     let own = may.own 0 answer refl in
     let w = watched stands answer.point own in
@@ -293,10 +382,12 @@ quiet_noted {site} {kept} {panel} {done} {taken} {decide} stands answer may quie
     let uncounted : counted ≡ false = ap (λ b. b && not (is_blocked site kept done answer.point answer.stamp.0)) quiet in
     let floor : Tick = record { 0 = floor_before site q.zone answer.stamp.0 done } in
     let there : get_or decide.zones.items q.zone w.over ≡ w.over =
-    ap (λ k. get_or decide.zones.items k w.over) (zone_read stands answer.point own q eq) ∙ get_or_from_slice_get decide.zones.items w.point.zone w.over w.over w.is_over
+    ap (λ k. get_or decide.zones.items k w.over) (zone_read stands answer.point own q eq) ∙ get_or_from_slice_get decide.zones.items w.point.zone
+    w.over w.over w.is_over
     in
     let noted =
-    stands_noted stands answer may q w.over eq (sym there) counted floor q s w.over false eq (es ∙ sym (ap (λ b. point_noted answer.heard b floor answer.stamp q) uncounted))
+    stands_noted stands answer may q w.over eq (sym there) counted floor q s w.over false eq
+    (es ∙ sym (ap (λ b. point_noted answer.heard b floor answer.stamp q) uncounted))
     (sym (ap (λ b. b && (is_type_C w.over.rule || not s.manual)) uncounted)) refl refl refl
     in
     let items : set decide.zones.items q.zone w.over ≡ decide.zones.items =

@@ -17,7 +17,10 @@ use Rattle.coincidence.specs.Premises.{IsOwn, MayTake}
 
 -- what stands at a place with a front behind it stands there with the whole
 get_front : (before xs : List Answer) (n i : ℕ) (a : Answer) → slice_get (before ++ take n xs) i ≡ Some a → slice_get (before ++ xs) i ≡ Some a
-get_front before xs n i a h = ⊎_elim (λ left. get_left before xs i a left) (λ right. subst (λ k. slice_get (before ++ xs) k ≡ Some a) (sym right.1) (get_right before xs right.0 a (get_take n right.0 xs a right.2).1)) (get_either before (take n xs) i a h)
+get_front before xs n i a h =
+    ⊎_elim (λ left. get_left before xs i a left)
+    (λ right. subst (λ k. slice_get (before ++ xs) k ≡ Some a) (sym right.1) (get_right before xs right.0 a (get_take n right.0 xs a right.2).1))
+    (get_either before (take n xs) i a h)
 
 in_order_front : (before xs : List Answer) (n : ℕ) → AreInOrder (before ++ xs) → AreInOrder (before ++ take n xs)
 in_order_front before xs n o = record {
@@ -25,11 +28,13 @@ in_order_front before xs n o = record {
   once = λ i j a b f g p s. o.once i j a b (get_front before xs n i a f) (get_front before xs n j b g) p s;
 }
 
-pub one_more : (before xs : List Answer) (k : ℕ) (d : Answer) → k < length xs → (before ++ take k xs) ++ get_or xs k d ∷ [] ≡ before ++ take (k + 1) xs
+pub one_more : (before xs : List Answer) (k : ℕ) (d : Answer) → k < length xs → (before ++ take k xs) ++ get_or xs k d ∷ [] ≡ before
+    ++ take (k + 1) xs
 one_more before xs k d small = rw append_assoc (ap (λ ys. before ++ ys) (sym (take_more xs k d small)))
 
 -- the next of the answers may be taken
-pub may_next : (site : Site) (panel : ℕ) (done : List Done) (taken xs : List Answer) (k : ℕ) (d : Answer) → k < length xs → MayTake site panel done taken xs → MayTake site panel done (taken ++ take k xs) (get_or xs k d ∷ [])
+pub may_next : (site : Site) (panel : ℕ) (done : List Done) (taken xs : List Answer) (k : ℕ) (d : Answer) → k < length xs
+    → MayTake site panel done taken xs → MayTake site panel done (taken ++ take k xs) (get_or xs k d ∷ [])
 may_next site panel done taken xs k d small may =
     let at = slice_get-get_or xs k d small in
     record {
@@ -48,7 +53,8 @@ may_next site panel done taken xs k d small may =
 
 -- findings of one answer more
 findings_more : (site : Site) (kept : Retained) (panel : ℕ) (done : List Done) (before xs : List Answer) (x : Answer)
-    → findings_after site kept panel done before (xs ++ x ∷ []) ≡ findings_after site kept panel done before xs ++ finding_of site kept panel done (before ++ xs) x ∷ []
+    → findings_after site kept panel done before (xs ++ x ∷ []) ≡ findings_after site kept panel done before xs
+    ++ finding_of site kept panel done (before ++ xs) x ∷ []
 findings_more site kept panel done before [] x = ap (λ ys. finding_of site kept panel done ys x ∷ []) (sym (ends before))
   where
     ends : (ys : List Answer) → ys ++ [] ≡ ys
@@ -56,7 +62,8 @@ findings_more site kept panel done before [] x = ap (λ ys. finding_of site kept
     ends (y ∷ ys) = ap (λ zs. y ∷ zs) (ends ys)
 findings_more site kept panel done before (y ∷ xs) x =
     ap (λ fs. finding_of site kept panel done before y ∷ fs)
-    (findings_more site kept panel done (before ++ y ∷ []) xs x ∙ ap (λ ys. findings_after site kept panel done (before ++ y ∷ []) xs ++ finding_of site kept panel done ys x ∷ []) (joined before y xs))
+    (findings_more site kept panel done (before ++ y ∷ []) xs x ∙ ap (λ ys. findings_after site kept panel done (before ++ y ∷ []) xs
+    ++ finding_of site kept panel done ys x ∷ []) (joined before y xs))
   where
     joined : (one : List Answer) (y : Answer) (more : List Answer) → (one ++ y ∷ []) ++ more ≡ one ++ y ∷ more
     joined one y more = rw append_assoc refl
@@ -77,22 +84,29 @@ put_more l xs f = same _ _ _ _ (append_assoc_of l.items xs (f ∷ [])) (counts (
     counts : (n : ℕ) → l.put + n + 1 ≡ l.put + (n + 1)
     counts n = omega arith
 
-    same : (a b : List Finding) (p q : ℕ) → a ≡ b → p ≡ q → ◌≡◌ {A = LaneState Finding} (record { items = a; put = p; taken = l.taken; quota = l.quota; capacity = l.capacity }) (record { items = b; put = q; taken = l.taken; quota = l.quota; capacity = l.capacity })
+    same : (a b : List Finding) (p q : ℕ) → a ≡ b → p ≡ q
+        → ◌≡◌ {A = LaneState Finding} (record { items = a; put = p; taken = l.taken; quota = l.quota; capacity = l.capacity })
+        (record { items = b; put = q; taken = l.taken; quota = l.quota; capacity = l.capacity })
     same a b p q e h = cc
 
 -- what the loop has found after one answer more
-pub found_more : (site : Site) (kept : Retained) (panel : ℕ) (done : List Done) (taken xs : List Answer) (k : ℕ) (d : Answer) (first before after : LaneState Finding) (f : Finding) → k < length xs
-    → before ≡ with_put first (findings_after site kept panel done taken (take k xs)) → f ≡ finding_of site kept panel done (taken ++ take k xs) (get_or xs k d) → after ≡ with_put before (f ∷ [])
+pub found_more : (site : Site) (kept : Retained) (panel : ℕ) (done : List Done) (taken xs : List Answer) (k : ℕ) (d : Answer) (first before after :
+    LaneState Finding) (f : Finding) → k < length xs
+    → before ≡ with_put first (findings_after site kept panel done taken (take k xs))
+    → f ≡ finding_of site kept panel done (taken ++ take k xs) (get_or xs k d) → after ≡ with_put before (f ∷ [])
     → after ≡ with_put first (findings_after site kept panel done taken (take (k + 1) xs))
 found_more site kept panel done taken xs k d first before after f small b is a =
     a ∙ ap (λ l. with_put l (f ∷ [])) b ∙ put_more first (findings_after site kept panel done taken (take k xs)) f
     ∙ ap (λ g. with_put first (findings_after site kept panel done taken (take k xs) ++ g ∷ [])) is
-    ∙ ap (with_put first) (sym (findings_more site kept panel done taken (take k xs) (get_or xs k d)) ∙ ap (findings_after site kept panel done taken) (sym (take_more xs k d small)))
+    ∙ ap (with_put first) (sym (findings_more site kept panel done taken (take k xs) (get_or xs k d)) ∙ ap (findings_after site kept panel done taken)
+    (sym (take_more xs k d small)))
 
-pub stands_front : (site : Site) (kept : Retained) (panel : ℕ) (done : List Done) (taken xs : List Answer) (k : ℕ) (decide : Decide) → length xs ≤ k → DecidesFor site kept panel done (taken ++ take k xs) decide → DecidesFor site kept panel done (taken ++ xs) decide
+pub stands_front : (site : Site) (kept : Retained) (panel : ℕ) (done : List Done) (taken xs : List Answer) (k : ℕ) (decide : Decide) → length xs ≤ k
+    → DecidesFor site kept panel done (taken ++ take k xs) decide → DecidesFor site kept panel done (taken ++ xs) decide
 stands_front site kept panel done taken xs k decide all h = subst (λ ys. DecidesFor site kept panel done (taken ++ ys) decide) (take_all k xs all) h
 
-pub items_more : (l after : LaneState Finding) (f : Finding) (n k : ℕ) → after ≡ with_put l (f ∷ []) → length l.items ≡ n + k → length after.items ≡ n + (k + 1)
+pub items_more : (l after : LaneState Finding) (f : Finding) (n k : ℕ) → after ≡ with_put l (f ∷ []) → length l.items ≡ n + k
+    → length after.items ≡ n + (k + 1)
 items_more l after f n k e h = ap (λ (x : LaneState Finding). length x.items) e ∙ length_more l.items ∙ next (length l.items) h
   where
     length_more : (ys : List Finding) → length (ys ++ f ∷ []) ≡ length ys + 1

@@ -42,7 +42,8 @@ pub record Watched (site : Site) (kept : Retained) (panel : ℕ) (done : List Do
   pub is_over : slice_get decide.zones.items point.zone ≡ Some over
   pub watches_zone : WatchesZone site kept done taken point.zone zone over
 
-pub record WatchedZone (site : Site) (kept : Retained) (done : List Done) (taken : List Answer) (decide : Decide) (place : ℕ) (zone : ZonePlan) : Type 0 where
+pub record WatchedZone (site : Site) (kept : Retained) (done : List Done) (taken : List Answer) (decide : Decide) (place : ℕ) (zone : ZonePlan) :
+    Type 0 where
   pub over : ZoneWatch
   pub is_over : slice_get decide.zones.items place ≡ Some over
   pub watches : WatchesZone site kept done taken place zone over
@@ -56,8 +57,10 @@ set_in_by x setting (d ∷ ds) h = go (is_on setting d) (set_in_by x setting ds 
     go true rest = h.0
     go false rest = rest
 
-module _ {site : Site} {kept : Retained} {panel : ℕ} {done : List Done} {taken : List Answer} {decide : Decide} (stands : DecidesFor site kept panel done taken decide) where
-  pub watched_zone : (place : ℕ) (zone : ZonePlan) → slice_get site.zones place ≡ Some zone → zone.panel ≡ panel → WatchedZone site kept done taken decide place zone
+module _ {site : Site} {kept : Retained} {panel : ℕ} {done : List Done} {taken : List Answer} {decide : Decide} (stands :
+    DecidesFor site kept panel done taken decide) where
+  pub watched_zone : (place : ℕ) (zone : ZonePlan) → slice_get site.zones place ≡ Some zone → zone.panel ≡ panel
+      → WatchedZone site kept done taken decide place zone
   watched_zone place zone is at =
       let small = get_small site.zones place zone is in
       let over = get_any decide.zones.items place (subst (λ n. place < n) (sym stands.zone_count) small) in
@@ -88,85 +91,113 @@ module _ {site : Site} {kept : Retained} {panel : ℕ} {done : List Done} {taken
   point_small place own = let w = watched place own in get_small decide.points.items place w.watch w.is_watch
 
   -- the zone that is read of a point is its zone
-  pub zone_read : (place : ℕ) (own : IsOwn site panel place) (r : PointWatch) → r ≡ get_or decide.points.items place r → r.zone ≡ (watched place own).point.zone
+  pub zone_read : (place : ℕ) (own : IsOwn site panel place) (r : PointWatch) → r ≡ get_or decide.points.items place r
+      → r.zone ≡ (watched place own).point.zone
   zone_read place own r e =
       let w = watched place own in
       ap (λ (x : PointWatch). x.zone) (read_is decide.points.items place r w.watch e w.is_watch) ∙ w.watches.zone
 
-  pub over_read : (place : ℕ) (own : IsOwn site panel place) (r : PointWatch) (z : ZoneWatch) → r ≡ get_or decide.points.items place r → z ≡ get_or decide.zones.items r.zone z → z ≡ (watched place own).over
+  pub over_read : (place : ℕ) (own : IsOwn site panel place) (r : PointWatch) (z : ZoneWatch) → r ≡ get_or decide.points.items place r
+      → z ≡ get_or decide.zones.items r.zone z → z ≡ (watched place own).over
   over_read place own r z e h =
       let w = watched place own in
       read_is decide.zones.items r.zone z w.over h (ap (slice_get decide.zones.items) (zone_read place own r e) ∙ w.is_over)
 
-  pub zone_watched : (place : ℕ) (own : IsOwn site panel place) (r : PointWatch) (z : ZoneWatch) → r ≡ get_or decide.points.items place r → z ≡ get_or decide.zones.items r.zone z
+  pub zone_watched : (place : ℕ) (own : IsOwn site panel place) (r : PointWatch) (z : ZoneWatch) → r ≡ get_or decide.points.items place r
+      → z ≡ get_or decide.zones.items r.zone z
       → WatchesZone site kept done taken (watched place own).point.zone (watched place own).zone z
   zone_watched place own r z e h =
       let w = watched place own in
       subst (WatchesZone site kept done taken w.point.zone w.zone) (sym (over_read place own r z e h)) w.watches_zone
 
-  pub zone_small : (place : ℕ) → IsOwn site panel place → (r : PointWatch) → r ≡ get_or decide.points.items place r → r.zone < length decide.zones.items
+  pub zone_small : (place : ℕ) → IsOwn site panel place → (r : PointWatch) → r ≡ get_or decide.points.items place r
+      → r.zone < length decide.zones.items
   zone_small place own r e =
       let w = watched place own in
       subst (λ n. n < length decide.zones.items) (sym (zone_read place own r e)) (get_small decide.zones.items w.point.zone w.over w.is_over)
 
   -- the partner of a zone of the panel is one
-  pub partner_own : (place : ℕ) (zone : ZonePlan) → slice_get site.zones place ≡ Some zone → zone.panel ≡ panel → (partner : Option ℕ) → zone.partner ≡ partner → IsOwnPartner site panel partner
+  pub partner_own : (place : ℕ) (zone : ZonePlan) → slice_get site.zones place ≡ Some zone → zone.panel ≡ panel → (partner : Option ℕ)
+      → zone.partner ≡ partner → IsOwnPartner site panel partner
   partner_own place zone is at None e = tt
-  partner_own place zone is at (Some other) e = let has = stands.wired.partners place other zone is e in record { zone = has.partner; is = has.is; at = has.at_panel ∙ at }
+  partner_own place zone is at (Some other) e = let has = stands.wired.partners place other zone is e in
+      record { zone = has.partner; is = has.is; at = has.at_panel ∙ at }
 
   pub place_in : (partner : Option ℕ) → IsOwnPartner site panel partner → IsPlaceIn partner (length decide.zones.items)
   place_in None own = tt
   place_in (Some other) own = subst (λ n. other < n) (sym stands.zone_count) (get_small site.zones other own.zone own.is)
 
-  pub partner_small : (place : ℕ) → IsOwn site panel place → (r : PointWatch) (z : ZoneWatch) → r ≡ get_or decide.points.items place r → z ≡ get_or decide.zones.items r.zone z → IsPlaceIn z.partner (length decide.zones.items)
+  pub partner_small : (place : ℕ) → IsOwn site panel place → (r : PointWatch) (z : ZoneWatch) → r ≡ get_or decide.points.items place r
+      → z ≡ get_or decide.zones.items r.zone z → IsPlaceIn z.partner (length decide.zones.items)
   partner_small place own r z e h =
       let w = watched place own in
       let same : z.partner ≡ w.zone.partner = ap (λ (x : ZoneWatch). x.partner) (over_read place own r z e h) ∙ w.watches_zone.partner in
       place_in z.partner (partner_own w.point.zone w.zone w.is_zone w.zone_at z.partner (sym same))
 
-  pub number_fits : (place : ℕ) → IsOwn site panel place → (r : PointWatch) (z : ZoneWatch) → r ≡ get_or decide.points.items place r → z ≡ get_or decide.zones.items r.zone z → IsNumber z.number
+  pub number_fits : (place : ℕ) → IsOwn site panel place → (r : PointWatch) (z : ZoneWatch) → r ≡ get_or decide.points.items place r
+      → z ≡ get_or decide.zones.items r.zone z → IsNumber z.number
   number_fits place own r z e h =
       let w = watched place own in
       let same : z.number ≡ w.zone.number = ap (λ (x : ZoneWatch). x.number) (over_read place own r z e h) ∙ w.watches_zone.number in
       subst IsNumber (sym same) (stands.wired.zones w.point.zone w.zone w.is_zone).1
 
-  partner_number : (place : ℕ) (zone : ZonePlan) (sight : Sight) (beside : Beside) → (o : Option ZonePlan) → slice_get site.zones place ≡ o → partner_is o sight beside → IsNumber beside.number
+  partner_number : (place : ℕ) (zone : ZonePlan) (sight : Sight) (beside : Beside) → (o : Option ZonePlan) → slice_get site.zones place ≡ o
+      → partner_is o sight beside → IsNumber beside.number
   partner_number place zone sight beside None is h = absurd h
   partner_number place zone sight beside (Some y) is h = subst IsNumber (sym h.0) (stands.wired.zones place y is).1
 
-  pub beside_fits : (place : ℕ) (zone : ZonePlan) (sight : Sight) (beside : Beside) → slice_get site.zones place ≡ Some zone → (partner : Option ℕ) → SeesBeside site zone partner sight beside → IsNumber beside.number
+  pub beside_fits : (place : ℕ) (zone : ZonePlan) (sight : Sight) (beside : Beside) → slice_get site.zones place ≡ Some zone → (partner : Option ℕ)
+      → SeesBeside site zone partner sight beside → IsNumber beside.number
   beside_fits place zone sight beside is None h = subst IsNumber (sym h.0) (stands.wired.zones place zone is).1
   beside_fits place zone sight beside is (Some other) h = partner_number other zone sight beside (slice_get site.zones other) refl h
 
   -- a switch was not set after a stamp
-  pub off_since : (answer : Answer) (fits : Fits site panel done taken answer) (r : PointWatch) → r ≡ get_or decide.points.items answer.point r → r.off.since.0 ≤ answer.stamp.0
+  pub off_since : (answer : Answer) (fits : Fits site panel done taken answer) (r : PointWatch) → r ≡ get_or decide.points.items answer.point r
+      → r.off.since.0 ≤ answer.stamp.0
   off_since answer fits r e =
       let w = watched answer.point fits.own in
       let same : r ≡ w.watch = read_is decide.points.items answer.point r w.watch e w.is_watch in
-      subst (λ (x : PointWatch). x.off.since.0 ≤ answer.stamp.0) (sym same) (subst (λ n. n ≤ answer.stamp.0) (sym w.watches.off.since) (set_in_by answer.stamp.0 (PointOff answer.point) done fits.since))
+      subst (λ (x : PointWatch). x.off.since.0 ≤ answer.stamp.0) (sym same)
+      (subst (λ n. n ≤ answer.stamp.0) (sym w.watches.off.since) (set_in_by answer.stamp.0 (PointOff answer.point) done fits.since))
 
-  pub zone_off_since : (answer : Answer) (fits : Fits site panel done taken answer) (r : PointWatch) (z : ZoneWatch) → r ≡ get_or decide.points.items answer.point r → z ≡ get_or decide.zones.items r.zone z → z.off.since.0 ≤ answer.stamp.0
+  pub zone_off_since : (answer : Answer) (fits : Fits site panel done taken answer) (r : PointWatch) (z : ZoneWatch)
+      → r ≡ get_or decide.points.items answer.point r → z ≡ get_or decide.zones.items r.zone z → z.off.since.0 ≤ answer.stamp.0
   zone_off_since answer fits r z e h =
       let w = watched answer.point fits.own in
       let same : z ≡ w.over = over_read answer.point fits.own r z e h in
-      subst (λ (x : ZoneWatch). x.off.since.0 ≤ answer.stamp.0) (sym same) (subst (λ n. n ≤ answer.stamp.0) (sym w.watches_zone.off.since) (set_in_by answer.stamp.0 (ZoneOff w.point.zone) done fits.since))
+      subst (λ (x : ZoneWatch). x.off.since.0 ≤ answer.stamp.0) (sym same)
+      (subst (λ n. n ≤ answer.stamp.0) (sym w.watches_zone.off.since) (set_in_by answer.stamp.0 (ZoneOff w.point.zone) done fits.since))
 
-  pub test_since : (answer : Answer) (fits : Fits site panel done taken answer) (r : PointWatch) (z : ZoneWatch) → r ≡ get_or decide.points.items answer.point r → z ≡ get_or decide.zones.items r.zone z → z.test.since.0 ≤ answer.stamp.0
+  pub test_since : (answer : Answer) (fits : Fits site panel done taken answer) (r : PointWatch) (z : ZoneWatch)
+      → r ≡ get_or decide.points.items answer.point r → z ≡ get_or decide.zones.items r.zone z → z.test.since.0 ≤ answer.stamp.0
   test_since answer fits r z e h =
       let w = watched answer.point fits.own in
       let same : z ≡ w.over = over_read answer.point fits.own r z e h in
-      subst (λ (x : ZoneWatch). x.test.since.0 ≤ answer.stamp.0) (sym same) (subst (λ n. n ≤ answer.stamp.0) (sym w.watches_zone.test.since) (set_in_by answer.stamp.0 (InTest w.point.zone) done fits.since))
+      subst (λ (x : ZoneWatch). x.test.since.0 ≤ answer.stamp.0) (sym same)
+      (subst (λ n. n ≤ answer.stamp.0) (sym w.watches_zone.test.since) (set_in_by answer.stamp.0 (InTest w.point.zone) done fits.since))
 
 -- an answer that may be taken fits
-pub fits_next : (site : Site) (kept : Retained) (panel : ℕ) (done : List Done) (taken : List Answer) (answer : Answer) → MayTake site panel done taken (answer ∷ []) → Fits site panel done taken answer
+pub fits_next : (site : Site) (kept : Retained) (panel : ℕ) (done : List Done) (taken : List Answer) (answer : Answer)
+    → MayTake site panel done taken (answer ∷ []) → Fits site panel done taken answer
 fits_next site kept panel done taken answer may = record {
   own = may.own 0 answer refl;
   since = may.since 0 answer refl;
-  late = λ k other at. may.order.rising k (length taken + 0) other answer (before k (get_small taken k other at)) (get_left taken (answer ∷ []) k other at) (get_right taken (answer ∷ []) 0 answer refl);
+  late =
+      λ k other at. may.order.rising k (length taken + 0) other answer (before k (get_small taken k other at))
+      (get_left taken (answer ∷ []) k other at) (get_right taken (answer ∷ []) 0 answer refl);
 }
   where
     before : (k : ℕ) → k < length taken → k ≤ length taken + 0
     before k less = omega (arith, less)
 
 pub can_see : (decide : Decide) (answer : Answer) → CanTake decide (answer ∷ []) → CanSee decide answer
-can_see decide answer can = record { site = can.site; kept = can.kept; panel = can.panel; done = can.done; taken = can.taken; stands = can.stands; fits = fits_next can.site can.kept can.panel can.done can.taken answer can.may }
+can_see decide answer can = record {
+  site = can.site;
+  kept = can.kept;
+  panel = can.panel;
+  done = can.done;
+  taken = can.taken;
+  stands =
+      can.stands;
+  fits = fits_next can.site can.kept can.panel can.done can.taken answer can.may;
+}

@@ -9,7 +9,7 @@ use Rattle.site_types.specs.declared.point.Point.{Point as PointPlan}
 use Rattle.site_types.specs.declared.zone.Zone.{Zone as ZonePlan}
 use Rattle.site_types.specs.declared.retained.Retained.{Retained}
 use Rattle.site_types.specs.Done.{kept_point, kept_zone, kept_test}
-use Rattle.coincidence.specs.declared.last_tick.LastTick.{LastTick}
+use Rattle.tick_units.specs.LastTicks.{last_if, never_done}
 use Rattle.coincidence.specs.declared.recent.Sighting.{Sighting}
 use Rattle.coincidence.specs.declared.recent.Recent.{Recent}
 use Rattle.coincidence.specs.declared.point_watch.PointWatch.{PointWatch}
@@ -21,16 +21,6 @@ switch_at x switch = if nat_lt switch.since.0 x then switch.now else switch.was
 
 abbrev pub switch_after : Bool → Tick → Switch → Switch
 switch_after value at switch = record { was = switch.now; now = value; since = at }
-
--- the latest tick before one that isn't before the latest of all
-abbrev pub last_at : ℕ → LastTick → ℕ
-last_at x last = if nat_lt last.tick.0 x then last.tick.0 else last.earlier.0
-
-abbrev pub last_after : Tick → LastTick → LastTick
-last_after at last = if nat_lt last.tick.0 at.0 then record { tick = at; earlier = last.tick } else last
-
-abbrev pub last_if : Bool → Tick → LastTick → LastTick
-last_if on at last = if on then last_after at last else last
 
 abbrev pub stamp_of : Option Sighting → Option Tick
 stamp_of None = None
@@ -49,7 +39,11 @@ other_after point None other = other
 other_after point (Some seen) other = if seen.point == point then other else Some seen
 
 abbrev pub noted : ℕ → Tick → Recent → Recent
-noted point stamp recent = record { latest = Some (record { point = point; stamp = stamp }); other = other_after point recent.latest recent.other }
+noted point stamp recent = record {
+  latest = Some (record { point = point; stamp = stamp });
+  other =
+      other_after point recent.latest recent.other;
+}
 
 -- how many of the last answers were silent, to three
 abbrev pub silent_then : Heard → ℕ → ℕ
@@ -57,20 +51,36 @@ silent_then Silent n = if nat_lt n 3 then n + 1 else n
 silent_then _ n = 0
 
 abbrev pub point_noted : Heard → Bool → Tick → Tick → PointWatch → PointWatch
-point_noted heard counted floor stamp watch = record watch { silent = silent_then heard watch.silent; run = run_then counted floor.0 stamp watch.run }
+point_noted heard counted floor stamp watch =
+    record watch { silent = silent_then heard watch.silent; run = run_then counted floor.0 stamp watch.run }
+
+-- a zone after it was disabled or enabled at a tick; a disabling moves its floor
+abbrev pub zone_switched : Bool → Tick → ZoneWatch → ZoneWatch
+zone_switched off at watch =
+    record watch { off = switch_after off at watch.off; moved = last_if off at watch.moved }
+
+-- a zone after its test began or ended at a tick; a test moves its floor
+abbrev pub zone_tested : Bool → Tick → ZoneWatch → ZoneWatch
+zone_tested on at watch =
+    record watch { test = switch_after on at watch.test; moved = last_if on at watch.moved }
 
 abbrev pub zone_noted : Bool → ℕ → Tick → ZoneWatch → ZoneWatch
-zone_noted pairs point stamp watch = if pairs then record watch { recent = noted point stamp watch.recent } else watch
+zone_noted pairs point stamp watch =
+    if pairs then record watch { recent = noted point stamp watch.recent } else watch
 
 -- what is kept at the start
 abbrev pub switch_begun : Bool → Switch
 switch_begun value = record { was = value; now = value; since = record { 0 = 0 } }
 
-abbrev pub last_begun : LastTick
-last_begun = record { tick = record { 0 = 0 }; earlier = record { 0 = 0 } }
-
 abbrev pub point_begun : PointPlan → Bool → PointWatch
-point_begun point off = record { zone = point.zone; manual = point.manual; off = switch_begun off; silent = 0; run = None }
+point_begun point off = record {
+  zone = point.zone;
+  manual = point.manual;
+  off = switch_begun off;
+  silent =
+      0;
+  run = None;
+}
 
 abbrev pub zone_begun : ZonePlan → Bool → Bool → ZoneWatch
 zone_begun zone off test =
@@ -80,8 +90,8 @@ zone_begun zone off test =
       partner = zone.partner;
       off = switch_begun off;
       test = switch_begun test;
-      moved = last_begun;
-      cancelled = last_begun;
+      moved = never_done;
+      cancelled = never_done;
       recent = record { latest = None; other = None };
     }
 

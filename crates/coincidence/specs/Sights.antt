@@ -15,7 +15,8 @@ use Rattle.coincidence.specs.declared.sight.Sight.{Sight}
 use Rattle.coincidence_rules.specs.Kept.{is_long, is_within, run_of, second_of}
 
 abbrev pub own_coincides : Rule → Sight → Bool
-own_coincides (A verify within) s = is_long verify s.floor.0 s.stamp.0 s.run || is_within within s.stamp.0 s.near
+own_coincides (A verify within) s = is_long verify s.floor.0 s.stamp.0 s.run
+    || is_within within s.stamp.0 s.near
 own_coincides (B within) s = is_within within s.stamp.0 s.near || is_within within s.stamp.0 s.far
 own_coincides _ s = true
 
@@ -40,21 +41,27 @@ second_by site kept done taken zone (Some z) answer = second_of site kept done t
 
 abbrev pub far_of : Site → Retained → List Done → List Answer → Option ℕ → Answer → Option Tick
 far_of site kept done taken None answer = None
-far_of site kept done taken (Some other) answer = second_by site kept done taken other (slice_get site.zones other) answer
+far_of site kept done taken (Some other) answer =
+    second_by site kept done taken other (slice_get site.zones other) answer
 
-pub record Sees (site : Site) (kept : Retained) (done : List Done) (taken : List Answer) (answer : Answer) (point : Point) (zone : Zone) (sight : Sight) : Type 0 where
+pub record Sees (site : Site) (kept : Retained) (done : List Done) (taken : List Answer) (answer : Answer)
+    (point : Point) (zone : Zone) (sight : Sight) : Type 0 where
   pub stamp : sight.stamp ≡ answer.stamp
   pub counted : sight.counted ≡ is_counted site kept done answer
   pub manual : sight.manual ≡ point.manual
-  pub run : sight.run ≡ run_of (is_counted site kept done) (λ x. floor_before site point.zone x done) answer.point None taken
+  pub run : sight.run ≡ run_of (is_counted site kept done) (λ x. floor_before site point.zone x done)
+      answer.point None taken
   pub floor : sight.floor.0 ≡ floor_before site point.zone answer.stamp.0 done
   pub near : sight.near ≡ second_of site kept done taken point.zone zone.rule answer
   pub far : sight.far ≡ far_of site kept done taken zone.partner answer
 
 abbrev pub partner_is : Option Zone → Sight → Beside → Type 0
 partner_is None sight beside = ⊥
-partner_is (Some y) sight beside = (beside.number ≡ y.number) × (beside.confirmed ≡ partner_confirmed y.rule sight) × (beside.released ≡ partner_released y.rule sight)
+partner_is (Some y) sight beside =
+    (beside.number ≡ y.number) × (beside.confirmed ≡ partner_confirmed y.rule sight)
+    × (beside.released ≡ partner_released y.rule sight)
 
 abbrev pub SeesBeside : Site → Zone → Option ℕ → Sight → Beside → Type 0
-SeesBeside site zone None sight beside = (beside.number ≡ zone.number) × (beside.confirmed ≡ false) × (beside.released ≡ false)
+SeesBeside site zone None sight beside = (beside.number ≡ zone.number) × (beside.confirmed ≡ false)
+    × (beside.released ≡ false)
 SeesBeside site zone (Some other) sight beside = partner_is (slice_get site.zones other) sight beside

@@ -1,5 +1,6 @@
 -- The part that decides stands for the operations done and the answers taken.
-use Rattle.std.specs.Prelude.{◌≡◌, ◌<◌, ◌≤◌, ℕ, Bool, true, false, List, [], ◌∷◌, Option, Some, None, length, slice_get, take, ◌==◌, ◌&&◌, nat_le, if◌then◌else◌}
+use Rattle.std.specs.Prelude.{◌≡◌, ◌<◌, ◌≤◌, ℕ, Bool, true, false, List, [], ◌∷◌, Option, Some, None, length}
+use Rattle.std.specs.Prelude.{slice_get, take, ◌==◌, ◌&&◌, nat_le, if◌then◌else◌}
 use Rattle.tick_units.specs.Lane.{LaneState, turn_count}
 use Rattle.tick_units.specs.declared.switch.Switch.{Switch}
 use Rattle.site_types.specs.declared.site.Site.{Site}
@@ -11,15 +12,16 @@ use Rattle.site_types.specs.declared.item.Item.{Item}
 use Rattle.site_types.specs.declared.item.Item.TheVariants.{Zone}
 use Rattle.site_types.specs.declared.operation.Operation.{Operation}
 use Rattle.site_types.specs.declared.operation.Operation.TheVariants.{Reset, Disable, Enable, Test}
-use Rattle.site_types.specs.Done.{Done, Setting, PointOff, ZoneOff, InTest, is_on, in_force, latest_before, floor_before, cancels, AreBy}
+use Rattle.site_types.specs.Done.{Done, Setting, PointOff, ZoneOff, InTest, is_on, in_force, floor_before, cancels}
+use Rattle.site_types.specs.Done.{AreBy}
+use Rattle.coincidence_rules.specs.Applied.{TellsLast}
 use Rattle.coincidence_rules.specs.Counted.{is_counted}
 use Rattle.coincidence_rules.specs.Missing.{latest_of, begins_silent}
 use Rattle.coincidence_rules.specs.InOrder.{AreInOrder}
-use Rattle.coincidence.specs.declared.last_tick.LastTick.{LastTick}
 use Rattle.coincidence.specs.declared.point_watch.PointWatch.{PointWatch}
 use Rattle.coincidence.specs.declared.zone_watch.ZoneWatch.{ZoneWatch}
 use Rattle.coincidence.specs.declared.decide.Decide.{Decide}
-use Rattle.coincidence.specs.Parts.{switch_at, last_at, besides}
+use Rattle.coincidence.specs.Parts.{switch_at, besides}
 use Rattle.coincidence_rules.specs.Kept.{latest_besides, run_of, may_pair}
 use Rattle.coincidence_rules.specs.Wired.{IsWired}
 use Rattle.coincidence.specs.Premises.{IsOwn, MayTake, MayApply}
@@ -47,24 +49,23 @@ set_in setting [] = 0
 set_in setting (d ∷ ds) = if is_on setting d then d.tick else set_in setting ds
 
 -- a switch tells a setting at each tick from its own on
-pub record TellsSetting (site : Site) (kept : Retained) (setting : Setting) (done : List Done) (switch : Switch) : Type 0 where
+pub record TellsSetting (site : Site) (kept : Retained) (setting : Setting) (done : List Done) (switch :
+    Switch) : Type 0 where
   pub at : (x : ℕ) → switch.since.0 ≤ x → in_force site kept setting x done ≡ switch_at x switch
   pub since : switch.since.0 ≡ set_in setting done
 
--- the latest tick of a kind of operations, at each tick from it on
-pub record TellsLast (test : Done → Bool) (done : List Done) (last : LastTick) : Type 0 where
-  pub at : (x : ℕ) → last.tick.0 ≤ x → latest_before test x done ≡ last_at x last
-  pub by : (x : ℕ) → AreBy x done → last.tick.0 ≤ x
-
-pub record WatchesPoint (site : Site) (kept : Retained) (done : List Done) (taken : List Answer) (place : ℕ) (point : PointPlan) (watch : PointWatch) : Type 0 where
+pub record WatchesPoint (site : Site) (kept : Retained) (done : List Done) (taken : List Answer) (place :
+    ℕ) (point : PointPlan) (watch : PointWatch) : Type 0 where
   pub zone : watch.zone ≡ point.zone
   pub manual : watch.manual ≡ point.manual
   pub off : TellsSetting site kept (PointOff place) done watch.off
   pub silent : (n : ℕ) → n ≤ 3 → begins_silent n (latest_of place taken) ≡ nat_le n watch.silent
   pub few : watch.silent ≤ 3
-  pub run : watch.run ≡ run_of (is_counted site kept done) (λ x. floor_before site point.zone x done) place None taken
+  pub run : watch.run ≡ run_of (is_counted site kept done) (λ x. floor_before site point.zone x done) place
+      None taken
 
-pub record WatchesZone (site : Site) (kept : Retained) (done : List Done) (taken : List Answer) (place : ℕ) (zone : ZonePlan) (watch : ZoneWatch) : Type 0 where
+pub record WatchesZone (site : Site) (kept : Retained) (done : List Done) (taken : List Answer) (place :
+    ℕ) (zone : ZonePlan) (watch : ZoneWatch) : Type 0 where
   pub number : watch.number ≡ zone.number
   pub rule : watch.rule ≡ zone.rule
   pub partner : watch.partner ≡ zone.partner
@@ -72,23 +73,30 @@ pub record WatchesZone (site : Site) (kept : Retained) (done : List Done) (taken
   pub test : TellsSetting site kept (InTest place) done watch.test
   pub moved : TellsLast (moves place) done watch.moved
   pub cancelled : TellsLast (cancels place) done watch.cancelled
-  pub recent : (point : ℕ) → besides point watch.recent ≡ latest_besides (may_pair site kept done place zone.rule) point None taken
+  pub recent : (point : ℕ)
+      → besides point watch.recent ≡ latest_besides (may_pair site kept done place zone.rule) point None taken
 
-pub record DecidesFor (site : Site) (kept : Retained) (panel : ℕ) (done : List Done) (taken : List Answer) (decide : Decide) : Type 0 where
+pub record DecidesFor (site : Site) (kept : Retained) (panel : ℕ) (done : List Done) (taken : List Answer)
+    (decide : Decide) : Type 0 where
   pub wired : IsWired site
   pub at : decide.panel ≡ panel
   pub point_count : length decide.points.items ≡ length site.points
   pub zone_count : length decide.zones.items ≡ length site.zones
-  pub points : (place : ℕ) (watch : PointWatch) (point : PointPlan) → slice_get decide.points.items place ≡ Some watch → slice_get site.points place ≡ Some point → point.panel ≡ panel
+  pub points : (place : ℕ) (watch : PointWatch) (point : PointPlan)
+      → slice_get decide.points.items place ≡ Some watch → slice_get site.points place ≡ Some point
+      → point.panel ≡ panel
       → WatchesPoint site kept done taken place point watch
-  pub zones : (place : ℕ) (watch : ZoneWatch) (zone : ZonePlan) → slice_get decide.zones.items place ≡ Some watch → slice_get site.zones place ≡ Some zone → zone.panel ≡ panel
+  pub zones : (place : ℕ) (watch : ZoneWatch) (zone : ZonePlan)
+      → slice_get decide.zones.items place ≡ Some watch → slice_get site.zones place ≡ Some zone
+      → zone.panel ≡ panel
       → WatchesZone site kept done taken place zone watch
   pub reset : TellsLast (resets panel) done decide.reset
   pub order : AreInOrder taken
   pub own : (k : ℕ) (answer : Answer) → slice_get taken k ≡ Some answer → IsOwn site panel answer.point
 
 -- an answer of the panel, not earlier than any answer taken nor than the tick of any operation done
-pub record Fits (site : Site) (panel : ℕ) (done : List Done) (taken : List Answer) (answer : Answer) : Type 0 where
+pub record Fits (site : Site) (panel : ℕ) (done : List Done) (taken : List Answer) (answer : Answer) :
+    Type 0 where
   pub own : IsOwn site panel answer.point
   pub since : AreBy answer.stamp.0 done
   pub late : (k : ℕ) (other : Answer) → slice_get taken k ≡ Some other → other.stamp.0 ≤ answer.stamp.0

@@ -8,7 +8,8 @@ use site_types::with_bit_32;
 pub fn two_bits(number: u8, on: bool, other: u8, also: bool) -> u32
     requires number { IsNumber number }
     requires other { IsNumber other }
-    ensures { (k : ℕ) → k < 32 → has_bit result k ≡ (if (k + 1) == number then on else (((k + 1) == other) && also)) }
+    ensures { (k : ℕ) → k < 32
+        → has_bit result k ≡ (if (k + 1) == number then on else (((k + 1) == other) && also)) }
 {
     with_bit_32(with_bit_32(0, other - 1, also), number - 1, on)
 }

@@ -1,16 +1,9 @@
-ghost use Rattle.std.specs.Prelude.{◌≡◌, ◌≢◌, ◌<◌, ◌≤◌, ◌+◌, ◌++◌, [], ◌∷◌, ℕ, List, Some, None, false, length, slice_get, take, IfOk};
-ghost use Rattle.site_types.specs.declared.site.Site.{Site as SitePlan};
-ghost use Rattle.site_types.specs.declared.point.Point.{Point as PointPlan};
-ghost use Rattle.site_types.specs.declared.zone.Zone.{Zone as ZonePlan};
-ghost use Rattle.site_types.specs.declared.answer.Answer.{Answer as Taken};
-ghost use Rattle.site_types.specs.declared.retained.Retained.{Retained as Kept};
-ghost use Rattle.site_types.specs.Done.{Done, floor_before, AreBy};
+ghost use Rattle.std.specs.Prelude.{◌≡◌, ◌<◌, ◌≤◌, [], ◌∷◌, false, length, IfOk};
 ghost use Rattle.site_types.specs.Valid.{IsValid};
-ghost use Rattle.tick_units.specs.Lane.{HasRoom, after_turn, with_put};
+ghost use Rattle.tick_units.specs.Lane.{HasRoom, after_turn};
 
 use crate::beside::Beside;
 use crate::bits::two_bits;
-use crate::last_tick::LastTick;
 use crate::point_watch::PointWatch;
 use crate::rules::{after, counts_unless, is_on, may_pair};
 use crate::sight::Sight;
@@ -20,12 +13,13 @@ use arrayvec::ArrayVec;
 use coincidence_rules::Finding;
 use site_types::{Answer, Heard, Item, Operation, Retained, Site};
 use std::alloc::Global;
-use tick_units::{Lane, NoMemory, Tick};
+use tick_units::{Lane, LastDone, NoMemory, Tick};
 
 /// Decides which answers of a panel's points confirm and release which of its zones.
 ///
-/// It has no list of answers. Of each point it keeps where its run of counted answers began and how many of its last answers were silent,
-/// of each zone the latest answers of two points, and of each setting one earlier value: that of the tick in which it was set.
+/// It has no list of answers. Of each point it keeps where its run of counted answers began and how many of
+/// its last answers were silent, of each zone the latest answers of two points, and of each setting one
+/// earlier value: that of the tick in which it was set.
 #[derive(Drop)]
 pub struct Decide {
     panel: u8,
@@ -34,16 +28,16 @@ pub struct Decide {
     /// By the zones' places in the site.
     zones: Vec<ZoneWatch>,
     /// The last reset of the panel.
-    reset: LastTick,
+    reset: LastDone,
 }
 
 impl Decide {
-    ghost use Rattle.coincidence_rules.specs.Counted.{is_alarm, is_counted};
-    ghost use Rattle.coincidence_rules.specs.Findings.{finding_among, finding_of, findings_after};
-    ghost use Rattle.coincidence_rules.specs.Kept.{second_of};
-    ghost use Rattle.coincidence.specs.Sights.{Sees, SeesBeside, far_of};
-    ghost use Rattle.coincidence.specs.Stands.{DecidesFor, WatchesZone, IsPlaceIn, IsOwnPartner, Fits, CanSee, CanTake, taken_by, CanApply, off_operation};
-    ghost use Rattle.coincidence.specs.Premises.{MayTake, MayApply};
+    ghost use Rattle.coincidence_rules.specs.Counted.{is_alarm};
+    ghost use Rattle.coincidence.specs.Changes.{AppliesOperation, FindsNext, PutsFindings, TakesAnswers};
+    ghost use Rattle.coincidence.specs.Observed.{FindsLast, SeesAnswer, TellsBeside, TellsCounted, TellsFar};
+    ghost use Rattle.coincidence.specs.Observed.{TellsFloor, TellsSecond};
+    ghost use Rattle.coincidence.specs.Stands.{DecidesFor, IsPlaceIn, CanSee, CanTake, taken_by, CanApply};
+    ghost use Rattle.coincidence.specs.Stands.{off_operation};
 
     /// Begins with what is kept of a panel's site.
     pub fn new(alloc: Global, site: &Site, panel: u8, kept: &Retained) -> Result<Decide, NoMemory>
@@ -56,7 +50,7 @@ impl Decide {
             panel,
             points,
             zones,
-            reset: LastTick::never(),
+            reset: LastDone::never(),
         })
     }
 
@@ -66,8 +60,8 @@ impl Decide {
         requires room { HasRoom findings.old 32 }
         requires may { CanTake self.old (taken_by answers.old) }
         ensures answers { answers.new ≡ after_turn answers.old }
-        ensures taken { (site : SitePlan) (kept : Kept) (panel : ℕ) (done : List Done) (taken : List Taken) → DecidesFor site kept panel done taken self.old → MayTake site panel done taken (taken_by answers.old) → DecidesFor site kept panel done (taken ++ taken_by answers.old) self.new }
-        ensures findings { (site : SitePlan) (kept : Kept) (panel : ℕ) (done : List Done) (taken : List Taken) → DecidesFor site kept panel done taken self.old → MayTake site panel done taken (taken_by answers.old) → findings.new ≡ with_put findings.old (findings_after site kept panel done taken (taken_by answers.old)) }
+        ensures taken { TakesAnswers self.old (taken_by answers.old) self.new }
+        ensures findings { PutsFindings self.old (taken_by answers.old) findings.old findings.new }
     {
         if answers.len() == 0 {
             return;
@@ -82,7 +76,7 @@ impl Decide {
     /// An operation of the panel was done in a tick, counted from 1. It is in force from the next tick on.
     pub fn apply(&mut self, operation: &Operation, at: Tick)
         requires { CanApply self.old operation.now at.0 }
-        ensures { (site : SitePlan) (kept : Kept) (panel : ℕ) (done : List Done) (taken : List Taken) → DecidesFor site kept panel done taken self.old → MayApply site panel done taken operation.now at.0 → DecidesFor site kept panel (record { tick = at.0; panel = panel; operation = operation.now } ∷ done) taken self.new }
+        ensures { AppliesOperation self.old operation.now at.0 self.new }
     {
         match *operation {
             Operation::Reset => self.reset.raise(at),
@@ -103,7 +97,7 @@ impl Decide {
     // A point, zone or output of the panel was disabled or enabled in a tick.
     fn set_off(&mut self, item: &Item, off: bool, at: Tick)
         requires { CanApply self.old (off_operation off item.now) at.0 }
-        ensures { (site : SitePlan) (kept : Kept) (panel : ℕ) (done : List Done) (taken : List Taken) → DecidesFor site kept panel done taken self.old → MayApply site panel done taken (off_operation off item.now) at.0 → DecidesFor site kept panel (record { tick = at.0; panel = panel; operation = off_operation off item.now } ∷ done) taken self.new }
+        ensures { AppliesOperation self.old (off_operation off item.now) at.0 self.new }
     {
         match *item {
             Item::Point(point) => self.points[point as usize].set_off(off, at),
@@ -115,8 +109,8 @@ impl Decide {
     // Takes an answer: what it means, by those taken up to it.
     fn take(&mut self, answer: &Answer) -> Finding
         requires { CanTake self.old (answer.now ∷ []) }
-        ensures taken { (site : SitePlan) (kept : Kept) (panel : ℕ) (done : List Done) (taken : List Taken) → DecidesFor site kept panel done taken self.old → MayTake site panel done taken (answer.now ∷ []) → DecidesFor site kept panel done (taken ++ answer.now ∷ []) self.new }
-        ensures found { (site : SitePlan) (kept : Kept) (panel : ℕ) (done : List Done) (taken : List Taken) → DecidesFor site kept panel done taken self.old → MayTake site panel done taken (answer.now ∷ []) → result ≡ finding_of site kept panel done taken answer.now }
+        ensures taken { TakesAnswers self.old (answer.now ∷ []) self.new }
+        ensures found { FindsNext self.old answer.now result }
     {
         self.note(answer);
         self.find(answer)
@@ -125,7 +119,7 @@ impl Decide {
     // Takes note of an answer.
     fn note(&mut self, answer: &Answer)
         requires { CanTake self.old (answer.now ∷ []) }
-        ensures { (site : SitePlan) (kept : Kept) (panel : ℕ) (done : List Done) (taken : List Taken) → DecidesFor site kept panel done taken self.old → MayTake site panel done taken (answer.now ∷ []) → DecidesFor site kept panel done (taken ++ answer.now ∷ []) self.new }
+        ensures { TakesAnswers self.old (answer.now ∷ []) self.new }
     {
         match answer.heard {
             Heard::Alarm => self.note_alarm(answer),
@@ -136,7 +130,8 @@ impl Decide {
     // The same of an answer that is no alarm: it ends the run of its point, and makes no pair.
     fn note_quiet(&mut self, answer: &Answer)
         requires { CanTake self.old (answer.now ∷ []) }
-        ensures { (site : SitePlan) (kept : Kept) (panel : ℕ) (done : List Done) (taken : List Taken) → DecidesFor site kept panel done taken self.old → MayTake site panel done taken (answer.now ∷ []) → is_alarm answer.now.heard ≡ false → DecidesFor site kept panel done (taken ++ answer.now ∷ []) self.new }
+        ensures { is_alarm answer.now.heard ≡ false
+            → TakesAnswers self.old (answer.now ∷ []) self.new }
     {
         let watch = &mut self.points[answer.point as usize];
         watch.note(answer.heard, false, Tick(0), answer.stamp);
@@ -145,7 +140,7 @@ impl Decide {
     // The same of an alarm.
     fn note_alarm(&mut self, answer: &Answer)
         requires { CanTake self.old (answer.now ∷ []) }
-        ensures { (site : SitePlan) (kept : Kept) (panel : ℕ) (done : List Done) (taken : List Taken) → DecidesFor site kept panel done taken self.old → MayTake site panel done taken (answer.now ∷ []) → DecidesFor site kept panel done (taken ++ answer.now ∷ []) self.new }
+        ensures { TakesAnswers self.old (answer.now ∷ []) self.new }
     {
         let counted = self.counts(answer);
         let place = answer.point as usize;
@@ -165,7 +160,7 @@ impl Decide {
     // What an answer means, which was the last one taken.
     fn find(&self, answer: &Answer) -> Finding
         requires { CanSee self.now answer.now }
-        ensures { (site : SitePlan) (kept : Kept) (panel : ℕ) (done : List Done) (taken : List Taken) → DecidesFor site kept panel done (taken ++ answer.now ∷ []) self.now → Fits site panel done (taken ++ answer.now ∷ []) answer.now → result ≡ finding_of site kept panel done taken answer.now }
+        ensures { FindsLast self.now answer.now result }
     {
         match answer.heard {
             Heard::Alarm => self.alarm_finding(answer),
@@ -176,7 +171,7 @@ impl Decide {
     // The same of an answer that is no alarm: it tells of no zone.
     fn quiet_finding(&self, answer: &Answer) -> Finding
         requires { CanSee self.now answer.now }
-        ensures { (site : SitePlan) (kept : Kept) (panel : ℕ) (done : List Done) (taken : List Taken) → DecidesFor site kept panel done (taken ++ answer.now ∷ []) self.now → Fits site panel done (taken ++ answer.now ∷ []) answer.now → is_alarm answer.now.heard ≡ false → result ≡ finding_of site kept panel done taken answer.now }
+        ensures { is_alarm answer.now.heard ≡ false → FindsLast self.now answer.now result }
     {
         let point = &self.points[answer.point as usize];
         Finding {
@@ -193,7 +188,7 @@ impl Decide {
     // The same of an alarm.
     fn alarm_finding(&self, answer: &Answer) -> Finding
         requires { CanSee self.now answer.now }
-        ensures { (site : SitePlan) (kept : Kept) (panel : ℕ) (done : List Done) (taken : List Taken) → DecidesFor site kept panel done (taken ++ answer.now ∷ []) self.now → Fits site panel done (taken ++ answer.now ∷ []) answer.now → result ≡ finding_of site kept panel done taken answer.now }
+        ensures { FindsLast self.now answer.now result }
     {
         let sight = self.sight(answer);
         let point = &self.points[answer.point as usize];
@@ -224,7 +219,7 @@ impl Decide {
     // All that is seen of an answer.
     fn sight(&self, answer: &Answer) -> Sight
         requires { CanSee self.now answer.now }
-        ensures { (site : SitePlan) (kept : Kept) (panel : ℕ) (done : List Done) (taken : List Taken) → DecidesFor site kept panel done taken self.now → Fits site panel done taken answer.now → (point : PointPlan) (zone : ZonePlan) → slice_get site.points answer.now.point ≡ Some point → slice_get site.zones point.zone ≡ Some zone → Sees site kept done taken answer.now point zone result }
+        ensures { SeesAnswer self.now answer.now result }
     {
         let point = &self.points[answer.point as usize];
         let place = point.zone as usize;
@@ -247,7 +242,7 @@ impl Decide {
     // Whether an answer counts.
     fn counts(&self, answer: &Answer) -> bool
         requires { CanSee self.now answer.now }
-        ensures { (site : SitePlan) (kept : Kept) (panel : ℕ) (done : List Done) (taken : List Taken) → DecidesFor site kept panel done taken self.now → Fits site panel done taken answer.now → result ≡ is_counted site kept done answer.now }
+        ensures { TellsCounted self.now answer.now result }
     {
         if !matches!(answer.heard, Heard::Alarm) {
             return false;
@@ -263,7 +258,7 @@ impl Decide {
     // The last floor of a zone before a tick, which isn't earlier than the operations done.
     fn floor_at(&self, zone: usize, x: Tick) -> Tick
         requires { zone < length self.now.zones.items }
-        ensures { (site : SitePlan) (kept : Kept) (panel : ℕ) (done : List Done) (taken : List Taken) → DecidesFor site kept panel done taken self.now → AreBy x.0 done → (plan : ZonePlan) → slice_get site.zones zone ≡ Some plan → plan.panel ≡ panel → result.0 ≡ floor_before site zone x.0 done }
+        ensures { TellsFloor self.now zone x.0 result.0 }
     {
         Tick(
             self.reset
@@ -276,7 +271,7 @@ impl Decide {
     // The latest answer of another point of a zone that makes a pair with this one.
     fn second(&self, zone: usize, answer: &Answer) -> Option<Tick>
         requires { zone < length self.now.zones.items }
-        ensures { (site : SitePlan) (kept : Kept) (panel : ℕ) (done : List Done) (taken : List Taken) → DecidesFor site kept panel done taken self.now → AreBy answer.now.stamp.0 done → (plan : ZonePlan) → slice_get site.zones zone ≡ Some plan → plan.panel ≡ panel → result ≡ second_of site kept done taken zone plan.rule answer.now }
+        ensures { TellsSecond self.now zone answer.now result }
     {
         let floor = self.floor_at(zone, answer.stamp);
         let watch = &self.zones[zone];
@@ -289,7 +284,7 @@ impl Decide {
     // The same for the partner of a zone.
     fn far(&self, partner: Option<u16>, answer: &Answer) -> Option<Tick>
         requires { IsPlaceIn partner (length self.now.zones.items) }
-        ensures { (site : SitePlan) (kept : Kept) (panel : ℕ) (done : List Done) (taken : List Taken) → DecidesFor site kept panel done taken self.now → AreBy answer.now.stamp.0 done → IsOwnPartner site panel partner → result ≡ far_of site kept done taken partner answer.now }
+        ensures { TellsFar self.now partner answer.now result }
     {
         match partner {
             None => None,
@@ -300,7 +295,7 @@ impl Decide {
     // What an answer means for the partner of its zone.
     fn beside(&self, zone: &ZoneWatch, sight: &Sight) -> Beside
         requires { IsPlaceIn zone.now.partner (length self.now.zones.items) }
-        ensures { (site : SitePlan) (kept : Kept) (panel : ℕ) (done : List Done) (taken : List Taken) → DecidesFor site kept panel done taken self.now → (place : ℕ) (plan : ZonePlan) → slice_get site.zones place ≡ Some plan → plan.panel ≡ panel → WatchesZone site kept done taken place plan zone.now → SeesBeside site plan plan.partner sight.now result }
+        ensures { TellsBeside self.now zone.now sight.now result }
     {
         match zone.partner {
             None => Beside {

@@ -1,24 +1,27 @@
-//! Decides what the answers of a panel's points mean for its zones: which answers count, which zones they confirm and release, and which
-//! points are missing.
+//! Decides what the answers of a panel's points mean for its zones: which answers count, which zones they
+//! confirm and release, and which points are missing.
 //!
-//! Begin with [`Decide`]. [`Decide::new`] makes it of a valid site and what is retained of it; [`Decide::turn`] takes the answers that lie in
-//! a lane, at most 32, and puts exactly one [`Finding`] for each, in order; [`Decide::apply`] takes an operation that was done at the panel,
-//! which is in force from the next tick on.
+//! Begin with [`Decide`]. [`Decide::new`] makes it of a valid site and what is retained of it;
+//! [`Decide::turn`] takes the answers that lie in a lane, at most 32, and puts exactly one [`Finding`] for
+//! each, in order; [`Decide::apply`] takes an operation that was done at the panel, which is in force from
+//! the next tick on.
 //!
-//! What a finding says is defined in `coincidence_rules`, over two lists alone: the answers taken, the oldest first, and the operations done,
-//! the newest first. Each clause here speaks of any two such lists that the object stands for, so it holds however the calls were mixed. The
-//! premises are those of specs/Premises: the answers are of the panel's points, their stamps never fall, no point answers twice in one tick,
-//! no answer is taken that is stamped before an operation done, and no operation is applied in a tick before an answer taken.
+//! What a finding says is defined in `coincidence_rules`, over two lists alone: the answers taken, the oldest
+//! first, and the operations done, the newest first. Each clause here speaks of any two such lists that the
+//! object stands for, so it holds however the calls were mixed. The premises are those of specs/Premises: the
+//! answers are of the panel's points, their stamps never fall, no point answers twice in one tick, no answer
+//! is taken that is stamped before an operation done, and no operation is applied in a tick before an answer
+//! taken.
 //!
-//! The answers and operations themselves are not kept. Of a zone's answers the latest of two different points are enough, since a later one
-//! always serves where an earlier one would; of a point's own answers where its run of counted ones began; of an operation its tick and the
-//! value before. So a turn costs the same for each answer, whatever the site, and takes no memory; only [`Decide::new`] does.
+//! The answers and operations themselves are not kept. Of a zone's answers the latest of two different points
+//! are enough, since a later one always serves where an earlier one would; of a point's own answers where its
+//! run of counted ones began; of an operation its tick and the value before. So a turn costs the same for
+//! each answer, whatever the site, and takes no memory; only [`Decide::new`] does.
 #![tactic(auto)]
 
 mod beside;
 mod bits;
 mod decide;
-mod last_tick;
 mod point_watch;
 mod recent;
 mod rules;

@@ -1,6 +1,7 @@
 ghost use Rattle.std.specs.Prelude.{◌≡◌, ◌&&◌, is_some};
 ghost use Rattle.coincidence_rules.specs.Kept.{is_long, is_within};
-ghost use Rattle.coincidence.specs.Sights.{own_coincides, own_confirmed, own_released, partner_confirmed, partner_released};
+ghost use Rattle.coincidence.specs.Sights.{own_coincides, own_confirmed, own_released, partner_confirmed};
+ghost use Rattle.coincidence.specs.Sights.{partner_released};
 
 use site_types::Rule;
 use tick_units::Tick;

@@ -18,7 +18,8 @@ pub fn watch_points(
     points: &[Point],
     kept: &Retained,
 ) -> Result<Vec<PointWatch>, NoMemory>
-    requires { (k : ℕ) (point : PointPlan) → slice_get points.now k ≡ Some point → IsPanelNumber point.panel × IsPlace point.line point.address }
+    requires { (k : ℕ) (point : PointPlan) → slice_get points.now k ≡ Some point
+        → IsPanelNumber point.panel × IsPlace point.line point.address }
     ensures { IfOk result (λ watches. watches.items ≡ map (point_from kept.now) points.now) }
 {
     let mut watches = Vec::new(alloc);
@@ -34,7 +35,8 @@ pub fn watch_zones(
     zones: &[Zone],
     kept: &Retained,
 ) -> Result<Vec<ZoneWatch>, NoMemory>
-    requires { (k : ℕ) (zone : ZonePlan) → slice_get zones.now k ≡ Some zone → IsPanelNumber zone.panel × IsNumber zone.number }
+    requires { (k : ℕ) (zone : ZonePlan) → slice_get zones.now k ≡ Some zone
+        → IsPanelNumber zone.panel × IsNumber zone.number }
     ensures { IfOk result (λ watches. watches.items ≡ map (zone_from kept.now) zones.now) }
 {
     let mut watches = Vec::new(alloc);

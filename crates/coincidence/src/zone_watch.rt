@@ -1,11 +1,11 @@
-ghost use Rattle.std.specs.Prelude.{◌≡◌, ◌<◌, ◌≤◌};
-ghost use Rattle.coincidence.specs.Parts.{zone_begun, zone_noted, switch_after, last_after, last_if, last_at};
+ghost use Rattle.std.specs.Prelude.{◌≡◌, ◌<◌};
+ghost use Rattle.coincidence.specs.Parts.{zone_begun, zone_noted, zone_switched, zone_tested};
+ghost use Rattle.tick_units.specs.LastTicks.{last_after, last_at};
 ghost use Rattle.coincidence_rules.specs.Kept.{bar};
 
-use crate::last_tick::LastTick;
 use crate::recent::Recent;
 use site_types::{Rule, Zone};
-use tick_units::{Switch, Tick};
+use tick_units::{LastDone, Switch, Tick};
 
 /// What is kept of a zone.
 #[derive(Clone, Copy)]
@@ -19,8 +19,8 @@ pub struct ZoneWatch {
     pub off: Switch,
     pub test: Switch,
     /// Its last disabling or test.
-    pub moved: LastTick,
-    pub cancelled: LastTick,
+    pub moved: LastDone,
+    pub cancelled: LastDone,
     /// Its latest answers that may make a pair with others.
     pub recent: Recent,
 }
@@ -36,8 +36,8 @@ impl ZoneWatch {
             partner: zone.partner,
             off: Switch::new(off),
             test: Switch::new(test),
-            moved: LastTick::never(),
-            cancelled: LastTick::never(),
+            moved: LastDone::never(),
+            cancelled: LastDone::never(),
             recent: Recent::none(),
         }
     }
@@ -63,7 +63,7 @@ impl ZoneWatch {
 
     pub fn set_off(&mut self, off: bool, at: Tick)
         requires { self.old.off.since.0 < at.0 }
-        ensures { self.new ≡ record self.old { off = switch_after off at self.old.off; moved = last_if off at self.old.moved } }
+        ensures { self.new ≡ zone_switched off at self.old }
     {
         self.off.set(off, at);
         if off {
@@ -73,7 +73,7 @@ impl ZoneWatch {
 
     pub fn set_test(&mut self, on: bool, at: Tick)
         requires { self.old.test.since.0 < at.0 }
-        ensures { self.new ≡ record self.old { test = switch_after on at self.old.test; moved = last_if on at self.old.moved } }
+        ensures { self.new ≡ zone_tested on at self.old }
     {
         self.test.set(on, at);
         if on {

@@ -1,5 +1,7 @@
 -- What is found answer by answer is what the definition says of all answers.
-use Rattle.std.proofs.Common.{◌≡◌, ◌≢◌, ◌⊎◌, inl, inr, ℕ, zero, suc, ◌<◌, ◌≤◌, Bool, true, false, not, List, [], ◌∷◌, ◌++◌, take, Option, Some, None, slice_get, ◌==◌, ◌&&◌, ◌||◌, nat_lt, nat_le, refl, sym, ◌∙◌, ap, subst, arith, append_assoc}
+use Rattle.std.proofs.Common.{◌≡◌, ◌≢◌, ◌⊎◌, inl, inr, ℕ, zero, suc, ◌<◌, ◌≤◌, Bool, true, false, not, List, [], ◌∷◌}
+use Rattle.std.proofs.Common.{◌++◌, take, Option, Some, None, slice_get, ◌==◌, ◌&&◌, ◌||◌, nat_lt, nat_le, refl, sym}
+use Rattle.std.proofs.Common.{◌∙◌, ap, subst, arith, append_assoc}
 use Rattle.std.specs.List.{list_any}
 use Rattle.std.proofs.lemmas.Bool.Decides.{nat_tests}
 use Rattle.site_types.specs.declared.site.Site.{Site}
@@ -11,8 +13,12 @@ use Rattle.coincidence_rules.specs.Places.{is_of, is_detector, partner_of, on_zo
 use Rattle.coincidence_rules.specs.Counted.{is_counted}
 use Rattle.coincidence_rules.specs.Confirmed.{is_second, is_near, is_uncancelled}
 use Rattle.coincidence_rules.specs.InOrder.{AreInOrder}
-use Rattle.coincidence_rules.specs.Found.{any_found}
 use Rattle.coincidence_rules.proofs.Lists.{and_both, both_and, or_either, or_left, or_right, any_place, place_any, take_get}
+
+-- some answer passes a test with those taken up to it, itself the last
+abbrev pub any_found : (List Answer → Answer → Bool) → List Answer → List Answer → Bool
+any_found test before [] = false
+any_found test before (answer ∷ answers) = test (before ++ answer ∷ []) answer || any_found test (before ++ answer ∷ []) answers
 
 -- an answer at a place, which passes a test with those up to it
 pub record Passes (test : List Answer → Answer → Bool) (answers : List Answer) : Type 0 where
@@ -26,7 +32,8 @@ found_from : (test : List Answer → Answer → Bool) (before xs : List Answer) 
 found_from test before [] h = cc
 found_from test before (x ∷ xs) h = elim (or_either (test (before ++ x ∷ []) x) (any_found test (before ++ x ∷ []) xs) h) [
   | inl here ↦ (0, x, refl, subst (λ l. test (before ++ x ∷ l) x ≡ true) (sym (none_taken xs)) here)
-  | inr later ↦ (let r = found_from test (before ++ x ∷ []) xs later in (suc r.0, r.1, r.2, subst (λ l. test l r.1 ≡ true) (joined before x (take (suc r.0) xs)) r.3))
+  | inr later ↦ (let r = found_from test (before ++ x ∷ []) xs later in
+      (suc r.0, r.1, r.2, subst (λ l. test l r.1 ≡ true) (joined before x (take (suc r.0) xs)) r.3))
 ]
   where
     none_taken : (ys : List Answer) → take 0 ys ≡ []
@@ -36,11 +43,13 @@ found_from test before (x ∷ xs) h = elim (or_either (test (before ++ x ∷ [])
     joined : (one : List Answer) (y : Answer) (more : List Answer) → (one ++ y ∷ []) ++ more ≡ one ++ y ∷ more
     joined one y more = rw append_assoc refl
 
-from_found : (test : List Answer → Answer → Bool) (before xs : List Answer) (k : ℕ) (a : Answer) → slice_get xs k ≡ Some a → test (before ++ take (suc k) xs) a ≡ true → any_found test before xs ≡ true
+from_found : (test : List Answer → Answer → Bool) (before xs : List Answer) (k : ℕ) (a : Answer) → slice_get xs k ≡ Some a
+    → test (before ++ take (suc k) xs) a ≡ true → any_found test before xs ≡ true
 from_found test before [] k a at h = cc
 from_found test before (x ∷ xs) zero a at h =
     let e : x ≡ a = cc in
-    or_left (test (before ++ x ∷ []) x) (any_found test (before ++ x ∷ []) xs) (subst (λ y. test (before ++ x ∷ []) y ≡ true) (sym e) (subst (λ l. test (before ++ x ∷ l) a ≡ true) (none_taken xs) h))
+    or_left (test (before ++ x ∷ []) x) (any_found test (before ++ x ∷ []) xs)
+    (subst (λ y. test (before ++ x ∷ []) y ≡ true) (sym e) (subst (λ l. test (before ++ x ∷ l) a ≡ true) (none_taken xs) h))
   where
     none_taken : (ys : List Answer) → take 0 ys ≡ []
     none_taken [] = refl
@@ -89,35 +98,46 @@ module _ (site : Site) (kept : Retained) (done : List Done) where
     pub has_other : second other ≡ true
 
   pub pair_from : (zone point : ℕ) (second : ℕ → Bool) → pairs_up site zone point second ≡ true → Pair zone point second
-  pair_from zone point second h = elim (or_either (is_of site zone point && (second zone || on_partner site zone second)) (on_partner site zone (λ z. is_of site z point) && second zone) h) [
-    | inl own ↦ (let both = and_both (is_of site zone point) (second zone || on_partner site zone second) own in elim (or_either (second zone) (on_partner site zone second) both.1) [
-      | inl near ↦ record { one = zone; other = zone; linked = inl (refl, refl); of_one = both.0; has_other = near }
-      | inr far ↦ (let z = on_zone_is second (partner_of (slice_get site.zones zone)) far in record { one = zone; other = z.0; linked = inr (inl (refl, z.1)); of_one = both.0; has_other = z.2 })
-    ])
-    | inr theirs ↦ (let both = and_both (on_partner site zone (λ z. is_of site z point)) (second zone) theirs in
-        let z = on_zone_is (λ y. is_of site y point) (partner_of (slice_get site.zones zone)) both.0 in
-        record { one = z.0; other = zone; linked = inr (inr (z.1, refl)); of_one = z.2; has_other = both.1 })
-  ]
+  pair_from zone point second h =
+      elim (or_either (is_of site zone point && (second zone || on_partner site zone second)) (on_partner site zone (λ z. is_of site z point)
+      && second zone) h) [
+        | inl own ↦ (let both = and_both (is_of site zone point) (second zone || on_partner site zone second) own in
+            elim (or_either (second zone) (on_partner site zone second) both.1) [
+              | inl near ↦ record { one = zone; other = zone; linked = inl (refl, refl); of_one = both.0; has_other = near }
+              | inr far ↦ (let z = on_zone_is second (partner_of (slice_get site.zones zone)) far in
+                  record { one = zone; other = z.0; linked = inr (inl (refl, z.1)); of_one = both.0; has_other = z.2 })
+            ])
+        | inr theirs ↦ (let both = and_both (on_partner site zone (λ z. is_of site z point)) (second zone) theirs in
+            let z = on_zone_is (λ y. is_of site y point) (partner_of (slice_get site.zones zone)) both.0 in
+            record { one = z.0; other = zone; linked = inr (inr (z.1, refl)); of_one = z.2; has_other = both.1 })
+      ]
 
-  pub from_link : (zone point one other : ℕ) (second : ℕ → Bool) → AreLinked zone one other → is_of site one point ≡ true → second other ≡ true → pairs_up site zone point second ≡ true
+  pub from_link : (zone point one other : ℕ) (second : ℕ → Bool) → AreLinked zone one other → is_of site one point ≡ true → second other ≡ true
+      → pairs_up site zone point second ≡ true
   from_link zone point one other second (inl both) of has =
-      or_left _ _ (both_and (is_of site zone point) (second zone || on_partner site zone second) (subst (λ z. is_of site z point ≡ true) both.0 of) (or_left (second zone) _ (subst (λ z. second z ≡ true) both.1 has)))
+      or_left _ _ (both_and (is_of site zone point) (second zone || on_partner site zone second) (subst (λ z. is_of site z point ≡ true) both.0 of)
+      (or_left (second zone) _ (subst (λ z. second z ≡ true) both.1 has)))
   from_link zone point one other second (inr (inl far)) of has =
-      or_left _ _ (both_and (is_of site zone point) (second zone || on_partner site zone second) (subst (λ z. is_of site z point ≡ true) far.0 of) (or_right (second zone) _ (is_on_zone second _ other far.1 has)))
+      or_left _ _ (both_and (is_of site zone point) (second zone || on_partner site zone second) (subst (λ z. is_of site z point ≡ true) far.0 of)
+      (or_right (second zone) _ (is_on_zone second _ other far.1 has)))
   from_link zone point one other second (inr (inr far)) of has =
       or_right (is_of site zone point && (second zone || on_partner site zone second)) _
-      (both_and (on_partner site zone (λ z. is_of site z point)) (second zone) (is_on_zone (λ y. is_of site y point) _ one far.0 of) (subst (λ z. second z ≡ true) far.1 has))
+      (both_and (on_partner site zone (λ z. is_of site z point)) (second zone) (is_on_zone (λ y. is_of site y point) _ one far.0 of)
+      (subst (λ z. second z ≡ true) far.1 has))
 
-  -- a test of pairs: what passes it is of the zone, counts, was not later, and is of another point; and of two answers of one stamp each passes with the other
+  -- a test of pairs: what passes it is of the zone, counts, was not later, and is of another point; and of
+  -- two answers of one stamp each passes with the other
   pub record IsPairing (fits : Answer → Bool) (test : ℕ → Answer → Answer → Bool) : Type 0 where
     pub of_zone : (zone : ℕ) (a o : Answer) → test zone a o ≡ true → is_of site zone o.point ≡ true
     pub fits_too : (zone : ℕ) (a o : Answer) → fits a ≡ true → test zone a o ≡ true → fits o ≡ true
     pub before : (zone : ℕ) (a o : Answer) → test zone a o ≡ true → o.stamp.0 ≤ a.stamp.0
     pub another : (zone : ℕ) (a o : Answer) → test zone a o ≡ true → o.point ≢ a.point
-    pub turned : (one other : ℕ) (a o : Answer) → a.stamp.0 ≡ o.stamp.0 → fits a ≡ true → is_of site one a.point ≡ true → test other a o ≡ true → test one o a ≡ true
+    pub turned : (one other : ℕ) (a o : Answer) → a.stamp.0 ≡ o.stamp.0 → fits a ≡ true → is_of site one a.point ≡ true → test other a o ≡ true
+        → test one o a ≡ true
 
   -- of a pair the one that stands later is found with the other
-  pub record Paired (fits : Answer → Bool) (test : ℕ → Answer → Answer → Bool) (links : ℕ → ℕ → Type 0) (answers : List Answer) (stamp : ℕ) : Type 0 where
+  pub record Paired (fits : Answer → Bool) (test : ℕ → Answer → Answer → Bool) (links : ℕ → ℕ → Type 0) (answers : List Answer) (stamp : ℕ) :
+      Type 0 where
     pub place : ℕ
     pub answer : Answer
     pub is : slice_get answers place ≡ Some answer
@@ -136,8 +156,10 @@ module _ (site : Site) (kept : Retained) (done : List Done) where
       either true e = inl (grind (arith, nat_tests, e))
       either false e = inr (grind (arith, nat_tests, e))
 
-  pub paired : (fits : Answer → Bool) (test : ℕ → Answer → Answer → Bool) (links : ℕ → ℕ → Type 0) → ((x y : ℕ) → links x y → links y x) → (answers : List Answer) (k : ℕ) (a : Answer) → IsPairing fits test → AreInOrder answers
-      → slice_get answers k ≡ Some a → fits a ≡ true → (one other : ℕ) → links one other → is_of site one a.point ≡ true → list_any (test other a) answers ≡ true → Paired fits test links answers a.stamp.0
+  pub paired : (fits : Answer → Bool) (test : ℕ → Answer → Answer → Bool) (links : ℕ → ℕ → Type 0) → ((x y : ℕ) → links x y → links y x)
+      → (answers : List Answer) (k : ℕ) (a : Answer) → IsPairing fits test → AreInOrder answers
+      → slice_get answers k ≡ Some a → fits a ≡ true → (one other : ℕ) → links one other → is_of site one a.point ≡ true
+      → list_any (test other a) answers ≡ true → Paired fits test links answers a.stamp.0
   paired fits test links turn answers k a pairing order is fit one other linked of has =
       let found = any_place (test other a) answers has in
       go found.0 found.1 found.2 found.3 (order_of found.0 k)
@@ -168,7 +190,9 @@ module _ (site : Site) (kept : Retained) (done : List Done) where
             other = one;
             linked = turn one other linked;
             of_one = pairing.of_zone other a o passes;
-            has_other = place_any (test one o) (take (suc j) answers) k a (take_get (suc j) k answers a (omega (arith, later)) is) (pairing.turned one other a o same fit of passes);
+            has_other =
+                place_any (test one o) (take (suc j) answers) k a (take_get (suc j) k answers a (omega (arith, later)) is)
+                (pairing.turned one other a o same fit of passes);
           }
 
   swapped : (p q : ℕ) → not (q == p) ≡ true → not (p == q) ≡ true
@@ -216,10 +240,18 @@ module _ (site : Site) (kept : Retained) (done : List Done) where
   cancel_lies : (zone x low : ℕ) → low < x → cancelled_before zone x done < x
   cancel_lies zone x low less = elim (latest_below (cancels zone) x done) [ inl below ↦ below | inr none ↦ omega (arith, less, none) ]
 
-  turn_second : (one other : ℕ) (a o : Answer) → a.stamp.0 ≡ o.stamp.0 → counted a ≡ true → is_of site one a.point ≡ true → Second other a o → Second one o a
+  turn_second : (one other : ℕ) (a o : Answer) → a.stamp.0 ≡ o.stamp.0 → counted a ≡ true → is_of site one a.point ≡ true → Second other a o
+      → Second one o a
   turn_second one other a o same counts of s =
       let here = floor_lies one o.stamp.0 (floor_before site other a.stamp.0 done) s.after in
-      record { of_zone = of; counts = counts; apart = swapped a.point o.point s.apart; after = omega (arith, here, same); before = omega (arith, same) }
+      record {
+        of_zone = of;
+        counts = counts;
+        apart = swapped a.point o.point s.apart;
+        after = omega (arith, here, same);
+        before =
+            omega (arith, same);
+      }
 
   pub pairing_second : IsPairing counted (λ zone a o. is_second site kept done zone a o)
   pairing_second = record {
@@ -239,7 +271,8 @@ module _ (site : Site) (kept : Retained) (done : List Done) where
       let left = and_both (is_second site kept done zone a o) _ both.0 in
       (second_from zone a o left.0, left.1)
 
-  from_near : (within zone : ℕ) (a o : Answer) → Second zone a o → is_detector site o.point ≡ true → a.stamp.0 ≤ o.stamp.0 → is_near site kept done within zone a o ≡ true
+  from_near : (within zone : ℕ) (a o : Answer) → Second zone a o → is_detector site o.point ≡ true → a.stamp.0 ≤ o.stamp.0
+      → is_near site kept done within zone a o ≡ true
   from_near within zone a o s detector le = both_and _ _ (both_and _ _ (from_second zone a o s) detector) (le_true _ _ (omega (arith, le)))
 
   pub pairing_near : (within : ℕ) → IsPairing detected (λ zone a o. is_near site kept done within zone a o)
@@ -256,12 +289,14 @@ module _ (site : Site) (kept : Retained) (done : List Done) where
   pub pairing_uncancelled : (within : ℕ) → IsPairing detected (λ zone a o. is_uncancelled site kept done within zone a o)
   pairing_uncancelled within = record {
     of_zone = λ zone a o h. (near_from within zone a o (and_both _ _ h).0).0.of_zone;
-    fits_too = λ zone a o fit h. both_and _ _ (near_from within zone a o (and_both _ _ h).0).0.counts (near_from within zone a o (and_both _ _ h).0).1;
+    fits_too =
+        λ zone a o fit h. both_and _ _ (near_from within zone a o (and_both _ _ h).0).0.counts (near_from within zone a o (and_both _ _ h).0).1;
     before = λ zone a o h. (near_from within zone a o (and_both _ _ h).0).0.before;
     another = λ zone a o h. not_same o.point a.point (near_from within zone a o (and_both _ _ h).0).0.apart;
     turned = λ one other a o same fit of h.
         let own = and_both (counted a) (is_detector site a.point) fit in
         let s = (near_from within other a o (and_both _ _ h).0).0 in
         let here = cancel_lies one o.stamp.0 (floor_before site other a.stamp.0 done) s.after in
-        both_and _ _ (from_near within one o a (turn_second one other a o same own.0 of s) own.1 (omega (arith, same))) (lt_true _ _ (omega (arith, here, same)));
+        both_and _ _ (from_near within one o a (turn_second one other a o same own.0 of s) own.1 (omega (arith, same)))
+        (lt_true _ _ (omega (arith, here, same)));
   }

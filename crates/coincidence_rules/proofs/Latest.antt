@@ -11,10 +11,18 @@ abbrev pub AreOrdered : ℕ → ℕ → List Answer → Type 0
 AreOrdered from last [] = from ≤ last
 AreOrdered from last (answer ∷ answers) = (from ≤ answer.stamp.0) × AreOrdered answer.stamp.0 last answers
 
-pub ordered : (from last : ℕ) (answers : List Answer) → from ≤ last → AreInOrder answers → ((k : ℕ) (a : Answer) → slice_get answers k ≡ Some a → (from ≤ a.stamp.0) × (a.stamp.0 ≤ last)) → AreOrdered from last answers
+pub ordered : (from last : ℕ) (answers : List Answer) → from ≤ last → AreInOrder answers
+    → ((k : ℕ) (a : Answer) → slice_get answers k ≡ Some a → (from ≤ a.stamp.0) × (a.stamp.0 ≤ last)) → AreOrdered from last answers
 ordered from last [] le o within = le
-ordered from last (x ∷ xs) le o within =
-    ((within 0 x refl).0, ordered x.stamp.0 last xs (within 0 x refl).1 (record { rising = λ i j a b l f g. o.rising (suc i) (suc j) a b (omega (arith, l)) f g; once = λ i j a b f g p s. suc_same i j (o.once (suc i) (suc j) a b f g p s) }) (λ k a at. (o.rising 0 (suc k) x a (omega arith) refl at, (within (suc k) a at).1)))
+ordered from last (x ∷ xs) le o within = (
+  (within 0 x refl).0,
+  ordered x.stamp.0 last xs (within 0 x refl).1 (record {
+    rising = λ i j a b l f g. o.rising (suc i) (suc j) a b (omega (arith, l)) f g;
+    once =
+        λ i j a b f g p s. suc_same i j (o.once (suc i) (suc j) a b f g p s);
+  })
+      (λ k a at. (o.rising 0 (suc k) x a (omega arith) refl at, (within (suc k) a at).1)),
+)
   where
     suc_same : (i j : ℕ) → suc i ≡ suc j → i ≡ j
     suc_same i j e = omega (arith, e)
@@ -39,13 +47,16 @@ ordered_last from last (x ∷ xs) h = omega (arith, h.0, ordered_last x.stamp.0 
 pub record Rises (last : ℕ) (test : Tick → Bool) : Type 0 where
   pub up : (x y : Tick) → x.0 ≤ y.0 → y.0 ≤ last → test x ≡ true → test y ≡ true
 
-on_up : (last : ℕ) (passes : Tick → Bool) (o : Option Tick) (stamp : Tick) → Rises last passes → IsBy o stamp.0 → stamp.0 ≤ last → on_stamp passes o ≡ true → passes stamp ≡ true
+on_up : (last : ℕ) (passes : Tick → Bool) (o : Option Tick) (stamp : Tick) → Rises last passes → IsBy o stamp.0 → stamp.0 ≤ last
+    → on_stamp passes o ≡ true → passes stamp ≡ true
 on_up last passes None stamp rises b le h = cc
 on_up last passes (Some first) stamp rises b le h = rises.up first stamp b le h
 
 -- the latest passes where one of them does
-pub latest_tells : (test : Answer → Bool) (point last from : ℕ) (passes : Tick → Bool) (o : Option Tick) (xs : List Answer) → Rises last passes → IsBy o from → AreOrdered from last xs
-    → on_stamp passes (latest_besides test point o xs) ≡ (on_stamp passes o || list_any (λ x. (test x && not (x.point == point)) && passes x.stamp) xs)
+pub latest_tells : (test : Answer → Bool) (point last from : ℕ) (passes : Tick → Bool) (o : Option Tick) (xs : List Answer) → Rises last passes
+    → IsBy o from → AreOrdered from last xs
+    → on_stamp passes (latest_besides test point o xs)
+    ≡ (on_stamp passes o || list_any (λ x. (test x && not (x.point == point)) && passes x.stamp) xs)
 latest_tells test point last from passes o [] rises b ordered = ends (on_stamp passes o)
   where
     ends : (a : Bool) → a ≡ (a || false)
@@ -63,14 +74,19 @@ latest_tells test point last from passes o (x ∷ xs) rises b ordered =
     joins false p r h = refl
 
     go : (t : Bool)
-        → on_stamp passes (latest_besides test point o xs) ≡ (on_stamp passes o || list_any (λ x. (test x && not (x.point == point)) && passes x.stamp) xs)
-        → on_stamp passes (latest_besides test point (Some x.stamp) xs) ≡ (passes x.stamp || list_any (λ x. (test x && not (x.point == point)) && passes x.stamp) xs)
+        → on_stamp passes (latest_besides test point o xs)
+        ≡ (on_stamp passes o || list_any (λ x. (test x && not (x.point == point)) && passes x.stamp) xs)
+        → on_stamp passes (latest_besides test point (Some x.stamp) xs)
+        ≡ (passes x.stamp || list_any (λ x. (test x && not (x.point == point)) && passes x.stamp) xs)
         → (on_stamp passes o ≡ true → passes x.stamp ≡ true)
-        → on_stamp passes (latest_besides test point (if t then Some x.stamp else o) xs) ≡ (on_stamp passes o || ((t && passes x.stamp) || list_any (λ x. (test x && not (x.point == point)) && passes x.stamp) xs))
-    go true same later up = later ∙ joins (on_stamp passes o) (passes x.stamp) (list_any (λ x. (test x && not (x.point == point)) && passes x.stamp) xs) up
+        → on_stamp passes (latest_besides test point (if t then Some x.stamp else o) xs)
+        ≡ (on_stamp passes o || ((t && passes x.stamp) || list_any (λ x. (test x && not (x.point == point)) && passes x.stamp) xs))
+    go true same later up =
+        later ∙ joins (on_stamp passes o) (passes x.stamp) (list_any (λ x. (test x && not (x.point == point)) && passes x.stamp) xs) up
     go false same later up = same
 
-pub within_after : (within x tick : ℕ) (o : Option Tick) → is_within within x (after tick o) ≡ on_stamp (λ s. nat_lt tick s.0 && nat_le x (s.0 + within)) o
+pub within_after : (within x tick : ℕ) (o : Option Tick)
+    → is_within within x (after tick o) ≡ on_stamp (λ s. nat_lt tick s.0 && nat_le x (s.0 + within)) o
 within_after within x tick None = refl
 within_after within x tick (Some s) = go (nat_lt tick s.0)
   where

@@ -9,3 +9,5 @@ pub mod ZoneMasks
 pub mod FoundFindings
 pub mod ValidWired
 pub mod Later
+pub mod LastDone
+pub mod ConfirmedStamps

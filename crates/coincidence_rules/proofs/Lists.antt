@@ -47,7 +47,9 @@ module _ {X : Type 0} where
   any_place test [] h = cc
   any_place test (x ∷ xs) h = go (test x) refl h (any_place test xs)
     where
-      go : (b : Bool) → test x ≡ b → (b || list_any test xs) ≡ true → (list_any test xs ≡ true → (k : ℕ) × (y : X) × (slice_get xs k ≡ Some y) × (test y ≡ true)) → (k : ℕ) × (y : X) × (slice_get (x ∷ xs) k ≡ Some y) × (test y ≡ true)
+      go : (b : Bool) → test x ≡ b → (b || list_any test xs) ≡ true
+          → (list_any test xs ≡ true → (k : ℕ) × (y : X) × (slice_get xs k ≡ Some y) × (test y ≡ true))
+          → (k : ℕ) × (y : X) × (slice_get (x ∷ xs) k ≡ Some y) × (test y ≡ true)
       go true e g f = (0, x, refl, e)
       go false e g f = let r = f g in (suc r.0, r.1, r.2, r.3)
 
@@ -106,7 +108,8 @@ module _ {X : Type 0} where
       behind n = omega arith
 
   -- an item of a joined list stands in one of the two
-  pub get_either : (xs ys : List X) (k : ℕ) (x : X) → slice_get (xs ++ ys) k ≡ Some x → (slice_get xs k ≡ Some x) ⊎ ((j : ℕ) × (k ≡ length xs + j) × (slice_get ys j ≡ Some x))
+  pub get_either : (xs ys : List X) (k : ℕ) (x : X) → slice_get (xs ++ ys) k ≡ Some x
+      → (slice_get xs k ≡ Some x) ⊎ ((j : ℕ) × (k ≡ length xs + j) × (slice_get ys j ≡ Some x))
   get_either [] ys k x h = inr (k, sym (zero-add k), h)
   get_either (y ∷ xs) ys zero x h = inl h
   get_either (y ∷ xs) ys (suc k) x h = elim (get_either xs ys k x h) [

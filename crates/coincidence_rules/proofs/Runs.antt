@@ -71,7 +71,8 @@ module _ (counted : Answer → Bool) (floor : ℕ → ℕ) (is_floor : IsFloor f
   base false = refl
 
   -- one answer more, by what its tests give
-  step : (p c l y a n : Bool) (f : Option Tick → Bool) (first next : Option Tick) → ((l && y) || n) ≡ f first → n ≡ f None → ((l && y) || ((a && l) || n)) ≡ f next
+  step : (p c l y a n : Bool) (f : Option Tick → Bool) (first next : Option Tick) → ((l && y) || n) ≡ f first → n ≡ f None
+      → ((l && y) || ((a && l) || n)) ≡ f next
       → (((if p then c && l else l) && y) || ((((p && c) && a) && l) || n)) ≡ f (if p then (if c then next else None) else first)
   step false c l y a n f first next other quiet counts = other
   step true false l y a n f first next other quiet counts = quiet
@@ -81,21 +82,30 @@ module _ (counted : Answer → Bool) (floor : ℕ → ℕ) (is_floor : IsFloor f
   counts_more : (from : ℕ) (x : Answer) (xs : List Answer) → from ≤ x.stamp.0 → x.stamp.0 ≤ last
       → ((next : Option Tick) → IsBy next x.stamp.0 → ((lasts xs && long next) || begins xs) ≡ long (run next xs))
       → (first : Option Tick) → IsBy first from
-      → ((lasts xs && long first) || ((is_long_at x.stamp.0 && lasts xs) || begins xs)) ≡ long (run (run_then true (floor x.stamp.0) x.stamp first) xs)
+      → ((lasts xs && long first) || ((is_long_at x.stamp.0 && lasts xs) || begins xs))
+      ≡ long (run (run_then true (floor x.stamp.0) x.stamp first) xs)
   counts_more from x xs le within rest None b = anew (lasts xs) false (is_long_at x.stamp.0) (begins xs) refl ∙ rest (Some x.stamp) (omega arith)
   counts_more from x xs le within rest (Some y) b = elim (lt_tells (floor x.stamp.0) y.0) [
-    | inl after ↦ rw after.0 (goes_on (lasts xs) (is_long_at y.0) (is_long_at x.stamp.0) (begins xs) (long_before y.0 x.stamp.0 (omega (arith, b, le)) within after.1) ∙ rest (Some y) (omega (arith, b, le)))
-    | inr before ↦ rw before.0 (anew (lasts xs) (is_long_at y.0) (is_long_at x.stamp.0) (begins xs) (long_not y.0 x.stamp.0 within before.1) ∙ rest (Some x.stamp) (omega arith))
+    | inl after ↦
+        rw after.0
+        (goes_on (lasts xs) (is_long_at y.0) (is_long_at x.stamp.0) (begins xs) (long_before y.0 x.stamp.0 (omega (arith, b, le)) within after.1) ∙
+        rest (Some y) (omega (arith, b, le)))
+    | inr before ↦
+        rw before.0 (anew (lasts xs) (is_long_at y.0) (is_long_at x.stamp.0) (begins xs) (long_not y.0 x.stamp.0 within before.1) ∙ rest
+        (Some x.stamp) (omega arith))
   ]
 
-  then_counts : (c : Bool) (stamp : Tick) (first : Option Tick) → (if c then run_then true (floor stamp.0) stamp first else None) ≡ run_then c (floor stamp.0) stamp first
+  then_counts : (c : Bool) (stamp : Tick) (first : Option Tick)
+      → (if c then run_then true (floor stamp.0) stamp first else None) ≡ run_then c (floor stamp.0) stamp first
   then_counts true stamp first = refl
   then_counts false stamp first = refl
 
-  runs : (from : ℕ) (first : Option Tick) (answers : List Answer) → IsBy first from → AreOrdered from last answers → ((lasts answers && long first) || begins answers) ≡ long (run first answers)
+  runs : (from : ℕ) (first : Option Tick) (answers : List Answer) → IsBy first from → AreOrdered from last answers
+      → ((lasts answers && long first) || begins answers) ≡ long (run first answers)
   runs from first [] by' order = base (long first)
   runs from first (x ∷ xs) by' order =
-      step (x.point == point) (counted x) (lasts xs) (long first) (is_long_at x.stamp.0) (begins xs) (λ o. long (run o xs)) first (run_then true (floor x.stamp.0) x.stamp first)
+      step (x.point == point) (counted x) (lasts xs) (long first) (is_long_at x.stamp.0) (begins xs) (λ o. long (run o xs)) first
+      (run_then true (floor x.stamp.0) x.stamp first)
       (runs x.stamp.0 first xs (by_later first from x.stamp.0 order.0 by') order.1)
       (sym (cut (lasts xs) (begins xs)) ∙ runs x.stamp.0 None xs tt order.1)
       (counts_more from x xs order.0 (ordered_last x.stamp.0 last xs order.1) (λ next b. runs x.stamp.0 next xs b order.1) first by')

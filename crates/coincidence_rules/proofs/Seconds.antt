@@ -40,7 +40,8 @@ rises_after last tick = record { up = λ x y le top h. go x.0 y.0 le h }
 as_near : (o s c d f l w : Bool) → l ≡ true → (((o && (c && (false || d))) && not s) && (f && w)) ≡ (((((o && c) && not s) && (f && l)) && d) && w)
 as_near o s c d f l w h = grind arith
 
-as_uncancelled : (o s c d f l w k : Bool) → l ≡ true → (((o && (c && (false || d))) && not s) && ((f && k) && w)) ≡ ((((((o && c) && not s) && (f && l)) && d) && w) && k)
+as_uncancelled : (o s c d f l w k : Bool) → l ≡ true
+    → (((o && (c && (false || d))) && not s) && ((f && k) && w)) ≡ ((((((o && c) && not s) && (f && l)) && d) && w) && k)
 as_uncancelled o s c d f l w k h = grind arith
 
 as_second : (o s c d f l : Bool) → l ≡ true → (((o && (c && (true || d))) && not s) && f) ≡ (((o && c) && not s) && (f && l))
@@ -50,34 +51,47 @@ after_both : (f c s : ℕ) → nat_lt (max f c) s ≡ (nat_lt f s && nat_lt c s)
 after_both f c s = grind (arith, nat_tests)
 
 -- type A: another detector of the zone, near enough
-pub near_by_second : (site : Site) (kept : Retained) (done : List Done) (taken : List Answer) (verify within zone : ℕ) (answer : Answer) → AreInOrder taken → AreUpTo answer.stamp.0 taken
-    → is_within within answer.stamp.0 (second_of site kept done taken zone (A verify within) answer) ≡ list_any (is_near site kept done within zone answer) taken
+pub near_by_second : (site : Site) (kept : Retained) (done : List Done) (taken : List Answer) (verify within zone : ℕ) (answer : Answer)
+    → AreInOrder taken → AreUpTo answer.stamp.0 taken
+    → is_within within answer.stamp.0 (second_of site kept done taken zone (A verify within) answer)
+    ≡ list_any (is_near site kept done within zone answer) taken
 near_by_second site kept done taken verify within zone answer order late =
     let x = answer.stamp.0 in
     let floor = floor_before site zone x done in
     within_after within x floor _
-    ∙ latest_tells (may_pair site kept done zone (A verify within)) answer.point x 0 (λ s. nat_lt floor s.0 && nat_le x (s.0 + within)) None taken (rises_near x floor within) tt (up_to x taken order late)
-    ∙ any_same _ _ taken (λ k a at. as_near (is_of site zone a.point) (a.point == answer.point) (is_counted site kept done a) (is_detector site a.point) (nat_lt floor a.stamp.0) (nat_le a.stamp.0 x) (nat_le x (a.stamp.0 + within)) (le_true a.stamp.0 x (late k a at)))
+    ∙ latest_tells (may_pair site kept done zone (A verify within)) answer.point x 0 (λ s. nat_lt floor s.0 && nat_le x (s.0 + within)) None taken
+    (rises_near x floor within) tt (up_to x taken order late)
+    ∙ any_same _ _ taken (λ k a at. as_near (is_of site zone a.point) (a.point == answer.point) (is_counted site kept done a)
+    (is_detector site a.point) (nat_lt floor a.stamp.0) (nat_le a.stamp.0 x) (nat_le x (a.stamp.0 + within)) (le_true a.stamp.0 x (late k a at)))
 
 -- type B: the same, which no cancelling undid
-pub uncancelled_by_second : (site : Site) (kept : Retained) (done : List Done) (taken : List Answer) (own within zone : ℕ) (answer : Answer) → AreInOrder taken → AreUpTo answer.stamp.0 taken
-    → is_within within answer.stamp.0 (second_of site kept done taken zone (B own) answer) ≡ list_any (is_uncancelled site kept done within zone answer) taken
+pub uncancelled_by_second : (site : Site) (kept : Retained) (done : List Done) (taken : List Answer) (own within zone : ℕ) (answer : Answer)
+    → AreInOrder taken → AreUpTo answer.stamp.0 taken
+    → is_within within answer.stamp.0 (second_of site kept done taken zone (B own) answer)
+    ≡ list_any (is_uncancelled site kept done within zone answer) taken
 uncancelled_by_second site kept done taken own within zone answer order late =
     let x = answer.stamp.0 in
     let floor = floor_before site zone x done in
     let cancelled = cancelled_before zone x done in
     within_after within x (max floor cancelled) _
-    ∙ latest_tells (may_pair site kept done zone (B own)) answer.point x 0 (λ s. nat_lt (max floor cancelled) s.0 && nat_le x (s.0 + within)) None taken (rises_near x (max floor cancelled) within) tt (up_to x taken order late)
+    ∙ latest_tells (may_pair site kept done zone (B own)) answer.point x 0 (λ s. nat_lt (max floor cancelled) s.0 && nat_le x (s.0 + within)) None
+    taken (rises_near x (max floor cancelled) within) tt (up_to x taken order late)
     ∙ any_same _ _ taken (λ k a at.
-    ap (λ b. may_pair site kept done zone (B own) a && not (a.point == answer.point) && (b && nat_le x (a.stamp.0 + within))) (after_both floor cancelled a.stamp.0)
-    ∙ as_uncancelled (is_of site zone a.point) (a.point == answer.point) (is_counted site kept done a) (is_detector site a.point) (nat_lt floor a.stamp.0) (nat_le a.stamp.0 x) (nat_le x (a.stamp.0 + within)) (nat_lt cancelled a.stamp.0) (le_true a.stamp.0 x (late k a at)))
+    ap (λ b. may_pair site kept done zone (B own) a && not (a.point == answer.point) && (b && nat_le x (a.stamp.0 + within)))
+    (after_both floor cancelled a.stamp.0)
+    ∙ as_uncancelled (is_of site zone a.point) (a.point == answer.point) (is_counted site kept done a) (is_detector site a.point)
+    (nat_lt floor a.stamp.0) (nat_le a.stamp.0 x) (nat_le x (a.stamp.0 + within)) (nat_lt cancelled a.stamp.0)
+    (le_true a.stamp.0 x (late k a at)))
 
 -- type C: another point of the zone, whenever it was
-pub any_by_second : (site : Site) (kept : Retained) (done : List Done) (taken : List Answer) (zone : ℕ) (answer : Answer) → AreInOrder taken → AreUpTo answer.stamp.0 taken
+pub any_by_second : (site : Site) (kept : Retained) (done : List Done) (taken : List Answer) (zone : ℕ) (answer : Answer) → AreInOrder taken
+    → AreUpTo answer.stamp.0 taken
     → is_some (second_of site kept done taken zone C answer) ≡ list_any (is_second site kept done zone answer) taken
 any_by_second site kept done taken zone answer order late =
     let x = answer.stamp.0 in
     let floor = floor_before site zone x done in
     some_after floor _
-    ∙ latest_tells (may_pair site kept done zone C) answer.point x 0 (λ s. nat_lt floor s.0) None taken (rises_after x floor) tt (up_to x taken order late)
-    ∙ any_same _ _ taken (λ k a at. as_second (is_of site zone a.point) (a.point == answer.point) (is_counted site kept done a) (is_detector site a.point) (nat_lt floor a.stamp.0) (nat_le a.stamp.0 x) (le_true a.stamp.0 x (late k a at)))
+    ∙ latest_tells (may_pair site kept done zone C) answer.point x 0 (λ s. nat_lt floor s.0) None taken (rises_after x floor) tt
+    (up_to x taken order late)
+    ∙ any_same _ _ taken (λ k a at. as_second (is_of site zone a.point) (a.point == answer.point) (is_counted site kept done a)
+    (is_detector site a.point) (nat_lt floor a.stamp.0) (nat_le a.stamp.0 x) (le_true a.stamp.0 x (late k a at)))

@@ -14,11 +14,13 @@ use Rattle.coincidence_rules.specs.Places.{on_zone, is_numbered, numbered, zones
 use Rattle.coincidence_rules.specs.Wired.{IsWired}
 use Rattle.coincidence_rules.proofs.Lists.{and_both, both_and, get_small}
 
-pub has_bit-zones : (site : Site) (panel : ℕ) (test : ℕ → Bool) (k : ℕ) → k < 32 → has_bit (zones_where site panel test) k ≡ on_zone test (numbered site panel (k + 1))
+pub has_bit-zones : (site : Site) (panel : ℕ) (test : ℕ → Bool) (k : ℕ) → k < 32
+    → has_bit (zones_where site panel test) k ≡ on_zone test (numbered site panel (k + 1))
 unfolding zones_where
 has_bit-zones site panel test k small = has_bit-mask 32 (λ j. on_zone test (numbered site panel (j + 1))) k small
 
-pub zones_from_bits : (site : Site) (panel : ℕ) (test : ℕ → Bool) (mask : ℕ) → mask < 2 ^ 32 → ((k : ℕ) → k < 32 → has_bit mask k ≡ on_zone test (numbered site panel (k + 1))) → mask ≡ zones_where site panel test
+pub zones_from_bits : (site : Site) (panel : ℕ) (test : ℕ → Bool) (mask : ℕ) → mask < 2 ^ 32
+    → ((k : ℕ) → k < 32 → has_bit mask k ≡ on_zone test (numbered site panel (k + 1))) → mask ≡ zones_where site panel test
 unfolding zones_where
 zones_from_bits site panel test mask below same = mask_from_bits 32 mask (λ j. on_zone test (numbered site panel (j + 1))) below same
 
@@ -26,7 +28,8 @@ eq_true : (a b : ℕ) → a ≡ b → (a == b) ≡ true
 eq_true a b h = grind (arith, nat_tests)
 
 -- a zone is found by its number
-pub numbered_of : (site : Site) (place : ℕ) (zone : Zone) → IsWired site → slice_get site.zones place ≡ Some zone → numbered site zone.panel zone.number ≡ Some place
+pub numbered_of : (site : Site) (place : ℕ) (zone : Zone) → IsWired site → slice_get site.zones place ≡ Some zone
+    → numbered site zone.panel zone.number ≡ Some place
 numbered_of site place zone wired is = found (position_or_len test site.zones) first small
   where
     test : Zone → Bool
@@ -39,7 +42,9 @@ numbered_of site place zone wired is = found (position_or_len test site.zones) f
     here = get_or_from_slice_get site.zones place zone zone is
 
     passes : test (get_or site.zones place zone) ≡ true
-    passes = ap test here ∙ both_and (zone.panel == zone.panel) (zone.number == zone.number) (eq_true zone.panel zone.panel refl) (eq_true zone.number zone.number refl)
+    passes =
+        ap test here ∙ both_and (zone.panel == zone.panel) (zone.number == zone.number) (eq_true zone.panel zone.panel refl)
+        (eq_true zone.number zone.number refl)
 
     only : (k : ℕ) → k < place → (b : Bool) → test (get_or site.zones k zone) ≡ b → b ≡ false
     only k less false e = refl
@@ -51,13 +56,15 @@ numbered_of site place zone wired is = found (position_or_len test site.zones) f
         absurd (omega (arith, one, less))
 
     first : position_or_len test site.zones ≡ place
-    first = position_or_len_is test site.zones place zone (omega (arith, small)) (λ k less. only k less (test (get_or site.zones k zone)) refl) (λ _. passes)
+    first = position_or_len_is test site.zones place zone (omega (arith, small)) (λ k less. only k less (test (get_or site.zones k zone)) refl)
+        (λ _. passes)
 
     lt_true : (a b : ℕ) → a < b → nat_lt a b ≡ true
     lt_true a b h = grind (arith, nat_tests)
 
     found : (n : ℕ) → n ≡ place → place < length site.zones → cond (nat_lt n (length site.zones)) (Some n) None ≡ Some place
-    found n e less = ap (λ m. cond (nat_lt m (length site.zones)) (Some m) None) e ∙ ap (λ b. cond b (Some place) None) (lt_true place (length site.zones) less)
+    found n e less =
+        ap (λ m. cond (nat_lt m (length site.zones)) (Some m) None) e ∙ ap (λ b. cond b (Some place) None) (lt_true place (length site.zones) less)
 
 -- and what is found by a number is the zone with it
 pub record HasNumber (site : Site) (panel number place : ℕ) : Type 0 where
@@ -70,15 +77,23 @@ pub of_numbered : (site : Site) (panel number place : ℕ) → numbered site pan
 of_numbered site panel number place h = go site.zones refl
   where
     go : (zones : List Zone) → site.zones ≡ zones → HasNumber site panel number place
-    go [] e = let none : position (is_numbered panel number) [] ≡ Some place = subst (λ l. position (is_numbered panel number) l ≡ Some place) e h in cc
+    go [] e = let none : position (is_numbered panel number) [] ≡ Some place = subst (λ l. position (is_numbered panel number) l ≡ Some place) e h in
+        cc
     go (z ∷ zs) e =
         let p = position-Some (is_numbered panel number) site.zones place z h in
         let zone = get_or site.zones place z in
         let both = and_both (zone.panel == panel) (zone.number == number) p.1 in
-        record { zone = zone; is = slice_get-get_or site.zones place z p.0; panel_is = eqb-true zone.panel panel both.0; number_is = eqb-true zone.number number both.1 }
+        record {
+          zone = zone;
+          is = slice_get-get_or site.zones place z p.0;
+          panel_is = eqb-true zone.panel panel both.0;
+          number_is =
+              eqb-true zone.number number both.1;
+        }
 
 -- the bit of a zone is its test
-pub has_bit-zone : (site : Site) (test : ℕ → Bool) (place : ℕ) (zone : Zone) → IsWired site → slice_get site.zones place ≡ Some zone → has_bit (zones_where site zone.panel test) (zone.number - 1) ≡ test place
+pub has_bit-zone : (site : Site) (test : ℕ → Bool) (place : ℕ) (zone : Zone) → IsWired site → slice_get site.zones place ≡ Some zone
+    → has_bit (zones_where site zone.panel test) (zone.number - 1) ≡ test place
 has_bit-zone site test place zone wired is =
     let number = (wired.zones place zone is).1 in
     has_bit-zones site zone.panel test (zone.number - 1) (omega (arith, number))

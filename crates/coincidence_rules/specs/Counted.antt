@@ -15,6 +15,8 @@ abbrev pub is_silent : Heard → Bool
 is_silent Silent = true
 is_silent _ = false
 
--- an answer counts where it is an alarm and, by the operations done before its stamp, neither its point nor the point's zone was disabled and the zone was not in test
+-- an answer counts where it is an alarm and, by the operations done before its stamp, neither its point nor
+-- the point's zone was disabled and the zone was not in test
 abbrev pub is_counted : Site → Retained → List Done → Answer → Bool
-is_counted site kept done answer = is_alarm answer.heard && not (is_blocked site kept done answer.point answer.stamp.0)
+is_counted site kept done answer =
+    is_alarm answer.heard && not (is_blocked site kept done answer.point answer.stamp.0)

@@ -1,5 +1,7 @@
--- What is enough to keep of the answers taken: of a point where its run of counted answers began, of a zone the latest answers of two points.
-use Rattle.std.specs.Prelude.{ℕ, Bool, true, false, not, max, List, [], ◌∷◌, Option, Some, None, ◌==◌, ◌&&◌, ◌||◌, nat_lt, nat_le, ◌+◌, if◌then◌else◌}
+-- What is enough to keep of the answers taken: of a point where its run of counted answers began, of a zone
+-- the latest answers of two points.
+use Rattle.std.specs.Prelude.{ℕ, Bool, true, false, not, max, List, [], ◌∷◌, Option, Some, None, ◌==◌, ◌&&◌, ◌||◌}
+use Rattle.std.specs.Prelude.{nat_lt, nat_le, ◌+◌, if◌then◌else◌}
 use Rattle.tick_units.specs.declared.tick.Tick.{Tick}
 use Rattle.site_types.specs.declared.site.Site.{Site}
 use Rattle.site_types.specs.declared.answer.Answer.{Answer}
@@ -13,7 +15,9 @@ use Rattle.coincidence_rules.specs.Counted.{is_counted}
 -- the stamp of the last answer, of another point than this one, that passes a test
 abbrev pub latest_besides : (Answer → Bool) → ℕ → Option Tick → List Answer → Option Tick
 latest_besides test point stamp [] = stamp
-latest_besides test point stamp (answer ∷ answers) = latest_besides test point (if test answer && not (answer.point == point) then Some answer.stamp else stamp) answers
+latest_besides test point stamp (answer ∷ answers) =
+    latest_besides test point (if test answer && not (answer.point == point) then Some answer.stamp else
+    stamp) answers
 
 -- where the run of counted answers began after one more: it begins anew after a floor
 abbrev pub run_then : Bool → ℕ → Tick → Option Tick → Option Tick
@@ -25,7 +29,8 @@ run_then true floor stamp (Some first) = if nat_lt floor first.0 then Some first
 abbrev pub run_of : (Answer → Bool) → (ℕ → ℕ) → ℕ → Option Tick → List Answer → Option Tick
 run_of counted floor point first [] = first
 run_of counted floor point first (answer ∷ answers) =
-    run_of counted floor point (if answer.point == point then run_then (counted answer) (floor answer.stamp.0) answer.stamp first else first) answers
+    run_of counted floor point (if answer.point == point then run_then (counted answer) (floor answer.stamp.0)
+    answer.stamp first else first) answers
 
 -- a run began after the floor and long enough before a stamp
 abbrev pub is_long : ℕ → ℕ → ℕ → Option Tick → Bool
@@ -36,9 +41,12 @@ abbrev pub is_type_C : Rule → Bool
 is_type_C C = true
 is_type_C _ = false
 
--- an answer of the zone may make a pair with another one: it counts, and is of a detector where the zone is not of type C
+-- an answer of the zone may make a pair with another one: it counts, and is of a detector where the zone is
+-- not of type C
 abbrev pub may_pair : Site → Retained → List Done → ℕ → Rule → Answer → Bool
-may_pair site kept done zone rule answer = is_of site zone answer.point && (is_counted site kept done answer && (is_type_C rule || is_detector site answer.point))
+may_pair site kept done zone rule answer =
+    is_of site zone answer.point
+    && (is_counted site kept done answer && (is_type_C rule || is_detector site answer.point))
 
 -- the tick after which an earlier answer must lie
 abbrev pub bar : Rule → ℕ → ℕ → ℕ
@@ -56,7 +64,8 @@ after tick (Some stamp) = if nat_lt tick stamp.0 then Some stamp else None
 -- the latest answer of the zone that makes a pair with this one
 abbrev pub second_of : Site → Retained → List Done → List Answer → ℕ → Rule → Answer → Option Tick
 second_of site kept done answers zone rule answer =
-    after (bar_before site done zone rule answer.stamp.0) (latest_besides (may_pair site kept done zone rule) answer.point None answers)
+    after (bar_before site done zone rule answer.stamp.0)
+    (latest_besides (may_pair site kept done zone rule) answer.point None answers)
 
 -- an earlier stamp, at most so many ticks before
 abbrev pub is_within : ℕ → ℕ → Option Tick → Bool

@@ -6,6 +6,7 @@ pub mod First
 pub mod Missing
 pub mod Findings
 pub mod InOrder
+pub mod Applied
 pub mod Kept
-pub mod Found
 pub mod Wired
+pub mod Laws

@@ -1,4 +1,5 @@
--- Which points are of a zone, which of them are detectors, and which zone is a zone's partner. Points and zones are places in the site's lists.
+-- Which points are of a zone, which of them are detectors, and which zone is a zone's partner. Points and
+-- zones are places in the site's lists.
 use Rattle.std.specs.Prelude.{ℕ, ◌+◌, Bool, false, not, Option, Some, None, slice_get, ◌==◌, ◌&&◌, ◌||◌}
 use Rattle.std.specs.List.{position}
 use Rattle.site_types.specs.declared.site.Site.{Site}
@@ -50,10 +51,12 @@ on_zone test (Some zone) = test zone
 abbrev pub on_partner : Site → ℕ → (ℕ → Bool) → Bool
 on_partner site zone test = on_zone test (partner_of (slice_get site.zones zone))
 
--- two points make a pair for a zone where both are of it, or one of it and one of its partner; the second of them is told by a test of its zone
+-- two points make a pair for a zone where both are of it, or one of it and one of its partner; the second of
+-- them is told by a test of its zone
 abbrev pub pairs_up : Site → ℕ → ℕ → (ℕ → Bool) → Bool
 pairs_up site zone point second =
-    (is_of site zone point && (second zone || on_partner site zone second)) || (on_partner site zone (λ other. is_of site other point) && second zone)
+    (is_of site zone point && (second zone || on_partner site zone second))
+    || (on_partner site zone (λ other. is_of site other point) && second zone)
 
 abbrev pub is_numbered : ℕ → ℕ → Zone → Bool
 is_numbered panel number z = (z.panel == panel) && (z.number == number)

@@ -17,8 +17,13 @@ pub record HasPartner (site : Site) (place : ℕ) (zone : Zone) (other : ℕ) : 
   pub apart : other ≢ place
 
 pub record IsWired (site : Site) : Type 0 where
-  pub points : (place : ℕ) (point : Point) → slice_get site.points place ≡ Some point → IsPanelNumber point.panel × IsPlace point.line point.address
-  pub zoned : (place : ℕ) (point : Point) → slice_get site.points place ≡ Some point → HasZone site point.panel point.zone
-  pub zones : (place : ℕ) (zone : Zone) → slice_get site.zones place ≡ Some zone → IsPanelNumber zone.panel × IsNumber zone.number
-  pub numbered : (i j : ℕ) (one other : Zone) → slice_get site.zones i ≡ Some one → slice_get site.zones j ≡ Some other → one.panel ≡ other.panel → one.number ≡ other.number → i ≡ j
-  pub partners : (place other : ℕ) (zone : Zone) → slice_get site.zones place ≡ Some zone → zone.partner ≡ Some other → HasPartner site place zone other
+  pub points : (place : ℕ) (point : Point) → slice_get site.points place ≡ Some point
+      → IsPanelNumber point.panel × IsPlace point.line point.address
+  pub zoned : (place : ℕ) (point : Point) → slice_get site.points place ≡ Some point
+      → HasZone site point.panel point.zone
+  pub zones : (place : ℕ) (zone : Zone) → slice_get site.zones place ≡ Some zone
+      → IsPanelNumber zone.panel × IsNumber zone.number
+  pub numbered : (i j : ℕ) (one other : Zone) → slice_get site.zones i ≡ Some one
+      → slice_get site.zones j ≡ Some other → one.panel ≡ other.panel → one.number ≡ other.number → i ≡ j
+  pub partners : (place other : ℕ) (zone : Zone) → slice_get site.zones place ≡ Some zone
+      → zone.partner ≡ Some other → HasPartner site place zone other

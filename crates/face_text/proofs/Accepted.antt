@@ -1,5 +1,7 @@
 -- What lines have told stays in form with each line that may stand there, and a text that goes so far may go on.
-use Rattle.std.proofs.Common.{◌≡◌, ◌≢◌, ◌∙◌, ◌⊎◌, ◌<◌, ◌-◌, ◌^◌, ◌++◌, ◌==◌, ◌&&◌, ◌||◌, ℕ, zero, suc, Bool, true, false, List, [], ◌∷◌, Option, Some, None, length, refl, sym, ap, subst, inl, inr, append_assoc, arith, set, if◌then◌else◌}
+use Rattle.std.proofs.Common.{◌≡◌, ◌≢◌, ◌∙◌, ◌⊎◌, ◌<◌, ◌-◌, ◌^◌, ◌++◌, ◌==◌, ◌&&◌, ◌||◌, ℕ, zero, suc, Bool, true}
+use Rattle.std.proofs.Common.{false, List, [], ◌∷◌, Option, Some, None, length, refl, sym, ap, subst, inl, inr}
+use Rattle.std.proofs.Common.{append_assoc, arith, set, if◌then◌else◌}
 use Rattle.std.specs.Prelude.{nat_le, nat_lt}
 use Rattle.std.specs.Option.{option_and_then}
 use Rattle.std.proofs.lemmas.Bool.{and_parts, eq-eqb, eqb-false, leb-true, lt-ltb, ltb-true, ne_eqb, not-true}
@@ -15,8 +17,8 @@ use Rattle.face_text.specs.declared.op_answer.OpAnswer.{OpAnswer}
 use Rattle.face_text.specs.declared.timeline.Timeline.{Timeline}
 use Rattle.face_text.specs.Answers.{answers_text}
 use Rattle.face_text.specs.Entries.{IsEntry, entry_line, rank_of, slot_of, value_of}
-use Rattle.face_text.specs.Reading.{IsRead, MayGoOn, Told, comes_next, entries_text, face_at, is_in_tick, is_news, may_close, no_answers, opened_by, steps_by, timeline_told, told_after, told_next, told_text}
-use Rattle.face_text.specs.ReadSoFar.{AreEntries}
+use Rattle.face_text.specs.Reading.{IsRead, MayGoOn, Told, comes_next, face_at, is_in_tick, is_news, may_close, no_answers, opened_by, steps_by, timeline_told, told_next}
+use Rattle.face_text.proofs.ReadSoFar.{AreEntries, entries_text, told_after, told_text}
 use Rattle.face_text.specs.Slots.{value_in}
 use Rattle.face_text.specs.Telling.{face_told}
 use Rattle.face_text.specs.Timelines.{empty_faces, end_line, faces_text, opening_line, steps_text, tick_line}
@@ -42,12 +44,21 @@ grown_told :
     → IsNextTold site told (record { opened = told.opened; steps = told.steps; tick = told.tick; faces = faces; answers = answers; rank = rank }) line
 grown_told site told faces answers rank line form next unanswered =
     let after : Told = record { opened = told.opened; steps = told.steps; tick = told.tick; faces = faces; answers = answers; rank = rank } in
-    let is : IsToldForm site after = record { block = next.block; small = form.small; unanswered = unanswered; no_steps = form.no_steps; opened = form.opened; steps = form.steps } in
+    let is : IsToldForm site after = record {
+      block = next.block;
+      small = form.small;
+      unanswered = unanswered;
+      no_steps = form.no_steps;
+      opened =
+          form.opened;
+      steps = form.steps;
+    } in
     record {
       form = is;
       text =
           told_text_is site after is ∙ ap (λ t. head_text site told ++ t) next.text
-          ∙ sym (append_assoc (head_text site told) (block_text site (befores_of site told) told.faces told.answers) line) ∙ ap (λ t. t ++ line) (sym (told_text_is site told form));
+          ∙ sym (append_assoc (head_text site told) (block_text site (befores_of site told) told.faces told.answers) line) ∙ ap (λ t. t ++ line)
+          (sym (told_text_is site told form));
     }
 
 change_next :
@@ -57,16 +68,19 @@ change_next site valid told next panel change form is taken =
     let p = if_taken (comes_next told (ChangeEntry panel change) && is_news told panel change) _ next taken in
     let tests = and_parts (comes_next told (ChangeEntry panel change)) (is_news told panel change) p.0 in
     let less : told.rank < rank_of (ChangeEntry panel change) = ltb-true told.rank (rank_of (ChangeEntry panel change)) tests.0 in
-    let news : value_in (face_at told.faces panel) (slot_of change) ≢ value_of change = eqb-false (value_in (face_at told.faces panel) (slot_of change)) (value_of change) (not-true _ tests.1) in
+    let news : value_in (face_at told.faces panel) (slot_of change) ≢ value_of change =
+    eqb-false (value_in (face_at told.faces panel) (slot_of change)) (value_of change) (not-true _ tests.1) in
     let block = change_block site valid told.rank (befores_of site told) told.faces told.answers panel change form.block is less news in
     subst (λ (t : Told). IsNextTold site told t (entry_line site (ChangeEntry panel change))) p.1
-    (grown_told site told (set told.faces (panel - 1) (face_told (face_at told.faces panel) change)) told.answers (rank_of (ChangeEntry panel change)) (entry_line site (ChangeEntry panel change)) form block form.unanswered)
+    (grown_told site told (set told.faces (panel - 1) (face_told (face_at told.faces panel) change)) told.answers (rank_of (ChangeEntry panel change))
+    (entry_line site (ChangeEntry panel change)) form block form.unanswered)
 
 in_tick : (told : Told) → is_in_tick told ≡ true → (answers : Answers) → told.tick.0 ≡ 0 → answers_text answers ≡ []
 in_tick told is answers none = absurd (omega (arith, none, ltb-true 0 told.tick.0 is))
 
 answer_next :
-    (site : Site) → IsValid site → (told next : Told) (answer : OpAnswer) → IsToldForm site told → IsEntry site (AnswerEntry answer) → told_next told (AnswerEntry answer) ≡ Some next
+    (site : Site) → IsValid site → (told next : Told) (answer : OpAnswer) → IsToldForm site told → IsEntry site (AnswerEntry answer)
+    → told_next told (AnswerEntry answer) ≡ Some next
     → IsNextTold site told next (entry_line site (AnswerEntry answer))
 answer_next site valid told next answer form is taken =
     let p = if_taken (is_in_tick told && comes_next told (AnswerEntry answer) && nat_lt (length told.answers.ops) 64) _ next taken in
@@ -77,7 +91,8 @@ answer_next site valid told next answer form is taken =
     let answers : Answers = record told.answers { ops = told.answers.ops ++ answer ∷ [] } in
     let block = answer_block site valid told.rank (befores_of site told) told.faces told.answers answer form.block is less room in
     subst (λ (t : Told). IsNextTold site told t (entry_line site (AnswerEntry answer))) p.1
-    (grown_told site told told.faces answers (rank_of (AnswerEntry answer)) (entry_line site (AnswerEntry answer)) form block (in_tick told first.0 answers))
+    (grown_told site told told.faces answers (rank_of (AnswerEntry answer)) (entry_line site (AnswerEntry answer)) form block
+    (in_tick told first.0 answers))
 
 busy_next :
     (site : Site) → IsValid site → (told next : Told) (panel count : ℕ) → IsToldForm site told → IsEntry site (BusyEntry panel count)
@@ -89,10 +104,12 @@ busy_next site valid told next panel count form is taken =
     let answers : Answers = record told.answers { busy = set told.answers.busy (panel - 1) count } in
     let block = busy_block site valid told.rank (befores_of site told) told.faces told.answers panel count form.block is less in
     subst (λ (t : Told). IsNextTold site told t (entry_line site (BusyEntry panel count))) p.1
-    (grown_told site told told.faces answers (rank_of (BusyEntry panel count)) (entry_line site (BusyEntry panel count)) form block (in_tick told first.0 answers))
+    (grown_told site told told.faces answers (rank_of (BusyEntry panel count)) (entry_line site (BusyEntry panel count)) form block
+    (in_tick told first.0 answers))
 
 failed_next :
-    (site : Site) → IsValid site → (told next : Told) → IsToldForm site told → told_next told StoreFailed ≡ Some next → IsNextTold site told next (entry_line site StoreFailed)
+    (site : Site) → IsValid site → (told next : Told) → IsToldForm site told → told_next told StoreFailed ≡ Some next
+    → IsNextTold site told next (entry_line site StoreFailed)
 failed_next site valid told next form taken =
     let p = if_taken (is_in_tick told && comes_next told StoreFailed) _ next taken in
     let first = and_parts (is_in_tick told) (comes_next told StoreFailed) p.0 in
@@ -105,7 +122,8 @@ failed_next site valid told next form taken =
 -- ---- a tick
 
 tick_next :
-    (site : Site) (told next : Told) (tick : Tick) → IsToldForm site told → IsEntry site (TickEntry tick) → told_next told (TickEntry tick) ≡ Some next
+    (site : Site) (told next : Told) (tick : Tick) → IsToldForm site told → IsEntry site (TickEntry tick)
+    → told_next told (TickEntry tick) ≡ Some next
     → IsNextTold site told next (entry_line site (TickEntry tick))
 tick_next site told next tick form is taken =
     let p = if_taken (may_close told && nat_lt told.tick.0 tick.0) _ next taken in
@@ -117,20 +135,28 @@ tick_next site told next tick form is taken =
     let before : befores_of site after ≡ told.faces = rw e shut.behind in
     let in_form : IsToldForm site after =
     record {
-      block = subst (λ (faces : List Face). IsBlock site 0 faces told.faces no_answers) (sym before) (untold_block site told.faces (told_faces_are site told form));
+      block =
+          subst (λ (faces : List Face). IsBlock site 0 faces told.faces no_answers) (sym before)
+          (untold_block site told.faces (told_faces_are site told form));
       small = is;
       unanswered = λ z. no_answers_text site;
       no_steps = λ z. absurd (omega (arith, z, less));
       opened = λ some. shut.opened;
       steps = λ some. shut.steps;
     } in
-    let silent : block_text site (befores_of site after) told.faces no_answers ≡ [] = rw before (rw (same_faces_no_text site told.faces, no_answers_text site) refl) in
+    let silent : block_text site (befores_of site after) told.faces no_answers ≡ [] =
+    rw before (rw (same_faces_no_text site told.faces, no_answers_text site) refl) in
     let head : head_text site after ≡ told_text site told ++ tick_line tick.0 =
     rw e
-    (regroup (opening_line site) (faces_text site (empty_faces site) (opened_by told)) (steps_text site (opened_by told) (steps_by told)) (tick_line tick.0)
+    (regroup (opening_line site) (faces_text site (empty_faces site) (opened_by told)) (steps_text site (opened_by told) (steps_by told))
+    (tick_line tick.0)
     ∙ ap (λ t. t ++ tick_line tick.0) shut.text) in
     subst (λ (t : Told). IsNextTold site told t (entry_line site (TickEntry tick))) p.1
-    (record { form = in_form; text = told_text_is site after in_form ∙ ap (λ t. head_text site after ++ t) silent ∙ append-nil (head_text site after) ∙ head })
+    (record {
+      form = in_form;
+      text =
+          told_text_is site after in_form ∙ ap (λ t. head_text site after ++ t) silent ∙ append-nil (head_text site after) ∙ head;
+    })
   where
     regroup : (a b c d : List ℕ) → a ++ ((b ++ c) ++ d) ≡ ((a ++ b) ++ c) ++ d
     regroup a b c d = simp append_assoc
@@ -147,10 +173,12 @@ next_told site valid told next StoreFailed form is taken = failed_next site vali
 next_told site valid told next (TickEntry tick) form is taken = tick_next site told next tick form is taken
 next_told site valid told next (EndEntry tick) form is taken = cc
 
-pub after_more : (told next : Told) (entry : Entry) (entries : List Entry) → told_after told (entry ∷ entries) ≡ Some next → (one : Told) × (told_next told entry ≡ Some one) × (told_after one entries ≡ Some next)
+pub after_more : (told next : Told) (entry : Entry) (entries : List Entry) → told_after told (entry ∷ entries) ≡ Some next
+    → (one : Told) × (told_next told entry ≡ Some one) × (told_after one entries ≡ Some next)
 after_more told next entry entries taken = by (told_next told entry) refl taken
   where
-    by : (step : Option Told) → told_next told entry ≡ step → option_and_then (λ one. told_after one entries) step ≡ Some next → (one : Told) × (told_next told entry ≡ Some one) × (told_after one entries ≡ Some next)
+    by : (step : Option Told) → told_next told entry ≡ step → option_and_then (λ one. told_after one entries) step ≡ Some next
+        → (one : Told) × (told_next told entry ≡ Some one) × (told_after one entries ≡ Some next)
     by None e taken = cc
     by (Some one) e taken = (one, e, taken)
 
@@ -166,13 +194,16 @@ all_told site valid told next (entry ∷ entries) form are taken =
     let rest = all_told site valid p.0 next entries first.form are.1 p.2 in
     record {
       form = rest.form;
-      text = rest.text ∙ ap (λ t. t ++ entries_text site entries) first.text ∙ append_assoc (told_text site told) (entry_line site entry) (entries_text site entries);
+      text =
+          rest.text ∙ ap (λ t. t ++ entries_text site entries) first.text ∙ append_assoc (told_text site told) (entry_line site entry)
+          (entries_text site entries);
     }
 
 -- ---- the end
 
 -- a timeline that is told, with the last line
-pub ended_told : (site : Site) (told : Told) (last : Tick) (timeline : Timeline) → IsToldForm site told → last.0 < 2 ^ 64 → timeline_told told last ≡ Some timeline →
+pub ended_told : (site : Site) (told : Told) (last : Tick) (timeline : Timeline) → IsToldForm site told → last.0 < 2 ^ 64
+    → timeline_told told last ≡ Some timeline →
     IsRead site (told_text site told ++ end_line last.0) timeline
 ended_told site told last timeline form small taken =
     let p = if_taken (may_close told && nat_le told.tick.0 last.0) _ timeline taken in
@@ -209,15 +240,25 @@ pub or_first : (a b : Bool) → a ≡ true → (a || b) ≡ true
 or_first a b e = rw e refl
 
 -- in the block of a tick that has no line yet, that Keep's turn failed may be the first
-failure_goes_on : (site : Site) → IsValid site → (told : Told) → IsToldForm site told → 0 < told.tick.0 → told.rank ≡ 0 → MayGoOn site (told_text site told)
+failure_goes_on : (site : Site) → IsValid site → (told : Told) → IsToldForm site told → 0 < told.tick.0 → told.rank ≡ 0
+    → MayGoOn site (told_text site told)
 failure_goes_on site valid told form some unranked =
     let after : Told =
-    record { opened = told.opened; steps = told.steps; tick = told.tick; faces = told.faces; answers = record told.answers { failed = true }; rank = rank_of StoreFailed } in
+    record {
+      opened = told.opened;
+      steps = told.steps;
+      tick = told.tick;
+      faces = told.faces;
+      answers = record told.answers { failed = true };
+      rank =
+          rank_of StoreFailed;
+    } in
     let ticking : nat_lt 0 told.tick.0 ≡ true = lt-ltb 0 told.tick.0 some in
     let first : nat_lt told.rank (rank_of StoreFailed) ≡ true = lt-ltb told.rank (rank_of StoreFailed) (omega (arith, unranked)) in
     let taken : told_next told StoreFailed ≡ Some after = rw (ticking, first) refl in
     let one = failed_next site valid told after form taken in
-    let shut : MayGoOn site (told_text site after) = closed_goes_on site after one.form (or_second (told.tick.0 == 0) (nat_lt 0 (rank_of StoreFailed)) refl) in
+    let shut : MayGoOn site (told_text site after) =
+    closed_goes_on site after one.form (or_second (told.tick.0 == 0) (nat_lt 0 (rank_of StoreFailed)) refl) in
     goes_on_before site (told_text site told) (entry_line site StoreFailed) (subst (MayGoOn site) one.text shut)
 
 pub goes_on : (site : Site) → IsValid site → (told : Told) → IsToldForm site told → MayGoOn site (told_text site told)

@@ -15,7 +15,8 @@ pub busy_next : (busy : List ℕ) (place : ℕ) (text : List ℕ) → text ≡ b
     flat_map (line_at busy) (range_with_len 1 (place + 1)) ≡ flat_map (line_at busy) (range_with_len 1 place) ++ text
 busy_next busy place text is =
     let same : place + 1 - 1 ≡ place = omega arith in
-    range_more (line_at busy) place ∙ ap (λ xs. flat_map (line_at busy) (range_with_len 1 place) ++ xs) (ap (λ k. busy_line (place + 1) (slice_index busy k)) same ∙ sym is)
+    range_more (line_at busy) place ∙ ap (λ xs. flat_map (line_at busy) (range_with_len 1 place) ++ xs)
+    (ap (λ k. busy_line (place + 1) (slice_index busy k)) same ∙ sym is)
 
 pub busy_front : (busy : List ℕ) (place : ℕ) (text : List ℕ) → place < 8 → text ≡ busy_line (place + 1) (slice_index busy place) →
     (rest : List ℕ) × (busy_text busy ≡ (flat_map (line_at busy) (range_with_len 1 place) ++ text) ++ rest)

@@ -9,7 +9,8 @@ use Rattle.site_types.specs.declared.site.Site.{Site}
 use Rattle.site_types.specs.Valid.{IsValid}
 use Rattle.face_text.specs.declared.entry.Entry.{Entry}
 use Rattle.face_text.specs.Entries.{IsEntry, entry_line}
-use Rattle.face_text.specs.EntryLines.{IsLineOf, IsOneLine}
+use Rattle.face_text.specs.EntryLines.{IsLineOf}
+use Rattle.face_text.proofs.ReadSoFar.{IsOneLine}
 use Rattle.face_text.specs.Spelled.{entry_spelled}
 use Rattle.face_text.specs.Timelines.{opening_line}
 use Rattle.face_text.proofs.Joined.{ends_joined, joined}
@@ -29,7 +30,8 @@ entry_line-one site valid entry is =
     record { body = joined it.word it.fields; no_end = ends_joined it.word it.fields it.plain it.others; bytes_is = it.line_is }
 
 -- so does that of the first line
-opening_joined : (name panels : List ℕ) → codes "site " ++ name ++ codes " panels " ++ panels ++ codes "\n" ≡ joined (codes "site") (name ∷ codes "panels" ∷ panels ∷ []) ++ 10 ∷ []
+opening_joined : (name panels : List ℕ) → codes "site " ++ name ++ codes " panels " ++ panels
+    ++ codes "\n" ≡ joined (codes "site") (name ∷ codes "panels" ∷ panels ∷ []) ++ 10 ∷ []
 opening_joined name panels = simp (append_assoc, append-nil)
 
 pub opening_line-one : (site : Site) → IsValid site → IsOneLine (opening_line site)
@@ -38,13 +40,17 @@ opening_line-one site valid =
     let panels = decimal site.panels in
     let wide : site.panels < 2 ^ 64 = omega (arith, valid.forms.panels.1) in
     let fields = name ∷ codes "panels" ∷ panels ∷ [] in
-    let plain : are_plain fields ≡ true = and_from (list_all is_plain name) (list_all is_plain panels && true) (name_plain name valid.forms.name) (and_from (list_all is_plain panels) true (decimal_plain site.panels wide) refl) in
+    let plain : are_plain fields ≡ true =
+    and_from (list_all is_plain name) (list_all is_plain panels && true) (name_plain name valid.forms.name)
+    (and_from (list_all is_plain panels) true (decimal_plain site.panels wide) refl) in
     record { body = joined (codes "site") fields; no_end = ends_joined (codes "site") fields refl plain; bytes_is = opening_joined name panels }
 
 -- an entry's line determines it
-pub entry_line-determines : (site : Site) → IsValid site → (one other : Entry) → IsEntry site one → IsEntry site other → entry_line site one ≡ entry_line site other → one ≡ other
+pub entry_line-determines : (site : Site) → IsValid site → (one other : Entry) → IsEntry site one → IsEntry site other
+    → entry_line site one ≡ entry_line site other → one ≡ other
 entry_line-determines site valid one other is also same =
     let line = entry_line-one site valid one is in
     let first : entry_spelled site line.body ≡ Some one = line_spells site valid line.body one (record { form = is; line_is = line.bytes_is }) in
-    let second : entry_spelled site line.body ≡ Some other = line_spells site valid line.body other (record { form = also; line_is = sym same ∙ line.bytes_is }) in
+    let second : entry_spelled site line.body ≡ Some other =
+    line_spells site valid line.body other (record { form = also; line_is = sym same ∙ line.bytes_is }) in
     same_Some one other (sym first ∙ second)

@@ -10,14 +10,16 @@ use Rattle.face_text.specs.Spelled.{entry_spelled}
 use Rattle.face_text.proofs.EntryLaws.{line_spells}
 
 -- nothing is spelled
-pub none_read : (site : Site) → IsValid site → (line : List ℕ) (found result : Option Entry) → found ≡ entry_spelled site line → found ≡ None → result ≡ None → ReadsEntry site line result
+pub none_read : (site : Site) → IsValid site → (line : List ℕ) (found result : Option Entry) → found ≡ entry_spelled site line → found ≡ None
+    → result ≡ None → ReadsEntry site line result
 none_read site valid line found result is none nothing = record {
   only = λ entry some. absurd (let e : None ≡ Some entry = sym nothing ∙ some in cc);
   all = λ entry of. absurd (let e : None ≡ Some entry = sym none ∙ is ∙ line_spells site valid line entry of in cc);
 }
 
 -- the entry that is spelled has this line
-pub entry_read : (site : Site) → IsValid site → (line bytes : List ℕ) (found : Option Entry) (entry : Entry) → found ≡ entry_spelled site line → found ≡ Some entry → IsEntry site entry →
+pub entry_read : (site : Site) → IsValid site → (line bytes : List ℕ) (found : Option Entry) (entry : Entry) → found ≡ entry_spelled site line
+    → found ≡ Some entry → IsEntry site entry →
     bytes ≡ entry_line site entry → bytes ≡ line ++ 10 ∷ [] → ReadsEntry site line (Some entry)
 entry_read site valid line bytes found entry is some form printed same = record {
   only = λ other read. subst (IsLineOf site line) (same_Some entry other read) (record { form = form; line_is = sym printed ∙ same });
@@ -25,7 +27,8 @@ entry_read site valid line bytes found entry is some form printed same = record 
 }
 
 -- the entry that is spelled has another line, or is none
-pub other_read : (site : Site) → IsValid site → (line : List ℕ) (found : Option Entry) (entry : Entry) → found ≡ entry_spelled site line → found ≡ Some entry → (IsEntry site entry → entry_line site entry ≡ line ++ 10 ∷ [] → ⊥) →
+pub other_read : (site : Site) → IsValid site → (line : List ℕ) (found : Option Entry) (entry : Entry) → found ≡ entry_spelled site line
+    → found ≡ Some entry → (IsEntry site entry → entry_line site entry ≡ line ++ 10 ∷ [] → ⊥) →
     ReadsEntry site line None
 other_read site valid line found entry is some none = record {
   only = λ other read. absurd (cc);

@@ -10,7 +10,7 @@ use Rattle.site_types.specs.declared.buzzer.Buzzer.{Buzzer}
 use Rattle.site_types.specs.declared.fault_set.FaultSet.{FaultSet}
 use Rattle.site_types.specs.declared.point_set.PointSet.{PointSet}
 use Rattle.site_types.specs.declared.site.Site.{Site}
-use Rattle.site_types.specs.Bits.{has_bit, has_point, mask_of, with_bit, with_point}
+use Rattle.site_types.specs.Bits.{has_bit, has_point, mask_of, no_set, with_bit, with_point}
 use Rattle.site_types.proofs.Masks.{has_bit-zero}
 use Rattle.face_text.specs.declared.change.Change.{Change}
 use Rattle.face_text.specs.declared.change.Change.TheVariants.{Thing as ThingChange, Delays as DelaysChange, Buzzer as BuzzerChange, Counter as CounterChange}
@@ -18,8 +18,8 @@ use Rattle.face_text.specs.declared.face.Face.{Face}
 use Rattle.face_text.specs.declared.group.Group.{Group}
 use Rattle.face_text.specs.declared.group.Group.TheVariants.{Zones, Firsts, Missing, Broken, Shorted, Supplies, Silent, Links, Unconfirmed, Outputs, Confirmed, PointsOff, ZonesOff, OutputsOff, Tests}
 use Rattle.face_text.specs.Entries.{IsChange}
-use Rattle.face_text.specs.FaceTelling.{KeepsForm}
-use Rattle.face_text.specs.Faces.{empty_face, no_points}
+use Rattle.face_text.proofs.FaceTelling.{KeepsForm}
+use Rattle.face_text.specs.Faces.{empty_face}
 use Rattle.face_text.specs.Slots.{HasPlace, is_named, last_of, name_in}
 use Rattle.face_text.specs.Telling.{face_told, with_bit_of_panel, with_thing}
 use Rattle.face_text.specs.Timelines.{IsFaceOf, kept_points, of_site}
@@ -35,92 +35,158 @@ pub points_from : (a b : PointSet) → a.loops ≡ b.loops → a ≡ b
 points_from a b e = let h : ◌≡◌ {A = PointSet} (record { loops = a.loops }) (record { loops = b.loops }) = rw e refl in h
 
 -- a mask of its own
-scalar_kept : (w : Width) (count mask number : ℕ) (on : Bool) (names : ℕ → Bool) → count ≤ bits w → 1 ≤ number → number ≤ count → mask ≡ mask_of count (λ k. names (1 + k) && has_bit mask (1 + k - 1)) → names number ≡ true →
+scalar_kept : (w : Width) (count mask number : ℕ) (on : Bool) (names : ℕ → Bool) → count ≤ bits w → 1 ≤ number → number ≤ count
+    → mask ≡ mask_of count (λ k. names (1 + k) && has_bit mask (1 + k - 1)) → names number ≡ true →
     with_bit w mask (number - 1) on ≡ mask_of count (λ k. names (1 + k) && has_bit (with_bit w mask (number - 1) on) (1 + k - 1))
 scalar_kept w count mask number on names fits low high whole is =
     let place : 1 + (number - 1) ≡ number = omega (arith, low) in
-    bit_kept w count mask (number - 1) on (λ k. names (1 + k)) (λ k. has_bit mask (1 + k - 1)) (λ k. has_bit (with_bit w mask (number - 1) on) (1 + k - 1)) fits (omega (arith, low, high))
+    bit_kept w count mask (number - 1) on (λ k. names (1 + k)) (λ k. has_bit mask (1 + k - 1))
+    (λ k. has_bit (with_bit w mask (number - 1) on) (1 + k - 1)) fits (omega (arith, low, high))
     (λ i small. ap (has_bit mask) (less_one i)) (λ i small. ap (has_bit (with_bit w mask (number - 1) on)) (less_one i)) whole (ap names place ∙ is)
 
 -- ---- what a change of a thing leaves in form
 
-told_thing : (site : Site) (face : Face) (group : Group) (number : ℕ) (on : Bool) → face ≡ of_site site face → HasPlace group → 1 ≤ number → number ≤ last_of group → named site face.panel group number ≡ true →
+told_thing : (site : Site) (face : Face) (group : Group) (number : ℕ) (on : Bool) → face ≡ of_site site face → HasPlace group → 1 ≤ number
+    → number ≤ last_of group → named site face.panel group number ≡ true →
     with_thing face group number on ≡ of_site site (with_thing face group number on)
 told_thing site face (Zones panel) number on form place low high is =
     let masks = with_bit_of_panel face.zones panel number on in
-    let kept = panels_kept (λ q n. named site face.panel (Zones q) n) face.zones panel number on (ap (λ (f : Face). f.zones) form) place.0 place.1 low high is in
+    let kept = panels_kept (λ q n. named site face.panel (Zones q) n) face.zones panel number on (ap (λ (f : Face). f.zones) form) place.0 place.1 low
+    high is in
     ap (λ (f : Face). record f { zones = masks }) form ∙ ap (λ (x : List ℕ). record (of_site site face) { zones = x }) kept
 told_thing site face (Firsts panel) number on form place low high is =
     let masks = with_bit_of_panel face.firsts panel number on in
-    let kept = panels_kept (λ q n. named site face.panel (Firsts q) n) face.firsts panel number on (ap (λ (f : Face). f.firsts) form) place.0 place.1 low high is in
+    let kept = panels_kept (λ q n. named site face.panel (Firsts q) n) face.firsts panel number on (ap (λ (f : Face). f.firsts) form) place.0 place.1
+    low high is in
     ap (λ (f : Face). record f { firsts = masks }) form ∙ ap (λ (x : List ℕ). record (of_site site face) { firsts = x }) kept
 told_thing site face (Missing line) number on form place low high is =
     let all = λ (l a : ℕ). named site face.panel (Missing l) a in
     let holds = holds_named all face.faults.missing (ap (λ (f : Face). f.faults.missing.loops) form) in
     let points = with_point face.faults.missing line number on in
-    let kept = points_from points (kept_points site (with_thing face (Missing line) number on) Missing) (loops_kept all points (holds_told all face.faults.missing line number on holds (place.0, place.1, low, high) is)) in
-    ap (λ (f : Face). record f { faults = record f.faults { missing = points } }) form ∙ ap (λ (x : PointSet). record (of_site site face) { faults = record (of_site site face).faults { missing = x } }) kept
+    let kept =
+    points_from points (kept_points site (with_thing face (Missing line) number on) Missing)
+    (loops_kept all points (holds_told all face.faults.missing line number on holds (place.0, place.1, low, high) is)) in
+    ap (λ (f : Face). record f { faults = record f.faults { missing = points } }) form ∙ ap (λ (x : PointSet). record (of_site site face) {
+      faults =
+          record (of_site site face).faults { missing = x };
+    }) kept
 told_thing site face (PointsOff line) number on form place low high is =
     let all = λ (l a : ℕ). named site face.panel (PointsOff l) a in
     let holds = holds_named all face.points_off (ap (λ (f : Face). f.points_off.loops) form) in
     let points = with_point face.points_off line number on in
-    let kept = points_from points (kept_points site (with_thing face (PointsOff line) number on) PointsOff) (loops_kept all points (holds_told all face.points_off line number on holds (place.0, place.1, low, high) is)) in
+    let kept =
+    points_from points (kept_points site (with_thing face (PointsOff line) number on) PointsOff)
+    (loops_kept all points (holds_told all face.points_off line number on holds (place.0, place.1, low, high) is)) in
     ap (λ (f : Face). record f { points_off = points }) form ∙ ap (λ (x : PointSet). record (of_site site face) { points_off = x }) kept
 told_thing site face Broken number on form place low high is =
-    let kept = scalar_kept w8 4 face.faults.broken number on (named site face.panel Broken) (omega arith) low high (ap (λ (f : Face). f.faults.broken) form) is in
-    ap (λ (f : Face). record f { faults = record f.faults { broken = with_bit w8 face.faults.broken (number - 1) on } }) form ∙ ap (λ (x : ℕ). record (of_site site face) { faults = record (of_site site face).faults { broken = x } }) kept
+    let kept =
+    scalar_kept w8 4 face.faults.broken number on (named site face.panel Broken) (omega arith) low high (ap (λ (f : Face). f.faults.broken) form)
+    is in
+    ap (λ (f : Face). record f { faults = record f.faults { broken = with_bit w8 face.faults.broken (number - 1) on } }) form ∙ ap
+    (λ (x : ℕ). record (of_site site face) { faults = record (of_site site face).faults { broken = x } }) kept
 told_thing site face Shorted number on form place low high is =
-    let kept = scalar_kept w8 4 face.faults.shorted number on (named site face.panel Shorted) (omega arith) low high (ap (λ (f : Face). f.faults.shorted) form) is in
-    ap (λ (f : Face). record f { faults = record f.faults { shorted = with_bit w8 face.faults.shorted (number - 1) on } }) form ∙ ap (λ (x : ℕ). record (of_site site face) { faults = record (of_site site face).faults { shorted = x } }) kept
+    let kept =
+    scalar_kept w8 4 face.faults.shorted number on (named site face.panel Shorted) (omega arith) low high
+    (ap (λ (f : Face). f.faults.shorted) form) is in
+    ap (λ (f : Face). record f { faults = record f.faults { shorted = with_bit w8 face.faults.shorted (number - 1) on } }) form ∙ ap
+    (λ (x : ℕ). record (of_site site face) { faults = record (of_site site face).faults { shorted = x } }) kept
 told_thing site face Supplies number on form place low high is =
-    let kept = scalar_kept w8 4 face.faults.supply number on (named site face.panel Supplies) (omega arith) low high (ap (λ (f : Face). f.faults.supply) form) is in
-    ap (λ (f : Face). record f { faults = record f.faults { supply = with_bit w8 face.faults.supply (number - 1) on } }) form ∙ ap (λ (x : ℕ). record (of_site site face) { faults = record (of_site site face).faults { supply = x } }) kept
+    let kept =
+    scalar_kept w8 4 face.faults.supply number on (named site face.panel Supplies) (omega arith) low high
+    (ap (λ (f : Face). f.faults.supply) form) is in
+    ap (λ (f : Face). record f { faults = record f.faults { supply = with_bit w8 face.faults.supply (number - 1) on } }) form ∙ ap
+    (λ (x : ℕ). record (of_site site face) { faults = record (of_site site face).faults { supply = x } }) kept
 told_thing site face Silent number on form place low high is =
-    let kept = scalar_kept w8 8 face.faults.silent number on (named site face.panel Silent) (omega arith) low high (ap (λ (f : Face). f.faults.silent) form) is in
-    ap (λ (f : Face). record f { faults = record f.faults { silent = with_bit w8 face.faults.silent (number - 1) on } }) form ∙ ap (λ (x : ℕ). record (of_site site face) { faults = record (of_site site face).faults { silent = x } }) kept
+    let kept =
+    scalar_kept w8 8 face.faults.silent number on (named site face.panel Silent) (omega arith) low high (ap (λ (f : Face). f.faults.silent) form)
+    is in
+    ap (λ (f : Face). record f { faults = record f.faults { silent = with_bit w8 face.faults.silent (number - 1) on } }) form ∙ ap
+    (λ (x : ℕ). record (of_site site face) { faults = record (of_site site face).faults { silent = x } }) kept
 told_thing site face Links number on form place low high is =
-    let kept = scalar_kept w8 8 face.faults.links number on (named site face.panel Links) (omega arith) low high (ap (λ (f : Face). f.faults.links) form) is in
-    ap (λ (f : Face). record f { faults = record f.faults { links = with_bit w8 face.faults.links (number - 1) on } }) form ∙ ap (λ (x : ℕ). record (of_site site face) { faults = record (of_site site face).faults { links = x } }) kept
+    let kept =
+    scalar_kept w8 8 face.faults.links number on (named site face.panel Links) (omega arith) low high (ap (λ (f : Face). f.faults.links) form) is
+    in
+    ap (λ (f : Face). record f { faults = record f.faults { links = with_bit w8 face.faults.links (number - 1) on } }) form ∙ ap
+    (λ (x : ℕ). record (of_site site face) { faults = record (of_site site face).faults { links = x } }) kept
 told_thing site face Unconfirmed number on form place low high is =
-    let kept = scalar_kept w32 32 face.faults.unconfirmed number on (named site face.panel Unconfirmed) (omega arith) low high (ap (λ (f : Face). f.faults.unconfirmed) form) is in
-    ap (λ (f : Face). record f { faults = record f.faults { unconfirmed = with_bit w32 face.faults.unconfirmed (number - 1) on } }) form ∙ ap (λ (x : ℕ). record (of_site site face) { faults = record (of_site site face).faults { unconfirmed = x } }) kept
+    let kept =
+    scalar_kept w32 32 face.faults.unconfirmed number on (named site face.panel Unconfirmed) (omega arith) low high
+    (ap (λ (f : Face). f.faults.unconfirmed) form) is in
+    ap (λ (f : Face). record f { faults = record f.faults { unconfirmed = with_bit w32 face.faults.unconfirmed (number - 1) on } }) form ∙ ap
+    (λ (x : ℕ). record (of_site site face) { faults = record (of_site site face).faults { unconfirmed = x } }) kept
 told_thing site face Outputs number on form place low high is =
-    let kept = scalar_kept w32 32 face.outputs number on (named site face.panel Outputs) (omega arith) low high (ap (λ (f : Face). f.outputs) form) is in
-    ap (λ (f : Face). record f { outputs = with_bit w32 face.outputs (number - 1) on }) form ∙ ap (λ (x : ℕ). record (of_site site face) { outputs = x }) kept
+    let kept = scalar_kept w32 32 face.outputs number on (named site face.panel Outputs) (omega arith) low high (ap (λ (f : Face). f.outputs) form) is
+    in
+    ap (λ (f : Face). record f { outputs = with_bit w32 face.outputs (number - 1) on }) form ∙ ap
+    (λ (x : ℕ). record (of_site site face) { outputs = x }) kept
 told_thing site face Confirmed number on form place low high is =
-    let kept = scalar_kept w32 32 face.confirmed number on (named site face.panel Confirmed) (omega arith) low high (ap (λ (f : Face). f.confirmed) form) is in
-    ap (λ (f : Face). record f { confirmed = with_bit w32 face.confirmed (number - 1) on }) form ∙ ap (λ (x : ℕ). record (of_site site face) { confirmed = x }) kept
+    let kept =
+    scalar_kept w32 32 face.confirmed number on (named site face.panel Confirmed) (omega arith) low high (ap (λ (f : Face). f.confirmed) form) is
+    in
+    ap (λ (f : Face). record f { confirmed = with_bit w32 face.confirmed (number - 1) on }) form ∙ ap
+    (λ (x : ℕ). record (of_site site face) { confirmed = x }) kept
 told_thing site face ZonesOff number on form place low high is =
-    let kept = scalar_kept w32 32 face.zones_off number on (named site face.panel ZonesOff) (omega arith) low high (ap (λ (f : Face). f.zones_off) form) is in
-    ap (λ (f : Face). record f { zones_off = with_bit w32 face.zones_off (number - 1) on }) form ∙ ap (λ (x : ℕ). record (of_site site face) { zones_off = x }) kept
+    let kept =
+    scalar_kept w32 32 face.zones_off number on (named site face.panel ZonesOff) (omega arith) low high (ap (λ (f : Face). f.zones_off) form) is
+    in
+    ap (λ (f : Face). record f { zones_off = with_bit w32 face.zones_off (number - 1) on }) form ∙ ap
+    (λ (x : ℕ). record (of_site site face) { zones_off = x }) kept
 told_thing site face OutputsOff number on form place low high is =
-    let kept = scalar_kept w32 32 face.outputs_off number on (named site face.panel OutputsOff) (omega arith) low high (ap (λ (f : Face). f.outputs_off) form) is in
-    ap (λ (f : Face). record f { outputs_off = with_bit w32 face.outputs_off (number - 1) on }) form ∙ ap (λ (x : ℕ). record (of_site site face) { outputs_off = x }) kept
+    let kept =
+    scalar_kept w32 32 face.outputs_off number on (named site face.panel OutputsOff) (omega arith) low high
+    (ap (λ (f : Face). f.outputs_off) form) is in
+    ap (λ (f : Face). record f { outputs_off = with_bit w32 face.outputs_off (number - 1) on }) form ∙ ap
+    (λ (x : ℕ). record (of_site site face) { outputs_off = x }) kept
 told_thing site face Tests number on form place low high is =
     let kept = scalar_kept w32 32 face.test number on (named site face.panel Tests) (omega arith) low high (ap (λ (f : Face). f.test) form) is in
     ap (λ (f : Face). record f { test = with_bit w32 face.test (number - 1) on }) form ∙ ap (λ (x : ℕ). record (of_site site face) { test = x }) kept
 
-change_kept : (site : Site) (panel : ℕ) (face : Face) (change : Change) → IsFaceOf site panel face → IsChange site panel change → IsFaceOf site panel (face_told face change)
+change_kept : (site : Site) (panel : ℕ) (face : Face) (change : Change) → IsFaceOf site panel face → IsChange site panel change
+    → IsFaceOf site panel (face_told face change)
 change_kept site panel face (ThingChange group number on) form is =
     let keeps = with_thing_keeps face group number on in
     let count = form.counter in
     record {
       panel_is = keeps.0 ∙ form.panel_is;
-      of_the_site = told_thing site face group number on form.of_the_site is.0 is.1 is.2 (subst (λ p. named site p group number ≡ true) (sym form.panel_is) is.3);
+      of_the_site =
+          told_thing site face group number on form.of_the_site is.0 is.1 is.2
+          (subst (λ p. named site p group number ≡ true) (sym form.panel_is) is.3);
       counter = subst (λ n. n ≤ greatest_count) (sym keeps.3) count;
     }
-change_kept site panel face (DelaysChange on) form is = record { panel_is = form.panel_is; of_the_site = ap (λ (f : Face). record f { delays_off = not on }) form.of_the_site; counter = form.counter }
-change_kept site panel face (BuzzerChange sound) form is = record { panel_is = form.panel_is; of_the_site = ap (λ (f : Face). record f { buzzer = sound }) form.of_the_site; counter = form.counter }
-change_kept site panel face (CounterChange count) form is = record { panel_is = form.panel_is; of_the_site = ap (λ (f : Face). record f { counter = count }) form.of_the_site; counter = is }
+change_kept site panel face (DelaysChange on) form is =
+    record { panel_is = form.panel_is; of_the_site = ap (λ (f : Face). record f { delays_off = not on }) form.of_the_site; counter = form.counter }
+change_kept site panel face (BuzzerChange sound) form is =
+    record { panel_is = form.panel_is; of_the_site = ap (λ (f : Face). record f { buzzer = sound }) form.of_the_site; counter = form.counter }
+change_kept site panel face (CounterChange count) form is =
+    record { panel_is = form.panel_is; of_the_site = ap (λ (f : Face). record f { counter = count }) form.of_the_site; counter = is }
 
 -- ---- equal faces
 
-pub faults_from : (a b : FaultSet) → a.missing ≡ b.missing → a.broken ≡ b.broken → a.shorted ≡ b.shorted → a.supply ≡ b.supply → a.silent ≡ b.silent → a.links ≡ b.links → a.unconfirmed ≡ b.unconfirmed → a ≡ b
+pub faults_from : (a b : FaultSet) → a.missing ≡ b.missing → a.broken ≡ b.broken → a.shorted ≡ b.shorted → a.supply ≡ b.supply → a.silent ≡ b.silent
+    → a.links ≡ b.links → a.unconfirmed ≡ b.unconfirmed → a ≡ b
 faults_from a b missing broken shorted supply silent links unconfirmed =
     let h :
     ◌≡◌ {A = FaultSet}
-    (record { missing = a.missing; broken = a.broken; shorted = a.shorted; supply = a.supply; silent = a.silent; links = a.links; unconfirmed = a.unconfirmed })
-    (record { missing = b.missing; broken = b.broken; shorted = b.shorted; supply = b.supply; silent = b.silent; links = b.links; unconfirmed = b.unconfirmed })
+    (record {
+      missing = a.missing;
+      broken = a.broken;
+      shorted = a.shorted;
+      supply = a.supply;
+      silent = a.silent;
+      links = a.links;
+      unconfirmed =
+          a.unconfirmed;
+    })
+    (record {
+      missing = b.missing;
+      broken = b.broken;
+      shorted = b.shorted;
+      supply = b.supply;
+      silent = b.silent;
+      links = b.links;
+      unconfirmed =
+          b.unconfirmed;
+    })
     = rw (missing, broken, shorted, supply, silent, links, unconfirmed) refl in h
 
 abbrev face_with : ℕ → List ℕ → List ℕ → FaultSet → ℕ → ℕ → PointSet → ℕ → ℕ → ℕ → Bool → Buzzer → ℕ → Face
@@ -141,8 +207,10 @@ face_with panel zones firsts faults outputs confirmed points_off zones_off outpu
       counter = counter;
     }
 
-pub faces_from : (a b : Face) → a.panel ≡ b.panel → a.zones ≡ b.zones → a.firsts ≡ b.firsts → a.faults ≡ b.faults → a.outputs ≡ b.outputs → a.confirmed ≡ b.confirmed → a.points_off ≡ b.points_off →
-    a.zones_off ≡ b.zones_off → a.outputs_off ≡ b.outputs_off → a.test ≡ b.test → a.delays_off ≡ b.delays_off → a.buzzer ≡ b.buzzer → a.counter ≡ b.counter → a ≡ b
+pub faces_from : (a b : Face) → a.panel ≡ b.panel → a.zones ≡ b.zones → a.firsts ≡ b.firsts → a.faults ≡ b.faults → a.outputs ≡ b.outputs
+    → a.confirmed ≡ b.confirmed → a.points_off ≡ b.points_off →
+    a.zones_off ≡ b.zones_off → a.outputs_off ≡ b.outputs_off → a.test ≡ b.test → a.delays_off ≡ b.delays_off → a.buzzer ≡ b.buzzer
+    → a.counter ≡ b.counter → a ≡ b
 faces_from a b panel zones firsts faults outputs confirmed points_off zones_off outputs_off test delays_off buzzer counter =
     let h :
     face_with a.panel a.zones a.firsts a.faults a.outputs a.confirmed a.points_off a.zones_off a.outputs_off a.test a.delays_off a.buzzer a.counter
@@ -157,26 +225,36 @@ and_false false = refl
 
 none_of : (count : ℕ) (names : ℕ → Bool) (mask : ℕ) → mask ≡ 0 → 0 ≡ mask_of count (λ k. names (1 + k) && has_bit mask (1 + k - 1))
 none_of count names mask none =
-    none_kept count (λ k. names (1 + k) && has_bit mask (1 + k - 1)) (λ k small. ap (λ b. names (1 + k) && b) (ap (λ m. has_bit m (1 + k - 1)) none ∙ has_bit-zero (1 + k - 1)) ∙ and_false (names (1 + k)))
+    none_kept count (λ k. names (1 + k) && has_bit mask (1 + k - 1))
+    (λ k small. ap (λ b. names (1 + k) && b) (ap (λ m. has_bit m (1 + k - 1)) none ∙ has_bit-zero (1 + k - 1)) ∙ and_false (names (1 + k)))
 
-none_by_panel : (names : ℕ → ℕ → Bool) → replicate 8 0 ≡ map (λ q. mask_of 32 (λ k. names q (1 + k) && has_bit (get_or (replicate 8 0) (q - 1) 0) (1 + k - 1))) (range_with_len 1 8)
+none_by_panel : (names : ℕ → ℕ → Bool)
+    → replicate 8 0 ≡ map (λ q. mask_of 32 (λ k. names q (1 + k) && has_bit (get_or (replicate 8 0) (q - 1) 0) (1 + k - 1))) (range_with_len 1 8)
 none_by_panel names =
-    by_number 0 (replicate 8 0) (λ q. mask_of 32 (λ k. names q (1 + k) && has_bit (get_or (replicate 8 0) (q - 1) 0) (1 + k - 1))) 8 refl (λ q low high.
+    by_number 0 (replicate 8 0) (λ q. mask_of 32 (λ k. names q (1 + k) && has_bit (get_or (replicate 8 0) (q - 1) 0) (1 + k - 1))) 8 refl
+    (λ q low high.
     let none : get_or (replicate 8 0) (q - 1) 0 ≡ 0 = get_or-replicate 8 (q - 1) 0 0 (omega (arith, low, high)) in
     none ∙ none_of 32 (names q) (get_or (replicate 8 0) (q - 1) 0) none)
 
-no_points_kept : (site : Site) (panel : ℕ) (group : ℕ → Group) → no_points.loops ≡ map (λ line. mask_of 96 (λ k. named site panel (group line) (1 + k) && has_point no_points line (1 + k)) ∷ mask_of 96 (λ k. named site panel (group line) (97 + k) && has_point no_points line (97 + k)) ∷ []) (range_with_len 1 4)
-no_points_kept site panel group = loops_kept (λ line address. named site panel (group line) address) no_points (holds_none (λ line address. named site panel (group line) address))
+no_points_kept : (site : Site) (panel : ℕ) (group : ℕ → Group)
+    → no_set.loops ≡ map (λ line. mask_of 96 (λ k. named site panel (group line) (1 + k) && has_point no_set line (1 + k))
+    ∷ mask_of 96 (λ k. named site panel (group line) (97 + k) && has_point no_set line (97 + k)) ∷ []) (range_with_len 1 4)
+no_points_kept site panel group =
+    loops_kept (λ line address. named site panel (group line) address) no_set (holds_none (λ line address. named site panel (group line) address))
 
 none_is_kept : (site : Site) (panel : ℕ) → empty_face panel ≡ of_site site (empty_face panel)
 none_is_kept site panel =
     let face = empty_face panel in
     let kept = of_site site face in
     faces_from face kept refl (none_by_panel (λ q n. named site panel (Zones q) n)) (none_by_panel (λ q n. named site panel (Firsts q) n))
-    (faults_from face.faults kept.faults (points_from no_points kept.faults.missing (no_points_kept site panel Missing)) (none_of 4 (named site panel Broken) 0 refl) (none_of 4 (named site panel Shorted) 0 refl)
-    (none_of 4 (named site panel Supplies) 0 refl) (none_of 8 (named site panel Silent) 0 refl) (none_of 8 (named site panel Links) 0 refl) (none_of 32 (named site panel Unconfirmed) 0 refl))
-    (none_of 32 (named site panel Outputs) 0 refl) (none_of 32 (named site panel Confirmed) 0 refl) (points_from no_points kept.points_off (no_points_kept site panel PointsOff))
-    (none_of 32 (named site panel ZonesOff) 0 refl) (none_of 32 (named site panel OutputsOff) 0 refl) (none_of 32 (named site panel Tests) 0 refl) refl refl refl
+    (faults_from face.faults kept.faults (points_from no_set kept.faults.missing (no_points_kept site panel Missing))
+    (none_of 4 (named site panel Broken) 0 refl) (none_of 4 (named site panel Shorted) 0 refl)
+    (none_of 4 (named site panel Supplies) 0 refl) (none_of 8 (named site panel Silent) 0 refl) (none_of 8 (named site panel Links) 0 refl)
+    (none_of 32 (named site panel Unconfirmed) 0 refl))
+    (none_of 32 (named site panel Outputs) 0 refl) (none_of 32 (named site panel Confirmed) 0 refl)
+    (points_from no_set kept.points_off (no_points_kept site panel PointsOff))
+    (none_of 32 (named site panel ZonesOff) 0 refl) (none_of 32 (named site panel OutputsOff) 0 refl) (none_of 32 (named site panel Tests) 0 refl)
+    refl refl refl
 
 pub keeps_form : KeepsForm
 keeps_form =

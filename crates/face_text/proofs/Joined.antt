@@ -3,7 +3,7 @@ use Rattle.std.proofs.Common.{◌≡◌, ◌∙◌, ◌++◌, ℕ, zero, suc, tr
 use Rattle.std.specs.Prelude.{◌==◌, if◌then◌else◌}
 use Rattle.std.specs.List.{list_all}
 use Rattle.std.proofs.lemmas.Bool.{and_parts, leb-true, ne_eqb}
-use Rattle.face_text.specs.Fields.{after_space, before_space, field}
+use Rattle.site_types.specs.Fields.{after_space, before_space, field}
 use Rattle.face_text.specs.Reading.{line_ends}
 use Rattle.face_text.proofs.LineEnds.{line_ends-append}
 use Rattle.face_text.proofs.Plain.{are_plain, is_plain}
@@ -30,11 +30,13 @@ before_word (byte ∷ word) fields plain =
     let p = and_parts (is_plain byte) (list_all is_plain word) plain in
     ap (λ b. if b then [] else byte ∷ before_space (joined word fields)) (no_space byte p.0) ∙ ap (λ t. byte ∷ t) (before_word word fields p.1)
 
-after_word : (word first : List ℕ) (fields : List (List ℕ)) → list_all is_plain word ≡ true → after_space (joined word (first ∷ fields)) ≡ joined first fields
+after_word : (word first : List ℕ) (fields : List (List ℕ)) → list_all is_plain word ≡ true
+    → after_space (joined word (first ∷ fields)) ≡ joined first fields
 after_word [] first fields plain = refl
 after_word (byte ∷ word) first fields plain =
     let p = and_parts (is_plain byte) (list_all is_plain word) plain in
-    ap (λ b. if b then joined word (first ∷ fields) else after_space (joined word (first ∷ fields))) (no_space byte p.0) ∙ after_word word first fields p.1
+    ap (λ b. if b then joined word (first ∷ fields) else after_space (joined word (first ∷ fields))) (no_space byte p.0) ∙ after_word word first
+    fields p.1
 
 after_last : (word : List ℕ) → list_all is_plain word ≡ true → after_space (joined word []) ≡ []
 after_last [] plain = refl
@@ -51,7 +53,8 @@ nothing_at zero = refl
 nothing_at (suc place) = refl
 
 -- each field is the one that was joined there
-pub field_joined : (place : ℕ) (word : List ℕ) (fields : List (List ℕ)) → list_all is_plain word ≡ true → are_plain fields ≡ true → field place (joined word fields) ≡ get_or (word ∷ fields) place []
+pub field_joined : (place : ℕ) (word : List ℕ) (fields : List (List ℕ)) → list_all is_plain word ≡ true → are_plain fields ≡ true
+    → field place (joined word fields) ≡ get_or (word ∷ fields) place []
 field_joined zero word fields plain others = before_word word fields plain
 field_joined (suc place) word [] plain others = ap (field place) (after_last word plain) ∙ no_field place ∙ nothing_at place
 field_joined (suc place) word (first ∷ fields) plain others =
@@ -71,7 +74,8 @@ spaced_ends (first ∷ fields) plain =
     line_ends-append first (spaced fields) ∙ (let one = plain_ends first p.0 in let rest = spaced_ends fields p.1 in omega (arith, one, rest))
 
 -- plain fields have no line end
-pub ends_joined : (word : List ℕ) (fields : List (List ℕ)) → list_all is_plain word ≡ true → are_plain fields ≡ true → line_ends (joined word fields) ≡ 0
+pub ends_joined : (word : List ℕ) (fields : List (List ℕ)) → list_all is_plain word ≡ true → are_plain fields ≡ true
+    → line_ends (joined word fields) ≡ 0
 ends_joined word fields plain others =
     line_ends-append word (spaced fields) ∙ (let one = plain_ends word plain in let rest = spaced_ends fields others in omega (arith, one, rest))
 
@@ -79,5 +83,6 @@ ends_joined word fields plain others =
 pub record HasFields (text word : List ℕ) (fields : List (List ℕ)) : Type 0 where
   pub at : (place : ℕ) → field place text ≡ get_or (word ∷ fields) place []
 
-pub fields_of : (word : List ℕ) (fields : List (List ℕ)) → list_all is_plain word ≡ true → are_plain fields ≡ true → HasFields (joined word fields) word fields
+pub fields_of : (word : List ℕ) (fields : List (List ℕ)) → list_all is_plain word ≡ true → are_plain fields ≡ true
+    → HasFields (joined word fields) word fields
 fields_of word fields plain others = record { at = λ place. field_joined place word fields plain others }

@@ -22,10 +22,15 @@ pub part_listed : (begun now : Bool) (all so_far part rest : List (List ℕ)) �
     listed begun all ≡ (listed begun so_far ++ listed now part) ++ listed (begun_after begun (so_far ++ part)) rest
 part_listed begun now all so_far part rest whole is =
     ap (listed begun) whole ∙ listed_more begun (so_far ++ part) rest
-    ∙ ap (λ text. text ++ listed (begun_after begun (so_far ++ part)) rest) (listed_more begun so_far part ∙ ap (λ b. listed begun so_far ++ listed b part) (sym is))
+    ∙ ap (λ text. text ++ listed (begun_after begun (so_far ++ part)) rest)
+    (listed_more begun so_far part ∙ ap (λ b. listed begun so_far ++ listed b part) (sym is))
 
-pub next_listed : (begun now : Bool) (all so_far part : List (List ℕ)) → all ≡ so_far ++ part → now ≡ begun_after begun so_far → listed begun all ≡ listed begun so_far ++ listed now part
-next_listed begun now all so_far part whole is = ap (listed begun) whole ∙ listed_more begun so_far part ∙ ap (λ b. listed begun so_far ++ listed b part) (sym is)
+pub next_listed : (begun now : Bool) (all so_far part : List (List ℕ)) → all ≡ so_far ++ part → now ≡ begun_after begun so_far
+    → listed begun all ≡ listed begun so_far ++ listed now part
+next_listed begun now all so_far part whole is =
+    ap (listed begun) whole ∙ listed_more begun so_far part ∙ ap (λ b. listed begun so_far ++ listed b part) (sym is)
 
-pub next_begun : (begun now after : Bool) (all so_far part : List (List ℕ)) → all ≡ so_far ++ part → now ≡ begun_after begun so_far → after ≡ begun_after now part → after ≡ begun_after begun all
-next_begun begun now after all so_far part whole is then = then ∙ ap (λ b. begun_after b part) is ∙ sym (ap (begun_after begun) whole ∙ begun_more begun so_far part)
+pub next_begun : (begun now after : Bool) (all so_far part : List (List ℕ)) → all ≡ so_far ++ part → now ≡ begun_after begun so_far
+    → after ≡ begun_after now part → after ≡ begun_after begun all
+next_begun begun now after all so_far part whole is then =
+    then ∙ ap (λ b. begun_after b part) is ∙ sym (ap (begun_after begun) whole ∙ begun_more begun so_far part)

@@ -1,15 +1,16 @@
 -- Sets of points that hold only points that a site has.
-use Rattle.std.proofs.Common.{inl, inr, ◌⊎◌, ◌≡◌, ◌≢◌, ◌≤◌, ◌<◌, ◌+◌, ◌-◌, ◌^◌, ◌&&◌, ◌==◌, ℕ, zero, suc, Bool, true, false, List, [], ◌∷◌, length, get_or, set, map, refl, sym, ◌∙◌, ap, subst, arith, length-set, get_or-set_same, get_or-set_other}
+use Rattle.std.proofs.Common.{inl, inr, ◌⊎◌, ◌≡◌, ◌≢◌, ◌≤◌, ◌<◌, ◌+◌, ◌-◌, ◌^◌, ◌&&◌, ◌==◌, ℕ, zero, suc, Bool, true}
+use Rattle.std.proofs.Common.{false, List, [], ◌∷◌, length, get_or, set, map, refl, sym, ◌∙◌, ap, subst, arith}
+use Rattle.std.proofs.Common.{length-set, get_or-set_same, get_or-set_other}
 use Rattle.std.specs.Int.{w128}
 use Rattle.std.specs.List.{range_with_len}
 use Rattle.std.proofs.lemmas.List.{get_or-replicate}
 use Rattle.std.proofs.lemmas.Bool.{cases_lt}
 use Rattle.std.proofs.lemmas.Bool.Decides.{eqb_tells}
 use Rattle.site_types.specs.declared.point_set.PointSet.{PointSet}
-use Rattle.site_types.specs.Bits.{IsPlace, bit_of, half_of, has_bit, has_point, mask_of, with_bit, with_point}
+use Rattle.site_types.specs.Bits.{IsPlace, bit_of, half_of, has_bit, has_point, mask_of, no_set, with_bit, with_point}
 use Rattle.site_types.proofs.ChangedBits.{half_small, set-other}
 use Rattle.site_types.proofs.Masks.{has_bit-mask, has_bit-zero, mask_below, mask_from_bits}
-use Rattle.face_text.specs.Faces.{no_points}
 use Rattle.face_text.proofs.KeptMasks.{at_number, by_number, with_bit_below}
 use Rattle.face_text.proofs.ToldValues.{HasHalves}
 
@@ -23,7 +24,8 @@ pair_of (x ∷ []) size = absurd (omega (arith, size))
 pair_of (x ∷ y ∷ []) size = refl
 pair_of (x ∷ y ∷ z ∷ rest) size = absurd (omega (arith, size))
 
-point_bit : (points : PointSet) (line address half bit : ℕ) → half_of address ≡ half → bit_of address ≡ bit → has_bit (get_or (loop_of points line) half 0) bit ≡ has_point points line address
+point_bit : (points : PointSet) (line address half bit : ℕ) → half_of address ≡ half → bit_of address ≡ bit
+    → has_bit (get_or (loop_of points line) half 0) bit ≡ has_point points line address
 point_bit points line address half bit h b =
     ap (λ i. has_bit (get_or (loop_of points line) i 0) bit) (sym h) ∙ ap (λ j. has_bit (get_or (loop_of points line) (half_of address) 0) j) (sym b)
 
@@ -59,29 +61,35 @@ module _ (named : ℕ → ℕ → Bool) where
 
   -- ---- from the numbers
 
-  half_below : (points : PointSet) (line half : ℕ) → loop_of points line ≡ loop_kept points line → half < 2 → get_or (loop_of points line) half 0 < 2 ^ 96
+  half_below : (points : PointSet) (line half : ℕ) → loop_of points line ≡ loop_kept points line → half < 2
+      → get_or (loop_of points line) half 0 < 2 ^ 96
   half_below points line zero is small = rw is (mask_below 96 (λ k. named line (1 + k) && has_point points line (1 + k)))
   half_below points line (suc zero) is small = rw is (mask_below 96 (λ k. named line (97 + k) && has_point points line (97 + k)))
   half_below points line (suc (suc half)) is small = absurd (omega (arith, small))
 
-  only_low : (points : PointSet) (line k : ℕ) → loop_of points line ≡ loop_kept points line → k < 96 → has_point points line (1 + k) ≡ (named line (1 + k) && has_point points line (1 + k))
+  only_low : (points : PointSet) (line k : ℕ) → loop_of points line ≡ loop_kept points line → k < 96
+      → has_point points line (1 + k) ≡ (named line (1 + k) && has_point points line (1 + k))
   only_low points line k is small =
       sym (point_bit points line (1 + k) 0 k (low_half k small) (low_bit k small)) ∙ ap (λ l. has_bit (get_or l 0 0) k) is
       ∙ has_bit-mask 96 (λ i. named line (1 + i) && has_point points line (1 + i)) k small
 
-  only_high : (points : PointSet) (line k : ℕ) → loop_of points line ≡ loop_kept points line → k < 96 → has_point points line (97 + k) ≡ (named line (97 + k) && has_point points line (97 + k))
+  only_high : (points : PointSet) (line k : ℕ) → loop_of points line ≡ loop_kept points line → k < 96
+      → has_point points line (97 + k) ≡ (named line (97 + k) && has_point points line (97 + k))
   only_high points line k is small =
       sym (point_bit points line (97 + k) 1 k (high_half k small) (high_bit k small)) ∙ ap (λ l. has_bit (get_or l 1 0) k) is
       ∙ has_bit-mask 96 (λ i. named line (97 + i) && has_point points line (97 + i)) k small
 
-  only_at : (points : PointSet) (line address : ℕ) → loop_of points line ≡ loop_kept points line → 1 ≤ address → address ≤ 192 → (address ≤ 96) ⊎ (96 < address) →
+  only_at : (points : PointSet) (line address : ℕ) → loop_of points line ≡ loop_kept points line → 1 ≤ address → address ≤ 192
+      → (address ≤ 96) ⊎ (96 < address) →
       has_point points line address ≡ (named line address && has_point points line address)
   only_at points line address is one most (inl low) =
       let same : 1 + (address - 1) ≡ address = omega (arith, one) in
-      subst (λ a. has_point points line a ≡ (named line a && has_point points line a)) same (only_low points line (address - 1) is (omega (arith, low, one)))
+      subst (λ a. has_point points line a ≡ (named line a && has_point points line a)) same
+      (only_low points line (address - 1) is (omega (arith, low, one)))
   only_at points line address is one most (inr high) =
       let same : 97 + (address - 97) ≡ address = omega (arith, high) in
-      subst (λ a. has_point points line a ≡ (named line a && has_point points line a)) same (only_high points line (address - 97) is (omega (arith, high, most)))
+      subst (λ a. has_point points line a ≡ (named line a && has_point points line a)) same
+      (only_high points line (address - 97) is (omega (arith, high, most)))
 
   low_or_high : (address : ℕ) → (address ≤ 96) ⊎ (96 < address)
   low_or_high address = elim (cases_lt 96 address) [
@@ -108,13 +116,25 @@ module _ (named : ℕ → ℕ → Bool) where
     where
       low : (line : ℕ) → 1 ≤ line → line ≤ 4 → get_or (loop_of points line) 0 0 ≡ half_kept points line 1
       low line from upto =
-          mask_from_bits 96 (get_or (loop_of points line) 0 0) (λ k. named line (1 + k) && has_point points line (1 + k)) (holds.below line 0 from upto (omega arith))
-          (λ k small. point_bit points line (1 + k) 0 k (low_half k small) (low_bit k small) ∙ holds.only line (1 + k) (from, upto, omega arith, omega (arith, small)))
+          mask_from_bits 96 (get_or (loop_of points line) 0 0) (λ k. named line (1 + k) && has_point points line (1 + k))
+          (holds.below line 0 from upto (omega arith))
+          (λ k small. point_bit points line (1 + k) 0 k (low_half k small) (low_bit k small) ∙ holds.only line (1 + k) (
+            from,
+            upto,
+            omega arith,
+            omega (arith, small),
+          ))
 
       high : (line : ℕ) → 1 ≤ line → line ≤ 4 → get_or (loop_of points line) 1 0 ≡ half_kept points line 97
       high line from upto =
-          mask_from_bits 96 (get_or (loop_of points line) 1 0) (λ k. named line (97 + k) && has_point points line (97 + k)) (holds.below line 1 from upto (omega arith))
-          (λ k small. point_bit points line (97 + k) 1 k (high_half k small) (high_bit k small) ∙ holds.only line (97 + k) (from, upto, omega arith, omega (arith, small)))
+          mask_from_bits 96 (get_or (loop_of points line) 1 0) (λ k. named line (97 + k) && has_point points line (97 + k))
+          (holds.below line 1 from upto (omega arith))
+          (λ k small. point_bit points line (97 + k) 1 k (high_half k small) (high_bit k small) ∙ holds.only line (97 + k) (
+            from,
+            upto,
+            omega arith,
+            omega (arith, small),
+          ))
 
       each : (line : ℕ) → 1 ≤ line → line ≤ 4 → loop_of points line ≡ loop_kept points line
       each line from upto =
@@ -123,11 +143,11 @@ module _ (named : ℕ → ℕ → Bool) where
 
   -- ---- no point
 
-  none_at : (line half : ℕ) → 1 ≤ line → line ≤ 4 → half < 2 → get_or (loop_of no_points line) half 0 ≡ 0
+  none_at : (line half : ℕ) → 1 ≤ line → line ≤ 4 → half < 2 → get_or (loop_of no_set line) half 0 ≡ 0
   none_at line half low high small =
       ap (λ l. get_or l half 0) (get_or-replicate 4 (line - 1) (0 ∷ 0 ∷ []) [] (omega (arith, low, high))) ∙ get_or-replicate 2 half 0 0 small
 
-  pub holds_none : HoldsNamed no_points
+  pub holds_none : HoldsNamed no_set
   holds_none =
       record {
         sizes = record {
@@ -136,13 +156,16 @@ module _ (named : ℕ → ℕ → Bool) where
         };
         below = λ line half low high small. rw (none_at line half low high small) (omega arith);
         only = λ line address place.
-            let none = ap (λ m. has_bit m (bit_of address)) (none_at line (half_of address) place.0 place.1 (half_small address place.3)) ∙ has_bit-zero (bit_of address) in
+            let none =
+            ap (λ m. has_bit m (bit_of address)) (none_at line (half_of address) place.0 place.1 (half_small address place.3)) ∙ has_bit-zero
+            (bit_of address) in
             none ∙ sym (ap (λ b. named line address && b) none ∙ and_false (named line address));
       }
 
   -- ---- one point put in or taken out
 
-  pub holds_told : (points : PointSet) (line address : ℕ) (on : Bool) → HoldsNamed points → IsPlace line address → named line address ≡ true → HoldsNamed (with_point points line address on)
+  pub holds_told : (points : PointSet) (line address : ℕ) (on : Bool) → HoldsNamed points → IsPlace line address → named line address ≡ true
+      → HoldsNamed (with_point points line address on)
   holds_told points line address on holds place is =
       record {
         sizes = record {
@@ -157,28 +180,34 @@ module _ (named : ℕ → ℕ → Bool) where
       bit = with_bit w128 (get_or (loop_of points line) (half_of address) 0) (bit_of address) on
 
       written : get_or (with_point points line address on).loops (line - 1) [] ≡ set (loop_of points line) (half_of address) bit
-      written = get_or-set_same points.loops (line - 1) (set (loop_of points line) (half_of address) bit) [] (let size = holds.sizes.loops in omega (arith, size, place.0, place.1))
+      written = get_or-set_same points.loops (line - 1) (set (loop_of points line) (half_of address) bit) [] (let size = holds.sizes.loops in
+          omega (arith, size, place.0, place.1))
 
       left : (i : ℕ) → i ≢ line - 1 → get_or (with_point points line address on).loops i [] ≡ get_or points.loops i []
       left i apart = get_or-set_other points.loops (line - 1) i (set (loop_of points line) (half_of address) bit) [] apart
 
-      length_at : (other : ℕ) → 1 ≤ other → other ≤ 4 → (((other - 1 == line - 1) ≡ true) × (other - 1 ≡ line - 1)) ⊎ (((other - 1 == line - 1) ≡ false) × (other - 1 ≢ line - 1)) →
+      length_at : (other : ℕ) → 1 ≤ other → other ≤ 4 → (((other - 1 == line - 1) ≡ true) × (other - 1 ≡ line - 1))
+          ⊎ (((other - 1 == line - 1) ≡ false) × (other - 1 ≢ line - 1)) →
           length (get_or (with_point points line address on).loops (other - 1) []) ≡ 2
       length_at other low high (inl same) =
-          ap (λ i. length (get_or (with_point points line address on).loops i [])) same.1 ∙ ap length written ∙ length-set (loop_of points line) (half_of address) bit
+          ap (λ i. length (get_or (with_point points line address on).loops i [])) same.1 ∙ ap length written ∙ length-set (loop_of points line)
+          (half_of address) bit
           ∙ holds.sizes.halves line place.0 place.1
       length_at other low high (inr apart) = ap length (left (other - 1) apart.1) ∙ holds.sizes.halves other low high
 
-      below_at : (other half : ℕ) → 1 ≤ other → other ≤ 4 → half < 2 → (((other - 1 == line - 1) ≡ true) × (other - 1 ≡ line - 1)) ⊎ (((other - 1 == line - 1) ≡ false) × (other - 1 ≢ line - 1)) →
+      below_at : (other half : ℕ) → 1 ≤ other → other ≤ 4 → half < 2 → (((other - 1 == line - 1) ≡ true) × (other - 1 ≡ line - 1))
+          ⊎ (((other - 1 == line - 1) ≡ false) × (other - 1 ≢ line - 1)) →
           (((half == half_of address) ≡ true) × (half ≡ half_of address)) ⊎ (((half == half_of address) ≡ false) × (half ≢ half_of address)) →
           get_or (get_or (with_point points line address on).loops (other - 1) []) half 0 < 2 ^ 96
       below_at other half low high small (inl same) (inl here) =
           let two = holds.sizes.halves line place.0 place.1 in
           let room : half_of address < length (loop_of points line) = omega (arith, two, half_small address place.3) in
           let e : get_or (get_or (with_point points line address on).loops (other - 1) []) half 0 ≡ bit =
-          ap (λ i. get_or (get_or (with_point points line address on).loops i []) half 0) same.1 ∙ ap (λ l. get_or l half 0) written ∙ ap (λ h. get_or (set (loop_of points line) (half_of address) bit) h 0) here.1
+          ap (λ i. get_or (get_or (with_point points line address on).loops i []) half 0) same.1 ∙ ap (λ l. get_or l half 0) written ∙ ap
+          (λ h. get_or (set (loop_of points line) (half_of address) bit) h 0) here.1
           ∙ get_or-set_same (loop_of points line) (half_of address) bit 0 room in
-          subst (λ m. m < 2 ^ 96) (sym e) (with_bit_below w128 96 (get_or (loop_of points line) (half_of address) 0) (bit_of address) on (omega arith) (omega arith) (holds.below line (half_of address) place.0 place.1 (half_small address place.3)))
+          subst (λ m. m < 2 ^ 96) (sym e) (with_bit_below w128 96 (get_or (loop_of points line) (half_of address) 0) (bit_of address) on (omega arith)
+          (omega arith) (holds.below line (half_of address) place.0 place.1 (half_small address place.3)))
       below_at other half low high small (inl same) (inr apart) =
           let e : get_or (get_or (with_point points line address on).loops (other - 1) []) half 0 ≡ get_or (loop_of points line) half 0 =
           ap (λ i. get_or (get_or (with_point points line address on).loops i []) half 0) same.1 ∙ ap (λ l. get_or l half 0) written
@@ -187,12 +216,14 @@ module _ (named : ℕ → ℕ → Bool) where
       below_at other half low high small (inr far) here =
           subst (λ m. m < 2 ^ 96) (sym (ap (λ l. get_or l half 0) (left (other - 1) far.1))) (holds.below other half low high small)
 
-      as_before : (other a : ℕ) → IsPlace other a → (other ≡ line → a ≡ address → ⊥) → has_point (with_point points line address on) other a ≡ (named other a && has_point (with_point points line address on) other a)
+      as_before : (other a : ℕ) → IsPlace other a → (other ≡ line → a ≡ address → ⊥)
+          → has_point (with_point points line address on) other a ≡ (named other a && has_point (with_point points line address on) other a)
       as_before other a there apart =
           let same = set-other points line address on holds.sizes.loops (holds.sizes.halves line place.0 place.1) place other a there apart in
           same ∙ holds.only other a there ∙ ap (λ b. named other a && b) (sym same)
 
-      only_one : (other a : ℕ) → IsPlace other a → (((other == line) ≡ true) × (other ≡ line)) ⊎ (((other == line) ≡ false) × (other ≢ line)) → (((a == address) ≡ true) × (a ≡ address)) ⊎ (((a == address) ≡ false) × (a ≢ address)) →
+      only_one : (other a : ℕ) → IsPlace other a → (((other == line) ≡ true) × (other ≡ line)) ⊎ (((other == line) ≡ false) × (other ≢ line))
+          → (((a == address) ≡ true) × (a ≡ address)) ⊎ (((a == address) ≡ false) × (a ≢ address)) →
           has_point (with_point points line address on) other a ≡ (named other a && has_point (with_point points line address on) other a)
       only_one other a there (inl here) (inl same) =
           let this : named other a ≡ true = ap (λ l. named l a) here.1 ∙ ap (named line) same.1 ∙ is in

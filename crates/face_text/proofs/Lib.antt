@@ -36,3 +36,5 @@ pub mod PageOrder
 pub mod OneMoreLine
 pub mod AllLines
 pub mod ReadSteps
+pub mod FaceTelling
+pub mod ReadSoFar

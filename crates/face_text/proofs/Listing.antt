@@ -1,6 +1,8 @@
 -- Texts of lists of numbers and of groups.
 use mathlib.Core.Bool.{beq}
-use Rattle.std.proofs.Common.{inl, inr, ◌≡◌, ◌≢◌, ◌⊎◌, ◌≤◌, ◌<◌, ◌∙◌, ◌++◌, ◌+◌, ◌==◌, length, take, drop, get_or, take-append-drop, ℕ, zero, suc, Bool, true, false, List, [], ◌∷◌, Option, Some, None, refl, sym, ap, map, filter, append_assoc, append-nil, arith, if◌then◌else◌}
+use Rattle.std.proofs.Common.{inl, inr, ◌≡◌, ◌≢◌, ◌⊎◌, ◌≤◌, ◌<◌, ◌∙◌, ◌++◌, ◌+◌, ◌==◌, length, take, drop, get_or}
+use Rattle.std.proofs.Common.{take-append-drop, ℕ, zero, suc, Bool, true, false, List, [], ◌∷◌, Option, Some, None}
+use Rattle.std.proofs.Common.{refl, sym, ap, map, filter, append_assoc, append-nil, arith, if◌then◌else◌}
 use Rattle.std.specs.List.{flat_map, range_with_len}
 use Rattle.std.proofs.lemmas.List.{take_more}
 use Rattle.std.proofs.lemmas.Grind.{flat_map-append}
@@ -20,17 +22,20 @@ range_more f n =
     let ranges = map-range_with_len_more (λ k. k) 1 n (n + 1) one in
     let same = λ (m : ℕ). sym (flat_map-map f (λ k. k) (range_with_len 1 m)) in
     same (n + 1) ∙ ap (flat_map f) ranges ∙ flat_map-append f (map (λ k. k) (range_with_len 1 n)) ((n + 1) ∷ [])
-    ∙ ap (λ xs. flat_map f (map (λ k. k) (range_with_len 1 n)) ++ xs) (append-nil (f (n + 1))) ∙ ap (λ xs. xs ++ f (n + 1)) (flat_map-map f (λ k. k) (range_with_len 1 n))
+    ∙ ap (λ xs. flat_map f (map (λ k. k) (range_with_len 1 n)) ++ xs) (append-nil (f (n + 1))) ∙ ap (λ xs. xs ++ f (n + 1))
+    (flat_map-map f (λ k. k) (range_with_len 1 n))
 
 -- the texts of the first numbers stand at the front of those of more
-front_by : {A : Type 0} (f : ℕ → List A) (m k : ℕ) → (k ≡ suc m) ⊎ (k ≢ suc m) → (k ≤ m → (rest : List A) × (flat_map f (range_with_len 1 m) ≡ flat_map f (range_with_len 1 k) ++ rest)) → k ≤ suc m →
+front_by : {A : Type 0} (f : ℕ → List A) (m k : ℕ) → (k ≡ suc m) ⊎ (k ≢ suc m)
+    → (k ≤ m → (rest : List A) × (flat_map f (range_with_len 1 m) ≡ flat_map f (range_with_len 1 k) ++ rest)) → k ≤ suc m →
     (rest : List A) × (flat_map f (range_with_len 1 (suc m)) ≡ flat_map f (range_with_len 1 k) ++ rest)
 front_by f m k (inl same) ih few = ([], ap (λ n. flat_map f (range_with_len 1 n)) (sym same) ∙ sym (append-nil (flat_map f (range_with_len 1 k))))
 front_by f m k (inr other) ih few =
     let front = ih (omega (arith, few, other)) in
     let one : suc m ≡ m + 1 = omega arith in (
       front.0 ++ f (m + 1),
-      ap (λ n. flat_map f (range_with_len 1 n)) one ∙ range_more f m ∙ ap (λ xs. xs ++ f (m + 1)) front.1 ∙ append_assoc (flat_map f (range_with_len 1 k)) front.0 (f (m + 1)),
+      ap (λ n. flat_map f (range_with_len 1 n)) one ∙ range_more f m ∙ ap (λ xs. xs ++ f (m + 1)) front.1 ∙ append_assoc
+          (flat_map f (range_with_len 1 k)) front.0 (f (m + 1)),
     )
 
 same_or_other : (m n : ℕ) → (m ≡ n) ⊎ (m ≢ n)
@@ -39,23 +44,30 @@ same_or_other m n = elim (eqb_tells m n) [
   | inr h ↦ inr h.1
 ]
 
-pub range_front : {A : Type 0} (f : ℕ → List A) (n k : ℕ) → k ≤ n → (rest : List A) × (flat_map f (range_with_len 1 n) ≡ flat_map f (range_with_len 1 k) ++ rest)
-range_front f zero k few = let none : k ≡ 0 = omega (arith, few) in ([], ap (λ n. flat_map f (range_with_len 1 n)) (sym none) ∙ sym (append-nil (flat_map f (range_with_len 1 k))))
+pub range_front : {A : Type 0} (f : ℕ → List A) (n k : ℕ) → k ≤ n
+    → (rest : List A) × (flat_map f (range_with_len 1 n) ≡ flat_map f (range_with_len 1 k) ++ rest)
+range_front f zero k few = let none : k ≡ 0 = omega (arith, few) in
+    ([], ap (λ n. flat_map f (range_with_len 1 n)) (sym none) ∙ sym (append-nil (flat_map f (range_with_len 1 k))))
 range_front f (suc m) k few = front_by f m k (same_or_other k (suc m)) (range_front f m k) few
 
 -- the texts of one more item, and of those that follow
-pub items_more : {X A : Type 0} (f : X → List A) (xs : List X) (k : ℕ) (d : X) → k < length xs → flat_map f (take (k + 1) xs) ≡ flat_map f (take k xs) ++ f (get_or xs k d)
+pub items_more : {X A : Type 0} (f : X → List A) (xs : List X) (k : ℕ) (d : X) → k < length xs → flat_map f (take (k + 1) xs) ≡ flat_map f (take k xs)
+    ++ f (get_or xs k d)
 items_more f xs k d within =
-    ap (flat_map f) (take_more xs k d within) ∙ flat_map-append f (take k xs) (get_or xs k d ∷ []) ∙ ap (λ ys. flat_map f (take k xs) ++ ys) (append-nil (f (get_or xs k d)))
+    ap (flat_map f) (take_more xs k d within) ∙ flat_map-append f (take k xs) (get_or xs k d ∷ []) ∙ ap (λ ys. flat_map f (take k xs) ++ ys)
+    (append-nil (f (get_or xs k d)))
 
 pub items_front : {X A : Type 0} (f : X → List A) (xs : List X) (k : ℕ) → flat_map f xs ≡ flat_map f (take k xs) ++ flat_map f (drop k xs)
 items_front f xs k = ap (flat_map f) (sym (take-append-drop k xs)) ∙ flat_map-append f (take k xs) (drop k xs)
 
 -- what the site hasn't is told by nothing
-untold : (site : Site) (before after : Face) (group : Group) (number : ℕ) → is_named (name_in site after.panel group number) ≡ false → change_of site before after (Thing group number) ≡ []
-untold site before after group number none = go (value_in before (Thing group number) == value_in after (Thing group number)) (name_in site after.panel group number) none
+untold : (site : Site) (before after : Face) (group : Group) (number : ℕ) → is_named (name_in site after.panel group number) ≡ false
+    → change_of site before after (Thing group number) ≡ []
+untold site before after group number none =
+    go (value_in before (Thing group number) == value_in after (Thing group number)) (name_in site after.panel group number) none
   where
-    go : (same : Bool) (name : Option (List ℕ)) → is_named name ≡ false → (if same then [] else line_of_thing after.panel group (value_in after (Thing group number)) name) ≡ []
+    go : (same : Bool) (name : Option (List ℕ)) → is_named name ≡ false
+        → (if same then [] else line_of_thing after.panel group (value_in after (Thing group number)) name) ≡ []
     go true name e = refl
     go false None e = refl
     go false (Some name) e = cc
@@ -64,20 +76,24 @@ told_numbers : (site : Site) (before after : Face) (group : Group) (numbers : Li
     flat_map (change_of site before after) (map (Thing group) (filter (λ number. is_named (name_in site after.panel group number)) numbers))
     ≡ flat_map (λ number. change_of site before after (Thing group number)) numbers
 told_numbers site before after group [] = refl
-told_numbers site before after group (number ∷ numbers) = go (is_named (name_in site after.panel group number)) refl (told_numbers site before after group numbers)
+told_numbers site before after group (number ∷ numbers) =
+    go (is_named (name_in site after.panel group number)) refl (told_numbers site before after group numbers)
   where
     test : ℕ → Bool
     test k = is_named (name_in site after.panel group k)
 
     go : (b : Bool) → test number ≡ b →
-        flat_map (change_of site before after) (map (Thing group) (filter test numbers)) ≡ flat_map (λ k. change_of site before after (Thing group k)) numbers →
+        flat_map (change_of site before after) (map (Thing group) (filter test numbers)) ≡ flat_map (λ k. change_of site before after (Thing group k))
+        numbers →
         flat_map (change_of site before after) (map (Thing group) (if b then number ∷ filter test numbers else filter test numbers))
         ≡ change_of site before after (Thing group number) ++ flat_map (λ k. change_of site before after (Thing group k)) numbers
     go true e ih = ap (λ xs. change_of site before after (Thing group number) ++ xs) ih
-    go false e ih = ih ∙ sym (ap (λ xs. xs ++ flat_map (λ k. change_of site before after (Thing group k)) numbers) (untold site before after group number e))
+    go false e ih =
+        ih ∙ sym (ap (λ xs. xs ++ flat_map (λ k. change_of site before after (Thing group k)) numbers) (untold site before after group number e))
 
 -- the lines of a group are those of all its numbers
-pub group_is : (site : Site) (before after : Face) (group : Group) → group_text site before after group ≡ numbers_text site before after group (last_of group)
+pub group_is : (site : Site) (before after : Face) (group : Group)
+    → group_text site before after group ≡ numbers_text site before after group (last_of group)
 group_is site before after group = told_numbers site before after group (range_with_len 1 (last_of group))
 
 flat_twice : {A B : Type 0} (f : B → List ℕ) (g : A → List B) (xs : List A) → flat_map f (flat_map g xs) ≡ flat_map (λ x. flat_map f (g x)) xs
@@ -111,48 +127,59 @@ other_bits true false line e = refl
 other_bits false true line e = refl
 
 -- what is shown as before has no line
-pub thing_same : (site : Site) (before after : Face) (group : Group) (number : ℕ) → beq (shows before group number) (shows after group number) ≡ true → change_of site before after (Thing group number) ≡ []
+pub thing_same : (site : Site) (before after : Face) (group : Group) (number : ℕ) → beq (shows before group number) (shows after group number) ≡ true
+    → change_of site before after (Thing group number) ≡ []
 thing_same site before after group number e = same_bits (shows before group number) (shows after group number) _ e
 
-pub thing_other : (site : Site) (before after : Face) (group : Group) (number : ℕ) → beq (shows before group number) (shows after group number) ≡ false →
+pub thing_other : (site : Site) (before after : Face) (group : Group) (number : ℕ)
+    → beq (shows before group number) (shows after group number) ≡ false →
     line_of site after.panel (Thing group number) (number_of_truth (shows after group number)) ≡ change_of site before after (Thing group number)
 thing_other site before after group number e = sym (other_bits (shows before group number) (shows after group number) _ e)
 
 -- a group that is shown as before has no line
-pub group_same : (site : Site) (before after : Face) (group : Group) → ((number : ℕ) → shows before group number ≡ shows after group number) → group_text site before after group ≡ []
+pub group_same : (site : Site) (before after : Face) (group : Group) → ((number : ℕ) → shows before group number ≡ shows after group number)
+    → group_text site before after group ≡ []
 group_same site before after group same = go (numbers_in site after.panel group)
   where
     go : (numbers : List ℕ) → flat_map (change_of site before after) (map (Thing group) numbers) ≡ []
     go [] = refl
     go (number ∷ numbers) =
-        ap (λ xs. xs ++ flat_map (change_of site before after) (map (Thing group) numbers)) (same_value _ _ _ (ap number_of_truth (same number))) ∙ go numbers
+        ap (λ xs. xs ++ flat_map (change_of site before after) (map (Thing group) numbers)) (same_value _ _ _ (ap number_of_truth (same number))) ∙ go
+        numbers
 
 -- where no value is another, there is no line
-pub no_change : (site : Site) (before after : Face) (all : List Slot) → ((slot : Slot) → value_in before slot ≡ value_in after slot) → flat_map (change_of site before after) all ≡ []
+pub no_change : (site : Site) (before after : Face) (all : List Slot) → ((slot : Slot) → value_in before slot ≡ value_in after slot)
+    → flat_map (change_of site before after) all ≡ []
 no_change site before after [] same = refl
-no_change site before after (slot ∷ all) same = ap (λ xs. xs ++ flat_map (change_of site before after) all) (same_value _ _ _ (same slot)) ∙ no_change site before after all same
+no_change site before after (slot ∷ all) same =
+    ap (λ xs. xs ++ flat_map (change_of site before after) all) (same_value _ _ _ (same slot)) ∙ no_change site before after all same
 
 -- ---- the steps of the loops
 
 pub number_next : (site : Site) (before after : Face) (group : Group) (place : ℕ) →
-    numbers_text site before after group (place + 1) ≡ numbers_text site before after group place ++ change_of site before after (Thing group (place + 1))
+    numbers_text site before after group (place + 1) ≡ numbers_text site before after group place
+    ++ change_of site before after (Thing group (place + 1))
 number_next site before after group place = range_more (λ number. change_of site before after (Thing group number)) place
 
 pub number_front : (site : Site) (before after : Face) (group : Group) (last place : ℕ) → place < last →
-    (rest : List ℕ) × (numbers_text site before after group last ≡ (numbers_text site before after group place ++ change_of site before after (Thing group (place + 1))) ++ rest)
+    (rest : List ℕ)
+    × (numbers_text site before after group last ≡ (numbers_text site before after group place ++ change_of site before after (Thing group (place + 1))) ++ rest)
 number_front site before after group last place within =
     let front = range_front (λ number. change_of site before after (Thing group number)) last (place + 1) (omega (arith, within)) in
     (front.0, front.1 ∙ ap (λ xs. xs ++ front.0) (number_next site before after group place))
 
 -- an item of a list that is another one
-pub item_next : {X A : Type 0} (f : X → List A) (xs ys : List X) (k : ℕ) (d : X) (text : List A) → ys ≡ xs → k < length xs → text ≡ f (get_or ys k d) →
+pub item_next : {X A : Type 0} (f : X → List A) (xs ys : List X) (k : ℕ) (d : X) (text : List A) → ys ≡ xs → k < length xs
+    → text ≡ f (get_or ys k d) →
     flat_map f (take (k + 1) xs) ≡ flat_map f (take k xs) ++ text
 item_next f xs ys k d text same within is =
     items_more f xs k d within ∙ ap (λ t. flat_map f (take k xs) ++ t) (sym (is ∙ ap (λ zs. f (get_or zs k d)) same))
 
-pub item_front : {X A : Type 0} (f : X → List A) (xs ys : List X) (k : ℕ) (d : X) (text : List A) → ys ≡ xs → k < length xs → text ≡ f (get_or ys k d) →
+pub item_front : {X A : Type 0} (f : X → List A) (xs ys : List X) (k : ℕ) (d : X) (text : List A) → ys ≡ xs → k < length xs
+    → text ≡ f (get_or ys k d) →
     flat_map f xs ≡ (flat_map f (take k xs) ++ text) ++ flat_map f (drop (k + 1) xs)
-item_front f xs ys k d text same within is = items_front f xs (k + 1) ∙ ap (λ t. t ++ flat_map f (drop (k + 1) xs)) (item_next f xs ys k d text same within is)
+item_front f xs ys k d text same within is =
+    items_front f xs (k + 1) ∙ ap (λ t. t ++ flat_map f (drop (k + 1) xs)) (item_next f xs ys k d text same within is)
 
 -- the first, second and third of three lines
 pub three_lines : (f : Slot → List ℕ) → flat_map f (Delays ∷ Sounding ∷ Count ∷ []) ≡ (f Delays ++ f Sounding) ++ f Count

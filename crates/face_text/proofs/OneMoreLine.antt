@@ -8,9 +8,9 @@ use Rattle.face_text.specs.declared.change.Change.TheVariants.{Thing as ThingCha
 use Rattle.face_text.specs.declared.face.Face.{Face}
 use Rattle.face_text.specs.Changes.{changes_text}
 use Rattle.face_text.specs.Entries.{IsChange, slot_of, slot_rank, value_of}
-use Rattle.face_text.specs.FaceTelling.{AddsItsLine, AddsOneLine, change_line}
 use Rattle.face_text.specs.Slots.{Slot, line_of, slots, value_in}
-use Rattle.face_text.specs.Telling.{IsSameBehind, IsSlotOf, face_told}
+use Rattle.face_text.specs.Telling.{face_told}
+use Rattle.face_text.proofs.FaceTelling.{AddsItsLine, AddsOneLine, IsSameBehind, IsSlotOf, change_line}
 use Rattle.face_text.specs.Timelines.{IsFaceOf}
 use Rattle.face_text.proofs.FaceForm.{keeps_form}
 use Rattle.face_text.proofs.PageOrder.{IsAmong, RiseBetween, among_behind, slot_there, slots_are, slots_rise}
@@ -23,7 +23,8 @@ line_in site panel before after slot = if value_in before slot == value_in after
 abbrev pub page_text : Site → ℕ → Face → Face → List ℕ
 page_text site panel before after = flat_map (line_in site panel before after) (slots site panel)
 
-pub text_is : (site : Site) (panel : ℕ) (before after : Face) → after.panel ≡ panel → changes_text site before after ≡ page_text site panel before after
+pub text_is : (site : Site) (panel : ℕ) (before after : Face) → after.panel ≡ panel
+    → changes_text site before after ≡ page_text site panel before after
 text_is site panel before after e = ap (λ p. page_text site p before after) e
 
 pub same_none : (x y : ℕ) (line : List ℕ) → x ≡ y → (if x == y then [] else line) ≡ []
@@ -48,7 +49,8 @@ record Follows (P : Slot → Type 0) (slot : Slot) (line : List ℕ) (f g : Slot
   behind : (other : Slot) → P other → slot_rank slot < slot_rank other → (f other ≡ []) × (g other ≡ [])
 
 module _ (P : Slot → Type 0) (slot : Slot) (line : List ℕ) (f g : Slot → List ℕ) (follows : Follows P slot line f g) where
-  nothing_behind : (low high : ℕ) (all : List Slot) → slot_rank slot < suc low → RiseBetween low high all → AllByRecursion P all → (flat_map f all ≡ []) × (flat_map g all ≡ [])
+  nothing_behind : (low high : ℕ) (all : List Slot) → slot_rank slot < suc low → RiseBetween low high all → AllByRecursion P all
+      → (flat_map f all ≡ []) × (flat_map g all ≡ [])
   nothing_behind low high [] above rise each = (refl, refl)
   nothing_behind low high (first ∷ all) above rise each =
       let next = rise.0 in
@@ -56,7 +58,8 @@ module _ (P : Slot → Type 0) (slot : Slot) (line : List ℕ) (f g : Slot → L
       let rest = nothing_behind (slot_rank first) high all (omega (arith, above, next)) rise.1 each.1 in
       (ap (λ xs. xs ++ flat_map f all) here.0 ∙ rest.0, ap (λ xs. xs ++ flat_map g all) here.1 ∙ rest.1)
 
-  one_line : (low high : ℕ) (all : List Slot) → RiseBetween low high all → AllByRecursion P all → IsAmong slot all → flat_map g all ≡ flat_map f all ++ line
+  one_line : (low high : ℕ) (all : List Slot) → RiseBetween low high all → AllByRecursion P all → IsAmong slot all
+      → flat_map g all ≡ flat_map f all ++ line
   one_line low high [] rise each is = absurd is
   one_line low high (first ∷ all) rise each (inl here) =
       let rank : slot_rank slot ≡ slot_rank first = ap slot_rank here in
@@ -65,7 +68,8 @@ module _ (P : Slot → Type 0) (slot : Slot) (line : List ℕ) (f g : Slot → L
       ap (λ xs. g first ++ xs) rest.1 ∙ append-nil (g first) ∙ ap g (sym here) ∙ follows.this ∙ sym (ap (λ xs. xs ++ line) left)
   one_line low high (first ∷ all) rise each (inr there) =
       let front = follows.front first each.0 (among_behind (slot_rank first) high slot all rise.1 there) in
-      ap (λ xs. xs ++ flat_map g all) front ∙ ap (λ xs. f first ++ xs) (one_line (slot_rank first) high all rise.1 each.1 there) ∙ sym (append_assoc (f first) (flat_map f all) line)
+      ap (λ xs. xs ++ flat_map g all) front ∙ ap (λ xs. f first ++ xs) (one_line (slot_rank first) high all rise.1 each.1 there) ∙ sym
+      (append_assoc (f first) (flat_map f all) line)
 
 -- ---- the law
 
@@ -78,7 +82,8 @@ change_slot site panel (CounterChange count) is = tt
 pub apart_ranks : (one other : Slot) → slot_rank one < slot_rank other → one ≢ other
 apart_ranks one other less = λ e. let same : slot_rank one ≡ slot_rank other = ap slot_rank e in omega (arith, less, same)
 
-module _ (site : Site) (panel rank : ℕ) (before shown : Face) (change : Change) (form : IsFaceOf site panel shown) (same : IsSameBehind site panel rank before shown) (is : IsChange site panel change) (above : rank < slot_rank (slot_of change))
+module _ (site : Site) (panel rank : ℕ) (before shown : Face) (change : Change) (form : IsFaceOf site panel shown) (same :
+    IsSameBehind site panel rank before shown) (is : IsChange site panel change) (above : rank < slot_rank (slot_of change))
     (news : value_in shown (slot_of change) ≢ value_of change) where
   told_now : value_in (face_told shown change) (slot_of change) ≡ value_of change
   told_now = tells_this_alone.this site panel shown change form is
@@ -92,20 +97,30 @@ module _ (site : Site) (panel rank : ℕ) (before shown : Face) (change : Change
   differs_there : value_in before (slot_of change) ≢ value_in (face_told shown change) (slot_of change)
   differs_there = λ e. news (sym not_yet ∙ e ∙ told_now)
 
-  behind_it : (other : Slot) → IsSlotOf site panel other → slot_rank (slot_of change) < slot_rank other → value_in before other ≡ value_in (face_told shown change) other
-  behind_it other there less = same other there (omega (arith, above, less)) ∙ sym (left other there (λ e. apart_ranks (slot_of change) other less (sym e)))
+  behind_it : (other : Slot) → IsSlotOf site panel other → slot_rank (slot_of change) < slot_rank other
+      → value_in before other ≡ value_in (face_told shown change) other
+  behind_it other there less =
+      same other there (omega (arith, above, less)) ∙ sym (left other there (λ e. apart_ranks (slot_of change) other less (sym e)))
 
-  follows : Follows (IsSlotOf site panel) (slot_of change) (change_line site panel change) (line_in site panel before shown) (line_in site panel before (face_told shown change))
+  follows : Follows (IsSlotOf site panel) (slot_of change) (change_line site panel change) (line_in site panel before shown)
+      (line_in site panel before (face_told shown change))
   follows =
       record {
-        none = same_none (value_in before (slot_of change)) (value_in shown (slot_of change)) (line_of site panel (slot_of change) (value_in shown (slot_of change))) not_yet;
+        none =
+            same_none (value_in before (slot_of change)) (value_in shown (slot_of change))
+            (line_of site panel (slot_of change) (value_in shown (slot_of change))) not_yet;
         this =
-            other_line (value_in before (slot_of change)) (value_in (face_told shown change) (slot_of change)) (line_of site panel (slot_of change) (value_in (face_told shown change) (slot_of change))) differs_there
+            other_line (value_in before (slot_of change)) (value_in (face_told shown change) (slot_of change))
+            (line_of site panel (slot_of change) (value_in (face_told shown change) (slot_of change))) differs_there
             ∙ ap (λ v. line_of site panel (slot_of change) v) told_now;
-        front = λ other there less. ap (λ v. if value_in before other == v then [] else line_of site panel other v) (left other there (apart_ranks other (slot_of change) less));
+        front =
+            λ other there less. ap (λ v. if value_in before other == v then [] else line_of site panel other v)
+            (left other there (apart_ranks other (slot_of change) less));
         behind = λ other there less. (
-          same_none (value_in before other) (value_in shown other) (line_of site panel other (value_in shown other)) (same other there (omega (arith, above, less))),
-          same_none (value_in before other) (value_in (face_told shown change) other) (line_of site panel other (value_in (face_told shown change) other)) (behind_it other there less),
+          same_none (value_in before other) (value_in shown other) (line_of site panel other (value_in shown other))
+              (same other there (omega (arith, above, less))),
+          same_none (value_in before other) (value_in (face_told shown change) other)
+              (line_of site panel other (value_in (face_told shown change) other)) (behind_it other there less),
         );
       }
 
@@ -115,7 +130,8 @@ module _ (site : Site) (panel rank : ℕ) (before shown : Face) (change : Change
       record {
         text =
             text_is site panel before (face_told shown change) told.panel_is
-            ∙ one_line (IsSlotOf site panel) (slot_of change) (change_line site panel change) (line_in site panel before shown) (line_in site panel before (face_told shown change)) follows 0 38000 (slots site panel) (slots_rise site panel) (slots_are site panel)
+            ∙ one_line (IsSlotOf site panel) (slot_of change) (change_line site panel change) (line_in site panel before shown)
+            (line_in site panel before (face_told shown change)) follows 0 38000 (slots site panel) (slots_rise site panel) (slots_are site panel)
             (slot_there site panel (slot_of change) (change_slot site panel change is))
             ∙ ap (λ xs. xs ++ change_line site panel change) (sym (text_is site panel before shown form.panel_is));
         behind = λ other there less. behind_it other there less;

@@ -1,5 +1,7 @@
 -- The order of the page: the places of its slots rise, and each slot of the page is among them.
-use Rattle.std.proofs.Common.{inl, inr, ◌⊎◌, ◌≡◌, ◌≢◌, ◌≤◌, ◌<◌, ◌+◌, ◌*◌, ◌==◌, ℕ, zero, suc, Bool, true, false, List, [], ◌∷◌, ◌++◌, map, filter, refl, sym, ◌∙◌, ap, subst, arith, rules, if◌then◌else◌}
+use Rattle.std.proofs.Common.{inl, inr, ◌⊎◌, ◌≡◌, ◌≢◌, ◌≤◌, ◌<◌, ◌+◌, ◌*◌, ◌==◌, ℕ, zero, suc, Bool, true, false}
+use Rattle.std.proofs.Common.{List, [], ◌∷◌, ◌++◌, map, filter, refl, sym, ◌∙◌, ap, subst, arith, rules}
+use Rattle.std.proofs.Common.{if◌then◌else◌}
 use Rattle.std.specs.List.{AllByRecursion, flat_map, range_with_len}
 use Rattle.std.proofs.lemmas.Bool.Decides.{eqb_tells}
 use Rattle.site_types.specs.declared.site.Site.{Site}
@@ -7,7 +9,7 @@ use Rattle.face_text.specs.declared.group.Group.{Group}
 use Rattle.face_text.specs.declared.group.Group.TheVariants.{Zones, Firsts, Missing, Broken, Shorted, Supplies, Silent, Links, Unconfirmed, Outputs, Confirmed, PointsOff, ZonesOff, OutputsOff, Tests}
 use Rattle.face_text.specs.Entries.{group_rank, slot_rank}
 use Rattle.face_text.specs.Slots.{HasPlace, Slot, Thing, Delays, Sounding, Count, is_named, last_of, name_in, page, slots, slots_of}
-use Rattle.face_text.specs.Telling.{IsSlotOf}
+use Rattle.face_text.proofs.FaceTelling.{IsSlotOf}
 use Rattle.face_text.proofs.Pages.{all_have}
 
 -- ---- rising places
@@ -25,7 +27,8 @@ rise_append : (low mid high : ℕ) (some more : List Slot) → RiseBetween low m
 rise_append low mid high [] more first rest = rise_lower low mid high more first rest
 rise_append low mid high (slot ∷ some) more first rest = (first.0, rise_append (slot_rank slot) mid high some more first.1 rest)
 
-rise_numbers : (group : Group) (test : ℕ → Bool) (low high first count : ℕ) → low < group_rank group * 1000 + first → group_rank group * 1000 + first + count ≤ high →
+rise_numbers : (group : Group) (test : ℕ → Bool) (low high first count : ℕ) → low < group_rank group * 1000 + first
+    → group_rank group * 1000 + first + count ≤ high →
     RiseBetween low high (map (Thing group) (filter test (range_with_len first count)))
 rise_numbers group test low high first zero above below = omega (arith, above, below)
 rise_numbers group test low high first (suc count) above below =
@@ -34,7 +37,8 @@ rise_numbers group test low high first (suc count) above below =
   where
     go : (b : Bool) → RiseBetween low high (map (Thing group) (filter test (range_with_len (first + 1) count))) →
         RiseBetween (group_rank group * 1000 + first) high (map (Thing group) (filter test (range_with_len (first + 1) count))) →
-        RiseBetween low high (map (Thing group) (if b then first ∷ filter test (range_with_len (first + 1) count) else filter test (range_with_len (first + 1) count)))
+        RiseBetween low high
+        (map (Thing group) (if b then first ∷ filter test (range_with_len (first + 1) count) else filter test (range_with_len (first + 1) count)))
     go true less more = (above, more)
     go false less more = less
 
@@ -55,9 +59,11 @@ last_small ZonesOff = omega arith
 last_small OutputsOff = omega arith
 last_small Tests = omega arith
 
-rise_group : (site : Site) (panel : ℕ) (group : Group) (low : ℕ) → low < group_rank group * 1000 + 1 → RiseBetween low (group_rank group * 1000 + 999) (slots_of site panel group)
+rise_group : (site : Site) (panel : ℕ) (group : Group) (low : ℕ) → low < group_rank group * 1000 + 1
+    → RiseBetween low (group_rank group * 1000 + 999) (slots_of site panel group)
 rise_group site panel group low above =
-    rise_numbers group (λ number. is_named (name_in site panel group number)) low (group_rank group * 1000 + 999) 1 (last_of group) above (omega (arith, last_small group))
+    rise_numbers group (λ number. is_named (name_in site panel group number)) low (group_rank group * 1000 + 999) 1 (last_of group) above
+    (omega (arith, last_small group))
 
 -- groups at rising places of the page, behind one
 abbrev GroupsRise : ℕ → List Group → Type 0
@@ -68,7 +74,8 @@ page_rises : GroupsRise 0 page
 unfolding page
 page_rises = search rules
 
-rise_groups : (site : Site) (panel place : ℕ) (groups : List Group) → GroupsRise place groups → RiseBetween (place * 1000 + 999) 35999 (flat_map (slots_of site panel) groups)
+rise_groups : (site : Site) (panel place : ℕ) (groups : List Group) → GroupsRise place groups
+    → RiseBetween (place * 1000 + 999) 35999 (flat_map (slots_of site panel) groups)
 rise_groups site panel place [] rise = omega (arith, rise)
 rise_groups site panel place (group ∷ groups) rise =
     let first = rise.0 in
@@ -78,7 +85,8 @@ rise_groups site panel place (group ∷ groups) rise =
 pub slots_rise : (site : Site) (panel : ℕ) → RiseBetween 0 38000 (slots site panel)
 slots_rise site panel =
     rise_append 0 35999 38000 (flat_map (slots_of site panel) page) (Delays ∷ Sounding ∷ Count ∷ [])
-    (rise_lower 0 999 35999 (flat_map (slots_of site panel) page) (omega arith) (rise_groups site panel 0 page page_rises)) (omega arith, (omega arith, (omega arith, omega arith)))
+    (rise_lower 0 999 35999 (flat_map (slots_of site panel) page) (omega arith) (rise_groups site panel 0 page page_rises))
+    (omega arith, (omega arith, (omega arith, omega arith)))
 
 -- ---- all are of the page
 
@@ -87,7 +95,8 @@ all_append P [] ys some more = more
 all_append P (x ∷ xs) ys some more = (some.0, all_append P xs ys some.1 more)
 
 all_numbers : (site : Site) (panel : ℕ) (group : Group) (first count : ℕ) → HasPlace group → 1 ≤ first → first + count ≤ 1 + last_of group →
-    AllByRecursion (IsSlotOf site panel) (map (Thing group) (filter (λ number. is_named (name_in site panel group number)) (range_with_len first count)))
+    AllByRecursion (IsSlotOf site panel)
+    (map (Thing group) (filter (λ number. is_named (name_in site panel group number)) (range_with_len first count)))
 all_numbers site panel group first zero place low high = tt
 all_numbers site panel group first (suc count) place low high =
     go (is_named (name_in site panel group first)) refl (all_numbers site panel group (first + 1) count place (omega arith) (omega (arith, high)))
@@ -95,19 +104,25 @@ all_numbers site panel group first (suc count) place low high =
     test : ℕ → Bool
     test number = is_named (name_in site panel group number)
 
-    go : (b : Bool) → is_named (name_in site panel group first) ≡ b → AllByRecursion (IsSlotOf site panel) (map (Thing group) (filter test (range_with_len (first + 1) count))) →
-        AllByRecursion (IsSlotOf site panel) (map (Thing group) (if b then first ∷ filter test (range_with_len (first + 1) count) else filter test (range_with_len (first + 1) count)))
+    go : (b : Bool) → is_named (name_in site panel group first) ≡ b
+        → AllByRecursion (IsSlotOf site panel) (map (Thing group) (filter test (range_with_len (first + 1) count))) →
+        AllByRecursion (IsSlotOf site panel)
+        (map (Thing group) (if b then first ∷ filter test (range_with_len (first + 1) count) else filter test (range_with_len (first + 1) count)))
     go true e rest = ((place, low, omega (arith, high), e), rest)
     go false e rest = rest
 
-all_groups : (site : Site) (panel : ℕ) (groups : List Group) → AllByRecursion HasPlace groups → AllByRecursion (IsSlotOf site panel) (flat_map (slots_of site panel) groups)
+all_groups : (site : Site) (panel : ℕ) (groups : List Group) → AllByRecursion HasPlace groups
+    → AllByRecursion (IsSlotOf site panel) (flat_map (slots_of site panel) groups)
 all_groups site panel [] places = tt
 all_groups site panel (group ∷ groups) places =
-    all_append (IsSlotOf site panel) (slots_of site panel group) (flat_map (slots_of site panel) groups) (all_numbers site panel group 1 (last_of group) places.0 (omega arith) (omega arith))
+    all_append (IsSlotOf site panel) (slots_of site panel group) (flat_map (slots_of site panel) groups)
+    (all_numbers site panel group 1 (last_of group) places.0 (omega arith) (omega arith))
     (all_groups site panel groups places.1)
 
 pub slots_are : (site : Site) (panel : ℕ) → AllByRecursion (IsSlotOf site panel) (slots site panel)
-slots_are site panel = all_append (IsSlotOf site panel) (flat_map (slots_of site panel) page) (Delays ∷ Sounding ∷ Count ∷ []) (all_groups site panel page all_have) (tt, (tt, (tt, tt)))
+slots_are site panel =
+    all_append (IsSlotOf site panel) (flat_map (slots_of site panel) page) (Delays ∷ Sounding ∷ Count ∷ []) (all_groups site panel page all_have)
+    (tt, (tt, (tt, tt)))
 
 -- ---- each slot of the page is there
 
@@ -124,20 +139,24 @@ among_right : {X : Type 0} (x : X) (xs ys : List X) → IsAmong x ys → IsAmong
 among_right x [] ys there = there
 among_right x (y ∷ xs) ys there = inr (among_right x xs ys there)
 
-among_numbers : (group : Group) (test : ℕ → Bool) (number first count : ℕ) → first ≤ number → number < first + count → test number ≡ true → IsAmong (Thing group number) (map (Thing group) (filter test (range_with_len first count)))
+among_numbers : (group : Group) (test : ℕ → Bool) (number first count : ℕ) → first ≤ number → number < first + count → test number ≡ true
+    → IsAmong (Thing group number) (map (Thing group) (filter test (range_with_len first count)))
 among_numbers group test number first zero low high is = absurd (omega (arith, low, high))
 among_numbers group test number first (suc count) low high is =
-    by (test first) refl (eqb_tells number first) (λ next. among_numbers group test number (first + 1) count (omega (arith, next)) (omega (arith, high)) is)
+    by (test first) refl (eqb_tells number first)
+    (λ next. among_numbers group test number (first + 1) count (omega (arith, next)) (omega (arith, high)) is)
   where
     by : (b : Bool) → test first ≡ b → (((number == first) ≡ true) × (number ≡ first)) ⊎ (((number == first) ≡ false) × (number ≢ first)) →
         (first < number → IsAmong (Thing group number) (map (Thing group) (filter test (range_with_len (first + 1) count)))) →
-        IsAmong (Thing group number) (map (Thing group) (if b then first ∷ filter test (range_with_len (first + 1) count) else filter test (range_with_len (first + 1) count)))
+        IsAmong (Thing group number)
+        (map (Thing group) (if b then first ∷ filter test (range_with_len (first + 1) count) else filter test (range_with_len (first + 1) count)))
     by true e (inl same) later = inl (ap (Thing group) same.1)
     by true e (inr other) later = let apart = other.1 in inr (later (omega (arith, low, apart)))
     by false e (inl same) later = absurd (let none : true ≡ false = sym is ∙ ap test same.1 ∙ e in cc)
     by false e (inr other) later = let apart = other.1 in later (omega (arith, low, apart))
 
-among_groups : (site : Site) (panel : ℕ) (slot : Slot) (group : Group) (groups : List Group) → IsAmong group groups → IsAmong slot (slots_of site panel group) → IsAmong slot (flat_map (slots_of site panel) groups)
+among_groups : (site : Site) (panel : ℕ) (slot : Slot) (group : Group) (groups : List Group) → IsAmong group groups
+    → IsAmong slot (slots_of site panel group) → IsAmong slot (flat_map (slots_of site panel) groups)
 among_groups site panel slot group [] here is = absurd here
 among_groups site panel slot group (first ∷ groups) (inl here) is =
     among_left slot (slots_of site panel first) (flat_map (slots_of site panel) groups) (subst (λ g. IsAmong slot (slots_of site panel g)) here is)
@@ -162,37 +181,145 @@ group_there (Firsts (suc (suc zero))) place = inr (inr (inr (inr (inr (inr (inr 
 group_there (Firsts (suc (suc (suc zero)))) place = inr (inr (inr (inr (inr (inr (inr (inr (inr (inr (inl refl))))))))))
 group_there (Firsts (suc (suc (suc (suc zero))))) place = inr (inr (inr (inr (inr (inr (inr (inr (inr (inr (inr (inl refl)))))))))))
 group_there (Firsts (suc (suc (suc (suc (suc zero)))))) place = inr (inr (inr (inr (inr (inr (inr (inr (inr (inr (inr (inr (inl refl))))))))))))
-group_there (Firsts (suc (suc (suc (suc (suc (suc zero))))))) place = inr (inr (inr (inr (inr (inr (inr (inr (inr (inr (inr (inr (inr (inl refl)))))))))))))
-group_there (Firsts (suc (suc (suc (suc (suc (suc (suc zero)))))))) place = inr (inr (inr (inr (inr (inr (inr (inr (inr (inr (inr (inr (inr (inr (inl refl))))))))))))))
-group_there (Firsts (suc (suc (suc (suc (suc (suc (suc (suc zero))))))))) place = inr (inr (inr (inr (inr (inr (inr (inr (inr (inr (inr (inr (inr (inr (inr (inl refl)))))))))))))))
+group_there (Firsts (suc (suc (suc (suc (suc (suc zero))))))) place =
+    inr (inr (inr (inr (inr (inr (inr (inr (inr (inr (inr (inr (inr (inl refl)))))))))))))
+group_there (Firsts (suc (suc (suc (suc (suc (suc (suc zero)))))))) place =
+    inr (inr (inr (inr (inr (inr (inr (inr (inr (inr (inr (inr (inr (inr (inl refl))))))))))))))
+group_there (Firsts (suc (suc (suc (suc (suc (suc (suc (suc zero))))))))) place =
+    inr (inr (inr (inr (inr (inr (inr (inr (inr (inr (inr (inr (inr (inr (inr (inl refl)))))))))))))))
 group_there (Firsts (suc (suc (suc (suc (suc (suc (suc (suc (suc more)))))))))) place = absurd (omega (arith, place.1))
 group_there (Missing zero) place = absurd (omega (arith, place.0))
 group_there (Missing (suc zero)) place = inr (inr (inr (inr (inr (inr (inr (inr (inr (inr (inr (inr (inr (inr (inr (inr (inl refl))))))))))))))))
-group_there (Missing (suc (suc zero))) place = inr (inr (inr (inr (inr (inr (inr (inr (inr (inr (inr (inr (inr (inr (inr (inr (inr (inl refl)))))))))))))))))
-group_there (Missing (suc (suc (suc zero)))) place = inr (inr (inr (inr (inr (inr (inr (inr (inr (inr (inr (inr (inr (inr (inr (inr (inr (inr (inl refl))))))))))))))))))
-group_there (Missing (suc (suc (suc (suc zero))))) place = inr (inr (inr (inr (inr (inr (inr (inr (inr (inr (inr (inr (inr (inr (inr (inr (inr (inr (inr (inl refl)))))))))))))))))))
+group_there (Missing (suc (suc zero))) place =
+    inr (inr (inr (inr (inr (inr (inr (inr (inr (inr (inr (inr (inr (inr (inr (inr (inr (inl refl)))))))))))))))))
+group_there (Missing (suc (suc (suc zero)))) place =
+    inr (inr (inr (inr (inr (inr (inr (inr (inr (inr (inr (inr (inr (inr (inr (inr (inr (inr (inl refl))))))))))))))))))
+group_there (Missing (suc (suc (suc (suc zero))))) place =
+    inr (inr (inr (inr (inr (inr (inr (inr (inr (inr (inr (inr (inr (inr (inr (inr (inr (inr (inr (inl refl)))))))))))))))))))
 group_there (Missing (suc (suc (suc (suc (suc more)))))) place = absurd (omega (arith, place.1))
-group_there Broken place = inr (inr (inr (inr (inr (inr (inr (inr (inr (inr (inr (inr (inr (inr (inr (inr (inr (inr (inr (inr (inl refl))))))))))))))))))))
-group_there Shorted place = inr (inr (inr (inr (inr (inr (inr (inr (inr (inr (inr (inr (inr (inr (inr (inr (inr (inr (inr (inr (inr (inl refl)))))))))))))))))))))
-group_there Supplies place = inr (inr (inr (inr (inr (inr (inr (inr (inr (inr (inr (inr (inr (inr (inr (inr (inr (inr (inr (inr (inr (inr (inl refl))))))))))))))))))))))
-group_there Silent place = inr (inr (inr (inr (inr (inr (inr (inr (inr (inr (inr (inr (inr (inr (inr (inr (inr (inr (inr (inr (inr (inr (inr (inl refl)))))))))))))))))))))))
-group_there Links place = inr (inr (inr (inr (inr (inr (inr (inr (inr (inr (inr (inr (inr (inr (inr (inr (inr (inr (inr (inr (inr (inr (inr (inr (inl refl))))))))))))))))))))))))
-group_there Unconfirmed place = inr (inr (inr (inr (inr (inr (inr (inr (inr (inr (inr (inr (inr (inr (inr (inr (inr (inr (inr (inr (inr (inr (inr (inr (inr (inl refl)))))))))))))))))))))))))
-group_there Outputs place = inr (inr (inr (inr (inr (inr (inr (inr (inr (inr (inr (inr (inr (inr (inr (inr (inr (inr (inr (inr (inr (inr (inr (inr (inr (inr (inl refl))))))))))))))))))))))))))
-group_there Confirmed place = inr (inr (inr (inr (inr (inr (inr (inr (inr (inr (inr (inr (inr (inr (inr (inr (inr (inr (inr (inr (inr (inr (inr (inr (inr (inr (inr (inl refl)))))))))))))))))))))))))))
+group_there Broken place =
+    inr (inr (inr (inr (inr (inr (inr (inr (inr (inr (inr (inr (inr (inr (inr (inr (inr (inr (inr (inr (inl refl))))))))))))))))))))
+group_there Shorted place =
+    inr (inr (inr (inr (inr (inr (inr (inr (inr (inr (inr (inr (inr (inr (inr (inr (inr (inr (inr (inr (inr (inl refl)))))))))))))))))))))
+group_there Supplies place =
+    inr (inr (inr (inr (inr (inr (inr (inr (inr (inr (inr (inr (inr (inr (inr (inr (inr (inr (inr (inr (inr (inr (inl refl))))))))))))))))))))))
+group_there Silent place =
+    inr (inr (inr (inr (inr (inr (inr (inr (inr (inr (inr (inr (inr (inr (inr (inr (inr (inr (inr (inr (inr (inr (inr (inl refl)))))))))))))))))))))))
+group_there Links place =
+    inr
+    (inr
+    (inr (inr (inr (inr (inr (inr (inr (inr (inr (inr (inr (inr (inr (inr (inr (inr (inr (inr (inr (inr (inr (inr (inl refl))))))))))))))))))))))))
+group_there Unconfirmed place =
+    inr
+    (inr
+    (inr
+    (inr (inr (inr (inr (inr (inr (inr (inr (inr (inr (inr (inr (inr (inr (inr (inr (inr (inr (inr (inr (inr (inr (inl refl)))))))))))))))))))))))))
+group_there Outputs place =
+    inr
+    (inr
+    (inr
+    (inr
+    (inr (inr (inr (inr (inr (inr (inr (inr (inr (inr (inr (inr (inr (inr (inr (inr (inr (inr (inr (inr (inr (inr (inl refl))))))))))))))))))))))))))
+group_there Confirmed place =
+    inr
+    (inr
+    (inr
+    (inr
+    (inr
+    (inr (inr (inr (inr (inr (inr (inr (inr (inr (inr (inr (inr (inr (inr (inr (inr (inr (inr (inr (inr (inr (inr (inl refl)))))))))))))))))))))))))))
 group_there (PointsOff zero) place = absurd (omega (arith, place.0))
-group_there (PointsOff (suc zero)) place = inr (inr (inr (inr (inr (inr (inr (inr (inr (inr (inr (inr (inr (inr (inr (inr (inr (inr (inr (inr (inr (inr (inr (inr (inr (inr (inr (inr (inl refl))))))))))))))))))))))))))))
-group_there (PointsOff (suc (suc zero))) place = inr (inr (inr (inr (inr (inr (inr (inr (inr (inr (inr (inr (inr (inr (inr (inr (inr (inr (inr (inr (inr (inr (inr (inr (inr (inr (inr (inr (inr (inl refl)))))))))))))))))))))))))))))
-group_there (PointsOff (suc (suc (suc zero)))) place = inr (inr (inr (inr (inr (inr (inr (inr (inr (inr (inr (inr (inr (inr (inr (inr (inr (inr (inr (inr (inr (inr (inr (inr (inr (inr (inr (inr (inr (inr (inl refl))))))))))))))))))))))))))))))
-group_there (PointsOff (suc (suc (suc (suc zero))))) place = inr (inr (inr (inr (inr (inr (inr (inr (inr (inr (inr (inr (inr (inr (inr (inr (inr (inr (inr (inr (inr (inr (inr (inr (inr (inr (inr (inr (inr (inr (inr (inl refl)))))))))))))))))))))))))))))))
+group_there (PointsOff (suc zero)) place =
+    inr
+    (inr
+    (inr
+    (inr
+    (inr
+    (inr
+    (inr
+    (inr (inr (inr (inr (inr (inr (inr (inr (inr (inr (inr (inr (inr (inr (inr (inr (inr (inr (inr (inr (inr (inl refl))))))))))))))))))))))))))))
+group_there (PointsOff (suc (suc zero))) place =
+    inr
+    (inr
+    (inr
+    (inr
+    (inr
+    (inr
+    (inr
+    (inr
+    (inr (inr (inr (inr (inr (inr (inr (inr (inr (inr (inr (inr (inr (inr (inr (inr (inr (inr (inr (inr (inr (inl refl)))))))))))))))))))))))))))))
+group_there (PointsOff (suc (suc (suc zero)))) place =
+    inr
+    (inr
+    (inr
+    (inr
+    (inr
+    (inr
+    (inr
+    (inr
+    (inr
+    (inr (inr (inr (inr (inr (inr (inr (inr (inr (inr (inr (inr (inr (inr (inr (inr (inr (inr (inr (inr (inr (inl refl))))))))))))))))))))))))))))))
+group_there (PointsOff (suc (suc (suc (suc zero))))) place =
+    inr
+    (inr
+    (inr
+    (inr
+    (inr
+    (inr
+    (inr
+    (inr
+    (inr
+    (inr
+    (inr (inr (inr (inr (inr (inr (inr (inr (inr (inr (inr (inr (inr (inr (inr (inr (inr (inr (inr (inr (inr (inl refl)))))))))))))))))))))))))))))))
 group_there (PointsOff (suc (suc (suc (suc (suc more)))))) place = absurd (omega (arith, place.1))
-group_there ZonesOff place = inr (inr (inr (inr (inr (inr (inr (inr (inr (inr (inr (inr (inr (inr (inr (inr (inr (inr (inr (inr (inr (inr (inr (inr (inr (inr (inr (inr (inr (inr (inr (inr (inl refl))))))))))))))))))))))))))))))))
-group_there OutputsOff place = inr (inr (inr (inr (inr (inr (inr (inr (inr (inr (inr (inr (inr (inr (inr (inr (inr (inr (inr (inr (inr (inr (inr (inr (inr (inr (inr (inr (inr (inr (inr (inr (inr (inl refl)))))))))))))))))))))))))))))))))
-group_there Tests place = inr (inr (inr (inr (inr (inr (inr (inr (inr (inr (inr (inr (inr (inr (inr (inr (inr (inr (inr (inr (inr (inr (inr (inr (inr (inr (inr (inr (inr (inr (inr (inr (inr (inr (inl refl))))))))))))))))))))))))))))))))))
+group_there ZonesOff place =
+    inr
+    (inr
+    (inr
+    (inr
+    (inr
+    (inr
+    (inr
+    (inr
+    (inr
+    (inr
+    (inr
+    (inr (inr (inr (inr (inr (inr (inr (inr (inr (inr (inr (inr (inr (inr (inr (inr (inr (inr (inr (inr (inr (inl refl))))))))))))))))))))))))))))))))
+group_there OutputsOff place =
+    inr
+    (inr
+    (inr
+    (inr
+    (inr
+    (inr
+    (inr
+    (inr
+    (inr
+    (inr
+    (inr
+    (inr
+    (inr
+    (inr (inr (inr (inr (inr (inr (inr (inr (inr (inr (inr (inr (inr (inr (inr (inr (inr (inr (inr (inr (inl refl)))))))))))))))))))))))))))))))))
+group_there Tests place =
+    inr
+    (inr
+    (inr
+    (inr
+    (inr
+    (inr
+    (inr
+    (inr
+    (inr
+    (inr
+    (inr
+    (inr
+    (inr
+    (inr
+    (inr (inr (inr (inr (inr (inr (inr (inr (inr (inr (inr (inr (inr (inr (inr (inr (inr (inr (inr (inr (inl refl))))))))))))))))))))))))))))))))))
 
 pub slot_there : (site : Site) (panel : ℕ) (slot : Slot) → IsSlotOf site panel slot → IsAmong slot (slots site panel)
 slot_there site panel (Thing group number) is =
-    among_left (Thing group number) (flat_map (slots_of site panel) page) (Delays ∷ Sounding ∷ Count ∷ []) (among_groups site panel (Thing group number) group page (group_there group is.0)
+    among_left (Thing group number) (flat_map (slots_of site panel) page) (Delays ∷ Sounding ∷ Count ∷ [])
+    (among_groups site panel (Thing group number) group page (group_there group is.0)
     (among_numbers group (λ n. is_named (name_in site panel group n)) number 1 (last_of group) is.1 (let high = is.2 in omega (arith, high)) is.3))
 slot_there site panel Delays is = among_right Delays (flat_map (slots_of site panel) page) (Delays ∷ Sounding ∷ Count ∷ []) (inl refl)
 slot_there site panel Sounding is = among_right Sounding (flat_map (slots_of site panel) page) (Delays ∷ Sounding ∷ Count ∷ []) (inr (inl refl))
@@ -202,4 +329,5 @@ slot_there site panel Count is = among_right Count (flat_map (slots_of site pane
 pub among_behind : (low high : ℕ) (slot : Slot) (all : List Slot) → RiseBetween low high all → IsAmong slot all → low < slot_rank slot
 among_behind low high slot [] rise is = absurd is
 among_behind low high slot (first ∷ all) rise (inl here) = subst (λ s. low < slot_rank s) (sym here) rise.0
-among_behind low high slot (first ∷ all) rise (inr there) = let one = rise.0 in omega (arith, one, among_behind (slot_rank first) high slot all rise.1 there)
+among_behind low high slot (first ∷ all) rise (inr there) = let one = rise.0 in
+    omega (arith, one, among_behind (slot_rank first) high slot all rise.1 there)

@@ -10,7 +10,8 @@ use Rattle.face_text.specs.Reading.{line_ends}
 use Rattle.face_text.proofs.LineEnds.{line_ends-append}
 
 -- one byte more that is no line end
-pub none_more : (text : List ℕ) (place : ℕ) → place < length text → (get_or text place 0 ≡ 10 → ⊥) → line_ends (take place text) ≡ 0 → line_ends (take (place + 1) text) ≡ 0
+pub none_more : (text : List ℕ) (place : ℕ) → place < length text → (get_or text place 0 ≡ 10 → ⊥) → line_ends (take place text) ≡ 0
+    → line_ends (take (place + 1) text) ≡ 0
 none_more text place within other none =
     let byte = get_or text place 0 in
     let one : line_ends (byte ∷ []) ≡ 0 = ap (λ b. if b then 1 else 0) (ne_eqb byte 10 other) in
@@ -18,12 +19,15 @@ none_more text place within other none =
     omega (arith, both, one, none)
 
 -- the first line end is at a place
-pub parted_at : (text : List ℕ) (place : ℕ) → place < length text → get_or text place 0 ≡ 10 → line_ends (take place text) ≡ 0 → IsParted text (take place text) (drop (place + 1) text)
+pub parted_at : (text : List ℕ) (place : ℕ) → place < length text → get_or text place 0 ≡ 10 → line_ends (take place text) ≡ 0
+    → IsParted text (take place text) (drop (place + 1) text)
 parted_at text place within is none =
     let next : place + 1 ≡ suc place = omega arith in
     record {
       no_end = none;
-      text_is = sym (take-append-drop place text) ∙ ap (λ t. take place text ++ t) (drop-cons text place 0 within) ∙ ap (λ b. take place text ++ b ∷ drop (suc place) text) is
+      text_is =
+          sym (take-append-drop place text) ∙ ap (λ t. take place text ++ t) (drop-cons text place 0 within) ∙ ap (λ b. take place text ++ b
+          ∷ drop (suc place) text) is
           ∙ ap (λ n. take place text ++ 10 ∷ drop n text) (sym next);
     }
 
@@ -33,14 +37,17 @@ none_in_all text place past none = ap line_ends (sym (take_all place text past))
 -- ---- a line with its end
 
 front_is : (bytes line rest : List ℕ) → bytes ≡ line ++ rest → take (length line) bytes ≡ line
-front_is bytes line rest is = ap (take (length line)) is ∙ take-append-le (length line) line rest (omega arith) ∙ take_all (length line) line (omega arith)
+front_is bytes line rest is =
+    ap (take (length line)) is ∙ take-append-le (length line) line rest (omega arith) ∙ take_all (length line) line (omega arith)
 
 -- bytes that begin with the line are it with its end where that is left
-pub ended_if : (bytes line rest : List ℕ) (end : Bool) → bytes_eq (take (length line) bytes) line ≡ true → rest ≡ drop (length line) bytes → end ≡ bytes_eq rest (10 ∷ []) → IsTrue end ↔ (bytes ≡ line ++ 10 ∷ [])
+pub ended_if : (bytes line rest : List ℕ) (end : Bool) → bytes_eq (take (length line) bytes) line ≡ true → rest ≡ drop (length line) bytes
+    → end ≡ bytes_eq rest (10 ∷ []) → IsTrue end ↔ (bytes ≡ line ++ 10 ∷ [])
 ended_if bytes line rest end begins left is =
     let decides = bytes_eq-Decides rest (10 ∷ []) in
     let whole : bytes ≡ line ++ rest =
-    sym (take-append-drop (length line) bytes) ∙ ap (λ t. t ++ drop (length line) bytes) ((bytes_eq-Decides (take (length line) bytes) line).0 begins) ∙ ap (λ t. line ++ t) (sym left)
+    sym (take-append-drop (length line) bytes) ∙ ap (λ t. t ++ drop (length line) bytes) ((bytes_eq-Decides (take (length line) bytes) line).0 begins)
+    ∙ ap (λ t. line ++ t) (sym left)
     in (
       λ yes. whole ∙ ap (λ t. line ++ t) (decides.0 (sym is ∙ yes)),
       λ same. is ∙ decides.1 (append_cancel_left line rest (10 ∷ []) (sym whole ∙ same)),
@@ -50,5 +57,7 @@ ended_if bytes line rest end begins left is =
 pub ended_not : (bytes line : List ℕ) → bytes_eq (take (length line) bytes) line ≡ false → IsTrue false ↔ (bytes ≡ line ++ 10 ∷ [])
 ended_not bytes line other = (
   λ h. cc,
-  λ same. let begins : bytes_eq (take (length line) bytes) line ≡ true = (bytes_eq-Decides (take (length line) bytes) line).1 (front_is bytes line (10 ∷ []) same) in absurd (let e : true ≡ false = sym begins ∙ other in cc),
+  λ same. let begins : bytes_eq (take (length line) bytes) line ≡ true =
+      (bytes_eq-Decides (take (length line) bytes) line).1 (front_is bytes line (10 ∷ []) same) in
+      absurd (let e : true ≡ false = sym begins ∙ other in cc),
 )

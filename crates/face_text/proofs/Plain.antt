@@ -32,7 +32,8 @@ digit_plain byte is =
     le-leb 33 byte (omega (arith, leb-true 48 byte p.0))
 
 code_byte_plain : (byte : ℕ) → (is_letter byte || is_digit byte) ≡ true → is_plain byte ≡ true
-code_byte_plain byte is = elim (or_cases (is_letter byte) (is_digit byte) is) [ inl letter ↦ letter_plain byte letter | inr digit ↦ digit_plain byte digit ]
+code_byte_plain byte is =
+    elim (or_cases (is_letter byte) (is_digit byte) is) [ inl letter ↦ letter_plain byte letter | inr digit ↦ digit_plain byte digit ]
 
 name_byte_plain : (byte : ℕ) → is_name_byte byte ≡ true → is_plain byte ≡ true
 name_byte_plain byte is =
@@ -42,7 +43,9 @@ name_byte_plain byte is =
     ]
 
 pub name_plain : (name : List ℕ) → is_name name ≡ true → list_all is_plain name ≡ true
-name_plain name is = all_weaker is_name_byte is_plain name_byte_plain name (and_parts (begins_with_letter name && nat_le (length name) 16) (list_all is_name_byte name) is).1
+name_plain name is =
+    all_weaker is_name_byte is_plain name_byte_plain name (and_parts (begins_with_letter name && nat_le (length name) 16) (list_all is_name_byte name)
+    is).1
 
 digits_plain : (text : List ℕ) → all_digits text ≡ true → list_all is_plain text ≡ true
 digits_plain [] all = refl

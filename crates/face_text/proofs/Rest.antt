@@ -18,7 +18,8 @@ other_delays false false line e = cc
 other_delays true false line e = refl
 other_delays false true line e = refl
 
-pub delays_other : (site : Site) (before after : Face) → beq before.delays_off after.delays_off ≡ false → delays_line after.panel (value_in after Delays) ≡ change_of site before after Delays
+pub delays_other : (site : Site) (before after : Face) → beq before.delays_off after.delays_off ≡ false
+    → delays_line after.panel (value_in after Delays) ≡ change_of site before after Delays
 delays_other site before after e = sym (other_delays before.delays_off after.delays_off _ e)
 
 -- what delays that are off are worth as a slot's value
@@ -37,7 +38,8 @@ other_buzzer Fault Fire line e = refl
 other_buzzer Fire Off line e = refl
 other_buzzer Fire Fault line e = refl
 
-pub buzzer_other : (site : Site) (before after : Face) → sameb the_type before.buzzer after.buzzer ≡ false → buzzer_line after.panel (value_in after Sounding) ≡ change_of site before after Sounding
+pub buzzer_other : (site : Site) (before after : Face) → sameb the_type before.buzzer after.buzzer ≡ false
+    → buzzer_line after.panel (value_in after Sounding) ≡ change_of site before after Sounding
 buzzer_other site before after e = sym (other_buzzer before.buzzer after.buzzer _ e)
 
 other_count : (m n : ℕ) (line : List ℕ) → m ≢ n → (if m == n then [] else line) ≡ line
@@ -46,5 +48,6 @@ other_count m n line e = elim (eqb_tells m n) [
   | inr h ↦ rw h.0 refl
 ]
 
-pub count_other : (site : Site) (before after : Face) → before.counter ≢ after.counter → counter_line after.panel (value_in after Count) ≡ change_of site before after Count
+pub count_other : (site : Site) (before after : Face) → before.counter ≢ after.counter
+    → counter_line after.panel (value_in after Count) ≡ change_of site before after Count
 count_other site before after e = sym (other_count before.counter after.counter _ e)

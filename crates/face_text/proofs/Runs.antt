@@ -10,8 +10,8 @@ use Rattle.face_text.specs.declared.entry.Entry.TheVariants.{Tick as TickEntry}
 use Rattle.face_text.specs.declared.face.Face.{Face}
 use Rattle.face_text.specs.declared.step.Step.{Step}
 use Rattle.face_text.specs.declared.timeline.Timeline.{Timeline}
-use Rattle.face_text.specs.Reading.{Told, entries_text, may_close, no_answers, nothing_told, opened_by, steps_by, timeline_told, told_after, told_next}
-use Rattle.face_text.specs.ReadSoFar.{AreEntries}
+use Rattle.face_text.specs.Reading.{Told, may_close, no_answers, nothing_told, opened_by, steps_by, timeline_told, told_next}
+use Rattle.face_text.proofs.ReadSoFar.{AreEntries, entries_text, told_after}
 use Rattle.face_text.specs.Timelines.{AreAnswers, AreFaces, AreSteps, HasAnswer, IsInForm, empty_faces, end_line, opening_line, text_of}
 use Rattle.face_text.proofs.Accepted.{all_told, ended_told, or_second, zero_or_more}
 use Rattle.face_text.proofs.RunAnswers.{answer_entries, answer_entries_are, answers_lead}
@@ -29,30 +29,54 @@ step_entries site before step = TickEntry step.tick ∷ (face_entries site 1 bef
 
 -- what is told with a step behind what is closed
 abbrev pub with_step : Told → Step → ℕ → Told
-with_step told step rank = record { opened = opened_by told; steps = steps_by told; tick = step.tick; faces = step.faces; answers = step.answers; rank = rank }
+with_step told step rank = record {
+  opened = opened_by told;
+  steps = steps_by told;
+  tick = step.tick;
+  faces = step.faces;
+  answers =
+      step.answers;
+  rank = rank;
+}
 
-step_entries_are : (site : Site) → (before : List Face) (step : Step) → AreFaces site before → step.tick.0 < 2 ^ 64 → AreFaces site step.faces → AreAnswers site step.answers →
+step_entries_are : (site : Site) → (before : List Face) (step : Step) → AreFaces site before → step.tick.0 < 2 ^ 64 → AreFaces site step.faces
+    → AreAnswers site step.answers →
     AreEntries site (step_entries site before step)
 step_entries_are site before step before_are small faces answers =
     let count : length step.faces ≡ site.panels = faces.count in (
       small,
       entries_join site (face_entries site 1 before step.faces) (answer_entries step.answers)
-          (face_entries_are site 1 before step.faces (omega arith) (omega (arith, count)) (pages_are site before before_are) (pages_are site step.faces faces)) (answer_entries_are site step.answers answers),
+          (face_entries_are site 1 before step.faces (omega arith) (omega (arith, count)) (pages_are site before before_are)
+          (pages_are site step.faces faces)) (answer_entries_are site step.answers answers),
     )
 
-step_leads : (site : Site) → IsValid site → (told : Told) (step : Step) → may_close told ≡ true → told.tick.0 < step.tick.0 → AreFaces site told.faces → AreFaces site step.faces →
+step_leads : (site : Site) → IsValid site → (told : Told) (step : Step) → may_close told ≡ true → told.tick.0 < step.tick.0 → AreFaces site told.faces
+    → AreFaces site step.faces →
     AreAnswers site step.answers → (rank : ℕ) × (told_after told (step_entries site told.faces step) ≡ Some (with_step told step rank))
 step_leads site valid told step may less before faces answers =
-    let begun : Told = record { opened = opened_by told; steps = steps_by told; tick = step.tick; faces = told.faces; answers = no_answers; rank = 0 } in
+    let begun : Told = record {
+      opened = opened_by told;
+      steps = steps_by told;
+      tick = step.tick;
+      faces = told.faces;
+      answers = no_answers;
+      rank =
+          0;
+    } in
     let tick : nat_lt told.tick.0 step.tick.0 ≡ true = lt-ltb told.tick.0 step.tick.0 less in
     let opens : told_next told (TickEntry step.tick) ≡ Some begun = rw (may, tick) refl in
     let count : length step.faces ≡ site.panels = faces.count in
-    let changes = faces_lead site begun [] told.faces step.faces 1 0 refl (omega arith) (before.count ∙ sym faces.count) (pages_are site told.faces before) (pages_are site step.faces faces) in
+    let changes =
+    faces_lead site begun [] told.faces step.faces 1 0 refl (omega arith) (before.count ∙ sym faces.count) (pages_are site told.faces before)
+    (pages_are site step.faces faces) in
     let changed : Told = shown begun step.faces changes.end in
-    let replies = answers_lead site changed step.answers changes.end (omega (arith, less)) answers (omega (arith, changes.low, count, few_panels site valid)) in (
+    let replies =
+    answers_lead site changed step.answers changes.end (omega (arith, less)) answers (omega (arith, changes.low, count, few_panels site valid)) in (
       replies.end,
-      leads_first told begun (with_step told step replies.end) (TickEntry step.tick) (face_entries site 1 told.faces step.faces ++ answer_entries step.answers) opens
-          (leads_on begun changed (with_step told step replies.end) (face_entries site 1 told.faces step.faces) (answer_entries step.answers) changes.leads replies.leads),
+      leads_first told begun (with_step told step replies.end) (TickEntry step.tick) (face_entries site 1 told.faces step.faces
+          ++ answer_entries step.answers) opens
+          (leads_on begun changed (with_step told step replies.end) (face_entries site 1 told.faces step.faces) (answer_entries step.answers)
+          changes.leads replies.leads),
     )
 
 -- ---- a step in form has a line
@@ -65,7 +89,8 @@ unanswered site answers told (inr (inr failed)) = absurd (contradicts answers.fa
     contradicts : (failed : Bool) → failed ≡ false → failed ≡ true → ⊥
     contradicts failed off on = true≢false (sym on ∙ off)
 
-content_is_ranked : (site : Site) (rank : ℕ) (befores faces : List Face) (answers : Answers) → IsBlock site rank befores faces answers → (faces ≢ befores) ⊎ HasAnswer answers → 0 < rank
+content_is_ranked : (site : Site) (rank : ℕ) (befores faces : List Face) (answers : Answers) → IsBlock site rank befores faces answers
+    → (faces ≢ befores) ⊎ HasAnswer answers → 0 < rank
 content_is_ranked site rank befores faces answers block content =
     elim (zero_or_more rank) [ inl none ↦ absurd (nothing none content) | inr some ↦ some ]
   where
@@ -90,20 +115,26 @@ pub record LeadsThrough (site : Site) (told : Told) (steps : List Step) (last : 
   pub may : may_close next ≡ true
   pub low : next.tick.0 ≤ last
 
-one_step : (site : Site) → IsValid site → (told : Told) (step : Step) → IsToldForm site told → may_close told ≡ true → told.tick.0 < step.tick.0 → step.tick.0 < 2 ^ 64 →
+one_step : (site : Site) → IsValid site → (told : Told) (step : Step) → IsToldForm site told → may_close told ≡ true → told.tick.0 < step.tick.0
+    → step.tick.0 < 2 ^ 64 →
     AreFaces site step.faces → AreAnswers site step.answers → (step.faces ≢ told.faces) ⊎ HasAnswer step.answers →
-    (rank : ℕ) × (told_after told (step_entries site told.faces step) ≡ Some (with_step told step rank)) × IsToldForm site (with_step told step rank) × (0 < rank)
+    (rank : ℕ) × (told_after told (step_entries site told.faces step) ≡ Some (with_step told step rank)) × IsToldForm site (with_step told step rank)
+    × (0 < rank)
 one_step site valid told step form may less small faces answers content =
     let before = told_faces_are site told form in
     let p = step_leads site valid told step may less before faces answers in
-    let next = all_told site valid told (with_step told step p.0) (step_entries site told.faces step) form (step_entries_are site told.faces step before small faces answers) p.1 in
+    let next =
+    all_told site valid told (with_step told step p.0) (step_entries site told.faces step) form
+    (step_entries_are site told.faces step before small faces answers) p.1 in
     let e : (step.tick.0 == 0) ≡ false = ne_eqb step.tick.0 0 (λ z. omega (arith, z, less)) in
     let shut = closed site told (step.tick.0 - 1) form may (omega (arith, less)) in
     let behind : befores_of site (with_step told step p.0) ≡ told.faces = rw e shut.behind in
-    let block : IsBlock site p.0 told.faces step.faces step.answers = subst (λ (befores : List Face). IsBlock site p.0 befores step.faces step.answers) behind next.form.block in
+    let block : IsBlock site p.0 told.faces step.faces step.answers =
+    subst (λ (befores : List Face). IsBlock site p.0 befores step.faces step.answers) behind next.form.block in
     (p.0, p.1, next.form, content_is_ranked site p.0 told.faces step.faces step.answers block content)
 
-pub steps_lead : (site : Site) → IsValid site → (told : Told) (steps : List Step) (last : ℕ) → IsToldForm site told → may_close told ≡ true → last < 2 ^ 64 →
+pub steps_lead : (site : Site) → IsValid site → (told : Told) (steps : List Step) (last : ℕ) → IsToldForm site told → may_close told ≡ true
+    → last < 2 ^ 64 →
     AreSteps site told.tick.0 told.faces last steps → LeadsThrough site told steps last
 steps_lead site valid told [] last form may small are =
     record { entries = []; next = told; each = tt; leads = refl; opened = refl; steps_are = sym (append-nil (steps_by told)); may = may; low = are }
@@ -111,7 +142,8 @@ steps_lead site valid told (step ∷ steps) last form may small are =
     let end : step.tick.0 ≤ last = steps_end site step.tick.0 last step.faces steps are.4 in
     let one = one_step site valid told step form may are.0 (omega (arith, end, small)) are.1 are.2 are.3 in
     let ranked : nat_lt 0 one.0 ≡ true = lt-ltb 0 one.0 one.3 in
-    let rest = steps_lead site valid (with_step told step one.0) steps last one.2 (or_second (step.tick.0 == 0) (nat_lt 0 one.0) ranked) small are.4 in
+    let rest = steps_lead site valid (with_step told step one.0) steps last one.2 (or_second (step.tick.0 == 0) (nat_lt 0 one.0) ranked) small are.4
+    in
     let e : (step.tick.0 == 0) ≡ false = ne_eqb step.tick.0 0 (λ z. omega (arith, z, are.0)) in
     let opened : opened_by (with_step told step one.0) ≡ opened_by told = rw e refl in
     let stepped : steps_by (with_step told step one.0) ≡ steps_by told ++ step ∷ [] = rw e refl in
@@ -119,7 +151,8 @@ steps_lead site valid told (step ∷ steps) last form may small are =
       entries = step_entries site told.faces step ++ rest.entries;
       next = rest.next;
       each =
-          entries_join site (step_entries site told.faces step) rest.entries (step_entries_are site told.faces step (told_faces_are site told form) (omega (arith, end, small)) are.1 are.2) rest.each;
+          entries_join site (step_entries site told.faces step) rest.entries
+          (step_entries_are site told.faces step (told_faces_are site told form) (omega (arith, end, small)) are.1 are.2) rest.each;
       leads = leads_on told (with_step told step one.0) rest.next (step_entries site told.faces step) rest.entries one.1 rest.leads;
       opened = rest.opened ∙ opened;
       steps_are = rest.steps_are ∙ ap (λ (all : List Step). all ++ steps) stepped ∙ append_assoc (steps_by told) (step ∷ []) steps;
@@ -145,7 +178,8 @@ timeline_with : (timeline : Timeline) (opened : List Face) (steps : List Step) �
     Some (record { opened = opened; steps = steps; last = timeline.last }) ≡ Some timeline
 timeline_with timeline opened steps same others = rw (same, others) refl
 
-told_by : (site : Site) → IsValid site → (timeline : Timeline) (entries : List Entry) (told : Told) → IsInForm site timeline → AreEntries site entries → told_after (nothing_told site) entries ≡ Some told →
+told_by : (site : Site) → IsValid site → (timeline : Timeline) (entries : List Entry) (told : Told) → IsInForm site timeline → AreEntries site entries
+    → told_after (nothing_told site) entries ≡ Some told →
     timeline_told told timeline.last ≡ Some timeline → IsToldBy site timeline entries told
 told_by site valid timeline entries told form each leads ends =
     let whole = all_told site valid (nothing_told site) told entries (nothing_is_told site) each leads in
@@ -163,16 +197,25 @@ is_told site valid timeline form =
     let nothing : Told = nothing_told site in
     let count : length timeline.opened ≡ site.panels = form.opened.count in
     let first =
-    faces_lead site nothing [] (empty_faces site) timeline.opened 1 0 refl (omega arith) (empties.count ∙ sym form.opened.count) (pages_are site (empty_faces site) empties)
+    faces_lead site nothing [] (empty_faces site) timeline.opened 1 0 refl (omega arith) (empties.count ∙ sym form.opened.count)
+    (pages_are site (empty_faces site) empties)
     (pages_are site timeline.opened form.opened) in
     let entries : List Entry = face_entries site 1 (empty_faces site) timeline.opened in
-    let each = face_entries_are site 1 (empty_faces site) timeline.opened (omega arith) (omega (arith, count)) (pages_are site (empty_faces site) empties) (pages_are site timeline.opened form.opened) in
+    let each =
+    face_entries_are site 1 (empty_faces site) timeline.opened (omega arith) (omega (arith, count)) (pages_are site (empty_faces site) empties)
+    (pages_are site timeline.opened form.opened) in
     let opened : Told = shown nothing timeline.opened first.end in
     let begun = all_told site valid nothing opened entries (nothing_is_told site) each first.leads in
     let rest = steps_lead site valid opened timeline.steps timeline.last.0 begun.form refl form.last form.steps in
     let all = entries_join site entries rest.entries each rest.each in
-    let leads : told_after nothing (entries ++ rest.entries) ≡ Some rest.next = leads_on nothing opened rest.next entries rest.entries first.leads rest.leads in
+    let leads : told_after nothing (entries ++ rest.entries) ≡ Some rest.next =
+    leads_on nothing opened rest.next entries rest.entries first.leads rest.leads in
     let low : nat_le rest.next.tick.0 timeline.last.0 ≡ true = le-leb rest.next.tick.0 timeline.last.0 rest.low in
     let ends : timeline_told rest.next timeline.last ≡ Some timeline =
     rw (rest.may, low) (timeline_with timeline (opened_by rest.next) (steps_by rest.next) rest.opened rest.steps_are) in
-    record { entries = entries ++ rest.entries; told = rest.next; by_them = told_by site valid timeline (entries ++ rest.entries) rest.next form all leads ends }
+    record {
+      entries = entries ++ rest.entries;
+      told = rest.next;
+      by_them =
+          told_by site valid timeline (entries ++ rest.entries) rest.next form all leads ends;
+    }

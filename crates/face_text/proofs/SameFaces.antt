@@ -77,8 +77,26 @@ faults_is a b e =
     let links = both _ _ silent.1 in
     let h :
     ◌≡◌ {A = FaultSet}
-    (record { missing = a.missing; broken = a.broken; shorted = a.shorted; supply = a.supply; silent = a.silent; links = a.links; unconfirmed = a.unconfirmed })
-    (record { missing = b.missing; broken = b.broken; shorted = b.shorted; supply = b.supply; silent = b.silent; links = b.links; unconfirmed = b.unconfirmed })
+    (record {
+      missing = a.missing;
+      broken = a.broken;
+      shorted = a.shorted;
+      supply = a.supply;
+      silent = a.silent;
+      links = a.links;
+      unconfirmed =
+          a.unconfirmed;
+    })
+    (record {
+      missing = b.missing;
+      broken = b.broken;
+      shorted = b.shorted;
+      supply = b.supply;
+      silent = b.silent;
+      links = b.links;
+      unconfirmed =
+          b.unconfirmed;
+    })
     = rw (
       points_is a.missing b.missing missing.0,
       number a.broken b.broken broken.0,
@@ -108,12 +126,16 @@ face_with panel zones firsts faults outputs confirmed points_off zones_off outpu
     }
 
 -- two tests of truths and buzzers, each of which tells that they are equal
-module _ (truths : Bool → Bool → Bool) (truths_are : (a b : Bool) → truths a b ≡ true → a ≡ b) (sounds : Buzzer → Buzzer → Bool) (sounds_are : (a b : Buzzer) → sounds a b ≡ true → a ≡ b) where
+module _ (truths : Bool → Bool → Bool) (truths_are : (a b : Bool) → truths a b ≡ true → a ≡ b) (sounds : Buzzer → Buzzer → Bool) (sounds_are :
+    (a b : Buzzer) → sounds a b ≡ true → a ≡ b) where
   abbrev pub faces_eq : Face → Face → Bool
   faces_eq a b =
-      (a.panel == b.panel) && (pointwise (λ x y. x == y) a.zones b.zones && (pointwise (λ x y. x == y) a.firsts b.firsts && (same_faults a.faults b.faults
+      (a.panel == b.panel)
+      && (pointwise (λ x y. x == y) a.zones b.zones && (pointwise (λ x y. x == y) a.firsts b.firsts && (same_faults a.faults b.faults
       && ((a.outputs == b.outputs) && ((a.confirmed == b.confirmed) && (pointwise (pointwise (λ x y. x == y)) a.points_off.loops b.points_off.loops
-      && ((a.zones_off == b.zones_off) && ((a.outputs_off == b.outputs_off) && ((a.test == b.test) && (truths a.delays_off b.delays_off && (sounds a.buzzer b.buzzer && (a.counter == b.counter))))))))))))
+      && ((a.zones_off == b.zones_off)
+      && ((a.outputs_off == b.outputs_off)
+      && ((a.test == b.test) && (truths a.delays_off b.delays_off && (sounds a.buzzer b.buzzer && (a.counter == b.counter))))))))))))
 
   pub faces_are : (a b : Face) → faces_eq a b ≡ true → a ≡ b
   faces_are a b e =
@@ -131,7 +153,8 @@ module _ (truths : Bool → Bool → Bool) (truths_are : (a b : Bool) → truths
       let buzzer = both _ _ delays_off.1 in
       let h :
       face_with a.panel a.zones a.firsts a.faults a.outputs a.confirmed a.points_off a.zones_off a.outputs_off a.test a.delays_off a.buzzer a.counter
-      ≡ face_with b.panel b.zones b.firsts b.faults b.outputs b.confirmed b.points_off b.zones_off b.outputs_off b.test b.delays_off b.buzzer b.counter
+      ≡ face_with b.panel b.zones b.firsts b.faults b.outputs b.confirmed b.points_off b.zones_off b.outputs_off b.test b.delays_off b.buzzer
+      b.counter
       = rw (
         number a.panel b.panel panel.0,
         numbers a.zones b.zones zones.0,

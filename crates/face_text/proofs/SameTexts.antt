@@ -8,9 +8,8 @@ use Rattle.face_text.specs.declared.entry.Entry.{Entry}
 use Rattle.face_text.specs.declared.entry.Entry.TheVariants.{End as EndEntry}
 use Rattle.face_text.specs.declared.timeline.Timeline.{Timeline}
 use Rattle.face_text.specs.Entries.{IsEntry, entry_line}
-use Rattle.face_text.specs.EntryLines.{IsOneLine}
-use Rattle.face_text.specs.Reading.{Told, entries_text, nothing_told, timeline_told, told_after}
-use Rattle.face_text.specs.ReadSoFar.{AreEntries}
+use Rattle.face_text.specs.Reading.{Told, nothing_told, timeline_told}
+use Rattle.face_text.proofs.ReadSoFar.{AreEntries, IsOneLine, entries_text, told_after}
 use Rattle.face_text.specs.ReadingLaws.{TextsAreTheirOwn}
 use Rattle.face_text.specs.Timelines.{IsInForm, end_line, opening_line, text_of}
 use Rattle.face_text.proofs.LineEnds.{same_line}
@@ -32,9 +31,12 @@ no_lines line rest one none =
     absurd (omega (arith, size, last, length-append line rest))
 
 -- two texts that begin with a line begin with one line, and go on alike
-pub same_front : (line rest other behind : List ℕ) → IsOneLine line → IsOneLine other → line ++ rest ≡ other ++ behind → (line ≡ other) × (rest ≡ behind)
+pub same_front : (line rest other behind : List ℕ) → IsOneLine line → IsOneLine other → line ++ rest ≡ other ++ behind
+    → (line ≡ other) × (rest ≡ behind)
 same_front line rest other behind one another same =
-    let both = same_line one.body rest another.body behind one.no_end another.no_end (sym (front_line line rest one) ∙ same ∙ front_line other behind another) in
+    let both =
+    same_line one.body rest another.body behind one.no_end another.no_end
+    (sym (front_line line rest one) ∙ same ∙ front_line other behind another) in
     (one.bytes_is ∙ ap (λ (body : List ℕ). body ++ 10 ∷ []) both.0 ∙ sym another.bytes_is, both.1)
 
 -- the lines of a text that begins with those of others begin with them
@@ -48,10 +50,12 @@ pub entries_front : (site : Site) → IsValid site → (entries others : List En
     entries_text site entries ++ more ≡ entries_text site others → GoesOn site entries others more
 entries_front site valid [] others more are others_are same = record { rest = others; others_are = refl; each = others_are; more_is = same }
 entries_front site valid (entry ∷ entries) [] more are others_are same =
-    absurd (no_lines (entry_line site entry) (entries_text site entries ++ more) (entry_line-one site valid entry are.0) (sym (append_assoc (entry_line site entry) (entries_text site entries) more) ∙ same))
+    absurd (no_lines (entry_line site entry) (entries_text site entries ++ more) (entry_line-one site valid entry are.0)
+    (sym (append_assoc (entry_line site entry) (entries_text site entries) more) ∙ same))
 entries_front site valid (entry ∷ entries) (other ∷ others) more are others_are same =
     let front =
-    same_front (entry_line site entry) (entries_text site entries ++ more) (entry_line site other) (entries_text site others) (entry_line-one site valid entry are.0) (entry_line-one site valid other others_are.0)
+    same_front (entry_line site entry) (entries_text site entries ++ more) (entry_line site other) (entries_text site others)
+    (entry_line-one site valid entry are.0) (entry_line-one site valid other others_are.0)
     (sym (append_assoc (entry_line site entry) (entries_text site entries) more) ∙ same) in
     let first : entry ≡ other = entry_line-determines site valid entry other are.0 others_are.0 front.0 in
     let ih = entries_front site valid entries others more are.1 others_are.1 front.1 in
@@ -64,21 +68,25 @@ entries_front site valid (entry ∷ entries) (other ∷ others) more are others_
 
 no_entries : (site : Site) → IsValid site → (entries : List Entry) → AreEntries site entries → [] ≡ entries_text site entries → entries ≡ []
 no_entries site valid [] are none = refl
-no_entries site valid (entry ∷ entries) are none = absurd (no_lines (entry_line site entry) (entries_text site entries) (entry_line-one site valid entry are.0) (sym none))
+no_entries site valid (entry ∷ entries) are none =
+    absurd (no_lines (entry_line site entry) (entries_text site entries) (entry_line-one site valid entry are.0) (sym none))
 
 -- ---- all lines of a timeline
 
 abbrev pub all_entries : List Entry → Tick → List Entry
 all_entries entries last = entries ++ EndEntry last ∷ []
 
-pub all_entries_are : (site : Site) (entries : List Entry) (last : Tick) → AreEntries site entries → IsEntry site (EndEntry last) → AreEntries site (all_entries entries last)
+pub all_entries_are : (site : Site) (entries : List Entry) (last : Tick) → AreEntries site entries → IsEntry site (EndEntry last)
+    → AreEntries site (all_entries entries last)
 all_entries_are site entries last are small = entries_join site entries (EndEntry last ∷ []) are (small, tt)
 
-pub all_text : (site : Site) (entries : List Entry) (last : Tick) → entries_text site (all_entries entries last) ≡ entries_text site entries ++ end_line last.0
+pub all_text : (site : Site) (entries : List Entry) (last : Tick) → entries_text site (all_entries entries last) ≡ entries_text site entries
+    ++ end_line last.0
 all_text site entries last =
     flat_map-append (entry_line site) entries (EndEntry last ∷ []) ∙ ap (λ t. entries_text site entries ++ t) (append-nil (end_line last.0))
 
-pub told_text_of : (site : Site) (timeline : Timeline) (told : IsTold site timeline) → text_of site timeline ≡ opening_line site ++ entries_text site (all_entries told.entries timeline.last)
+pub told_text_of : (site : Site) (timeline : Timeline) (told : IsTold site timeline) → text_of site timeline ≡ opening_line site
+    ++ entries_text site (all_entries told.entries timeline.last)
 told_text_of site timeline told =
     told.by_them.text ∙ append_assoc (opening_line site) (entries_text site told.entries) (end_line timeline.last.0)
     ∙ ap (λ t. opening_line site ++ t) (sym (all_text site told.entries timeline.last))
@@ -88,11 +96,13 @@ end_is one other same = cc
 
 -- ---- no two timelines in form have one text
 
-alike : (site : Site) → IsValid site → (one other : Timeline) → IsInForm site one → IsInForm site other → IsTold site one → IsTold site other → text_of site one ≡ text_of site other → one ≡ other
+alike : (site : Site) → IsValid site → (one other : Timeline) → IsInForm site one → IsInForm site other → IsTold site one → IsTold site other
+    → text_of site one ≡ text_of site other → one ≡ other
 alike site valid one other one_form other_form told another same =
     let texts = append_cancel_left (opening_line site) _ _ (sym (told_text_of site one told) ∙ same ∙ told_text_of site other another) in
     let on =
-    entries_front site valid (all_entries told.entries one.last) (all_entries another.entries other.last) [] (all_entries_are site told.entries one.last told.by_them.each one_form.last)
+    entries_front site valid (all_entries told.entries one.last) (all_entries another.entries other.last) []
+    (all_entries_are site told.entries one.last told.by_them.each one_form.last)
     (all_entries_are site another.entries other.last another.by_them.each other_form.last) (append-nil _ ∙ texts) in
     let none : on.rest ≡ [] = no_entries site valid on.rest on.each on.more_is in
     let lists : all_entries another.entries other.last ≡ all_entries told.entries one.last =

@@ -2,10 +2,11 @@
 use Rattle.std.proofs.Common.{◌≡◌, ◌<◌, ◌≤◌, ◌+◌, ◌-◌, ◌∙◌, ℕ, zero, suc, Bool, true, false, List, [], ◌∷◌, refl, sym, ap, length, get_or, take, drop, arith}
 use Rattle.std.specs.Prelude.{◌==◌, if◌then◌else◌}
 use Rattle.std.proofs.lemmas.Bool.{eq-eqb, ne_eqb}
-use Rattle.face_text.specs.Fields.{after_space, before_space, field}
+use Rattle.site_types.specs.Fields.{after_space, before_space, field}
 
 -- the first space is at a place
-pub at_space : (text : List ℕ) (k : ℕ) → k < length text → ((j : ℕ) → j < k → get_or text j 0 ≡ 32 → ⊥) → get_or text k 0 ≡ 32 → length (before_space text) ≡ k
+pub at_space : (text : List ℕ) (k : ℕ) → k < length text → ((j : ℕ) → j < k → get_or text j 0 ≡ 32 → ⊥) → get_or text k 0 ≡ 32
+    → length (before_space text) ≡ k
 at_space [] k within none is = absurd (omega arith)
 at_space (byte ∷ rest) zero within none is = rw (eq-eqb byte 32 is) refl
 at_space (byte ∷ rest) (suc k) within none is =
@@ -63,7 +64,8 @@ left count passed below = omega arith
 over : (count passed : ℕ) → count ≤ passed → count - passed ≡ 0
 over count passed past = omega arith
 
-pub field_step : (place passed : ℕ) (rest whole : List ℕ) → passed < place → field (place - passed) rest ≡ whole → field (place - (passed + 1)) (after_space rest) ≡ whole
+pub field_step : (place passed : ℕ) (rest whole : List ℕ) → passed < place → field (place - passed) rest ≡ whole
+    → field (place - (passed + 1)) (after_space rest) ≡ whole
 field_step place passed rest whole below is = sym (ap (λ n. field n rest) (left place passed below)) ∙ is
 
 pub field_end : (place passed : ℕ) (rest whole : List ℕ) → place ≤ passed → field (place - passed) rest ≡ whole → before_space rest ≡ whole
@@ -89,5 +91,7 @@ drop_none text n is most past =
 
 -- ---- as the loops go
 
-pub field_on : (place passed : ℕ) (rest next whole : List ℕ) → passed < place → next ≡ after_space rest → field (place - passed) rest ≡ whole → field (place - (passed + 1)) next ≡ whole
-field_on place passed rest next whole below is_next is = ap (λ r. field (place - (passed + 1)) r) is_next ∙ field_step place passed rest whole below is
+pub field_on : (place passed : ℕ) (rest next whole : List ℕ) → passed < place → next ≡ after_space rest → field (place - passed) rest ≡ whole
+    → field (place - (passed + 1)) next ≡ whole
+field_on place passed rest next whole below is_next is =
+    ap (λ r. field (place - (passed + 1)) r) is_next ∙ field_step place passed rest whole below is

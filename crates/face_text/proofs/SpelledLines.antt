@@ -14,7 +14,7 @@ use Rattle.face_text.specs.declared.entry.Entry.TheVariants.{Change as ChangeEnt
 use Rattle.face_text.specs.declared.group.Group.{Group}
 use Rattle.face_text.specs.declared.group.Group.TheVariants.{Zones, Firsts, Missing, Broken, Shorted, Supplies, Silent, Links, Unconfirmed, Outputs, Confirmed, PointsOff, ZonesOff, OutputsOff, Tests}
 use Rattle.face_text.specs.Entries.{entry_line, slot_of}
-use Rattle.face_text.specs.Fields.{field}
+use Rattle.site_types.specs.Fields.{field}
 use Rattle.face_text.specs.Slots.{kind_of, last_of, line_of, line_of_thing, name_in, number_of_truth, on_word, word_of}
 use Rattle.face_text.specs.Spelled.{by_panel, entry_spelled, number_below, panel_spelled, thing_spelled, told_of, truth_of, truth_place}
 use Rattle.face_text.proofs.Joined.{HasFields, fields_of, joined}
@@ -74,11 +74,13 @@ state_back true = refl
 state_back false = refl
 
 regroup : (panel word kind name state : List ℕ) →
-    (panel ++ 32 ∷ [] ++ word ++ kind ++ name) ++ (32 ∷ (state ++ 10 ∷ [])) ≡ (panel ++ (32 ∷ (word ++ (kind ++ (name ++ (32 ∷ (state ++ []))))))) ++ 10 ∷ []
+    (panel ++ 32 ∷ [] ++ word ++ kind ++ name) ++ (32 ∷ (state ++ 10 ∷ [])) ≡ (panel ++ (32 ∷ (word ++ (kind ++ (name ++ (32 ∷ (state ++ [])))))))
+    ++ 10 ∷ []
 regroup panel word kind name state = simp (append_assoc, append-nil)
 
 thing_joined : (panel : ℕ) (group : Group) (name state : List ℕ) →
-    (decimal panel ++ codes " " ++ word_of group ++ kind_of group ++ name) ++ (32 ∷ (state ++ 10 ∷ [])) ≡ joined (decimal panel) (words_of group name state) ++ 10 ∷ []
+    (decimal panel ++ codes " " ++ word_of group ++ kind_of group ++ name)
+    ++ (32 ∷ (state ++ 10 ∷ [])) ≡ joined (decimal panel) (words_of group name state) ++ 10 ∷ []
 thing_joined panel (Zones other) name state = regroup (decimal panel) (codes "zone ") [] name state
 thing_joined panel (Firsts other) name state = regroup (decimal panel) (codes "first ") [] name state
 thing_joined panel (Missing line) name state = regroup (decimal panel) (codes "fault ") (codes "missing ") name state
@@ -96,7 +98,8 @@ thing_joined panel OutputsOff name state = regroup (decimal panel) (codes "disab
 thing_joined panel Tests name state = regroup (decimal panel) (codes "test ") [] name state
 
 two_plain : (name state : List ℕ) → list_all is_plain name ≡ true → list_all is_plain state ≡ true → are_plain (name ∷ state ∷ []) ≡ true
-two_plain name state one other = and_from (list_all is_plain name) (list_all is_plain state && true) one (and_from (list_all is_plain state) true other refl)
+two_plain name state one other =
+    and_from (list_all is_plain name) (list_all is_plain state && true) one (and_from (list_all is_plain state) true other refl)
 
 words_plain : (group : Group) (name state : List ℕ) → are_plain (name ∷ state ∷ []) ≡ true → are_plain (words_of group name state) ≡ true
 words_plain (Zones other) name state plain = plain
@@ -116,8 +119,11 @@ words_plain OutputsOff name state plain = plain
 words_plain Tests name state plain = plain
 
 -- a line whose word is that of no other change and not `busy` tells of a thing
-word_row : (site : Site) (panel : ℕ) (text word : List ℕ) → field 1 text ≡ word → bytes_eq word (codes "busy") ≡ false → bytes_eq word (codes "delays") ≡ false → bytes_eq word (codes "buzzer") ≡ false →
-    bytes_eq word (codes "counter") ≡ false → panel_spelled site panel text ≡ option_map (λ change. ChangeEntry panel change) (option_and_then (told_of text) (thing_spelled site word (field 2 text) (field 3 text)))
+word_row : (site : Site) (panel : ℕ) (text word : List ℕ) → field 1 text ≡ word → bytes_eq word (codes "busy") ≡ false
+    → bytes_eq word (codes "delays") ≡ false → bytes_eq word (codes "buzzer") ≡ false →
+    bytes_eq word (codes "counter") ≡ false
+    → panel_spelled site panel text ≡ option_map (λ change. ChangeEntry panel change)
+    (option_and_then (told_of text) (thing_spelled site word (field 2 text) (field 3 text)))
 word_row site panel text word is busy delays buzzer counter = rw (is, busy, delays, buzzer, counter) refl
 
 pub record IsThingWord (word : List ℕ) : Type 0 where
@@ -167,7 +173,8 @@ state_at panel ZonesOff name state = refl
 state_at panel OutputsOff name state = refl
 state_at panel Tests name state = refl
 
-thing_told_by : (site : Site) (panel : ℕ) (group : Group) (number : ℕ) (on : Bool) (name : List ℕ) → ThingBack site group number name → (text : List ℕ) → HasFields text (decimal panel) (words_of group name (state_of on)) →
+thing_told_by : (site : Site) (panel : ℕ) (group : Group) (number : ℕ) (on : Bool) (name : List ℕ) → ThingBack site group number name
+    → (text : List ℕ) → HasFields text (decimal panel) (words_of group name (state_of on)) →
     panel_spelled site panel text ≡ Some (ChangeEntry panel (ThingChange group number on))
 thing_told_by site panel group number on name back text has =
     let words = words_of group name (state_of on) in
@@ -176,20 +183,25 @@ thing_told_by site panel group number on name back text has =
     let three : field 3 text ≡ word_at 2 words = has.at 3 ∙ word_there words 2 in
     let word = thing_word group name (state_of on) in
     let tell = λ (found : Option Change). option_map (λ change. ChangeEntry panel change) found in
-    let truth : truth_of (field (truth_place group) text) ≡ Some on = ap truth_of (has.at (truth_place group) ∙ state_at (decimal panel) group name (state_of on)) ∙ state_back on in
+    let truth : truth_of (field (truth_place group) text) ≡ Some on =
+    ap truth_of (has.at (truth_place group) ∙ state_at (decimal panel) group name (state_of on)) ∙ state_back on in
     word_row site panel text (word_at 0 words) one word.not_busy word.not_delays word.not_buzzer word.not_counter
     ∙ ap (λ w. tell (option_and_then (told_of text) (thing_spelled site (word_at 0 words) w (field 3 text)))) two
     ∙ ap (λ w. tell (option_and_then (told_of text) (thing_spelled site (word_at 0 words) (word_at 1 words) w))) three
     ∙ ap (λ thing. tell (option_and_then (told_of text) thing)) (back.back (state_of on))
     ∙ ap (λ t. tell (option_map (λ o. ThingChange group number o) t)) truth
 
-pub thing_told : (site : Site) → IsValid site → (panel : ℕ) (group : Group) (number : ℕ) (on : Bool) (name : List ℕ) → number ≤ last_of group → name_in site panel group number ≡ Some name →
-    IsTold site panel (line_of site panel (slot_of (ThingChange group number on)) (number_of_truth on)) (ChangeEntry panel (ThingChange group number on))
+pub thing_told : (site : Site) → IsValid site → (panel : ℕ) (group : Group) (number : ℕ) (on : Bool) (name : List ℕ) → number ≤ last_of group
+    → name_in site panel group number ≡ Some name →
+    IsTold site panel (line_of site panel (slot_of (ThingChange group number on)) (number_of_truth on))
+    (ChangeEntry panel (ThingChange group number on))
 thing_told site valid panel group number on name most is =
     let back = thing_back site valid panel group number name most is in
     record {
       fields = words_of group name (state_of on);
       others = words_plain group name (state_of on) (two_plain name (state_of on) back.plain (state_plain on));
-      line_is = ap (line_of_thing panel group (number_of_truth on)) is ∙ ap (λ t. (decimal panel ++ codes " " ++ word_of group ++ kind_of group ++ name) ++ t) (state_line on) ∙ thing_joined panel group name (state_of on);
+      line_is =
+          ap (line_of_thing panel group (number_of_truth on)) is ∙ ap (λ t. (decimal panel ++ codes " " ++ word_of group ++ kind_of group ++ name)
+          ++ t) (state_line on) ∙ thing_joined panel group name (state_of on);
       spelled = thing_told_by site panel group number on name back;
     }

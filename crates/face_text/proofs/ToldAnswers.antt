@@ -1,5 +1,7 @@
 -- What is answered in a tick, line by line: operations by number, busy panels, the store.
-use Rattle.std.proofs.Common.{◌≡◌, ◌≢◌, ◌∙◌, ◌⊎◌, ◌<◌, ◌≤◌, ◌+◌, ◌-◌, ◌^◌, ◌++◌, ℕ, zero, suc, List, [], ◌∷◌, Bool, true, false, length, refl, sym, ap, subst, inl, inr, append_assoc, arith, get_or, set, replicate}
+use Rattle.std.proofs.Common.{◌≡◌, ◌≢◌, ◌∙◌, ◌⊎◌, ◌<◌, ◌≤◌, ◌+◌, ◌-◌, ◌^◌, ◌++◌, ℕ, zero, suc, List, [], ◌∷◌, Bool}
+use Rattle.std.proofs.Common.{true, false, length, refl, sym, ap, subst, inl, inr, append_assoc, arith, get_or, set}
+use Rattle.std.proofs.Common.{replicate}
 use Rattle.std.specs.Prelude.{slice_index}
 use Rattle.std.specs.List.{flat_map}
 use Rattle.std.proofs.lemmas.Bool.{cases_eq, ne_eqb}
@@ -18,16 +20,19 @@ use Rattle.face_text.specs.Timelines.{AreAnswers, AreOpAnswers, HasAnswer, IsRep
 -- numbers rise, from some bound on, and stay below an end
 abbrev pub AreOpsUpTo : ℕ → ℕ → List OpAnswer → Type 0
 AreOpsUpTo bound end [] = bound ≤ end
-AreOpsUpTo bound end (answer ∷ answers) = (bound ≤ answer.number) × (answer.number < 2 ^ 64) × IsReply answer.reply × AreOpsUpTo (suc answer.number) end answers
+AreOpsUpTo bound end (answer ∷ answers) = (bound ≤ answer.number) × (answer.number < 2 ^ 64) × IsReply answer.reply
+    × AreOpsUpTo (suc answer.number) end answers
 
 pub ops_bound : (bound end : ℕ) (ops : List OpAnswer) → AreOpsUpTo bound end ops → bound ≤ end
 ops_bound bound end [] are = are
 ops_bound bound end (answer ∷ answers) are = omega (arith, are.0, ops_bound (suc answer.number) end answers are.3)
 
-pub ops_more : (bound end : ℕ) (ops : List OpAnswer) (answer : OpAnswer) → AreOpsUpTo bound end ops → end ≤ answer.number → answer.number < 2 ^ 64 → IsReply answer.reply →
+pub ops_more : (bound end : ℕ) (ops : List OpAnswer) (answer : OpAnswer) → AreOpsUpTo bound end ops → end ≤ answer.number → answer.number < 2 ^ 64
+    → IsReply answer.reply →
     AreOpsUpTo bound (suc answer.number) (ops ++ answer ∷ [])
 ops_more bound end [] answer are less small reply = (omega (arith, are, less), small, reply, omega arith)
-ops_more bound end (first ∷ ops) answer are less small reply = (are.0, are.1, are.2, ops_more (suc first.number) end ops answer are.3 less small reply)
+ops_more bound end (first ∷ ops) answer are less small reply =
+    (are.0, are.1, are.2, ops_more (suc first.number) end ops answer are.3 less small reply)
 
 pub ops_later : (bound end later : ℕ) (ops : List OpAnswer) → AreOpsUpTo bound end ops → end ≤ later → AreOpsUpTo bound later ops
 ops_later bound end later [] are less = omega (arith, are, less)
@@ -140,7 +145,8 @@ nothing_answered site =
       not_failed = λ low. refl;
     }
 
-pub later_answers : (site : Site) (rank later : ℕ) (answers : Answers) → rank ≤ later → AreAnswersTold site rank answers → AreAnswersTold site later answers
+pub later_answers : (site : Site) (rank later : ℕ) (answers : Answers) → rank ≤ later → AreAnswersTold site rank answers
+    → AreAnswersTold site later answers
 later_answers site rank later answers less told =
     record {
       ops = ops_later 0 (rank - 999999) (later - 999999) answers.ops told.ops (omega (arith, less));
@@ -154,21 +160,24 @@ later_answers site rank later answers less told =
 
 -- ---- their text
 
-pub no_busy_text : (site : Site) (rank : ℕ) (answers : Answers) → AreAnswersTold site rank answers → rank ≤ 1000000 + 2 ^ 64 → busy_text answers.busy ≡ []
+pub no_busy_text : (site : Site) (rank : ℕ) (answers : Answers) → AreAnswersTold site rank answers → rank ≤ 1000000 + 2 ^ 64
+    → busy_text answers.busy ≡ []
 no_busy_text site rank answers told low =
     busy_from_first answers.busy told.panels ∙ none_busy_from 1 answers.busy (λ place. told.not_busy place (omega (arith, low)))
 
 not_failed_text : (failed : Bool) → failed ≡ false → failed_text failed ≡ []
 not_failed_text failed e = rw e refl
 
-pub nothing_answered_text : (site : Site) (rank : ℕ) (answers : Answers) → AreAnswersTold site rank answers → rank < 1000000 → answers_text answers ≡ []
+pub nothing_answered_text : (site : Site) (rank : ℕ) (answers : Answers) → AreAnswersTold site rank answers → rank < 1000000
+    → answers_text answers ≡ []
 nothing_answered_text site rank answers told low =
     let end : rank - 999999 ≡ 0 = omega (arith, low) in
     let ops : answers.ops ≡ [] = no_ops_below 0 answers.ops (subst (λ (e : ℕ). AreOpsUpTo 0 e answers.ops) end told.ops) in
     rw (ops, no_busy_text site rank answers told (omega (arith, low)), not_failed_text answers.failed (told.not_failed (omega (arith, low)))) refl
 
 -- one more answer
-pub answer_told : (site : Site) (rank : ℕ) (answers : Answers) (answer : OpAnswer) → AreAnswersTold site rank answers → rank < 1000000 + answer.number →
+pub answer_told : (site : Site) (rank : ℕ) (answers : Answers) (answer : OpAnswer) → AreAnswersTold site rank answers
+    → rank < 1000000 + answer.number →
     answer.number < 2 ^ 64 → IsReply answer.reply → length answers.ops < 64 →
     AreAnswersTold site (1000000 + answer.number) (record answers { ops = answers.ops ++ answer ∷ [] })
     × (answers_text (record answers { ops = answers.ops ++ answer ∷ [] }) ≡ answers_text answers ++ answer_line answer)
@@ -187,10 +196,12 @@ answer_told site rank answers answer told less small reply room =
       },
       rw (busy, failed, flat_map-append answer_line answers.ops (answer ∷ []))
           (append-nil _ ∙ append-nil _ ∙ ap (λ t. flat_map answer_line answers.ops ++ t) (append-nil (answer_line answer))
-          ∙ ap (λ t. t ++ answer_line answer) (sym (append-nil (flat_map answer_line answers.ops ++ []) ∙ append-nil (flat_map answer_line answers.ops)))),
+          ∙ ap (λ t. t ++ answer_line answer)
+          (sym (append-nil (flat_map answer_line answers.ops ++ []) ∙ append-nil (flat_map answer_line answers.ops)))),
     )
 
-one_busy : (busy : List ℕ) (at place count : ℕ) (P : ℕ → Type 0) → (at ≡ place → P count) → ((at ≡ place → ⊥) → P (get_or busy place 0)) → at < length busy → P (get_or (set busy at count) place 0)
+one_busy : (busy : List ℕ) (at place count : ℕ) (P : ℕ → Type 0) → (at ≡ place → P count) → ((at ≡ place → ⊥) → P (get_or busy place 0))
+    → at < length busy → P (get_or (set busy at count) place 0)
 one_busy busy at place count P here there within =
     elim (cases_eq at place) [
       | inl e ↦ subst P (sym (ap (λ (k : ℕ). get_or (set busy at count) k 0) (sym e) ∙ get_or-set_same busy at count 0 within)) (here e)
@@ -198,7 +209,8 @@ one_busy busy at place count P here there within =
     ]
 
 -- one more busy panel
-pub busy_told : (site : Site) (rank panel count : ℕ) (answers : Answers) → AreAnswersTold site rank answers → site.panels ≤ 8 → 1 ≤ panel → panel ≤ site.panels →
+pub busy_told : (site : Site) (rank panel count : ℕ) (answers : Answers) → AreAnswersTold site rank answers → site.panels ≤ 8 → 1 ≤ panel
+    → panel ≤ site.panels →
     1 ≤ count → count < 2 ^ 64 → rank < 1000000 + 2 ^ 64 + panel →
     AreAnswersTold site (1000000 + 2 ^ 64 + panel) (record answers { busy = set answers.busy (panel - 1) count })
     × (answers_text (record answers { busy = set answers.busy (panel - 1) count }) ≡ answers_text answers ++ counted_line panel count)
@@ -207,15 +219,21 @@ busy_told site rank panel count answers told eight from to some small less =
     let at : 1 + (panel - 1) ≡ panel = omega (arith, from) in
     let size : length answers.busy ≡ 8 = told.panels in
     let within : panel - 1 < length answers.busy = omega (arith, size, to, eight) in
-    let more = busy_more (panel - 1) count answers.busy size (omega (arith, to, from, eight)) some (λ k past. told.not_busy k (omega (arith, less, past))) in
-    let text : busy_text (set answers.busy (panel - 1) count) ≡ busy_text answers.busy ++ counted_line panel count = more ∙ ap (λ (p : ℕ). busy_text answers.busy ++ counted_line p count) at in (
+    let more =
+    busy_more (panel - 1) count answers.busy size (omega (arith, to, from, eight)) some (λ k past. told.not_busy k (omega (arith, less, past))) in
+    let text : busy_text (set answers.busy (panel - 1) count) ≡ busy_text answers.busy ++ counted_line panel count =
+    more ∙ ap (λ (p : ℕ). busy_text answers.busy ++ counted_line p count) at in (
       record {
         ops = ops_later 0 (rank - 999999) (1000000 + 2 ^ 64 + panel - 999999) answers.ops told.ops (omega (arith, less));
         few = told.few;
         panels = length-set answers.busy (panel - 1) count ∙ size;
         counts = λ place. one_busy answers.busy (panel - 1) place count (λ x. x < 2 ^ 64) (λ e. small) (λ ne. told.counts place) within;
-        no_other = λ place past. one_busy answers.busy (panel - 1) place count (λ x. x ≡ 0) (λ e. absurd (omega (arith, e, past, from, to))) (λ ne. told.no_other place past) within;
-        not_busy = λ place low. one_busy answers.busy (panel - 1) place count (λ x. x ≡ 0) (λ e. absurd (omega (arith, e, low, from))) (λ ne. told.not_busy place (omega (arith, less, low))) within;
+        no_other =
+            λ place past. one_busy answers.busy (panel - 1) place count (λ x. x ≡ 0) (λ e. absurd (omega (arith, e, past, from, to)))
+            (λ ne. told.no_other place past) within;
+        not_busy =
+            λ place low. one_busy answers.busy (panel - 1) place count (λ x. x ≡ 0) (λ e. absurd (omega (arith, e, low, from)))
+            (λ ne. told.not_busy place (omega (arith, less, low))) within;
         not_failed = λ low. told.not_failed (omega (arith, less, to, eight));
       },
       rw (failed, text)
@@ -255,7 +273,8 @@ some_count (count ∷ counts) =
     both first rest e none zero = e
     both first rest e none (suc place) = none place
 
-no_text : (answers : Answers) → length answers.busy ≡ 8 → answers.ops ≡ [] → ((place : ℕ) → get_or answers.busy place 0 ≡ 0) → answers.failed ≡ false → answers_text answers ≡ []
+no_text : (answers : Answers) → length answers.busy ≡ 8 → answers.ops ≡ [] → ((place : ℕ) → get_or answers.busy place 0 ≡ 0) → answers.failed ≡ false
+    → answers_text answers ≡ []
 no_text answers size ops none failed =
     rw (ops, busy_from_first answers.busy size ∙ none_busy_from 1 answers.busy none, not_failed_text answers.failed failed) refl
 
@@ -275,6 +294,7 @@ answered_or_not answers size =
           ]
     ]
   where
-    by_store : (failed : Bool) → answers.failed ≡ failed → answers.ops ≡ [] → ((place : ℕ) → get_or answers.busy place 0 ≡ 0) → HasAnswer answers ⊎ (answers_text answers ≡ [])
+    by_store : (failed : Bool) → answers.failed ≡ failed → answers.ops ≡ [] → ((place : ℕ) → get_or answers.busy place 0 ≡ 0)
+        → HasAnswer answers ⊎ (answers_text answers ≡ [])
     by_store true e none free = inl (inr (inr e))
     by_store false e none free = inr (no_text answers size none free e)

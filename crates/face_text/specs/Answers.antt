@@ -8,7 +8,8 @@ use Rattle.face_text.specs.declared.reply.Reply.TheVariants.{Done, Denied, Waiti
 
 abbrev pub reply_words : Reply → List ℕ
 reply_words Done = codes " done\n"
-reply_words (Denied needs has) = codes " denied needs " ++ decimal needs ++ codes " has " ++ decimal has ++ codes "\n"
+reply_words (Denied needs has) = codes " denied needs " ++ decimal needs ++ codes " has " ++ decimal has
+    ++ codes "\n"
 reply_words Waiting = codes " waiting\n"
 reply_words Already = codes " already\n"
 reply_words Store = codes " store\n"
@@ -19,7 +20,8 @@ answer_line answer = codes "op " ++ decimal answer.number ++ reply_words answer.
 
 -- the line of a panel that so many operations found busy; none where there was no such operation
 abbrev pub busy_line : ℕ → ℕ → List ℕ
-busy_line panel count = if count == 0 then [] else (decimal panel ++ codes " busy " ++ decimal count ++ codes "\n")
+busy_line panel count =
+    if count == 0 then [] else (decimal panel ++ codes " busy " ++ decimal count ++ codes "\n")
 
 unfoldable pub busy_text : List ℕ → List ℕ
 busy_text busy = flat_map (λ panel. busy_line panel (slice_index busy (panel - 1))) (range_with_len 1 8)
@@ -29,4 +31,5 @@ failed_text failed = if failed then codes "store failed\n" else []
 
 -- the answers by number, the panels that were busy, and whether Keep's turn failed
 abbrev pub answers_text : Answers → List ℕ
-answers_text answers = flat_map answer_line answers.ops ++ busy_text answers.busy ++ failed_text answers.failed
+answers_text answers = flat_map answer_line answers.ops ++ busy_text answers.busy
+    ++ failed_text answers.failed

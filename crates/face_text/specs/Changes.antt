@@ -8,11 +8,14 @@ use Rattle.face_text.specs.Slots.{Slot, Thing, line_of, slots, slots_of, value_i
 
 -- the line of a slot, where its value was another before
 abbrev pub change_of : Site → Face → Face → Slot → List ℕ
-change_of site before after slot = if value_in before slot == value_in after slot then [] else line_of site after.panel slot (value_in after slot)
+change_of site before after slot =
+    if value_in before slot == value_in after slot then [] else line_of site after.panel slot
+    (value_in after slot)
 
 -- the lines of the things of a group with numbers up to this one
 abbrev pub numbers_text : Site → Face → Face → Group → ℕ → List ℕ
-numbers_text site before after group count = flat_map (λ number. change_of site before after (Thing group number)) (range_with_len 1 count)
+numbers_text site before after group count =
+    flat_map (λ number. change_of site before after (Thing group number)) (range_with_len 1 count)
 
 -- the lines of a group, and of some groups
 abbrev pub group_text : Site → Face → Face → Group → List ℕ

@@ -1,15 +1,22 @@
--- The lines of a text behind the first, one by one: what each tells, how it is written, and where in a tick it may stand.
+-- The lines of a text behind the first, one by one: what each tells, how it is written, and where in a tick
+-- it may stand.
 use Rattle.std.specs.Prelude.{◌≤◌, ◌<◌, ◌+◌, ◌*◌, ◌^◌, ℕ, List, ◌++◌, codes, decimal, IsTrue}
 use Rattle.site_types.specs.declared.site.Site.{Site}
 use Rattle.site_types.specs.Limits.{greatest_count}
 use Rattle.face_text.specs.declared.change.Change.{Change}
-use Rattle.face_text.specs.declared.change.Change.TheVariants.{Thing as ThingChange, Delays as DelaysChange, Buzzer as BuzzerChange, Counter as CounterChange}
+use Rattle.face_text.specs.declared.change.Change.TheVariants.{Thing as ThingChange, Delays as DelaysChange}
+use Rattle.face_text.specs.declared.change.Change.TheVariants.{Buzzer as BuzzerChange, Counter as CounterChange}
 use Rattle.face_text.specs.declared.entry.Entry.{Entry}
-use Rattle.face_text.specs.declared.entry.Entry.TheVariants.{Change as ChangeEntry, Answer as AnswerEntry, Busy as BusyEntry, StoreFailed, Tick as TickEntry, End as EndEntry}
+use Rattle.face_text.specs.declared.entry.Entry.TheVariants.{Change as ChangeEntry, Answer as AnswerEntry}
+use Rattle.face_text.specs.declared.entry.Entry.TheVariants.{Busy as BusyEntry, StoreFailed, Tick as TickEntry}
+use Rattle.face_text.specs.declared.entry.Entry.TheVariants.{End as EndEntry}
 use Rattle.face_text.specs.declared.group.Group.{Group}
-use Rattle.face_text.specs.declared.group.Group.TheVariants.{Zones, Firsts, Missing, Broken, Shorted, Supplies, Silent, Links, Unconfirmed, Outputs, Confirmed, PointsOff, ZonesOff, OutputsOff, Tests}
+use Rattle.face_text.specs.declared.group.Group.TheVariants.{Zones, Firsts, Missing, Broken, Shorted, Supplies}
+use Rattle.face_text.specs.declared.group.Group.TheVariants.{Silent, Links, Unconfirmed, Outputs, Confirmed}
+use Rattle.face_text.specs.declared.group.Group.TheVariants.{PointsOff, ZonesOff, OutputsOff, Tests}
 use Rattle.face_text.specs.Answers.{answer_line}
-use Rattle.face_text.specs.Slots.{HasPlace, Slot, Thing, Delays, Sounding, Count, is_named, last_of, line_of, name_in, number_of_buzzer, number_of_truth}
+use Rattle.face_text.specs.Slots.{HasPlace, Slot, Thing, Delays, Sounding, Count, is_named, last_of, line_of, name_in}
+use Rattle.face_text.specs.Slots.{number_of_buzzer, number_of_truth}
 use Rattle.face_text.specs.Timelines.{IsReply, end_line, tick_line}
 
 -- ---- changes
@@ -29,7 +36,8 @@ value_of (CounterChange count) = count
 
 -- the site has the thing that a change tells of on the page of a panel, and a counter is up to 999,999
 abbrev pub IsChange : Site → ℕ → Change → Type 0
-IsChange site panel (ThingChange group number on) = HasPlace group × (1 ≤ number) × (number ≤ last_of group) × IsTrue (is_named (name_in site panel group number))
+IsChange site panel (ThingChange group number on) = HasPlace group × (1 ≤ number) × (number ≤ last_of group)
+    × IsTrue (is_named (name_in site panel group number))
 IsChange site panel (DelaysChange on) = Unit {0}
 IsChange site panel (BuzzerChange sound) = Unit {0}
 IsChange site panel (CounterChange count) = count ≤ greatest_count
@@ -85,7 +93,8 @@ slot_rank Delays = 36000
 slot_rank Sounding = 37000
 slot_rank Count = 38000
 
--- where a line may stand among those of a tick, a number that rises along them: pages by panel, answers by number, busy panels, the store
+-- where a line may stand among those of a tick, a number that rises along them: pages by panel, answers by
+-- number, busy panels, the store
 abbrev pub rank_of : Entry → ℕ
 rank_of (ChangeEntry panel change) = panel * 100000 + slot_rank (slot_of change)
 rank_of (AnswerEntry answer) = 1000000 + answer.number

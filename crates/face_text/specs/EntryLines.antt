@@ -15,12 +15,6 @@ pub record ReadsEntry (site : Site) (line : List ℕ) (result : Option Entry) : 
   pub only : (entry : Entry) → result ≡ Some entry → IsLineOf site line entry
   pub all : (entry : Entry) → IsLineOf site line entry → result ≡ Some entry
 
--- bytes with one line end, which is the last of them
-pub record IsOneLine (bytes : List ℕ) : Type 0 where
-  pub body : List ℕ
-  pub no_end : line_ends body ≡ 0
-  pub bytes_is : bytes ≡ body ++ 10 ∷ []
-
 -- a text is parted behind its first line end
 pub record IsParted (text line rest : List ℕ) : Type 0 where
   pub no_end : line_ends line ≡ 0

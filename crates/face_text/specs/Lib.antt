@@ -1,10 +1,8 @@
 pub mod Answers
 pub mod Changes
 pub mod Entries
-pub mod FaceTelling
 pub mod EntryLines
 pub mod Faces
-pub mod Fields
 pub mod Holding
 pub mod Lists
 pub mod ReadSoFar

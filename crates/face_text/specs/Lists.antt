@@ -4,9 +4,13 @@ use Rattle.std.specs.List.{flat_map, range_with_len}
 use Rattle.site_types.specs.declared.site.Site.{Site}
 use Rattle.face_text.specs.declared.face.Face.{Face}
 use Rattle.face_text.specs.declared.face_list.FaceList.{FaceList}
-use Rattle.face_text.specs.declared.face_list.FaceList.TheVariants.{Zones as ZoneList, Firsts as FirstList, Faults as FaultList, Outputs as OutputList, Disabled as DisabledList, Tests as TestList}
+use Rattle.face_text.specs.declared.face_list.FaceList.TheVariants.{Zones as ZoneList, Firsts as FirstList}
+use Rattle.face_text.specs.declared.face_list.FaceList.TheVariants.{Faults as FaultList, Outputs as OutputList}
+use Rattle.face_text.specs.declared.face_list.FaceList.TheVariants.{Disabled as DisabledList, Tests as TestList}
 use Rattle.face_text.specs.declared.group.Group.{Group}
-use Rattle.face_text.specs.declared.group.Group.TheVariants.{Zones, Firsts, Missing, Broken, Shorted, Supplies, Silent, Links, Unconfirmed, Outputs, Confirmed, PointsOff, ZonesOff, OutputsOff, Tests}
+use Rattle.face_text.specs.declared.group.Group.TheVariants.{Zones, Firsts, Missing, Broken, Shorted, Supplies}
+use Rattle.face_text.specs.declared.group.Group.TheVariants.{Silent, Links, Unconfirmed, Outputs, Confirmed}
+use Rattle.face_text.specs.declared.group.Group.TheVariants.{PointsOff, ZonesOff, OutputsOff, Tests}
 use Rattle.face_text.specs.Slots.{kind_of, last_of, name_in, page, shows}
 
 abbrev pub is_zones : FaceList → Bool
@@ -58,7 +62,8 @@ named_item group (Some name) = (kind_of group ++ name) ∷ []
 
 -- the item of a number of a group, if the face shows its thing
 abbrev pub item_of : Site → Face → Group → ℕ → List (List ℕ)
-item_of site face group number = if shows face group number then named_item group (name_in site face.panel group number) else []
+item_of site face group number =
+    if shows face group number then named_item group (name_in site face.panel group number) else []
 
 -- the items of the first numbers of a group
 abbrev pub group_items : Site → Face → Group → ℕ → List (List ℕ)

@@ -1,23 +1,25 @@
 -- How a text is read, line by line, and which line of a text is the first bad one.
-use Rattle.std.specs.Prelude.{◌≡◌, ◌≢◌, ◌⊎◌, ◌<◌, ◌≤◌, ◌-◌, ◌==◌, ◌&&◌, ◌||◌, ℕ, zero, suc, Bool, true, false, not, List, [], ◌∷◌, ◌++◌, Option, Some, None, length, replicate, slice_index_or, slice_set, nat_le, nat_lt, if◌then◌else◌}
-use Rattle.std.specs.List.{flat_map}
-use Rattle.std.specs.Option.{option_and_then}
+use Rattle.std.specs.Prelude.{◌≡◌, ◌≢◌, ◌⊎◌, ◌<◌, ◌≤◌, ◌-◌, ◌==◌, ◌&&◌, ◌||◌, ℕ, zero, suc, Bool, true, false, not}
+use Rattle.std.specs.Prelude.{List, [], ◌∷◌, ◌++◌, Option, Some, None, length, replicate, slice_index_or, slice_set}
+use Rattle.std.specs.Prelude.{nat_le, nat_lt, if◌then◌else◌}
 use Rattle.site_types.specs.declared.site.Site.{Site}
 use Rattle.tick_units.specs.declared.tick.Tick.{Tick}
 use Rattle.face_text.specs.declared.answers.Answers.{Answers}
 use Rattle.face_text.specs.declared.change.Change.{Change}
 use Rattle.face_text.specs.declared.entry.Entry.{Entry}
-use Rattle.face_text.specs.declared.entry.Entry.TheVariants.{Change as ChangeEntry, Answer as AnswerEntry, Busy as BusyEntry, StoreFailed, Tick as TickEntry, End as EndEntry}
+use Rattle.face_text.specs.declared.entry.Entry.TheVariants.{Change as ChangeEntry, Answer as AnswerEntry}
+use Rattle.face_text.specs.declared.entry.Entry.TheVariants.{Busy as BusyEntry, StoreFailed, Tick as TickEntry}
+use Rattle.face_text.specs.declared.entry.Entry.TheVariants.{End as EndEntry}
 use Rattle.face_text.specs.declared.face.Face.{Face}
 use Rattle.face_text.specs.declared.step.Step.{Step}
 use Rattle.face_text.specs.declared.text_refusal.TextRefusal.{TextRefusal}
 use Rattle.face_text.specs.declared.text_refusal.TextRefusal.TheVariants.{BadLine, NoMemory}
 use Rattle.face_text.specs.declared.timeline.Timeline.{Timeline}
-use Rattle.face_text.specs.Entries.{entry_line, rank_of, slot_of, value_of}
+use Rattle.face_text.specs.Entries.{rank_of, slot_of, value_of}
 use Rattle.face_text.specs.Faces.{empty_face}
 use Rattle.face_text.specs.Slots.{value_in}
 use Rattle.face_text.specs.Telling.{face_told}
-use Rattle.face_text.specs.Timelines.{IsInForm, empty_faces, faces_text, opening_line, step_text, steps_text, text_of}
+use Rattle.face_text.specs.Timelines.{IsInForm, empty_faces, text_of}
 
 -- ---- which texts are read, and the first bad line
 
@@ -37,9 +39,11 @@ line_ends (byte ∷ bytes) = if byte == 10 then suc (line_ends bytes) else line_
 abbrev pub first_lines : ℕ → List ℕ → List ℕ
 first_lines zero bytes = []
 first_lines (suc count) [] = []
-first_lines (suc count) (byte ∷ bytes) = byte ∷ (if byte == 10 then first_lines count bytes else first_lines (suc count) bytes)
+first_lines (suc count) (byte ∷ bytes) =
+    byte ∷ (if byte == 10 then first_lines count bytes else first_lines (suc count) bytes)
 
--- the text is that of no timeline in form, and this is the first line, counted from 1, that no such text has behind the lines before it
+-- the text is that of no timeline in form, and this is the first line, counted from 1, that no such text has
+-- behind the lines before it
 pub record IsBadLine (site : Site) (text : List ℕ) (line : ℕ) : Type 0 where
   pub not_a_text : (timeline : Timeline) → IsInForm site timeline → text_of site timeline ≢ text
   pub from_one : 1 ≤ line
@@ -59,8 +63,9 @@ IsRefusal site text NoMemory = Unit {0}
 
 -- ---- line by line
 
--- what the lines of a text have told so far: the opening and the ended steps, and the block of lines that is being told, which is the opening's
--- where its tick is 0. `rank` is the place of the block's last line, 0 where it has none
+-- what the lines of a text have told so far: the opening and the ended steps, and the block of lines that is
+-- being told, which is the opening's where its tick is 0. `rank` is the place of the block's last line, 0
+-- where it has none
 pub record Told : Type 0 where
   pub opened : List Face
   pub steps : List Step
@@ -74,7 +79,15 @@ no_answers = record { ops = []; busy = replicate 8 0; failed = false }
 
 -- nothing is told: all faces are empty
 abbrev pub nothing_told : Site → Told
-nothing_told site = record { opened = []; steps = []; tick = record { 0 = 0 }; faces = empty_faces site; answers = no_answers; rank = 0 }
+nothing_told site = record {
+  opened = [];
+  steps = [];
+  tick = record { 0 = 0 };
+  faces =
+      empty_faces site;
+  answers = no_answers;
+  rank = 0;
+}
 
 -- the face of a panel, as told so far
 abbrev pub face_at : List Face → ℕ → Face
@@ -106,19 +119,36 @@ block_of told = record { tick = told.tick; faces = told.faces; answers = told.an
 abbrev pub steps_by : Told → List Step
 steps_by told = if told.tick.0 == 0 then told.steps else told.steps ++ block_of told ∷ []
 
+-- what is told once the block that is being told has become the opening or a step
+abbrev pub closed_block : Told → Told
+closed_block told =
+    record told { opened = opened_by told; steps = steps_by told; answers = no_answers }
+
 -- what is told after one more line, if the line may stand there; after the last line nothing is told on
 abbrev pub told_next : Told → Entry → Option Told
 told_next told (ChangeEntry panel change) =
     if comes_next told (ChangeEntry panel change) && is_news told panel change
-    then Some (record told { faces = slice_set told.faces (panel - 1) (face_told (face_at told.faces panel) change); rank = rank_of (ChangeEntry panel change) })
+    then Some
+    (record told {
+      faces = slice_set told.faces (panel - 1) (face_told (face_at told.faces panel) change);
+      rank = rank_of (ChangeEntry panel change);
+    })
     else None
 told_next told (AnswerEntry answer) =
     if is_in_tick told && comes_next told (AnswerEntry answer) && nat_lt (length told.answers.ops) 64
-    then Some (record told { answers = record told.answers { ops = told.answers.ops ++ answer ∷ [] }; rank = rank_of (AnswerEntry answer) })
+    then Some (record told {
+      answers = record told.answers { ops = told.answers.ops ++ answer ∷ [] };
+      rank =
+          rank_of (AnswerEntry answer);
+    })
     else None
 told_next told (BusyEntry panel count) =
     if is_in_tick told && comes_next told (BusyEntry panel count)
-    then Some (record told { answers = record told.answers { busy = slice_set told.answers.busy (panel - 1) count }; rank = rank_of (BusyEntry panel count) })
+    then Some
+    (record told {
+      answers = record told.answers { busy = slice_set told.answers.busy (panel - 1) count };
+      rank = rank_of (BusyEntry panel count);
+    })
     else None
 told_next told StoreFailed =
     if is_in_tick told && comes_next told StoreFailed
@@ -126,31 +156,25 @@ told_next told StoreFailed =
     else None
 told_next told (TickEntry tick) =
     if may_close told && nat_lt told.tick.0 tick.0
-    then Some (record { opened = opened_by told; steps = steps_by told; tick = tick; faces = told.faces; answers = no_answers; rank = 0 })
+    then Some (record {
+      opened = opened_by told;
+      steps = steps_by told;
+      tick = tick;
+      faces =
+          told.faces;
+      answers = no_answers;
+      rank = 0;
+    })
     else None
 told_next told (EndEntry tick) = None
 
--- what is told after some lines
-abbrev pub told_after : Told → List Entry → Option Told
-told_after told [] = Some told
-told_after told (entry ∷ entries) = option_and_then (λ next. told_after next entries) (told_next told entry)
-
 -- the timeline that is told where the last line names this tick, if that line may stand there
 abbrev pub timeline_told : Told → Tick → Option Timeline
-timeline_told told last = if may_close told && nat_le told.tick.0 last.0 then Some (record { opened = opened_by told; steps = steps_by told; last = last }) else None
-
--- the faces behind some steps
-abbrev pub faces_behind : List Face → List Step → List Face
-faces_behind faces [] = faces
-faces_behind faces (step ∷ steps) = faces_behind step.faces steps
-
--- the text of what is told so far
-abbrev pub told_text : Site → Told → List ℕ
-told_text site told =
-    opening_line site
-    ++ (if told.tick.0 == 0 then faces_text site (empty_faces site) told.faces
-    else (faces_text site (empty_faces site) told.opened ++ steps_text site told.opened told.steps ++ step_text site (faces_behind told.opened told.steps) (block_of told)))
-
--- the lines of some entries
-abbrev pub entries_text : Site → List Entry → List ℕ
-entries_text site entries = flat_map (entry_line site) entries
+timeline_told told last =
+    if may_close told
+    && nat_le told.tick.0 last.0 then Some (record {
+      opened = opened_by told;
+      steps = steps_by told;
+      last =
+          last;
+    }) else None

@@ -7,4 +7,5 @@ use Rattle.face_text.specs.Timelines.{IsInForm, text_of}
 
 -- no two timelines in form of a site have one text
 abbrev pub TextsAreTheirOwn : Type 0
-TextsAreTheirOwn = (site : Site) → IsValid site → (one other : Timeline) → IsInForm site one → IsInForm site other → text_of site one ≡ text_of site other → one ≡ other
+TextsAreTheirOwn = (site : Site) → IsValid site → (one other : Timeline) → IsInForm site one
+    → IsInForm site other → text_of site one ≡ text_of site other → one ≡ other

@@ -1,5 +1,6 @@
 -- The page of a panel as a table of slots: each has a value in every face, and a line that tells it.
-use Rattle.std.specs.Prelude.{◌≤◌, ◌-◌, ◌==◌, ◌&&◌, ℕ, Bool, true, false, List, [], ◌∷◌, ◌++◌, Option, Some, None, option_map, map, filter, slice_index, codes, decimal, if◌then◌else◌}
+use Rattle.std.specs.Prelude.{◌≤◌, ◌-◌, ◌==◌, ◌&&◌, ℕ, Bool, true, false, List, [], ◌∷◌, ◌++◌, Option, Some, None}
+use Rattle.std.specs.Prelude.{option_map, map, filter, slice_index, codes, decimal, if◌then◌else◌}
 use Rattle.std.specs.List.{find, flat_map, list_any, range_with_len}
 use Rattle.site_types.specs.declared.buzzer.Buzzer.{Buzzer}
 use Rattle.site_types.specs.declared.buzzer.Buzzer.TheVariants.{Off, Fault, Fire}
@@ -12,9 +13,12 @@ use Rattle.site_types.specs.Bits.{has_bit, has_point}
 use Rattle.site_types.specs.Events.{is_link, is_panel}
 use Rattle.face_text.specs.declared.face.Face.{Face}
 use Rattle.face_text.specs.declared.group.Group.{Group}
-use Rattle.face_text.specs.declared.group.Group.TheVariants.{Zones, Firsts, Missing, Broken, Shorted, Supplies, Silent, Links, Unconfirmed, Outputs, Confirmed, PointsOff, ZonesOff, OutputsOff, Tests}
+use Rattle.face_text.specs.declared.group.Group.TheVariants.{Zones, Firsts, Missing, Broken, Shorted, Supplies}
+use Rattle.face_text.specs.declared.group.Group.TheVariants.{Silent, Links, Unconfirmed, Outputs, Confirmed}
+use Rattle.face_text.specs.declared.group.Group.TheVariants.{PointsOff, ZonesOff, OutputsOff, Tests}
 
--- what one line tells: whether the thing of a group with a number is so, whether the delays are on, what the buzzer sounds, the counter
+-- what one line tells: whether the thing of a group with a number is so, whether the delays are on, what the
+-- buzzer sounds, the counter
 pub data Slot : Type 0 where
   Thing : Group → ℕ → Slot
   Delays : Slot
@@ -96,22 +100,28 @@ value_in face Count = face.counter
 -- ---- how lines name things
 
 abbrev pub zone_name : Site → ℕ → ℕ → Option (List ℕ)
-zone_name site panel number = option_map (λ (zone : Zone). zone.name.bytes) (find (λ (zone : Zone). (zone.panel == panel) && (zone.number == number)) site.zones)
+zone_name site panel number =
+    option_map (λ (zone : Zone). zone.name.bytes)
+    (find (λ (zone : Zone). (zone.panel == panel) && (zone.number == number)) site.zones)
 
 abbrev pub point_name : Site → ℕ → ℕ → ℕ → Option (List ℕ)
 point_name site panel line address =
-    option_map (λ (point : Point). point.name.bytes) (find (λ (point : Point). (point.panel == panel) && (point.line == line) && (point.address == address)) site.points)
+    option_map (λ (point : Point). point.name.bytes)
+    (find (λ (point : Point). (point.panel == panel) && (point.line == line)
+    && (point.address == address)) site.points)
 
 abbrev pub output_name : Site → ℕ → ℕ → Option (List ℕ)
 output_name site panel number =
-    option_map (λ (output : Output). output.name.bytes) (find (λ (output : Output). (output.panel == panel) && (output.number == number)) site.outputs)
+    option_map (λ (output : Output). output.name.bytes)
+    (find (λ (output : Output). (output.panel == panel) && (output.number == number)) site.outputs)
 
 -- a number, where there is such a thing
 abbrev pub number_if : Bool → ℕ → Option (List ℕ)
 number_if there number = if there then Some (decimal number) else None
 
 abbrev pub has_loop : Site → ℕ → ℕ → Bool
-has_loop site panel line = list_any (λ (plan : LoopPlan). (plan.panel == panel) && (plan.line == line)) site.loops
+has_loop site panel line =
+    list_any (λ (plan : LoopPlan). (plan.panel == panel) && (plan.line == line)) site.loops
 
 -- the supplies in the order of their bits
 abbrev pub supply_name : ℕ → Option (List ℕ)
@@ -119,7 +129,8 @@ supply_name number =
     if number == 1 then Some (codes "mains")
     else (if number == 2 then Some (codes "standby") else (if number == 3 then Some (codes "voltage") else (if number == 4 then Some (codes "charger") else None)))
 
--- how the page of a panel names the thing of a group with a number, if the site has it: zones by their own panel, all else by the panel of the page
+-- how the page of a panel names the thing of a group with a number, if the site has it: zones by their own
+-- panel, all else by the panel of the page
 abbrev pub name_in : Site → ℕ → Group → ℕ → Option (List ℕ)
 name_in site panel (Zones other) number = zone_name site other number
 name_in site panel (Firsts other) number = zone_name site other number
@@ -179,12 +190,14 @@ abbrev pub on_word : ℕ → List ℕ
 on_word value = if value == 0 then codes " off\n" else codes " on\n"
 
 abbrev pub buzzer_word : ℕ → List ℕ
-buzzer_word value = if value == 0 then codes "off\n" else (if value == 1 then codes "fault\n" else codes "fire\n")
+buzzer_word value =
+    if value == 0 then codes "off\n" else (if value == 1 then codes "fault\n" else codes "fire\n")
 
 -- the line of a thing, if it has a name
 abbrev pub line_of_thing : ℕ → Group → ℕ → Option (List ℕ) → List ℕ
 line_of_thing panel group value None = []
-line_of_thing panel group value (Some name) = decimal panel ++ codes " " ++ word_of group ++ kind_of group ++ name ++ on_word value
+line_of_thing panel group value (Some name) = decimal panel ++ codes " " ++ word_of group ++ kind_of group
+    ++ name ++ on_word value
 
 abbrev pub delays_line : ℕ → ℕ → List ℕ
 delays_line panel value = decimal panel ++ codes " delays" ++ on_word value
@@ -197,7 +210,8 @@ counter_line panel value = decimal panel ++ codes " counter " ++ decimal value +
 
 -- the line that tells that a slot of a panel's page has a value now
 abbrev pub line_of : Site → ℕ → Slot → ℕ → List ℕ
-line_of site panel (Thing group number) value = line_of_thing panel group value (name_in site panel group number)
+line_of site panel (Thing group number) value =
+    line_of_thing panel group value (name_in site panel group number)
 line_of site panel Delays value = delays_line panel value
 line_of site panel Sounding value = buzzer_line panel value
 line_of site panel Count value = counter_line panel value
@@ -219,7 +233,8 @@ is_named (Some name) = true
 
 -- the numbers of the things that the site has of a group
 abbrev pub numbers_in : Site → ℕ → Group → List ℕ
-numbers_in site panel group = filter (λ number. is_named (name_in site panel group number)) (range_with_len 1 (last_of group))
+numbers_in site panel group =
+    filter (λ number. is_named (name_in site panel group number)) (range_with_len 1 (last_of group))
 
 -- the slots of a group, by number
 abbrev pub slots_of : Site → ℕ → Group → List Slot

@@ -1,10 +1,13 @@
--- What the fields of a line spell: the one entry that the line may be that of. Whether it is, its own line tells.
-use Rattle.std.specs.Prelude.{◌<◌, ◌^◌, ℕ, Bool, true, false, nat_lt, List, Option, Some, None, option_map, slice_get, codes, bytes_eq, if◌then◌else◌}
+-- What the fields of a line spell: the one entry that the line may be that of. Whether it is, its own line
+-- tells.
+use Rattle.std.specs.Prelude.{◌<◌, ◌^◌, ℕ, Bool, true, false, nat_lt, List, Option, Some, None, option_map, slice_get}
+use Rattle.std.specs.Prelude.{codes, bytes_eq, if◌then◌else◌}
 use Rattle.std.specs.Option.{option_and_then}
 use Rattle.site_types.specs.declared.buzzer.Buzzer.{Buzzer}
 use Rattle.site_types.specs.declared.buzzer.Buzzer.TheVariants.{Off, Fault, Fire}
 use Rattle.site_types.specs.declared.named.Thing.{Thing}
-use Rattle.site_types.specs.declared.named.Thing.TheVariants.{Point as PointThing, Zone as ZoneThing, Output as OutputThing}
+use Rattle.site_types.specs.declared.named.Thing.TheVariants.{Point as PointThing, Zone as ZoneThing}
+use Rattle.site_types.specs.declared.named.Thing.TheVariants.{Output as OutputThing}
 use Rattle.site_types.specs.declared.output.Output.{Output}
 use Rattle.site_types.specs.declared.point.Point.{Point}
 use Rattle.site_types.specs.declared.site.Site.{Site}
@@ -12,28 +15,38 @@ use Rattle.site_types.specs.declared.zone.Zone.{Zone}
 use Rattle.site_types.specs.Numbers.{number_of}
 use Rattle.site_types.specs.Things.{thing_named}
 use Rattle.face_text.specs.declared.change.Change.{Change}
-use Rattle.face_text.specs.declared.change.Change.TheVariants.{Thing as ThingChange, Delays as DelaysChange, Buzzer as BuzzerChange, Counter as CounterChange}
+use Rattle.face_text.specs.declared.change.Change.TheVariants.{Thing as ThingChange, Delays as DelaysChange}
+use Rattle.face_text.specs.declared.change.Change.TheVariants.{Buzzer as BuzzerChange, Counter as CounterChange}
 use Rattle.face_text.specs.declared.entry.Entry.{Entry}
-use Rattle.face_text.specs.declared.entry.Entry.TheVariants.{Change as ChangeEntry, Answer as AnswerEntry, Busy as BusyEntry, StoreFailed, Tick as TickEntry, End as EndEntry}
+use Rattle.face_text.specs.declared.entry.Entry.TheVariants.{Change as ChangeEntry, Answer as AnswerEntry}
+use Rattle.face_text.specs.declared.entry.Entry.TheVariants.{Busy as BusyEntry, StoreFailed, Tick as TickEntry}
+use Rattle.face_text.specs.declared.entry.Entry.TheVariants.{End as EndEntry}
 use Rattle.face_text.specs.declared.group.Group.{Group}
-use Rattle.face_text.specs.declared.group.Group.TheVariants.{Zones, Firsts, Missing, Broken, Shorted, Supplies, Silent, Links, Unconfirmed, Outputs, Confirmed, PointsOff, ZonesOff, OutputsOff, Tests}
+use Rattle.face_text.specs.declared.group.Group.TheVariants.{Zones, Firsts, Missing, Broken, Shorted, Supplies}
+use Rattle.face_text.specs.declared.group.Group.TheVariants.{Silent, Links, Unconfirmed, Outputs, Confirmed}
+use Rattle.face_text.specs.declared.group.Group.TheVariants.{PointsOff, ZonesOff, OutputsOff, Tests}
 use Rattle.face_text.specs.declared.numbered.Numbered.{Numbered}
 use Rattle.face_text.specs.declared.reply.Reply.{Reply}
 use Rattle.face_text.specs.declared.reply.Reply.TheVariants.{Done, Denied, Waiting, Already, Store}
-use Rattle.face_text.specs.Fields.{field}
+use Rattle.site_types.specs.Fields.{field}
 
 -- ---- numbers and words
 
 -- the number of a field, if it is below a bound
 abbrev pub number_below : ℕ → List ℕ → Option ℕ
-number_below bound text = option_and_then (λ number. if nat_lt number bound then Some number else None) (number_of text)
+number_below bound text =
+    option_and_then (λ number. if nat_lt number bound then Some number else None) (number_of text)
 
 abbrev pub truth_of : List ℕ → Option Bool
-truth_of word = if bytes_eq word (codes "on") then Some true else (if bytes_eq word (codes "off") then Some false else None)
+truth_of word =
+    if bytes_eq word (codes "on") then Some true else
+    (if bytes_eq word (codes "off") then Some false else None)
 
 abbrev pub sound_of : List ℕ → Option Buzzer
 sound_of word =
-    if bytes_eq word (codes "off") then Some Off else (if bytes_eq word (codes "fault") then Some Fault else (if bytes_eq word (codes "fire") then Some Fire else None))
+    if bytes_eq word (codes "off") then Some Off else
+    (if bytes_eq word (codes "fault") then Some Fault else
+    (if bytes_eq word (codes "fire") then Some Fire else None))
 
 -- the number of a supply, in the order of bits
 abbrev pub supply_of : List ℕ → Option ℕ
@@ -83,10 +96,12 @@ abbrev pub zone_spelled : (Zone → Group) → Site → List ℕ → Option Numb
 zone_spelled group site name = option_map (λ zone. numbered (group zone) zone.number) (zone_named site name)
 
 abbrev pub point_spelled : (Point → Group) → Site → List ℕ → Option Numbered
-point_spelled group site name = option_map (λ point. numbered (group point) point.address) (point_named site name)
+point_spelled group site name =
+    option_map (λ point. numbered (group point) point.address) (point_named site name)
 
 abbrev pub output_spelled : Group → Site → List ℕ → Option Numbered
-output_spelled group site name = option_map (λ (output : Output). numbered group output.number) (output_named site name)
+output_spelled group site name =
+    option_map (λ (output : Output). numbered group output.number) (output_named site name)
 
 abbrev pub number_spelled : Group → List ℕ → Option Numbered
 number_spelled group text = option_map (λ number. numbered group number) (number_below 256 text)
@@ -120,7 +135,8 @@ thing_spelled site word first second =
     else (if bytes_eq word (codes "disabled") then disabled_spelled site first second
     else (if bytes_eq word (codes "test") then zone_spelled (λ zone. Tests) site first else None))))))
 
--- the place of the field that tells whether a thing is on: the fourth behind the panel's number where a kind is in front of the name
+-- the place of the field that tells whether a thing is on: the fourth behind the panel's number where a kind
+-- is in front of the name
 abbrev pub truth_place : Group → ℕ
 truth_place (Zones panel) = 3
 truth_place (Firsts panel) = 3
@@ -141,30 +157,39 @@ truth_place Tests = 3
 -- ---- changes
 
 abbrev pub told_of : List ℕ → Numbered → Option Change
-told_of text thing = option_map (λ on. ThingChange thing.group thing.number on) (truth_of (field (truth_place thing.group) text))
+told_of text thing =
+    option_map (λ on. ThingChange thing.group thing.number on)
+    (truth_of (field (truth_place thing.group) text))
 
 abbrev pub change_spelled : Site → List ℕ → Option Change
 change_spelled site text =
-    if bytes_eq (field 1 text) (codes "delays") then option_map (λ on. DelaysChange on) (truth_of (field 2 text))
-    else (if bytes_eq (field 1 text) (codes "buzzer") then option_map (λ sound. BuzzerChange sound) (sound_of (field 2 text))
-    else (if bytes_eq (field 1 text) (codes "counter") then option_map (λ count. CounterChange count) (number_below (2 ^ 32) (field 2 text))
+    if bytes_eq (field 1 text) (codes "delays") then option_map (λ on. DelaysChange on)
+    (truth_of (field 2 text))
+    else (if bytes_eq (field 1 text) (codes "buzzer") then option_map (λ sound. BuzzerChange sound)
+    (sound_of (field 2 text))
+    else (if bytes_eq (field 1 text) (codes "counter") then option_map (λ count. CounterChange count)
+    (number_below (2 ^ 32) (field 2 text))
     else option_and_then (told_of text) (thing_spelled site (field 1 text) (field 2 text) (field 3 text))))
 
 -- ---- entries
 
 abbrev pub denied_spelled : List ℕ → Option Reply
-denied_spelled text = option_and_then (λ needs. option_map (λ has. Denied needs has) (number_below 256 (field 6 text))) (number_below 256 (field 4 text))
+denied_spelled text =
+    option_and_then (λ needs. option_map (λ has. Denied needs has) (number_below 256 (field 6 text)))
+    (number_below 256 (field 4 text))
 
 abbrev pub reply_spelled : List ℕ → Option Reply
 reply_spelled text =
     if bytes_eq (field 2 text) (codes "done") then Some Done
     else (if bytes_eq (field 2 text) (codes "denied") then denied_spelled text
     else (if bytes_eq (field 2 text) (codes "waiting") then Some Waiting
-    else (if bytes_eq (field 2 text) (codes "already") then Some Already else (if bytes_eq (field 2 text) (codes "store") then Some Store else None))))
+    else (if bytes_eq (field 2 text) (codes "already") then Some Already else
+    (if bytes_eq (field 2 text) (codes "store") then Some Store else None))))
 
 abbrev pub answer_spelled : List ℕ → Option Entry
 answer_spelled text =
-    option_and_then (λ number. option_map (λ reply. AnswerEntry (record { number = number; reply = reply })) (reply_spelled text)) (number_of (field 1 text))
+    option_and_then (λ number. option_map (λ reply. AnswerEntry (record { number = number; reply = reply }))
+    (reply_spelled text)) (number_of (field 1 text))
 
 -- a line that doesn't begin with a panel's number
 abbrev pub plain_spelled : List ℕ → Option Entry
@@ -177,7 +202,8 @@ plain_spelled text =
 -- a line of a panel
 abbrev pub panel_spelled : Site → ℕ → List ℕ → Option Entry
 panel_spelled site panel text =
-    if bytes_eq (field 1 text) (codes "busy") then option_map (λ count. BusyEntry panel count) (number_of (field 2 text))
+    if bytes_eq (field 1 text) (codes "busy") then option_map (λ count. BusyEntry panel count)
+    (number_of (field 2 text))
     else option_map (λ change. ChangeEntry panel change) (change_spelled site text)
 
 abbrev pub by_panel : Site → List ℕ → Option ℕ → Option Entry

@@ -1,5 +1,6 @@
 -- The timeline of a run, its text, and which timelines are in form.
-use Rattle.std.specs.Prelude.{◌≡◌, ◌≢◌, ◌⊎◌, ◌<◌, ◌≤◌, ◌+◌, ◌^◌, ◌&&◌, ℕ, suc, List, [], ◌∷◌, ◌++◌, length, map, slice_index, Some, slice_get, codes, decimal, IsTrue}
+use Rattle.std.specs.Prelude.{◌≡◌, ◌≢◌, ◌⊎◌, ◌<◌, ◌≤◌, ◌+◌, ◌^◌, ◌&&◌, ℕ, suc, List, [], ◌∷◌, ◌++◌, length, map}
+use Rattle.std.specs.Prelude.{slice_index, Some, slice_get, codes, decimal, IsTrue}
 use Rattle.std.specs.List.{range_with_len}
 use Rattle.site_types.specs.declared.point_set.PointSet.{PointSet}
 use Rattle.site_types.specs.declared.site.Site.{Site}
@@ -8,7 +9,9 @@ use Rattle.site_types.specs.Limits.{greatest_count}
 use Rattle.face_text.specs.declared.answers.Answers.{Answers}
 use Rattle.face_text.specs.declared.face.Face.{Face}
 use Rattle.face_text.specs.declared.group.Group.{Group}
-use Rattle.face_text.specs.declared.group.Group.TheVariants.{Zones, Firsts, Missing, Broken, Shorted, Supplies, Silent, Links, Unconfirmed, Outputs, Confirmed, PointsOff, ZonesOff, OutputsOff, Tests}
+use Rattle.face_text.specs.declared.group.Group.TheVariants.{Zones, Firsts, Missing, Broken, Shorted, Supplies}
+use Rattle.face_text.specs.declared.group.Group.TheVariants.{Silent, Links, Unconfirmed, Outputs, Confirmed}
+use Rattle.face_text.specs.declared.group.Group.TheVariants.{PointsOff, ZonesOff, OutputsOff, Tests}
 use Rattle.face_text.specs.declared.op_answer.OpAnswer.{OpAnswer}
 use Rattle.face_text.specs.declared.reply.Reply.{Reply}
 use Rattle.face_text.specs.declared.reply.Reply.TheVariants.{Done, Denied, Waiting, Already, Store}
@@ -41,11 +44,13 @@ empty_faces site = map empty_face (range_with_len 1 site.panels)
 abbrev pub faces_text : Site → List Face → List Face → List ℕ
 faces_text site [] faces = []
 faces_text site (before ∷ befores) [] = []
-faces_text site (before ∷ befores) (after ∷ afters) = changes_text site before after ++ faces_text site befores afters
+faces_text site (before ∷ befores) (after ∷ afters) =
+    changes_text site before after ++ faces_text site befores afters
 
 -- a tick: its line, how the faces changed in it, what was answered
 abbrev pub step_text : Site → List Face → Step → List ℕ
-step_text site before step = tick_line step.tick.0 ++ faces_text site before step.faces ++ answers_text step.answers
+step_text site before step = tick_line step.tick.0 ++ faces_text site before step.faces
+    ++ answers_text step.answers
 
 abbrev pub steps_text : Site → List Face → List Step → List ℕ
 steps_text site before [] = []
@@ -54,7 +59,8 @@ steps_text site before (step ∷ steps) = step_text site before step ++ steps_te
 -- the text of a run: the site, what is shown at opening, the steps, the end
 abbrev pub text_of : Site → Timeline → List ℕ
 text_of site timeline =
-    opening_line site ++ faces_text site (empty_faces site) timeline.opened ++ steps_text site timeline.opened timeline.steps ++ end_line timeline.last.0
+    opening_line site ++ faces_text site (empty_faces site) timeline.opened
+    ++ steps_text site timeline.opened timeline.steps ++ end_line timeline.last.0
 
 -- ---- form
 
@@ -64,7 +70,12 @@ kept_of site face group first count =
     mask_of count (λ k. is_named (name_in site face.panel group (first + k)) && shows face group (first + k))
 
 abbrev pub kept_points : Site → Face → (ℕ → Group) → PointSet
-kept_points site face group = record { loops = map (λ line. kept_of site face (group line) 1 96 ∷ kept_of site face (group line) 97 96 ∷ []) (range_with_len 1 4) }
+kept_points site face group =
+    record {
+      loops =
+          map (λ line. kept_of site face (group line) 1 96 ∷ kept_of site face (group line) 97 96 ∷ [])
+          (range_with_len 1 4);
+    }
 
 -- a face without all that it shows of things that the site hasn't
 abbrev pub of_site : Site → Face → Face
@@ -111,7 +122,8 @@ IsReply Store = Unit {0}
 -- numbers rise, from some bound on
 abbrev pub AreOpAnswers : ℕ → List OpAnswer → Type 0
 AreOpAnswers bound [] = Unit {0}
-AreOpAnswers bound (answer ∷ answers) = (bound ≤ answer.number) × (answer.number < 2 ^ 64) × IsReply answer.reply × AreOpAnswers (suc answer.number) answers
+AreOpAnswers bound (answer ∷ answers) = (bound ≤ answer.number) × (answer.number < 2 ^ 64)
+    × IsReply answer.reply × AreOpAnswers (suc answer.number) answers
 
 pub record AreAnswers (site : Site) (answers : Answers) : Type 0 where
   pub ops : AreOpAnswers 0 answers.ops
@@ -122,13 +134,15 @@ pub record AreAnswers (site : Site) (answers : Answers) : Type 0 where
 
 -- something was answered, an operation found its panel busy, or Keep's turn failed
 abbrev pub HasAnswer : Answers → Type 0
-HasAnswer answers = (answers.ops ≢ []) ⊎ ((place : ℕ) × (slice_index answers.busy place ≢ 0)) ⊎ IsTrue answers.failed
+HasAnswer answers = (answers.ops ≢ []) ⊎ ((place : ℕ) × (slice_index answers.busy place ≢ 0))
+    ⊎ IsTrue answers.failed
 
 -- ticks rise and don't pass the last, and each step has a change or an answer
 abbrev pub AreSteps : Site → ℕ → List Face → ℕ → List Step → Type 0
 AreSteps site tick before last [] = tick ≤ last
 AreSteps site tick before last (step ∷ steps) =
-    (tick < step.tick.0) × AreFaces site step.faces × AreAnswers site step.answers × ((step.faces ≢ before) ⊎ HasAnswer step.answers) × AreSteps site step.tick.0 step.faces last steps
+    (tick < step.tick.0) × AreFaces site step.faces × AreAnswers site step.answers
+    × ((step.faces ≢ before) ⊎ HasAnswer step.answers) × AreSteps site step.tick.0 step.faces last steps
 
 -- a timeline is one that a run can have
 pub record IsInForm (site : Site) (timeline : Timeline) : Type 0 where

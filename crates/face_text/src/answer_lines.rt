@@ -4,7 +4,8 @@ ghost use Rattle.std.specs.Prelude.{◌≡◌, ◌≤◌, ◌++◌, codes, decim
 ghost use Rattle.std.specs.List.{flat_map};
 ghost use Rattle.panel_edges.specs.Contents.{Grows, GrowsByFront};
 ghost use Rattle.panel_edges.specs.Faults.{HasCause};
-ghost use Rattle.face_text.specs.Answers.{answer_line as line_of_answer, answers_text, busy_line as line_of_busy, busy_text, failed_text, reply_words};
+ghost use Rattle.face_text.specs.Answers.{answer_line as line_of_answer, answers_text, busy_line as line_of_busy};
+ghost use Rattle.face_text.specs.Answers.{busy_text, failed_text, reply_words};
 ghost use Rattle.face_text.specs.Entries.{counted_line as line_of_count};
 ghost use Rattle.face_text.specs.Holding.{Puts};
 
@@ -23,8 +24,10 @@ use panel_edges::{Failed, Sink};
 ///
 /// At the first write that fails. Some front of the text is written then.
 pub fn write_answers<K: Sink>(answers: &Answers, out: &mut K) -> Result<(), Failed>
-    ensures ok { OnOk result (Grows (K.written out.old) (K.written out.new) (answers_text answers.now)) }
-    ensures err { OnErr result (GrowsByFront (K.written out.old) (K.written out.new) (answers_text answers.now)) }
+    ensures ok { OnOk result
+        (Grows (K.written out.old) (K.written out.new) (answers_text answers.now)) }
+    ensures err { OnErr result
+        (GrowsByFront (K.written out.old) (K.written out.new) (answers_text answers.now)) }
     ensures cause { HasCause (K.write_faults out.old) (K.write_faults out.new) result }
     ensures left { K.left out.new ≡ K.left out.old }
     ensures reads { K.read_faults out.new ≡ K.read_faults out.old }
@@ -40,7 +43,8 @@ pub fn write_answers<K: Sink>(answers: &Answers, out: &mut K) -> Result<(), Fail
 ///
 /// At the first write that fails. Some front of what was held and of the text is written then.
 pub fn push_answers<K: Sink>(answers: &Answers, held: &mut Held, out: &mut K) -> Result<(), Failed>
-    ensures text { Puts held.old held.new (K.written out.old) (K.written out.new) (answers_text answers.now) result }
+    ensures text { Puts held.old held.new (K.written out.old) (K.written out.new)
+        (answers_text answers.now) result }
     ensures cause { HasCause (K.write_faults out.old) (K.write_faults out.new) result }
     ensures left { K.left out.new ≡ K.left out.old }
     ensures reads { K.read_faults out.new ≡ K.read_faults out.old }
@@ -51,7 +55,8 @@ pub fn push_answers<K: Sink>(answers: &Answers, held: &mut Held, out: &mut K) ->
 }
 
 fn push_ops<K: Sink>(ops: &OpAnswers, held: &mut Held, out: &mut K) -> Result<(), Failed>
-    ensures text { Puts held.old held.new (K.written out.old) (K.written out.new) (flat_map line_of_answer ops.now) result }
+    ensures text { Puts held.old held.new (K.written out.old) (K.written out.new)
+        (flat_map line_of_answer ops.now) result }
     ensures cause { HasCause (K.write_faults out.old) (K.write_faults out.new) result }
     ensures left { K.left out.new ≡ K.left out.old }
     ensures reads { K.read_faults out.new ≡ K.read_faults out.old }
@@ -63,7 +68,8 @@ fn push_ops<K: Sink>(ops: &OpAnswers, held: &mut Held, out: &mut K) -> Result<()
 }
 
 fn push_busy<K: Sink>(busy: &[u64; 8], held: &mut Held, out: &mut K) -> Result<(), Failed>
-    ensures text { Puts held.old held.new (K.written out.old) (K.written out.new) (busy_text busy.now) result }
+    ensures text { Puts held.old held.new (K.written out.old) (K.written out.new)
+        (busy_text busy.now) result }
     ensures cause { HasCause (K.write_faults out.old) (K.write_faults out.new) result }
     ensures left { K.left out.new ≡ K.left out.old }
     ensures reads { K.read_faults out.new ≡ K.read_faults out.old }
@@ -76,7 +82,8 @@ fn push_busy<K: Sink>(busy: &[u64; 8], held: &mut Held, out: &mut K) -> Result<(
 }
 
 fn push_failed<K: Sink>(failed: bool, held: &mut Held, out: &mut K) -> Result<(), Failed>
-    ensures text { Puts held.old held.new (K.written out.old) (K.written out.new) (failed_text failed) result }
+    ensures text { Puts held.old held.new (K.written out.old) (K.written out.new)
+        (failed_text failed) result }
     ensures cause { HasCause (K.write_faults out.old) (K.write_faults out.new) result }
     ensures left { K.left out.new ≡ K.left out.old }
     ensures reads { K.read_faults out.new ≡ K.read_faults out.old }
@@ -117,7 +124,8 @@ fn push_reply(line: &mut ArrayString<64>, reply: Reply)
 
 fn push_denied(line: &mut ArrayString<64>, needs: u8, has: u8)
     requires { length line.old.bytes ≤ 24 }
-    ensures text { line.new.bytes ≡ line.old.bytes ++ codes " denied needs " ++ decimal needs ++ codes " has " ++ decimal has ++ codes "\n" }
+    ensures text { line.new.bytes ≡ line.old.bytes ++ codes " denied needs " ++ decimal needs
+        ++ codes " has " ++ decimal has ++ codes "\n" }
     ensures short { length line.new.bytes ≤ 64 }
 {
     let mut digits = Buffer::new();

@@ -2,7 +2,9 @@
 
 ghost use Rattle.std.specs.Prelude.{◌≡◌, ◌^◌, IfSome};
 ghost use Rattle.site_types.specs.Valid.{IsValid};
-ghost use Rattle.face_text.specs.Spelled.{IsOf64Bits, answer_spelled, change_spelled, denied_spelled, entry_spelled, number_below, panel_spelled, plain_spelled, reply_spelled, sound_of, truth_of};
+ghost use Rattle.face_text.specs.Spelled.{IsOf64Bits, answer_spelled, change_spelled, denied_spelled, entry_spelled};
+ghost use Rattle.face_text.specs.Spelled.{number_below, panel_spelled, plain_spelled, reply_spelled, sound_of};
+ghost use Rattle.face_text.specs.Spelled.{truth_of};
 
 use crate::change::Change;
 use crate::entry::Entry;

@@ -7,7 +7,10 @@ ghost use Rattle.std.specs.List.{flat_map};
 ghost use Rattle.site_types.specs.declared.site.Site.{Site as SiteOf};
 ghost use Rattle.face_text.specs.Changes.{change_of, changes_text, group_text, groups_text, numbers_text};
 ghost use Rattle.face_text.specs.Holding.{Puts};
-ghost use Rattle.face_text.specs.Slots.{Thing, Delays, Sounding, Count, HasPlace, buzzer_line as line_of_buzzer, counter_line as line_of_counter, delays_line as line_of_delays, last_of, line_of, line_of_thing, number_of_buzzer, number_of_truth, page as page_of_panel};
+ghost use Rattle.face_text.specs.Slots.{Thing, Delays, Sounding, Count, HasPlace, buzzer_line as line_of_buzzer};
+ghost use Rattle.face_text.specs.Slots.{counter_line as line_of_counter, delays_line as line_of_delays, last_of};
+ghost use Rattle.face_text.specs.Slots.{line_of, line_of_thing, number_of_buzzer, number_of_truth};
+ghost use Rattle.face_text.specs.Slots.{page as page_of_panel};
 
 use crate::face::Face;
 use crate::group::Group;
@@ -32,8 +35,12 @@ pub fn write_changes<K: Sink>(
     after: &Face,
     out: &mut K,
 ) -> Result<(), Failed>
-    ensures ok { OnOk result (Grows (K.written out.old) (K.written out.new) (changes_text site.now before.now after.now)) }
-    ensures err { OnErr result (GrowsByFront (K.written out.old) (K.written out.new) (changes_text site.now before.now after.now)) }
+    ensures ok { OnOk result
+        (Grows (K.written out.old) (K.written out.new)
+        (changes_text site.now before.now after.now)) }
+    ensures err { OnErr result
+        (GrowsByFront (K.written out.old) (K.written out.new)
+        (changes_text site.now before.now after.now)) }
     ensures cause { HasCause (K.write_faults out.old) (K.write_faults out.new) result }
     ensures left { K.left out.new ≡ K.left out.old }
     ensures reads { K.read_faults out.new ≡ K.read_faults out.old }
@@ -55,7 +62,8 @@ pub fn push_changes<K: Sink>(
     held: &mut Held,
     out: &mut K,
 ) -> Result<(), Failed>
-    ensures text { Puts held.old held.new (K.written out.old) (K.written out.new) (changes_text site.now before.now after.now) result }
+    ensures text { Puts held.old held.new (K.written out.old) (K.written out.new)
+        (changes_text site.now before.now after.now) result }
     ensures cause { HasCause (K.write_faults out.old) (K.write_faults out.new) result }
     ensures left { K.left out.new ≡ K.left out.old }
     ensures reads { K.read_faults out.new ≡ K.read_faults out.old }
@@ -80,7 +88,9 @@ fn push_rest<K: Sink>(
     held: &mut Held,
     out: &mut K,
 ) -> Result<(), Failed>
-    ensures text { (site : SiteOf) → Puts held.old held.new (K.written out.old) (K.written out.new) (flat_map (change_of site before.now after.now) (Delays ∷ Sounding ∷ Count ∷ [])) result }
+    ensures text { (site : SiteOf)
+        → Puts held.old held.new (K.written out.old) (K.written out.new)
+        (flat_map (change_of site before.now after.now) (Delays ∷ Sounding ∷ Count ∷ [])) result }
     ensures cause { HasCause (K.write_faults out.old) (K.write_faults out.new) result }
     ensures left { K.left out.new ≡ K.left out.old }
     ensures reads { K.read_faults out.new ≡ K.read_faults out.old }
@@ -98,7 +108,8 @@ fn push_groups<K: Sink>(
     held: &mut Held,
     out: &mut K,
 ) -> Result<(), Failed>
-    ensures text { Puts held.old held.new (K.written out.old) (K.written out.new) (groups_text site.now before.now after.now page_of_panel) result }
+    ensures text { Puts held.old held.new (K.written out.old) (K.written out.new)
+        (groups_text site.now before.now after.now page_of_panel) result }
     ensures cause { HasCause (K.write_faults out.old) (K.write_faults out.new) result }
     ensures left { K.left out.new ≡ K.left out.old }
     ensures reads { K.read_faults out.new ≡ K.read_faults out.old }
@@ -120,7 +131,8 @@ fn push_group<K: Sink>(
     out: &mut K,
 ) -> Result<(), Failed>
     requires { HasPlace group }
-    ensures text { Puts held.old held.new (K.written out.old) (K.written out.new) (group_text site.now before.now after.now group) result }
+    ensures text { Puts held.old held.new (K.written out.old) (K.written out.new)
+        (group_text site.now before.now after.now group) result }
     ensures cause { HasCause (K.write_faults out.old) (K.write_faults out.new) result }
     ensures left { K.left out.new ≡ K.left out.old }
     ensures reads { K.read_faults out.new ≡ K.read_faults out.old }
@@ -141,7 +153,8 @@ fn push_numbers<K: Sink>(
     out: &mut K,
 ) -> Result<(), Failed>
     requires { HasPlace group }
-    ensures text { Puts held.old held.new (K.written out.old) (K.written out.new) (numbers_text site.now before.now after.now group (last_of group)) result }
+    ensures text { Puts held.old held.new (K.written out.old) (K.written out.new)
+        (numbers_text site.now before.now after.now group (last_of group)) result }
     ensures cause { HasCause (K.write_faults out.old) (K.write_faults out.new) result }
     ensures left { K.left out.new ≡ K.left out.old }
     ensures reads { K.read_faults out.new ≡ K.read_faults out.old }
@@ -164,7 +177,8 @@ fn push_thing<K: Sink>(
 ) -> Result<(), Failed>
     requires group { HasPlace group }
     requires number { (1 ≤ number) × (number ≤ last_of group) }
-    ensures text { Puts held.old held.new (K.written out.old) (K.written out.new) (change_of site.now before.now after.now (Thing group number)) result }
+    ensures text { Puts held.old held.new (K.written out.old) (K.written out.new)
+        (change_of site.now before.now after.now (Thing group number)) result }
     ensures cause { HasCause (K.write_faults out.old) (K.write_faults out.new) result }
     ensures left { K.left out.new ≡ K.left out.old }
     ensures reads { K.read_faults out.new ≡ K.read_faults out.old }
@@ -183,7 +197,9 @@ fn push_delays<K: Sink>(
     held: &mut Held,
     out: &mut K,
 ) -> Result<(), Failed>
-    ensures text { (site : SiteOf) → Puts held.old held.new (K.written out.old) (K.written out.new) (change_of site before.now after.now Delays) result }
+    ensures text { (site : SiteOf)
+        → Puts held.old held.new (K.written out.old) (K.written out.new)
+        (change_of site before.now after.now Delays) result }
     ensures cause { HasCause (K.write_faults out.old) (K.write_faults out.new) result }
     ensures left { K.left out.new ≡ K.left out.old }
     ensures reads { K.read_faults out.new ≡ K.read_faults out.old }
@@ -201,7 +217,9 @@ fn push_buzzer<K: Sink>(
     held: &mut Held,
     out: &mut K,
 ) -> Result<(), Failed>
-    ensures text { (site : SiteOf) → Puts held.old held.new (K.written out.old) (K.written out.new) (change_of site before.now after.now Sounding) result }
+    ensures text { (site : SiteOf)
+        → Puts held.old held.new (K.written out.old) (K.written out.new)
+        (change_of site before.now after.now Sounding) result }
     ensures cause { HasCause (K.write_faults out.old) (K.write_faults out.new) result }
     ensures left { K.left out.new ≡ K.left out.old }
     ensures reads { K.read_faults out.new ≡ K.read_faults out.old }
@@ -219,7 +237,9 @@ fn push_counter<K: Sink>(
     held: &mut Held,
     out: &mut K,
 ) -> Result<(), Failed>
-    ensures text { (site : SiteOf) → Puts held.old held.new (K.written out.old) (K.written out.new) (change_of site before.now after.now Count) result }
+    ensures text { (site : SiteOf)
+        → Puts held.old held.new (K.written out.old) (K.written out.new)
+        (change_of site before.now after.now Count) result }
     ensures cause { HasCause (K.write_faults out.old) (K.write_faults out.new) result }
     ensures left { K.left out.new ≡ K.left out.old }
     ensures reads { K.read_faults out.new ≡ K.read_faults out.old }
@@ -241,7 +261,8 @@ pub fn thing_line(site: &Site, panel: u8, group: Group, number: u8, on: bool) ->
 
 // The line of a thing that has this name; nothing where the site has none.
 fn named_line(panel: u8, group: Group, name: &Option<Label>, on: bool) -> ArrayString<64>
-    ensures text { result.bytes ≡ line_of_thing panel group (number_of_truth on) (option_map (λ label. label.bytes) name.now) }
+    ensures text { result.bytes ≡ line_of_thing panel group (number_of_truth on)
+        (option_map (λ label. label.bytes) name.now) }
     ensures short { length result.bytes ≤ 64 }
 {
     let mut line = ArrayString::new();

@@ -1,6 +1,7 @@
 ghost use Rattle.std.specs.Prelude.{◌≡◌};
 ghost use Rattle.std.specs.List.{list_any};
-ghost use Rattle.face_text.specs.Faces.{conditions_of, empty_face, has_points, has_some, is_in_disablement, is_in_fault, is_in_fire};
+ghost use Rattle.face_text.specs.Faces.{conditions_of, empty_face, has_points, has_some, is_in_disablement};
+ghost use Rattle.face_text.specs.Faces.{is_in_fault, is_in_fire};
 
 use crate::conditions::Conditions;
 use site_types::{Buzzer, FaultSet, PointSet};

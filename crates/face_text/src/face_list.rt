@@ -1,4 +1,5 @@
-/// A list of a face in JSON: names of zones, outputs or points that are so, or what is faulty or disabled with its kind in front.
+/// A list of a face in JSON: names of zones, outputs or points that are so, or what is faulty or disabled
+/// with its kind in front.
 #[derive(Clone, Copy, Debug, PartialEq, Eq)]
 pub enum FaceList {
     Zones,

@@ -1,7 +1,7 @@
 //! The fields of a line, which single spaces part.
 
 ghost use Rattle.std.specs.Prelude.{◌≡◌, ◌≤◌, bytes_eq, length};
-ghost use Rattle.face_text.specs.Fields.{after_space as behind_space, before_space as front, field as field_at};
+ghost use Rattle.site_types.specs.Fields.{after_space as behind_space, before_space as front, field as field_at};
 
 /// The field at a place, counted from 0; empty where there is none.
 pub fn field(text: &[u8], place: usize) -> &[u8]

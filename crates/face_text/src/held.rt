@@ -36,7 +36,8 @@ impl Held {
     /// Puts a line behind what is held, and writes that first where there is no room.
     pub fn push<K: Sink>(&mut self, line: &[u8], out: &mut K) -> Result<(), Failed>
         requires { length line.now ≤ 64 }
-        ensures text { Puts self.old self.new (K.written out.old) (K.written out.new) line.now result }
+        ensures text { Puts self.old self.new (K.written out.old) (K.written out.new) line.now
+            result }
         ensures cause { HasCause (K.write_faults out.old) (K.write_faults out.new) result }
         ensures left { K.left out.new ≡ K.left out.old }
         ensures reads { K.read_faults out.new ≡ K.read_faults out.old }

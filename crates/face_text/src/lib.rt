@@ -1,25 +1,30 @@
 //! What a panel shows, and the text that tells how it changed.
 //!
-//! Begin with [`Face`]: all that a panel shows. [`write_changes`] writes the lines by which one face of a panel differs from another, and
-//! [`write_answers`] those of a tick's [`Answers`]; [`Face::conditions`] tells the conditions that a panel is in.
+//! Begin with [`Face`]: all that a panel shows. [`write_changes`] writes the lines by which one face of a
+//! panel differs from another, and [`write_answers`] those of a tick's [`Answers`]; [`Face::conditions`]
+//! tells the conditions that a panel is in.
 //!
-//! The page of a panel is a table of slots (`specs/Slots`): each slot has a value in every face, and a line that tells it. The text of a change
-//! is the lines of the slots whose values differ, in the order of the page. The text of a whole run is a function of its timeline
-//! (`specs/Timelines`), as is which timelines a run can have.
+//! The page of a panel is a table of slots (`specs/Slots`): each slot has a value in every face, and a line
+//! that tells it. The text of a change is the lines of the slots whose values differ, in the order of the
+//! page. The text of a whole run is a function of its timeline (`specs/Timelines`), as is which timelines a
+//! run can have.
 //!
-//! A line of such a text is read alone: its fields spell one entry at most (`specs/Spelled`), and the line is that entry's if the entry's own line,
-//! put together again, is the same. `proofs/EntryLaws` shows that the line of an entry determines it.
+//! A line of such a text is read alone: its fields spell one entry at most (`specs/Spelled`), and the line is
+//! that entry's if the entry's own line, put together again, is the same. `proofs/EntryLaws` shows that the
+//! line of an entry determines it.
 //!
 //! [`push_list`] puts a list of a face in JSON from the same slots.
 //!
-//! [`read_faces`] reads a text back: to the timeline whose text it is, or to its first bad line. It is read line by line (`specs/Reading`): each
-//! line tells one [`Entry`], and what the lines before it told says whether it may stand there. That no two timelines have one text is
-//! [`texts_are_their_own`].
+//! [`read_faces`] reads a text back: to the timeline whose text it is, or to its first bad line. It is read
+//! line by line (`specs/Reading`): each line tells one [`Entry`], and what the lines before it told says
+//! whether it may stand there. That no two timelines have one text is [`texts_are_their_own`].
 //!
-//! No call but `read_faces` takes memory. Where two faces are equal, writing their changes compares a fixed number of machine words and looks at nothing of the
-//! site. Else a group of lines is looked at only where its mask differs, and what is told is named by a walk over the site's list of such
-//! things. Lines are held back in a room of 1,024 bytes, so that a text goes out in as few writes as that room allows. Where a tick has more
-//! to tell than one face, [`push_changes`] and [`push_answers`] put it behind what a [`Held`] holds already, and one [`Held::flush`] writes it.
+//! No call but `read_faces` takes memory. Where two faces are equal, writing their changes compares a fixed
+//! number of machine words and looks at nothing of the site. Else a group of lines is looked at only where
+//! its mask differs, and what is told is named by a walk over the site's list of such things. Lines are held
+//! back in a room of 1,024 bytes, so that a text goes out in as few writes as that room allows. Where a tick
+//! has more to tell than one face, [`push_changes`] and [`push_answers`] put it behind what a [`Held`] holds
+//! already, and one [`Held::flush`] writes it.
 #![tactic(auto)]
 
 mod answer_lines;
@@ -51,8 +56,6 @@ mod reading;
 mod reply;
 mod step;
 mod telling;
-#[cfg(test)]
-mod tests;
 mod text_refusal;
 mod thing_reading;
 mod timeline;

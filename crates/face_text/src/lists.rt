@@ -3,7 +3,8 @@
 ghost use Rattle.std.specs.Prelude.{◌≡◌, ◌≤◌, ◌++◌, false, length, option_map, OnOk};
 ghost use Rattle.panel_edges.specs.Faults.{HasCause};
 ghost use Rattle.face_text.specs.Holding.{Puts};
-ghost use Rattle.face_text.specs.Lists.{begun_after, comma, group_items, is_in as belongs, item_of, items_in, items_of, list_text, listed, named_item, quoted};
+ghost use Rattle.face_text.specs.Lists.{begun_after, comma, group_items, is_in as belongs, item_of, items_in};
+ghost use Rattle.face_text.specs.Lists.{items_of, list_text, listed, named_item, quoted};
 ghost use Rattle.face_text.specs.Slots.{HasPlace, kind_of, last_of};
 
 use crate::face::Face;
@@ -18,8 +19,8 @@ use arrayvec::ArrayString;
 use panel_edges::{Failed, Sink};
 use site_types::{Label, Site};
 
-/// Puts a list of a face as JSON behind what is held: a text for each slot that is on, in the order of the page. Names of a valid site need no
-/// escapes.
+/// Puts a list of a face as JSON behind what is held: a text for each slot that is on, in the order of the
+/// page. Names of a valid site need no escapes.
 ///
 /// # Errors
 ///
@@ -31,7 +32,8 @@ pub fn push_list<K: Sink>(
     held: &mut Held,
     out: &mut K,
 ) -> Result<(), Failed>
-    ensures text { Puts held.old held.new (K.written out.old) (K.written out.new) (list_text site.now face.now list) result }
+    ensures text { Puts held.old held.new (K.written out.old) (K.written out.new)
+        (list_text site.now face.now list) result }
     ensures cause { HasCause (K.write_faults out.old) (K.write_faults out.new) result }
     ensures left { K.left out.new ≡ K.left out.old }
     ensures reads { K.read_faults out.new ≡ K.read_faults out.old }
@@ -49,7 +51,8 @@ fn push_items<K: Sink>(
     held: &mut Held,
     out: &mut K,
 ) -> Result<(), Failed>
-    ensures text { Puts held.old held.new (K.written out.old) (K.written out.new) (listed false (items_of site.now face.now list)) result }
+    ensures text { Puts held.old held.new (K.written out.old) (K.written out.new)
+        (listed false (items_of site.now face.now list)) result }
     ensures cause { HasCause (K.write_faults out.old) (K.write_faults out.new) result }
     ensures left { K.left out.new ≡ K.left out.old }
     ensures reads { K.read_faults out.new ≡ K.read_faults out.old }
@@ -73,8 +76,10 @@ fn push_group_of<K: Sink>(
     out: &mut K,
 ) -> Result<(), Failed>
     requires { HasPlace group }
-    ensures text { Puts held.old held.new (K.written out.old) (K.written out.new) (listed begun.old (items_in site.now face.now list group)) result }
-    ensures begun { OnOk result (begun.new ≡ begun_after begun.old (items_in site.now face.now list group)) }
+    ensures text { Puts held.old held.new (K.written out.old) (K.written out.new)
+        (listed begun.old (items_in site.now face.now list group)) result }
+    ensures begun { OnOk result
+        (begun.new ≡ begun_after begun.old (items_in site.now face.now list group)) }
     ensures cause { HasCause (K.write_faults out.old) (K.write_faults out.new) result }
     ensures left { K.left out.new ≡ K.left out.old }
     ensures reads { K.read_faults out.new ≡ K.read_faults out.old }
@@ -96,8 +101,10 @@ fn push_group_items<K: Sink>(
     out: &mut K,
 ) -> Result<(), Failed>
     requires { HasPlace group }
-    ensures text { Puts held.old held.new (K.written out.old) (K.written out.new) (listed begun.old (group_items site.now face.now group (last_of group))) result }
-    ensures begun { OnOk result (begun.new ≡ begun_after begun.old (group_items site.now face.now group (last_of group))) }
+    ensures text { Puts held.old held.new (K.written out.old) (K.written out.new)
+        (listed begun.old (group_items site.now face.now group (last_of group))) result }
+    ensures begun { OnOk result
+        (begun.new ≡ begun_after begun.old (group_items site.now face.now group (last_of group))) }
     ensures cause { HasCause (K.write_faults out.old) (K.write_faults out.new) result }
     ensures left { K.left out.new ≡ K.left out.old }
     ensures reads { K.read_faults out.new ≡ K.read_faults out.old }
@@ -120,8 +127,10 @@ fn push_item<K: Sink>(
 ) -> Result<(), Failed>
     requires group { HasPlace group }
     requires number { (1 ≤ number) × (number ≤ last_of group) }
-    ensures text { Puts held.old held.new (K.written out.old) (K.written out.new) (listed begun.old (item_of site.now face.now group number)) result }
-    ensures begun { OnOk result (begun.new ≡ begun_after begun.old (item_of site.now face.now group number)) }
+    ensures text { Puts held.old held.new (K.written out.old) (K.written out.new)
+        (listed begun.old (item_of site.now face.now group number)) result }
+    ensures begun { OnOk result
+        (begun.new ≡ begun_after begun.old (item_of site.now face.now group number)) }
     ensures cause { HasCause (K.write_faults out.old) (K.write_faults out.new) result }
     ensures left { K.left out.new ≡ K.left out.old }
     ensures reads { K.read_faults out.new ≡ K.read_faults out.old }
@@ -141,8 +150,10 @@ fn push_named_item<K: Sink>(
     held: &mut Held,
     out: &mut K,
 ) -> Result<(), Failed>
-    ensures text { Puts held.old held.new (K.written out.old) (K.written out.new) (listed begun.old (named_item group (option_map (λ label. label.bytes) name.now))) result }
-    ensures begun { begun.new ≡ begun_after begun.old (named_item group (option_map (λ label. label.bytes) name.now)) }
+    ensures text { Puts held.old held.new (K.written out.old) (K.written out.new)
+        (listed begun.old (named_item group (option_map (λ label. label.bytes) name.now))) result }
+    ensures begun { begun.new ≡ begun_after begun.old
+        (named_item group (option_map (λ label. label.bytes) name.now)) }
     ensures cause { HasCause (K.write_faults out.old) (K.write_faults out.new) result }
     ensures left { K.left out.new ≡ K.left out.old }
     ensures reads { K.read_faults out.new ≡ K.read_faults out.old }

@@ -36,7 +36,8 @@ pub fn shows(face: &Face, group: Group, number: u8) -> bool
 /// Whether two faces have the same mask of a group.
 pub fn is_same(before: &Face, after: &Face, group: Group) -> bool
     requires { HasPlace group }
-    ensures { result ≡ true → (number : ℕ) → is_shown before.now group number ≡ is_shown after.now group number }
+    ensures { result ≡ true → (number : ℕ)
+        → is_shown before.now group number ≡ is_shown after.now group number }
 {
     match group {
         Group::Zones(panel) => before.zones[panel as usize - 1] == after.zones[panel as usize - 1],
@@ -62,7 +63,9 @@ pub fn is_same(before: &Face, after: &Face, group: Group) -> bool
 // Whether two sets have the same points of a loop.
 fn is_same_loop(before: &PointSet, after: &PointSet, line: u8) -> bool
     requires { (1 ≤ line) × (line ≤ 4) }
-    ensures { result ≡ true → slice_index_or before.now.loops (line - 1) [] ≡ slice_index_or after.now.loops (line - 1) [] }
+    ensures { result ≡ true
+        → slice_index_or before.now.loops (line - 1) [] ≡ slice_index_or after.now.loops (line - 1)
+        [] }
 {
     before.loops[line as usize - 1] == after.loops[line as usize - 1]
 }

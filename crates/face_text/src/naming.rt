@@ -2,7 +2,9 @@
 
 ghost use Rattle.std.specs.Prelude.{◌≡◌, ◌&&◌, ◌==◌, ◌≤◌, length, option_map};
 ghost use Rattle.site_types.specs.Events.{is_link as site_has_link, is_panel as site_has_panel};
-ghost use Rattle.face_text.specs.Slots.{has_loop as site_has_loop, name_in, number_if, output_name as name_of_output, point_name as name_of_point, supply_name as name_of_supply, zone_name as name_of_zone};
+ghost use Rattle.face_text.specs.Slots.{has_loop as site_has_loop, name_in, number_if, output_name as name_of_output};
+ghost use Rattle.face_text.specs.Slots.{point_name as name_of_point, supply_name as name_of_supply};
+ghost use Rattle.face_text.specs.Slots.{zone_name as name_of_zone};
 
 use crate::group::Group;
 use itoa::Buffer;

@@ -7,7 +7,8 @@ use crate::change::Change;
 use crate::entry::Entry;
 use crate::group::Group;
 
-/// The place of a line in its tick, a number that rises from line to line: pages by panel, answers by number, busy panels, the store.
+/// The place of a line in its tick, a number that rises from line to line: pages by panel, answers by number,
+/// busy panels, the store.
 pub fn rank_of(entry: &Entry) -> u128
     ensures { result ≡ place_of_entry entry.now }
 {

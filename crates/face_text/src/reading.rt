@@ -15,12 +15,14 @@ use site_types::Site;
 use std::alloc::Global;
 use tick_units::Tick;
 
-/// The timeline whose text this is. Each line is looked at once, by what the lines before it told; a step takes memory for its faces.
+/// The timeline whose text this is. Each line is looked at once, by what the lines before it told; a step
+/// takes memory for its faces.
 ///
 /// # Errors
 ///
-/// `BadLine` exactly where the text is that of no timeline in form, with the first line that no such text has there. A last line without its
-/// end counts as the bad one; where the text only ends too early, that is the line behind it. `NoMemory` where memory was refused.
+/// `BadLine` exactly where the text is that of no timeline in form, with the first line that no such text has
+/// there. A last line without its end counts as the bad one; where the text only ends too early, that is the
+/// line behind it. `NoMemory` where memory was refused.
 pub fn read_faces(alloc: Global, site: &Site, text: &[u8]) -> Result<Timeline, TextRefusal>
     requires { IsValid site.now }
     ensures ok { IfOk result (λ timeline. IsRead site.now text.now timeline) }

@@ -7,7 +7,8 @@ use tick_units::NoMemory;
 /// Why a text isn't read.
 #[derive(Clone, Copy, Debug, PartialEq, Eq, Error)]
 pub enum TextRefusal {
-    /// It is the text of no run. The line with this number, counted from 1, is the first that no such text has behind the lines before it.
+    /// It is the text of no run. The line with this number, counted from 1, is the first that no such text
+    /// has behind the lines before it.
     #[error("line {0} is wrong")]
     BadLine(u64),
     /// Memory that reading asked for was refused.

@@ -2,7 +2,9 @@
 
 ghost use Rattle.std.specs.Prelude.{◌≡◌};
 ghost use Rattle.site_types.specs.Valid.{IsValid};
-ghost use Rattle.face_text.specs.Spelled.{disabled_spelled, fault_spelled, number_below, number_spelled, output_named as output_of_name, point_named as point_of_name, supply_of, thing_spelled, truth_place as place_of_truth, zone_named as zone_of_name};
+ghost use Rattle.face_text.specs.Spelled.{disabled_spelled, fault_spelled, number_below, number_spelled};
+ghost use Rattle.face_text.specs.Spelled.{output_named as output_of_name, point_named as point_of_name, supply_of};
+ghost use Rattle.face_text.specs.Spelled.{thing_spelled, truth_place as place_of_truth, zone_named as zone_of_name};
 
 use crate::fields::is_word;
 use crate::group::Group;

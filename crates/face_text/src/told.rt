@@ -2,7 +2,8 @@
 
 ghost use Rattle.std.specs.Prelude.{◌≡◌, ◌≤◌, length, IfOk, OnOk};
 ghost use Rattle.face_text.specs.Entries.{rank_of as place_of_entry, slot_of};
-ghost use Rattle.face_text.specs.Reading.{may_close as may_be_closed, no_answers, nothing_told, opened_by, steps_by, timeline_told};
+ghost use Rattle.face_text.specs.Reading.{closed_block, may_close as may_be_closed, no_answers, nothing_told};
+ghost use Rattle.face_text.specs.Reading.{timeline_told};
 ghost use Rattle.face_text.specs.ReadSoFar.{HasPlaceOf, Turns};
 ghost use Rattle.face_text.specs.Telling.{IsPlaced};
 
@@ -22,7 +23,8 @@ use std::marker::Model;
 use std::mem;
 use tick_units::{Items, NoMemory, Tick};
 
-/// What is told so far: the opening and the ended steps, and the block of lines that is being told, which is the opening's where its tick is 0.
+/// What is told so far: the opening and the ended steps, and the block of lines that is being told, which is
+/// the opening's where its tick is 0.
 #[derive(Drop)]
 pub struct ToldSoFar {
     opened: Vec<Face>,
@@ -39,7 +41,14 @@ impl Model for ToldSoFar {
 
     ghost Value = { Told };
 
-    ghost view = { λ t. record { opened = t.opened.items; steps = t.steps.items; tick = t.tick; faces = t.faces.items; answers = t.answers; rank = t.rank } };
+    ghost view = { λ t. record {
+      opened = t.opened.items;
+      steps = t.steps.items;
+      tick = t.tick;
+      faces = t.faces.items;
+      answers = t.answers;
+      rank = t.rank;
+    } };
 }
 
 impl ToldSoFar {
@@ -171,7 +180,7 @@ impl ToldSoFar {
 
     // Makes the block the opening or a step.
     fn close(&mut self, alloc: Global) -> Result<(), NoMemory>
-        ensures { OnOk result (self.new ≡ record self.old { opened = opened_by self.old; steps = steps_by self.old; answers = no_answers }) }
+        ensures { OnOk result (self.new ≡ closed_block self.old) }
     {
         let faces = Vec::from_slice(alloc, &self.faces)?;
         let answers = mem::replace(&mut self.answers, nothing_answered());

@@ -1,7 +1,8 @@
 //! The fixed words of lines.
 
 ghost use Rattle.std.specs.Prelude.{◌≡◌, ◌≤◌, length};
-ghost use Rattle.face_text.specs.Slots.{buzzer_word as word_of_buzzer, kind_of, number_of_buzzer, number_of_truth, on_word as word_of_on, word_of};
+ghost use Rattle.face_text.specs.Slots.{buzzer_word as word_of_buzzer, kind_of, number_of_buzzer, number_of_truth};
+ghost use Rattle.face_text.specs.Slots.{on_word as word_of_on, word_of};
 
 use crate::group::Group;
 use site_types::Buzzer;

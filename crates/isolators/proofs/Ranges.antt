@@ -39,6 +39,7 @@ pub all_false : (test : ℕ → Bool) (a n k : ℕ) → a ≤ k → k < a + n �
 all_false test a zero k low high fails = absurd (omega arith)
 all_false test a (suc n) k low high fails =
     elim (dec_lt a k) [
-      | yes less ↦ (let rest : list_all test (range_with_len (a + 1) n) ≡ false = all_false test (a + 1) n k (omega arith) (omega arith) fails in rw rest (and_false (test a)))
+      | yes less ↦ (let rest : list_all test (range_with_len (a + 1) n) ≡ false = all_false test (a + 1) n k (omega arith) (omega arith) fails in
+          rw rest (and_false (test a)))
       | no not_less ↦ (let same : a ≡ k = omega arith in let here : test a ≡ false = ap test same ∙ fails in rw here refl)
     ]

@@ -11,15 +11,18 @@ pub section_below : (isolators : List ℕ) (k : ℕ) → section_of_piece isolat
 section_below [] k = omega arith
 section_below (i ∷ others) k = below_case i k (section_of_piece others k) (section_below others k)
 
-step_case : (i k before here : ℕ) (b : Bool) → (if b then k else before) ≡ here → here ≤ k → (if (i == k) || b then k else (if nat_lt i k then max i before else before)) ≡ (if nat_lt i (k + 1) then max i here else here)
+step_case : (i k before here : ℕ) (b : Bool) → (if b then k else before) ≡ here → here ≤ k
+    → (if (i == k) || b then k else (if nat_lt i k then max i before else before)) ≡ (if nat_lt i (k + 1) then max i here else here)
 step_case i k before here true e h = grind (arith, nat_tests)
 step_case i k before here false e h = grind (arith, nat_tests)
 
 -- a section begins at a piece behind an isolator, else where that of the address before it began
-pub section-next : (isolators : List ℕ) (k : ℕ) → section_of_piece isolators k ≡ (if list_any (λ isolator. isolator == k) isolators then k else section_of isolators k)
+pub section-next : (isolators : List ℕ) (k : ℕ)
+    → section_of_piece isolators k ≡ (if list_any (λ isolator. isolator == k) isolators then k else section_of isolators k)
 section-next [] k = refl
 section-next (i ∷ others) k =
-    sym (step_case i k (section_of others k) (section_of_piece others k) (list_any (λ isolator. isolator == k) others) (sym (section-next others k)) (section_below others k))
+    sym (step_case i k (section_of others k) (section_of_piece others k) (list_any (λ isolator. isolator == k) others) (sym (section-next others k))
+    (section_below others k))
 
 first_case : (i rest : ℕ) → rest ≡ 0 → (if nat_lt i 0 then max i rest else rest) ≡ 0
 first_case i rest e = grind (arith, nat_tests)

@@ -9,12 +9,14 @@ use Rattle.site_types.specs.Sections.{section_of_piece}
 -- the pieces that a line was told of
 pub record Cables (plan : LoopPlan) (cable : Cable) (line : LoopLine) : Type 0 where
   pub last : line.last ≡ plan.last
-  pub begins : (piece : ℕ) → piece < 256 → slice_index line.begins piece ≡ section_of_piece plan.isolators piece
+  pub begins : (piece : ℕ) → piece < 256
+      → slice_index line.begins piece ≡ section_of_piece plan.isolators piece
   pub pieces : (piece : ℕ) → piece < 256 → slice_index_or line.pieces piece Sound ≡ cable piece
 
 -- the places at which a section begins that holds a short
 abbrev pub HoldShorts : LoopPlan → Cable → List Bool → Type 0
-HoldShorts plan cable shorted = (place : ℕ) → place < 256 → slice_index_or shorted place false ≡ holds_short plan cable place
+HoldShorts plan cable shorted = (place : ℕ) → place < 256
+    → slice_index_or shorted place false ≡ holds_short plan cable place
 
 -- so many pieces from end A on are passed, and no more
 pub record PassAhead (plan : LoopPlan) (cable : Cable) (ahead : ℕ) : Type 0 where

@@ -49,7 +49,8 @@ impl LoopLine {
 
     /// Takes a report on a piece of the cable, 0 to the last address of the loop.
     pub fn set_piece(&mut self, piece: u8, state: PieceState)
-        ensures { (plan : Plan) (cable : Cable) → StandsFor plan cable self.old → StandsFor plan (with_piece cable piece state) self.new }
+        ensures { (plan : Plan) (cable : Cable) → StandsFor plan cable self.old
+            → StandsFor plan (with_piece cable piece state) self.new }
     {
         self.pieces[piece as usize] = state;
         self.look();
@@ -58,7 +59,8 @@ impl LoopLine {
     /// Whether an address, from 1 to the last of the loop, is reached.
     pub fn reach(&self, address: u8) -> bool
         requires { 1 ≤ address }
-        ensures { (plan : Plan) (cable : Cable) → StandsFor plan cable self.now → address ≤ plan.last → result ≡ is_reached plan cable address }
+        ensures { (plan : Plan) (cable : Cable) → StandsFor plan cable self.now
+            → address ≤ plan.last → result ≡ is_reached plan cable address }
     {
         let begins = self.begins[address as usize - 1];
         let reached_from_a = address as usize <= self.ahead;
@@ -68,14 +70,16 @@ impl LoopLine {
 
     /// What is wrong with the cable.
     pub fn status(&self) -> LineStatus
-        ensures { (plan : Plan) (cable : Cable) → StandsFor plan cable self.now → result ≡ status_of plan cable }
+        ensures { (plan : Plan) (cable : Cable) → StandsFor plan cable self.now
+            → result ≡ status_of plan cable }
     {
         self.status
     }
 
     // Draws from the pieces what they make of the loop.
     fn look(&mut self)
-        ensures { (plan : Plan) (cable : Cable) → Cables plan cable self.old → StandsFor plan cable self.new }
+        ensures { (plan : Plan) (cable : Cable) → Cables plan cable self.old
+            → StandsFor plan cable self.new }
     {
         self.shorted = self.shorted_sections();
         self.ahead = self.pieces_ahead();
@@ -84,14 +88,16 @@ impl LoopLine {
     }
 
     fn count(&self) -> usize
-        ensures value { (plan : Plan) (cable : Cable) → Cables plan cable self.now → result ≡ plan.last + 1 }
+        ensures value { (plan : Plan) (cable : Cable) → Cables plan cable self.now
+            → result ≡ plan.last + 1 }
         ensures bound { result ≤ 256 }
     {
         self.last as usize + 1
     }
 
     fn shorted_sections(&self) -> [bool; NUMBERS]
-        ensures { (plan : Plan) (cable : Cable) → Cables plan cable self.now → HoldShorts plan cable result }
+        ensures { (plan : Plan) (cable : Cable) → Cables plan cable self.now
+            → HoldShorts plan cable result }
     {
         let mut shorted = [false; NUMBERS];
         for piece in 0..self.count() {
@@ -104,14 +110,16 @@ impl LoopLine {
 
     fn can_pass(&self, piece: usize) -> bool
         requires { piece < 256 }
-        ensures { (plan : Plan) (cable : Cable) → Cables plan cable self.now → HoldShorts plan cable self.now.shorted → result ≡ is_passed plan cable piece }
+        ensures { (plan : Plan) (cable : Cable) → Cables plan cable self.now
+            → HoldShorts plan cable self.now.shorted → result ≡ is_passed plan cable piece }
     {
         !matches!(self.pieces[piece], PieceState::Open)
             && !self.shorted[self.begins[piece] as usize]
     }
 
     fn pieces_ahead(&self) -> usize
-        ensures { (plan : Plan) (cable : Cable) → Cables plan cable self.now → HoldShorts plan cable self.now.shorted → PassAhead plan cable result }
+        ensures { (plan : Plan) (cable : Cable) → Cables plan cable self.now
+            → HoldShorts plan cable self.now.shorted → PassAhead plan cable result }
     {
         for piece in 0..self.count() {
             if !self.can_pass(piece) {
@@ -122,7 +130,8 @@ impl LoopLine {
     }
 
     fn pieces_behind(&self) -> usize
-        ensures { (plan : Plan) (cable : Cable) → Cables plan cable self.now → HoldShorts plan cable self.now.shorted → PassBehind plan cable result }
+        ensures { (plan : Plan) (cable : Cable) → Cables plan cable self.now
+            → HoldShorts plan cable self.now.shorted → PassBehind plan cable result }
     {
         for piece in (0..self.count()).rev() {
             if !self.can_pass(piece) {
@@ -133,7 +142,8 @@ impl LoopLine {
     }
 
     fn faults(&self) -> LineStatus
-        ensures { (plan : Plan) (cable : Cable) → Cables plan cable self.now → result ≡ status_of plan cable }
+        ensures { (plan : Plan) (cable : Cable) → Cables plan cable self.now
+            → result ≡ status_of plan cable }
     {
         let mut broken = false;
         let mut shorted = false;

@@ -40,21 +40,24 @@ put-put l xs ys =
     rw (items, count) refl
 
 pub put-nil : {X : Type 0} (l : LaneState X) → with_put l [] ≡ l
-put-nil l = rw (append-nil l.items) (ap (λ n. record { items = l.items; put = n; taken = l.taken; quota = l.quota; capacity = l.capacity }) (omega arith))
+put-nil l =
+    rw (append-nil l.items) (ap (λ n. record { items = l.items; put = n; taken = l.taken; quota = l.quota; capacity = l.capacity }) (omega arith))
 
-module _ {X : Type 0} (f : ℕ → Option X) (place : ℕ) (places : List ℕ) (l new first : LaneState X) (e : l ≡ with_put first (filter_map f places)) where
-  pub put_some : (x : X) → f place ≡ Some x → new ≡ with_put l (x ∷ []) → new ≡ with_put first (filter_map f (places ++ place ∷ []))
-  put_some x is put =
-      rw (filter_map-append f places (place ∷ []))
-      (rw is (put ∙ ap (λ k. with_put k (x ∷ [])) e ∙ put-put first (filter_map f places) (x ∷ [])))
+module _ {X : Type 0} (f : ℕ → Option X) (place : ℕ) (places : List ℕ) (l new first : LaneState X) (e : l ≡ with_put first (filter_map f places))
+  where
+    pub put_some : (x : X) → f place ≡ Some x → new ≡ with_put l (x ∷ []) → new ≡ with_put first (filter_map f (places ++ place ∷ []))
+    put_some x is put =
+        rw (filter_map-append f places (place ∷ []))
+        (rw is (put ∙ ap (λ k. with_put k (x ∷ [])) e ∙ put-put first (filter_map f places) (x ∷ [])))
 
-  pub put_none : f place ≡ None → new ≡ l → new ≡ with_put first (filter_map f (places ++ place ∷ []))
-  put_none is same =
-      rw (filter_map-append f places (place ∷ []))
-      (rw is (same ∙ e ∙ ap (with_put first) (sym (append-nil (filter_map f places)))))
+    pub put_none : f place ≡ None → new ≡ l → new ≡ with_put first (filter_map f (places ++ place ∷ []))
+    put_none is same =
+        rw (filter_map-append f places (place ∷ []))
+        (rw is (same ∙ e ∙ ap (with_put first) (sym (append-nil (filter_map f places)))))
 
 -- the items of one loop more
-pub put_line : {X : Type 0} (f : ℕ → List X) (k : ℕ) (first l new : LaneState X) → l ≡ with_put first (flat_map f (range_with_len 1 k)) → new ≡ with_put l (f (k + 1)) → new ≡ with_put first (flat_map f (range_with_len 1 (k + 1)))
+pub put_line : {X : Type 0} (f : ℕ → List X) (k : ℕ) (first l new : LaneState X) → l ≡ with_put first (flat_map f (range_with_len 1 k))
+    → new ≡ with_put l (f (k + 1)) → new ≡ with_put first (flat_map f (range_with_len 1 (k + 1)))
 put_line f k first l new e put =
     let next : 1 + k ≡ k + 1 = omega arith in
     let all : flat_map f (range_with_len 1 (k + 1)) ≡ flat_map f (range_with_len 1 k) ++ f (k + 1) =

@@ -1,5 +1,7 @@
 -- What a line of a valid site has.
-use Rattle.std.proofs.Common.{◌≡◌, ℕ, zero, suc, subst, ◌+◌, ◌-◌, ◌<◌, ◌≤◌, ◌==◌, ◌&&◌, List, [], ◌∷◌, length, get_or, Option, Some, None, Bool, true, false, slice_get, slice_index_or, slice_set, refl, sym, ◌∙◌, ap, arith, inl, inr}
+use Rattle.std.proofs.Common.{◌≡◌, ℕ, zero, suc, subst, ◌+◌, ◌-◌, ◌<◌, ◌≤◌, ◌==◌, ◌&&◌, List, [], ◌∷◌, length, get_or}
+use Rattle.std.proofs.Common.{Option, Some, None, Bool, true, false, slice_get, slice_index_or, slice_set, refl, sym}
+use Rattle.std.proofs.Common.{◌∙◌, ap, arith, inl, inr}
 use Rattle.std.specs.List.{position}
 use Rattle.std.proofs.lemmas.Bool.{and_from, and_parts, cases_eq, cases_lt, eq-eqb, eqb-true, ne_eqb}
 use Rattle.std.proofs.lemmas.Grind.{common_steps, get_or-set_at}
@@ -11,7 +13,8 @@ use Rattle.site_types.specs.declared.point.Point.{Point}
 use Rattle.site_types.specs.declared.site.Site.{Site}
 use Rattle.site_types.specs.Valid.{HasAddress, IsValid, loop_key}
 use Rattle.site_types.proofs.ValidSites.{loop_of_point}
-use Rattle.loop_poller.specs.Asked.{answer_from, answer_of, asked_on, is_asked, loop_at, point_at}
+use Rattle.loop_poller.specs.Asked.{answer_from, answer_of, asked_on, is_asked, point_at}
+use Rattle.site_types.specs.Things.{loop_of}
 use Rattle.loop_poller.specs.Cables.{CableStands}
 use Rattle.site_types.specs.declared.piece_state.PieceState.{PieceState}
 use Rattle.isolators.specs.Reach.{Cable, sound_cable, with_piece}
@@ -53,11 +56,13 @@ some_point : (points : List Point) (place : ℕ) → place < length points → P
 some_point [] place h = absurd (omega arith)
 some_point (p ∷ points) place h = p
 
-place_within : (panel line address : ℕ) (points : List Point) (place : ℕ) → position (is_at panel line address) points ≡ Some place → place < length points
+place_within : (panel line address : ℕ) (points : List Point) (place : ℕ) → position (is_at panel line address) points ≡ Some place
+    → place < length points
 place_within panel line address [] place h = absurd cc
 place_within panel line address (p ∷ points) place h = (position-Some (is_at panel line address) (p ∷ points) place p h).0
 
-pub point_there : (site : Site) (panel line address place : ℕ) → point_at site panel line address ≡ Some place → HasPointAt site panel line address place
+pub point_there : (site : Site) (panel line address place : ℕ) → point_at site panel line address ≡ Some place
+    → HasPointAt site panel line address place
 point_there site panel line address place h =
     let within = place_within panel line address site.points place h in
     let d = some_point site.points place within in
@@ -69,7 +74,8 @@ point_there site panel line address place h =
       at = at_from panel line address (get_or site.points place d) found.1;
     }
 
-found_plan : (site : Site) (panel line address : ℕ) (o : Option LoopPlan) → IsValid site → loop_at site panel line ≡ o → HasAddress site panel line address → IsOnLoop o address
+found_plan : (site : Site) (panel line address : ℕ) (o : Option LoopPlan) → IsValid site → loop_of site panel line ≡ o
+    → HasAddress site panel line address → IsOnLoop o address
 found_plan site panel line address None valid e has = tt
 found_plan site panel line address (Some plan) valid e has =
     let found = found_at (λ (l : LoopPlan). (l.panel == panel) && (l.line == line)) site.loops plan e in
@@ -78,24 +84,29 @@ found_plan site panel line address (Some plan) valid e has =
     let same_line : plan.line ≡ has.plan.line = eqb-true plan.line line keys.1 ∙ sym has.at_line in
     let key : loop_key plan ≡ loop_key has.plan = cc in
     let place : found.place ≡ has.place = valid.twins.loops found.place has.place plan has.plan found.is has.is key in
-    let same : plan ≡ has.plan = (let e2 : slice_get site.loops has.place ≡ Some plan = ap (slice_get site.loops) (sym place) ∙ found.is in let i = has.is in cc) in
+    let same : plan ≡ has.plan = (let e2 : slice_get site.loops has.place ≡ Some plan = ap (slice_get site.loops) (sym place) ∙ found.is in let i =
+    has.is in cc) in
     let last : plan.last ≡ has.plan.last = ap (λ (l : LoopPlan). l.last) same in
     omega (arith, has.within)
 
 -- the address of a point is one of its loop
-pub on_loop : (site : Site) (panel line address place : ℕ) → IsValid site → point_at site panel line address ≡ Some place → IsOnLoop (loop_at site panel line) address
+pub on_loop : (site : Site) (panel line address place : ℕ) → IsValid site → point_at site panel line address ≡ Some place
+    → IsOnLoop (loop_of site panel line) address
 on_loop site panel line address place valid h =
     let there = point_there site panel line address place h in
-    let has : HasAddress site panel line address = rw (there.at.panel_is, there.at.line_is, there.at.address_is) at (loop_of_point site valid place there.point there.is) in
-    found_plan site panel line address (loop_at site panel line) valid refl has
+    let has : HasAddress site panel line address =
+    rw (there.at.panel_is, there.at.line_is, there.at.address_is) at (loop_of_point site valid place there.point there.is) in
+    found_plan site panel line address (loop_of site panel line) valid refl has
 
 -- the points of a loop are points of the site
-pub knows_points : (site : Site) (panel line : ℕ) (points : List (Option ℕ)) → ArePoints site panel line points → KnowsPoints points (length site.points)
+pub knows_points : (site : Site) (panel line : ℕ) (points : List (Option ℕ)) → ArePoints site panel line points
+    → KnowsPoints points (length site.points)
 knows_points site panel line points are place point h =
     elim (cases_lt place (length points)) [
       | inl within ↦ (let size = are.size in
           let back : place + 1 - 1 ≡ place = omega arith in
-          let at : point_at site panel line (place + 1) ≡ Some point = sym (are.each (place + 1) (omega arith) (omega arith)) ∙ ap (λ k. slice_index_or points k None) back ∙ h in
+          let at : point_at site panel line (place + 1) ≡ Some point =
+          sym (are.each (place + 1) (omega arith) (omega arith)) ∙ ap (λ k. slice_index_or points k None) back ∙ h in
           (point_there site panel line (place + 1) point at).within)
       | inr past ↦ (let none : slice_index_or points place None ≡ None = grind (arith, common_steps) in absurd cc)
     ]
@@ -117,11 +128,13 @@ set_past xs i k y x h other =
     cc
 
 -- the lines of a panel after a report on a piece of one
-pub told_lines : (site : Site) (panel : ℕ) (calls : List Call) (lines : List PolledLine) (line piece : ℕ) (state : PieceState) (polled new : PolledLine) →
+pub told_lines : (site : Site) (panel : ℕ) (calls : List Call) (lines : List PolledLine) (line piece : ℕ) (state : PieceState) (polled new :
+    PolledLine) →
     ((place : ℕ) (l : PolledLine) → slice_get lines place ≡ Some l → LineStands site panel (place + 1) (told_cable calls (place + 1)) l) →
     1 ≤ line → slice_get lines (line - 1) ≡ Some polled →
     (LineStands site panel line (told_cable calls line) polled → LineStands site panel line (with_piece (told_cable calls line) piece state) new) →
-    (place : ℕ) (l : PolledLine) → slice_get (slice_set lines (line - 1) new) place ≡ Some l → LineStands site panel (place + 1) (told_cable (Cabled line piece state ∷ calls) (place + 1)) l
+    (place : ℕ) (l : PolledLine) → slice_get (slice_set lines (line - 1) new) place ≡ Some l
+    → LineStands site panel (place + 1) (told_cable (Cabled line piece state ∷ calls) (place + 1)) l
 told_lines site panel calls lines line piece state polled new each first is told place l h =
     let within = slice_get_within lines (line - 1) polled is in
     elim (cases_eq place (line - 1)) [
@@ -137,27 +150,34 @@ told_lines site panel calls lines line piece state polled new each first is told
 
 -- the four lines of a panel at the start
 pub four_lines : (site : Site) (panel : ℕ) (a b c d : PolledLine) →
-    LineStands site panel 1 sound_cable a → LineStands site panel 2 sound_cable b → LineStands site panel 3 sound_cable c → LineStands site panel 4 sound_cable d →
+    LineStands site panel 1 sound_cable a → LineStands site panel 2 sound_cable b → LineStands site panel 3 sound_cable c
+    → LineStands site panel 4 sound_cable d →
     (place : ℕ) (l : PolledLine) → slice_get (a ∷ b ∷ c ∷ d ∷ []) place ≡ Some l → LineStands site panel (place + 1) (told_cable [] (place + 1)) l
 four_lines site panel a b c d p q r s zero l h = let e : a ≡ l = cc in subst (λ (x : PolledLine). LineStands site panel 1 sound_cable x) e p
 four_lines site panel a b c d p q r s (suc zero) l h = let e : b ≡ l = cc in subst (λ (x : PolledLine). LineStands site panel 2 sound_cable x) e q
-four_lines site panel a b c d p q r s (suc (suc zero)) l h = let e : c ≡ l = cc in subst (λ (x : PolledLine). LineStands site panel 3 sound_cable x) e r
-four_lines site panel a b c d p q r s (suc (suc (suc zero))) l h = let e : d ≡ l = cc in subst (λ (x : PolledLine). LineStands site panel 4 sound_cable x) e s
+four_lines site panel a b c d p q r s (suc (suc zero)) l h = let e : c ≡ l =
+    cc in subst (λ (x : PolledLine). LineStands site panel 3 sound_cable x) e r
+four_lines site panel a b c d p q r s (suc (suc (suc zero))) l h = let e : d ≡ l =
+    cc in subst (λ (x : PolledLine). LineStands site panel 4 sound_cable x) e s
 four_lines site panel a b c d p q r s (suc (suc (suc (suc place)))) l h = absurd cc
 
-no_plan : (site : Site) (panel line address : ℕ) → loop_at site panel line ≡ None → HasAddress site panel line address → ⊥
+no_plan : (site : Site) (panel line address : ℕ) → loop_of site panel line ≡ None → HasAddress site panel line address → ⊥
 no_plan site panel line address none has =
     let fails = none_passes (λ (l : LoopPlan). (l.panel == panel) && (l.line == line)) site.loops has.place has.plan none has.is in
-    let passes = and_from (has.plan.panel == panel) (has.plan.line == line) (eq-eqb has.plan.panel panel has.at_panel) (eq-eqb has.plan.line line has.at_line) in
+    let passes =
+    and_from (has.plan.panel == panel) (has.plan.line == line) (eq-eqb has.plan.panel panel has.at_panel) (eq-eqb has.plan.line line has.at_line)
+    in
     let no : true ≡ false = sym passes ∙ fails in
     cc
 
 -- a loop that isn't there has no points
-pub no_points : (site : Site) (panel line address : ℕ) → IsValid site → loop_at site panel line ≡ None → (o : Option ℕ) → point_at site panel line address ≡ o → o ≡ None
+pub no_points : (site : Site) (panel line address : ℕ) → IsValid site → loop_of site panel line ≡ None → (o : Option ℕ)
+    → point_at site panel line address ≡ o → o ≡ None
 no_points site panel line address valid none None h = refl
 no_points site panel line address valid none (Some place) h =
     let there = point_there site panel line address place h in
-    let has : HasAddress site panel line address = rw (there.at.panel_is, there.at.line_is, there.at.address_is) at (loop_of_point site valid place there.point there.is) in
+    let has : HasAddress site panel line address =
+    rw (there.at.panel_is, there.at.line_is, there.at.address_is) at (loop_of_point site valid place there.point there.is) in
     absurd (no_plan site panel line address none has)
 
 no_loop : (o : Option LoopPlan) (cable : Cable) (kept : Option LoopLine) → CableStands o cable kept → is_some kept ≡ false → o ≡ None
@@ -170,9 +190,11 @@ no_answer true answer o none = ap (option_map answer) none
 no_answer false answer o none = refl
 
 -- nor is anything asked on it
-pub nothing_asked : (site : Site) (panel line : ℕ) (points : ℕ → PointState) (cables : ℕ → Cable) (tick : ℕ) (polled : PolledLine) → IsValid site → LineStands site panel line (cables line) polled → is_some polled.cable ≡ false →
+pub nothing_asked : (site : Site) (panel line : ℕ) (points : ℕ → PointState) (cables : ℕ → Cable) (tick : ℕ) (polled : PolledLine) → IsValid site
+    → LineStands site panel line (cables line) polled → is_some polled.cable ≡ false →
     asked_on site panel points cables tick line ≡ []
 nothing_asked site panel line points cables tick polled valid stands none =
-    let absent = no_loop (loop_at site panel line) (cables line) polled.cable stands.cable_stands none in
+    let absent = no_loop (loop_of site panel line) (cables line) polled.cable stands.cable_stands none in
     none_found (answer_from site panel points cables tick line) 1 (last_address_of site.format) (λ address low high.
-    no_answer (is_asked site.format address tick) (answer_of site panel points cables tick line address) (point_at site panel line address) (no_points site panel line address valid absent (point_at site panel line address) refl))
+    no_answer (is_asked site.format address tick) (answer_of site panel points cables tick line address) (point_at site panel line address)
+    (no_points site panel line address valid absent (point_at site panel line address) refl))

@@ -1,5 +1,7 @@
 -- The first place at which a test holds, as a list grows.
-use Rattle.std.proofs.Common.{◌≡◌, ℕ, zero, suc, ◌+◌, ◌≤◌, List, [], ◌∷◌, ◌++◌, length, Option, Some, None, Bool, true, false, not, cond, nat_eq, nat_lt, slice_get, refl, sym, ◌∙◌, ap, arith, length-append}
+use Rattle.std.proofs.Common.{◌≡◌, ℕ, zero, suc, ◌+◌, ◌≤◌, List, [], ◌∷◌, ◌++◌, length, Option, Some, None, Bool}
+use Rattle.std.proofs.Common.{true, false, not, cond, nat_eq, nat_lt, slice_get, refl, sym, ◌∙◌, ap, arith}
+use Rattle.std.proofs.Common.{length-append}
 use Rattle.std.specs.List.{find, position, position_or_len, prefix_len}
 use Rattle.std.proofs.lemmas.Bool.Decides.{nat_tests}
 use Rattle.std.proofs.lemmas.List.Folds.{position_or_len_push}
@@ -41,7 +43,8 @@ pub record IsFound {X : Type 0} (p : X → Bool) (xs : List X) (x : X) : Type 0 
 found_later : {X : Type 0} (p : X → Bool) (xs : List X) (x y : X) → IsFound p xs x → IsFound p (y ∷ xs) x
 found_later p xs x y found = record { place = suc found.place; is = found.is; passes = found.passes }
 
-found_case : {X : Type 0} (p : X → Bool) (y : X) (ys : List X) (x : X) (b : Bool) → p y ≡ b → cond b (Some y) (find p ys) ≡ Some x → (find p ys ≡ Some x → IsFound p ys x) → IsFound p (y ∷ ys) x
+found_case : {X : Type 0} (p : X → Bool) (y : X) (ys : List X) (x : X) (b : Bool) → p y ≡ b → cond b (Some y) (find p ys) ≡ Some x
+    → (find p ys ≡ Some x → IsFound p ys x) → IsFound p (y ∷ ys) x
 found_case p y ys x true holds h later = let same : y ≡ x = cc in record { place = zero; is = ap Some same; passes = ap p (sym same) ∙ holds }
 found_case p y ys x false fails h later = found_later p ys x y (later h)
 

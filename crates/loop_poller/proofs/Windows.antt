@@ -44,15 +44,20 @@ none_found f a (suc n) none =
     rw here rest
 
 -- of all addresses the eight of one group give something
-pub window : {X : Type 0} (f : ℕ → Option X) (q n : ℕ) → q < n → ((k : ℕ) → 1 ≤ k → (q ≡ (k - 1) / 8 → ⊥) → f k ≡ None) → filter_map f (range_with_len 1 (8 * n)) ≡ filter_map f (range_with_len (8 * q + 1) 8)
+pub window : {X : Type 0} (f : ℕ → Option X) (q n : ℕ) → q < n → ((k : ℕ) → 1 ≤ k → (q ≡ (k - 1) / 8 → ⊥) → f k ≡ None)
+    → filter_map f (range_with_len 1 (8 * n)) ≡ filter_map f (range_with_len (8 * q + 1) 8)
 window {X} f q n below none =
-    let parts : range_with_len 1 (8 * n) ≡ range_with_len 1 (8 * q) ++ (range_with_len (8 * q + 1) 8 ++ range_with_len (8 * q + 9) (8 * n - (8 * q + 8))) =
+    let parts : range_with_len 1 (8 * n) ≡ range_with_len 1 (8 * q)
+    ++ (range_with_len (8 * q + 1) 8 ++ range_with_len (8 * q + 9) (8 * n - (8 * q + 8))) =
     ap (range_with_len 1) (omega arith)
     ∙ range-split 1 (8 * q) (8 + (8 * n - (8 * q + 8)))
     ∙ ap (λ k. range_with_len 1 (8 * q) ++ range_with_len k (8 + (8 * n - (8 * q + 8)))) (omega arith)
-    ∙ ap (λ xs. range_with_len 1 (8 * q) ++ xs) (range-split (8 * q + 1) 8 (8 * n - (8 * q + 8)) ∙ ap (λ k. range_with_len (8 * q + 1) 8 ++ range_with_len k (8 * n - (8 * q + 8))) (omega arith)) in
+    ∙ ap (λ xs. range_with_len 1 (8 * q) ++ xs)
+    (range-split (8 * q + 1) 8 (8 * n - (8 * q + 8)) ∙ ap (λ k. range_with_len (8 * q + 1) 8 ++ range_with_len k (8 * n - (8 * q + 8)))
+    (omega arith)) in
     let low : filter_map f (range_with_len 1 (8 * q)) ≡ [] = none_found f 1 (8 * q) (λ k first last. none k first (λ e. absurd (omega arith))) in
-    let high : filter_map f (range_with_len (8 * q + 9) (8 * n - (8 * q + 8))) ≡ [] = none_found f (8 * q + 9) (8 * n - (8 * q + 8)) (λ k first last. none k (omega arith) (λ e. absurd (omega arith))) in
+    let high : filter_map f (range_with_len (8 * q + 9) (8 * n - (8 * q + 8))) ≡ [] =
+    none_found f (8 * q + 9) (8 * n - (8 * q + 8)) (λ k first last. none k (omega arith) (λ e. absurd (omega arith))) in
     ap (filter_map f) parts
     ∙ filter_map-append f (range_with_len 1 (8 * q)) (range_with_len (8 * q + 1) 8 ++ range_with_len (8 * q + 9) (8 * n - (8 * q + 8)))
     ∙ ap (λ xs. xs ++ filter_map f (range_with_len (8 * q + 1) 8 ++ range_with_len (8 * q + 9) (8 * n - (8 * q + 8)))) low
@@ -61,18 +66,24 @@ window {X} f q n below none =
     ∙ append-nil (filter_map f (range_with_len (8 * q + 1) 8))
 
 module _ (site : Site) (panel : ℕ) (points : ℕ → PointState) (cables : ℕ → Cable) (tick line : ℕ) where
-  pub not_asked : (address : ℕ) → (tick % round_of site.format ≡ (address - 1) / 8 → ⊥) → answer_from site panel points cables tick line address ≡ None
+  pub not_asked : (address : ℕ) → (tick % round_of site.format ≡ (address - 1) / 8 → ⊥)
+      → answer_from site panel points cables tick line address ≡ None
   not_asked address apart = rw (ne_eqb (tick % round_of site.format) ((address - 1) / 8) apart) refl
 
-  pub is_asked_here : (address : ℕ) → tick % round_of site.format ≡ (address - 1) / 8 → answer_from site panel points cables tick line address ≡ option_map (answer_of site panel points cables tick line address) (point_at site panel line address)
+  pub is_asked_here : (address : ℕ) → tick % round_of site.format ≡ (address - 1) / 8
+      → answer_from site panel points cables tick line address ≡ option_map (answer_of site panel points cables tick line address)
+      (point_at site panel line address)
   is_asked_here address same = rw (eq-eqb (tick % round_of site.format) ((address - 1) / 8) same) refl
 
   -- the answers of a loop are those of eight addresses
-  pub asked_window : 1 ≤ site.format → asked_on site panel points cables tick line ≡ filter_map (answer_from site panel points cables tick line) (range_with_len (8 * (tick % round_of site.format) + 1) 8)
+  pub asked_window : 1 ≤ site.format
+      → asked_on site panel points cables tick line ≡ filter_map (answer_from site panel points cables tick line)
+      (range_with_len (8 * (tick % round_of site.format) + 1) 8)
   asked_window known =
       let below : tick % round_of site.format < round_of site.format = mod_below tick (round_of site.format) (omega arith) in
       ap (λ n. filter_map (answer_from site panel points cables tick line) (range_with_len 1 n)) (omega arith)
-      ∙ window (answer_from site panel points cables tick line) (tick % round_of site.format) (round_of site.format) below (λ k first apart. not_asked k apart)
+      ∙ window (answer_from site panel points cables tick line) (tick % round_of site.format) (round_of site.format) below
+      (λ k first apart. not_asked k apart)
 
 -- eight addresses in a row are one group
 pub group_of : (q first address : ℕ) → first ≡ 8 * q + 1 → first ≤ address → address < first + 8 → q ≡ (address - 1) / 8

@@ -20,4 +20,5 @@ told_point (Cabled line piece state ∷ calls) point = told_point calls point
 abbrev pub told_cable : List Call → ℕ → Cable
 told_cable [] line = sound_cable
 told_cable (Reported point state ∷ calls) line = told_cable calls line
-told_cable (Cabled other piece state ∷ calls) line = if other == line then with_piece (told_cable calls line) piece state else told_cable calls line
+told_cable (Cabled other piece state ∷ calls) line =
+    if other == line then with_piece (told_cable calls line) piece state else told_cable calls line

@@ -1,6 +1,6 @@
 pub mod Asked
 pub mod Cables
 pub mod Calls
-pub mod Places
 pub mod Points
 pub mod Stands
+pub mod Puts

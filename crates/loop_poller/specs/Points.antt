@@ -7,7 +7,8 @@ use Rattle.loop_poller.specs.Asked.{point_at}
 -- the points of a loop, by address
 pub record ArePoints (site : Site) (panel line : ℕ) (points : List (Option ℕ)) : Type 0 where
   pub size : length points ≡ last_address_of site.format
-  pub each : (address : ℕ) → 1 ≤ address → address ≤ last_address_of site.format → slice_index_or points (address - 1) None ≡ point_at site panel line address
+  pub each : (address : ℕ) → 1 ≤ address → address ≤ last_address_of site.format
+      → slice_index_or points (address - 1) None ≡ point_at site panel line address
 
 -- each point of a loop is one of so many
 abbrev pub KnowsPoints : List (Option ℕ) → ℕ → Type 0

@@ -8,7 +8,7 @@ use Rattle.site_types.specs.Valid.{IsValid}
 use Rattle.isolators.specs.Reach.{Cable}
 use Rattle.loop_poller.specs.declared.polled_line.PolledLine.{PolledLine}
 use Rattle.loop_poller.specs.declared.poller.Poller.{Poller}
-use Rattle.loop_poller.specs.Asked.{loop_at}
+use Rattle.site_types.specs.Things.{loop_of}
 use Rattle.loop_poller.specs.Cables.{CableStands}
 use Rattle.loop_poller.specs.Points.{ArePoints}
 use Rattle.loop_poller.specs.Calls.{Call, told_cable, told_point}
@@ -16,7 +16,7 @@ use Rattle.loop_poller.specs.Calls.{Call, told_cable, told_point}
 -- a loop of the panel
 pub record LineStands (site : Site) (panel line : ℕ) (cable : Cable) (polled : PolledLine) : Type 0 where
   pub points : ArePoints site panel line polled.points.items
-  pub cable_stands : CableStands (loop_at site panel line) cable polled.cable
+  pub cable_stands : CableStands (loop_of site panel line) cable polled.cable
 
 -- the states of the site's points
 pub record AreStates (site : Site) (points : ℕ → PointState) (states : List PointState) : Type 0 where
@@ -27,7 +27,8 @@ pub record AreStates (site : Site) (points : ℕ → PointState) (states : List 
 pub record StandsFor (site : Site) (panel : ℕ) (calls : List Call) (poller : Poller) : Type 0 where
   pub valid : IsValid site
   pub format : poller.profile.format ≡ site.format
-  pub lines : (place : ℕ) (line : PolledLine) → slice_get poller.lines place ≡ Some line → LineStands site panel (place + 1) (told_cable calls (place + 1)) line
+  pub lines : (place : ℕ) (line : PolledLine) → slice_get poller.lines place ≡ Some line
+      → LineStands site panel (place + 1) (told_cable calls (place + 1)) line
   pub states : AreStates site (told_point calls) poller.states.items
 
 -- a poller stands for some panel of a site

@@ -1,12 +1,12 @@
 //! Asks the points of a panel's loops and tells their answers, in the manner of a poller that goes round.
 //!
-//! Each address of a loop is asked once in a round, eight addresses of each loop in a tick. A point that is not there, or
-//! that its loop doesn't reach, is silent; each other one answers what it was last reported to be at. Begin with [`Poller`]: it is made for a panel
-//! of a site, is told of points and pieces of cable, and in its turn of a tick puts the answers of that tick into a lane, in order of
-//! loop, then address.
+//! Each address of a loop is asked once in a round, eight addresses of each loop in a tick. A point that is
+//! not there, or that its loop doesn't reach, is silent; each other one answers what it was last reported to
+//! be at. Begin with [`Poller`]: it is made for a panel of a site, is told of points and pieces of cable, and
+//! in its turn of a tick puts the answers of that tick into a lane, in order of loop, then address.
 //!
-//! [`Poller::new`] alone takes memory, and goes over the site's points once for each loop. [`Poller::turn`] looks at 32 addresses,
-//! whatever the site's size.
+//! [`Poller::new`] alone takes memory, and goes over the site's points once for each loop. [`Poller::turn`]
+//! looks at 32 addresses, whatever the site's size.
 #![tactic(auto)]
 
 mod cables;

@@ -1,11 +1,10 @@
-ghost use Rattle.std.specs.Prelude.{◌≡◌, ◌+◌, ◌*◌, ◌%◌, ◌<◌, ◌≤◌, ℕ, IfOk, length};
-ghost use Rattle.tick_units.specs.Lane.{HasRoom, with_put};
-ghost use Rattle.site_types.specs.declared.point_state.PointState.{PointState as State};
+ghost use Rattle.std.specs.Prelude.{◌≡◌, ◌+◌, ◌≤◌, ℕ, IfOk, length};
+ghost use Rattle.tick_units.specs.Lane.{HasRoom};
 ghost use Rattle.site_types.specs.declared.site.Site.{Site as SiteOf};
-ghost use Rattle.site_types.specs.Profile.{round_of};
 ghost use Rattle.site_types.specs.Valid.{IsValid};
 ghost use Rattle.isolators.specs.Reach.{Cable, sound_cable, with_piece};
-ghost use Rattle.loop_poller.specs.Asked.{asked_on, heard_of, is_reached_on, loop_at, status_on};
+ghost use Rattle.loop_poller.specs.Asked.{heard_of, is_reached_on, status_on};
+ghost use Rattle.site_types.specs.Things.{loop_of};
 ghost use Rattle.loop_poller.specs.Points.{KnowsPoints};
 
 use crate::cables::cable_of;
@@ -23,7 +22,8 @@ pub struct PolledLine {
 }
 
 impl PolledLine {
-    ghost use Rattle.loop_poller.specs.Stands.{AreStates, IsOnLoop, LineStands};
+    ghost use Rattle.loop_poller.specs.Puts.{PutsGroup};
+    ghost use Rattle.loop_poller.specs.Stands.{IsOnLoop, LineStands};
 
     pub fn new(alloc: Global, site: &Site, panel: u8, line: u8) -> Result<PolledLine, AllocError>
         requires { IsValid site.now }
@@ -37,7 +37,9 @@ impl PolledLine {
     }
 
     pub fn set_piece(&mut self, piece: u8, state: PieceState)
-        ensures { (site : SiteOf) (panel line : ℕ) (cable : Cable) → LineStands site panel line cable self.old → LineStands site panel line (with_piece cable piece state) self.new }
+        ensures { (site : SiteOf) (panel line : ℕ) (cable : Cable)
+            → LineStands site panel line cable self.old
+            → LineStands site panel line (with_piece cable piece state) self.new }
     {
         if let Some(cable) = &mut self.cable {
             cable.set_piece(piece, state);
@@ -45,7 +47,9 @@ impl PolledLine {
     }
 
     pub fn status(&self) -> LineStatus
-        ensures { (site : SiteOf) (panel line : ℕ) (cable : Cable) → LineStands site panel line cable self.now → result ≡ status_on (loop_at site panel line) cable }
+        ensures { (site : SiteOf) (panel line : ℕ) (cable : Cable)
+            → LineStands site panel line cable self.now
+            → result ≡ status_on (loop_of site panel line) cable }
     {
         match &self.cable {
             Some(cable) => cable.status(),
@@ -55,7 +59,9 @@ impl PolledLine {
 
     fn reaches(&self, address: u8) -> bool
         requires { 1 ≤ address }
-        ensures { (site : SiteOf) (panel line : ℕ) (cable : Cable) → LineStands site panel line cable self.now → IsOnLoop (loop_at site panel line) address → result ≡ is_reached_on (loop_at site panel line) cable address }
+        ensures { (site : SiteOf) (panel line : ℕ) (cable : Cable)
+            → LineStands site panel line cable self.now → IsOnLoop (loop_of site panel line) address
+            → result ≡ is_reached_on (loop_of site panel line) cable address }
     {
         match &self.cable {
             Some(cable) => cable.reach(address),
@@ -65,7 +71,9 @@ impl PolledLine {
 
     fn heard(&self, address: u8, state: PointState) -> Heard
         requires { 1 ≤ address }
-        ensures { (site : SiteOf) (panel line : ℕ) (cable : Cable) → LineStands site panel line cable self.now → IsOnLoop (loop_at site panel line) address → result ≡ heard_of state (is_reached_on (loop_at site panel line) cable address) }
+        ensures { (site : SiteOf) (panel line : ℕ) (cable : Cable)
+            → LineStands site panel line cable self.now → IsOnLoop (loop_of site panel line) address
+            → result ≡ heard_of state (is_reached_on (loop_of site panel line) cable address) }
     {
         let reached = self.reaches(address);
         match state {
@@ -82,7 +90,7 @@ impl PolledLine {
         requires within { first + 7 ≤ length self.now.points.items }
         requires known { KnowsPoints self.now.points.items (length states.now) }
         ensures room { (n : ℕ) → HasRoom answers.old (n + 8) → HasRoom answers.new n }
-        ensures put { (site : SiteOf) (panel line : ℕ) (points : ℕ → State) (cables : ℕ → Cable) → IsValid site → LineStands site panel line (cables line) self.now → AreStates site points states.now → first ≡ 8 * (now.0 % round_of site.format) + 1 → answers.new ≡ with_put answers.old (asked_on site panel points cables now.0 line) }
+        ensures put { PutsGroup self.now states.now first now.0 answers.old answers.new }
     {
         if self.cable.is_none() {
             return;

@@ -1,9 +1,10 @@
-ghost use Rattle.std.specs.Prelude.{◌≡◌, ◌≤◌, [], ◌∷◌, List, ℕ, IfOk};
-ghost use Rattle.tick_units.specs.Lane.{HasRoom, with_put};
+ghost use Rattle.std.specs.Prelude.{◌≡◌, ◌≤◌, ◌+◌, [], ◌∷◌, List, ℕ, IfOk};
+ghost use Rattle.tick_units.specs.Lane.{HasRoom};
 ghost use Rattle.site_types.specs.declared.site.Site.{Site as SiteOf};
 ghost use Rattle.site_types.specs.Valid.{IsValid};
-ghost use Rattle.loop_poller.specs.Asked.{asked_in, loop_at, status_on};
-ghost use Rattle.loop_poller.specs.Calls.{Call, Reported, Cabled, told_cable, told_point};
+ghost use Rattle.loop_poller.specs.Asked.{status_on};
+ghost use Rattle.site_types.specs.Things.{loop_of};
+ghost use Rattle.loop_poller.specs.Calls.{Call, Reported, Cabled, told_cable};
 
 use crate::polled_line::PolledLine;
 use isolators::LineStatus;
@@ -21,6 +22,7 @@ pub struct Poller {
 }
 
 impl Poller {
+    ghost use Rattle.loop_poller.specs.Puts.{PutsAnswers};
     ghost use Rattle.loop_poller.specs.Stands.{HasPoint, StandsFor, StandsForSome};
 
     /// A poller of a panel, 1 to the panels of the site. All points are quiet and all cables sound.
@@ -45,7 +47,9 @@ impl Poller {
     /// Takes a report on a point, by its place in the site.
     pub fn set_point(&mut self, point: u16, state: PointState)
         requires { HasPoint self.old point }
-        ensures { (site : SiteOf) (panel : ℕ) (calls : List Call) → StandsFor site panel calls self.old → StandsFor site panel (Reported point state ∷ calls) self.new }
+        ensures { (site : SiteOf) (panel : ℕ) (calls : List Call)
+            → StandsFor site panel calls self.old
+            → StandsFor site panel (Reported point state ∷ calls) self.new }
     {
         self.states[point as usize] = state;
     }
@@ -53,7 +57,9 @@ impl Poller {
     /// Takes a report on a piece of the cable of a loop, 1 to 4.
     pub fn set_piece(&mut self, line: u8, piece: u8, state: PieceState)
         requires { (1 ≤ line) × (line ≤ 4) }
-        ensures { (site : SiteOf) (panel : ℕ) (calls : List Call) → StandsFor site panel calls self.old → StandsFor site panel (Cabled line piece state ∷ calls) self.new }
+        ensures { (site : SiteOf) (panel : ℕ) (calls : List Call)
+            → StandsFor site panel calls self.old
+            → StandsFor site panel (Cabled line piece state ∷ calls) self.new }
     {
         let polled = &mut self.lines[line as usize - 1];
         polled.set_piece(piece, state);
@@ -62,7 +68,9 @@ impl Poller {
     /// What is wrong with the cable of a loop, 1 to 4. Nothing is, where the panel has no such loop.
     pub fn status(&self, line: u8) -> LineStatus
         requires { (1 ≤ line) × (line ≤ 4) }
-        ensures { (site : SiteOf) (panel : ℕ) (calls : List Call) → StandsFor site panel calls self.now → result ≡ status_on (loop_at site panel line) (told_cable calls line) }
+        ensures { (site : SiteOf) (panel : ℕ) (calls : List Call)
+            → StandsFor site panel calls self.now
+            → result ≡ status_on (loop_of site panel line) (told_cable calls line) }
     {
         self.lines[line as usize - 1].status()
     }
@@ -71,7 +79,8 @@ impl Poller {
     pub fn turn(&self, now: Tick, answers: &mut Lane<Answer>)
         requires room { HasRoom answers.old 32 }
         requires stands { StandsForSome self.now }
-        ensures { (site : SiteOf) (panel : ℕ) (calls : List Call) → StandsFor site panel calls self.now → answers.new ≡ with_put answers.old (asked_in site panel (told_point calls) (told_cable calls) now.0) }
+        ensures asked { PutsAnswers self.now now.0 answers.old answers.new }
+        ensures few { answers.new.put ≤ answers.old.put + 32 }
     {
         let first = (now.0 % self.profile.round()) as u8 * 8 + 1;
         for line in &self.lines {

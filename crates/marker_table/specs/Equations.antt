@@ -1,5 +1,6 @@
 -- What its terms make of a marker.
-use Rattle.std.specs.Prelude.{ℕ, ◌-◌, Bool, false, List, Option, Some, None, slice_get, slice_index_or, nat_le, count_by}
+use Rattle.std.specs.Prelude.{ℕ, ◌-◌, Bool, false, List, Option, Some, None, slice_get, slice_index_or, nat_le}
+use Rattle.std.specs.Prelude.{count_by}
 use Rattle.std.specs.List.{list_all, list_any}
 use Rattle.site_types.specs.Bits.{has_bit}
 use Rattle.site_types.specs.declared.site.Site.{Site}
@@ -21,7 +22,8 @@ abbrev pub zone_bit : List ℕ → Option Zone → Bool
 zone_bit masks None = false
 zone_bit masks (Some zone) = has_bit (slice_index_or masks (zone.panel - 1) 0) (zone.number - 1)
 
--- a term holds: its zone is released, a manual call point of its zone is in alarm, its panel has a fault, or its marker is true
+-- a term holds: its zone is released, a manual call point of its zone is in alarm, its panel has a fault, or
+-- its marker is true
 abbrev pub holds : Site → Facts → (ℕ → Bool) → Term → Bool
 holds site facts values (ZoneTerm place) = zone_bit facts.zones (slice_get site.zones place)
 holds site facts values (Manual place) = zone_bit facts.manual (slice_get site.zones place)

@@ -1,15 +1,18 @@
 -- What is kept of a site's markers.
-use Rattle.std.specs.Prelude.{◌≡◌, ℕ, ◌+◌, ◌-◌, ◌*◌, ◌/◌, ◌%◌, ◌&&◌, Bool, Option, Some, None, map, slice_get, slice_index_or, nat_lt}
+use Rattle.std.specs.Prelude.{◌≡◌, ℕ, ◌+◌, ◌-◌, ◌*◌, ◌/◌, ◌%◌, ◌&&◌, Bool, Option, Some, None, map, slice_get}
+use Rattle.std.specs.Prelude.{slice_index_or, nat_lt}
 use Rattle.site_types.specs.Bits.{has_bit}
 use Rattle.site_types.specs.Valid.{IsValid}
 use Rattle.site_types.specs.declared.site.Site.{Site}
 use Rattle.site_types.specs.declared.zone.Zone.{Zone}
 use Rattle.site_types.specs.declared.marker.Marker.{Marker}
 use Rattle.site_types.specs.declared.term.Term.{Term}
-use Rattle.site_types.specs.declared.term.Term.TheVariants.{Zone as ZoneTerm, Manual as ManualTerm, Fault as FaultTerm, Marker as MarkerTerm}
+use Rattle.site_types.specs.declared.term.Term.TheVariants.{Zone as ZoneTerm, Manual as ManualTerm}
+use Rattle.site_types.specs.declared.term.Term.TheVariants.{Fault as FaultTerm, Marker as MarkerTerm}
 use Rattle.marker_table.specs.declared.facts.Facts.{Facts}
 use Rattle.marker_table.specs.declared.input.Input.{Input}
-use Rattle.marker_table.specs.declared.input.Input.TheVariants.{Zone as ZoneInput, Manual as ManualInput, Fault as FaultInput, Marker as MarkerInput}
+use Rattle.marker_table.specs.declared.input.Input.TheVariants.{Zone as ZoneInput, Manual as ManualInput}
+use Rattle.marker_table.specs.declared.input.Input.TheVariants.{Fault as FaultInput, Marker as MarkerInput}
 use Rattle.marker_table.specs.declared.row.Row.{Row}
 use Rattle.marker_table.specs.declared.table.MarkerTable.{MarkerTable}
 

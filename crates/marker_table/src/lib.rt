@@ -1,11 +1,14 @@
 //! The markers of a site with their terms, and what a marker's terms make of it.
 //!
-//! A marker is true where all of its terms hold, or any, or at least so many. A term is a zone that is released, a zone whose manual call point
-//! is in alarm, a panel that has a fault, or another marker. Begin with [`MarkerTable`]: it is made for a site, and [`MarkerTable::evaluate`]
-//! answers one marker over [`Facts`] and over the [`Values`] of the markers. Each answer costs one step of a counter that takes no bytes
-//! ([`Steps`]), and nothing else raises that counter: a contract that names the counter says how many markers were evaluated.
+//! A marker is true where all of its terms hold, or any, or at least so many. A term is a zone that is
+//! released, a zone whose manual call point is in alarm, a panel that has a fault, or another marker. Begin
+//! with [`MarkerTable`]: it is made for a site, and [`MarkerTable::evaluate`] answers one marker over
+//! [`Facts`] and over the [`Values`] of the markers. Each answer costs one step of a counter that takes no
+//! bytes ([`Steps`]), and nothing else raises that counter: a contract that names the counter says how many
+//! markers were evaluated.
 //!
-//! [`MarkerTable::new`] alone takes memory, two bytes for each term. An evaluation looks at the marker's terms, at most 64.
+//! [`MarkerTable::new`] alone takes memory, two bytes for each term. An evaluation looks at the marker's
+//! terms, at most 64.
 #![tactic(auto)]
 
 mod facts;

@@ -37,7 +37,8 @@ impl Row {
 
     // Whether enough of what it looks at is true.
     pub(crate) fn is_met(&self, facts: &Facts, values: &Values) -> bool
-        ensures { result ≡ meets self.now.combine (reads facts.now (values_of values.now)) self.now.inputs }
+        ensures { result ≡ meets self.now.combine (reads facts.now (values_of values.now))
+            self.now.inputs }
     {
         let inputs = self.inputs.as_slice();
         match self.combine {

@@ -34,7 +34,8 @@ impl MarkerTable {
         })
     }
 
-    /// What a marker's terms make of it over facts and the values of the markers: one step. A marker that the site hasn't is false.
+    /// What a marker's terms make of it over facts and the values of the markers: one step. A marker that the
+    /// site hasn't is false.
     pub fn evaluate<L: Ledger>(
         &self,
         marker: u16,
@@ -42,7 +43,8 @@ impl MarkerTable {
         values: &Values,
         steps: &mut Steps<L>,
     ) -> bool
-        ensures equation { (site : SiteOf) → IsTableOf site self.now → result ≡ equation site facts.now (values_of values.now) marker }
+        ensures equation { (site : SiteOf) → IsTableOf site self.now
+            → result ≡ equation site facts.now (values_of values.now) marker }
         ensures step { steps.new ≡ steps.old + 1 }
     {
         steps.raise();

@@ -1,7 +1,7 @@
 -- The latest override before a tick tells of all before it.
 use Rattle.std.proofs.Common.{◌≡◌, ◌<◌, ◌&&◌, ◌||◌, ℕ, Bool, true, false, List, [], ◌∷◌, Some, if◌then◌else◌, nat_le, nat_lt, refl, sym, ◌∙◌, arith}
 use Rattle.std.proofs.lemmas.Bool.Decides.{nat_tests}
-use Rattle.output_delays.specs.Kept.{IsFalling}
+use Rattle.tick_units.specs.Earliest.{IsFalling}
 use Rattle.output_delays.specs.Overrides.{AllUpTo, is_any_in, last_before}
 use Rattle.output_delays.specs.Timers.{is_since}
 

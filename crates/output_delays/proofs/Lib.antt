@@ -1,5 +1,4 @@
 pub mod Bits
 pub mod Latest
-pub mod Listed
 pub mod Requested
 pub mod Steps

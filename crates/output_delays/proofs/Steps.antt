@@ -1,5 +1,7 @@
 -- One step of the loop over the timers.
-use Rattle.std.proofs.Common.{◌≡◌, ◌≢◌, ◌+◌, ◌<◌, ◌≤◌, ◌==◌, ◌&&◌, ◌||◌, ℕ, zero, suc, Bool, true, false, List, [], ◌∷◌, ◌++◌, map, take, drop, set, get_or, length, append-nil, inl, inr, refl, sym, subst, ◌∙◌, ap, arith}
+use Rattle.std.proofs.Common.{◌≡◌, ◌≢◌, ◌+◌, ◌<◌, ◌≤◌, ◌==◌, ◌&&◌, ◌||◌, ℕ, zero, suc, Bool, true, false, List, []}
+use Rattle.std.proofs.Common.{◌∷◌, ◌++◌, map, take, drop, set, get_or, length, append-nil, inl, inr, refl, sym, subst}
+use Rattle.std.proofs.Common.{◌∙◌, ap, arith}
 use Rattle.std.specs.List.{AllByRecursion, list_any}
 use Rattle.std.proofs.lemmas.List.{take_more, take_all, map-append, drop_all, length-map}
 use Rattle.std.proofs.lemmas.List.Folds.{list_any-append}
@@ -22,7 +24,8 @@ module _ (f : Timer → Timer) (test : Timer → Bool) (k : ℕ) where
   or_true true = refl
   or_true false = refl
 
-  more : (timers : List Timer) (i : ℕ) (d : Timer) → i < length timers → list_any here (map f (take (i + 1) timers)) ≡ (list_any here (map f (take i timers)) || (here (f (get_or timers i d)) || false))
+  more : (timers : List Timer) (i : ℕ) (d : Timer) → i < length timers
+      → list_any here (map f (take (i + 1) timers)) ≡ (list_any here (map f (take i timers)) || (here (f (get_or timers i d)) || false))
   more timers i d within =
       ap (λ xs. list_any here (map f xs)) (take_more timers i d within)
       ∙ ap (list_any here) (map-append f (take i timers) (get_or timers i d ∷ []))
@@ -33,7 +36,8 @@ module _ (f : Timer → Timer) (test : Timer → Bool) (k : ℕ) where
       has_bit old k ≡ list_any here (map f (take i timers)) → has_bit old k ≡ list_any here (map f (take (i + 1) timers))
   failed timers i d timer old within is fails before =
       let none : here (f (get_or timers i d)) ≡ false = ap here (sym is) ∙ ap (λ b. (timer.place == k) && b) fails ∙ go (timer.place == k) in
-      before ∙ sym (more timers i d within ∙ ap (λ b. list_any here (map f (take i timers)) || (b || false)) none ∙ or_false (list_any here (map f (take i timers))))
+      before ∙ sym (more timers i d within ∙ ap (λ b. list_any here (map f (take i timers)) || (b || false)) none ∙ or_false
+      (list_any here (map f (take i timers))))
     where
       go : (b : Bool) → (b && false) ≡ false
       go true = refl
@@ -49,17 +53,20 @@ module _ (f : Timer → Timer) (test : Timer → Bool) (k : ℕ) where
       elim (eqb_tells timer.place k) [
         | inl same ↦ (
             let yes : here (f (get_or timers i d)) ≡ true = one ∙ ap (λ b. b && test timer) same.0 ∙ passes in
-            ap (has_bit new) (sym same.1) ∙ this ∙ sym (all ∙ ap (λ b. list_any here (map f (take i timers)) || (b || false)) yes ∙ or_true (list_any here (map f (take i timers))))
+            ap (has_bit new) (sym same.1) ∙ this ∙ sym
+            (all ∙ ap (λ b. list_any here (map f (take i timers)) || (b || false)) yes ∙ or_true (list_any here (map f (take i timers))))
             )
         | inr other ↦ (
             let no_timer : here (f (get_or timers i d)) ≡ false = one ∙ ap (λ b. b && test timer) other.0 in
             let ne = other.1 in
-            others (λ e. ne (sym e)) ∙ before ∙ sym (all ∙ ap (λ b. list_any here (map f (take i timers)) || (b || false)) no_timer ∙ or_false (list_any here (map f (take i timers))))
+            others (λ e. ne (sym e)) ∙ before ∙ sym (all ∙ ap (λ b. list_any here (map f (take i timers)) || (b || false)) no_timer ∙ or_false
+            (list_any here (map f (take i timers))))
             )
       ]
 
 -- the list of a loop that writes, at the place that it has come to
-pub next_timer : (f : Timer → Timer) (xs ys : List Timer) (i : ℕ) (d : Timer) → i < length xs → ys ≡ map f (take i xs) ++ drop i xs → get_or ys i d ≡ get_or xs i d
+pub next_timer : (f : Timer → Timer) (xs ys : List Timer) (i : ℕ) (d : Timer) → i < length xs → ys ≡ map f (take i xs) ++ drop i xs
+    → get_or ys i d ≡ get_or xs i d
 next_timer f xs ys i d within is = rw is (go xs i within)
   where
     go : (xs : List Timer) (i : ℕ) → i < length xs → get_or (map f (take i xs) ++ drop i xs) i d ≡ get_or xs i d
@@ -68,7 +75,8 @@ next_timer f xs ys i d within is = rw is (go xs i within)
     go (x ∷ xs) (suc i) within = go xs i (omega (arith, within))
 
 -- a turn keeps the places of timers
-pub still_placed : (now : Tick) (on : ℕ) (timers : List Timer) → AllByRecursion (λ timer. timer.place < 32) timers → AllByRecursion (λ timer. timer.place < 32) (map (turned_by now on) timers)
+pub still_placed : (now : Tick) (on : ℕ) (timers : List Timer) → AllByRecursion (λ timer. timer.place < 32) timers
+    → AllByRecursion (λ timer. timer.place < 32) (map (turned_by now on) timers)
 still_placed now on [] all = tt
 still_placed now on (timer ∷ timers) all = (all.0, still_placed now on timers all.1)
 
@@ -101,9 +109,11 @@ turned_timers f xs ws is = refilled xs ws (ap length is ∙ length-map xs f) ∙
 
 pub placed_timers : (now : Tick) (on : ℕ) (xs ws : List Timer) → AllByRecursion (λ timer. timer.place < 32) xs → ws ≡ map (turned_by now on) xs →
     AllByRecursion (λ timer. timer.place < 32) (take (length xs) (ws ++ drop (length ws) xs))
-placed_timers now on xs ws all is = subst (AllByRecursion (λ timer. timer.place < 32)) (sym (turned_timers (turned_by now on) xs ws is)) (still_placed now on xs all)
+placed_timers now on xs ws all is =
+    subst (AllByRecursion (λ timer. timer.place < 32)) (sym (turned_timers (turned_by now on) xs ws is)) (still_placed now on xs all)
 
 -- one timer more is placed too
-pub one_more_placed : (timers : List Timer) (timer : Timer) → AllByRecursion (λ l. l.place < 32) timers → timer.place < 32 → AllByRecursion (λ l. l.place < 32) (timers ++ timer ∷ [])
+pub one_more_placed : (timers : List Timer) (timer : Timer) → AllByRecursion (λ l. l.place < 32) timers → timer.place < 32
+    → AllByRecursion (λ l. l.place < 32) (timers ++ timer ∷ [])
 one_more_placed [] timer all small = (small, tt)
 one_more_placed (l ∷ timers) timer all small = (all.0, one_more_placed timers timer all.1 small)

@@ -1,8 +1,9 @@
 -- What is kept of overrides.
 use Rattle.std.specs.Prelude.{◌≡◌, ℕ, List, [], ◌∷◌, Option, Some, None}
 use Rattle.tick_units.specs.declared.tick.Tick.{Tick}
+use Rattle.tick_units.specs.Earliest.{IsFalling}
 use Rattle.output_delays.specs.declared.overrides.Overrides.{Overrides}
-use Rattle.output_delays.specs.Overrides.{AllUpTo, last_before}
+use Rattle.output_delays.specs.Overrides.{last_before}
 
 abbrev pub latest_of : List ℕ → Option Tick
 latest_of [] = None
@@ -12,11 +13,6 @@ latest_of (tick ∷ ticks) = Some (record { 0 = tick })
 abbrev pub before_latest : List ℕ → Option Tick
 before_latest [] = None
 before_latest (tick ∷ ticks) = last_before tick ticks
-
--- each override was done in the tick of those behind it or later
-abbrev pub IsFalling : List ℕ → Type 0
-IsFalling [] = Unit {0}
-IsFalling (tick ∷ ticks) = AllUpTo tick ticks × IsFalling ticks
 
 -- the latest two ticks with an override are kept
 pub record Keeps (ticks : List ℕ) (overrides : Overrides) : Type 0 where

@@ -3,3 +3,4 @@ pub mod Overrides
 pub mod Runs
 pub mod Stands
 pub mod Timers
+pub mod Passed

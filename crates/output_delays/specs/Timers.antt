@@ -1,5 +1,6 @@
 -- What a turn makes of the timer of an output.
-use Rattle.std.specs.Prelude.{ℕ, ◌-◌, ◌&&◌, Bool, false, not, Option, Some, None, unwrap_or, if◌then◌else◌, nat_le, nat_lt}
+use Rattle.std.specs.Prelude.{ℕ, ◌-◌, ◌&&◌, Bool, false, not, Option, Some, None, unwrap_or, if◌then◌else◌, nat_le}
+use Rattle.std.specs.Prelude.{nat_lt}
 use Rattle.tick_units.specs.declared.tick.Tick.{Tick}
 use Rattle.site_types.specs.Bits.{has_bit}
 use Rattle.output_delays.specs.declared.timer.Timer.{Timer}
@@ -19,7 +20,8 @@ is_since first (Some tick) = nat_le first tick.0
 
 abbrev pub is_holding_since : Tick → Option Tick → ℕ → Option Tick → Bool
 is_holding_since now overridden delay None = false
-is_holding_since now overridden delay (Some first) = not (is_since first.0 overridden) && nat_lt (now.0 - first.0) delay
+is_holding_since now overridden delay (Some first) =
+    not (is_since first.0 overridden) && nat_lt (now.0 - first.0) delay
 
 -- a timer holds its output back
 abbrev pub is_holding : Tick → Option Tick → Timer → Bool

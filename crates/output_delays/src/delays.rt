@@ -1,10 +1,10 @@
-ghost use Rattle.std.specs.Prelude.{◌≡◌, ◌+◌, ◌<◌, ◌==◌, ◌&&◌, Bool, [], ◌∷◌, ℕ, List, map};
+ghost use Rattle.std.specs.Prelude.{◌≡◌, ◌<◌, ◌==◌, ◌&&◌, Bool, [], ◌∷◌, ℕ, List, map};
 ghost use Rattle.std.specs.List.{AllByRecursion, list_any};
 ghost use Rattle.std.proofs.Props.{props};
 ghost use Rattle.site_types.specs.declared.site.Site.{Site as SiteOf};
 ghost use Rattle.site_types.specs.Bits.{mask_of};
 ghost use Rattle.output_delays.specs.Overrides.{AllUpTo};
-ghost use Rattle.output_delays.specs.Runs.{Call, Overrode, Switched, Turned, is_through, overrides_of};
+ghost use Rattle.output_delays.specs.Runs.{Call, Overrode, Switched, Turned, overrides_of};
 ghost use Rattle.output_delays.specs.Timers.{is_holding, turned_by};
 
 use crate::outputs::delay_of;
@@ -26,6 +26,7 @@ pub struct Delays {
 }
 
 impl Delays {
+    ghost use Rattle.output_delays.specs.Passed.{PassesRequests};
     ghost use Rattle.output_delays.specs.Stands.{StandsFor};
 
     /// The delays of a panel, on or off, before any turn.
@@ -50,11 +51,13 @@ impl Delays {
         }
     }
 
-    /// Makes the turn of a tick, which isn't before any override, and gives the outputs asked for in it that no delay holds back, bit
-    /// `number - 1` each.
+    /// Makes the turn of a tick, which isn't before any override, and gives the outputs asked for in it that
+    /// no delay holds back, bit `number - 1` each.
     pub fn turn(&mut self, now: Tick, requests: &Requests) -> u32
-        ensures stands { (site : SiteOf) (panel : ℕ) (active : Bool) (calls : List Call) → StandsFor site panel active calls self.old → StandsFor site panel active (Turned now.0 requests.now ∷ calls) self.new }
-        ensures value { (site : SiteOf) (panel : ℕ) (active : Bool) (calls : List Call) → StandsFor site panel active calls self.old → AllUpTo now.0 (overrides_of calls) → result ≡ mask_of 32 (λ k. is_through site panel active calls now.0 requests.now (k + 1)) }
+        ensures stands { (site : SiteOf) (panel : ℕ) (active : Bool) (calls : List Call)
+            → StandsFor site panel active calls self.old
+            → StandsFor site panel active (Turned now.0 requests.now ∷ calls) self.new }
+        ensures value { PassesRequests self.old now.0 requests.now result }
     {
         let overridden = self.overrides.last_before(now);
         let held = turn_timers(self.timers.as_mut_slice(), now, requests.asked, overridden);
@@ -65,16 +68,21 @@ impl Delays {
         }
     }
 
-    /// Overrides the delays of the requests that stand in a tick, from the next tick on. The tick isn't before that of another override.
+    /// Overrides the delays of the requests that stand in a tick, from the next tick on. The tick isn't
+    /// before that of another override.
     pub fn override_now(&mut self, at: Tick)
-        ensures { (site : SiteOf) (panel : ℕ) (active : Bool) (calls : List Call) → StandsFor site panel active calls self.old → AllUpTo at.0 (overrides_of calls) → StandsFor site panel active (Overrode at.0 ∷ calls) self.new }
+        ensures { (site : SiteOf) (panel : ℕ) (active : Bool) (calls : List Call)
+            → StandsFor site panel active calls self.old → AllUpTo at.0 (overrides_of calls)
+            → StandsFor site panel active (Overrode at.0 ∷ calls) self.new }
     {
         self.overrides = self.overrides.note(at);
     }
 
     /// Turns the delays of the panel on or off, from the next turn on.
     pub fn set_delays(&mut self, active: bool)
-        ensures { (site : SiteOf) (panel : ℕ) (first : Bool) (calls : List Call) → StandsFor site panel first calls self.old → StandsFor site panel first (Switched active ∷ calls) self.new }
+        ensures { (site : SiteOf) (panel : ℕ) (first : Bool) (calls : List Call)
+            → StandsFor site panel first calls self.old
+            → StandsFor site panel first (Switched active ∷ calls) self.new }
     {
         self.active = active;
     }
@@ -84,7 +92,9 @@ impl Delays {
 fn turn_timers(timers: &mut [Timer], now: Tick, asked: u32, overridden: Option<Tick>) -> u32
     requires { AllByRecursion (λ timer. timer.place < 32) timers.old }
     ensures timers { timers.new ≡ map (turned_by now asked) timers.old }
-    ensures held { result ≡ mask_of 32 (λ k. list_any (λ timer. (timer.place == k) && is_holding now overridden timer) timers.new) }
+    ensures held { result
+        ≡ mask_of 32 (λ k. list_any (λ timer. (timer.place == k) && is_holding now overridden timer)
+        timers.new) }
 {
     let mut held = 0;
     for timer in timers.iter_mut() {

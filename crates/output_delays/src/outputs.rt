@@ -7,7 +7,8 @@ ghost use Rattle.output_delays.specs.Runs.{delay_of};
 use site_types::{Output, Site};
 
 fn output_of(outputs: &[Output], panel: u8, number: u8) -> Option<&Output>
-    ensures { option_copied result ≡ find (λ output. (output.panel == panel) && (output.number == number)) outputs.now }
+    ensures { option_copied result ≡ find (λ output. (output.panel == panel)
+        && (output.number == number)) outputs.now }
 {
     outputs
         .iter()

@@ -21,7 +21,8 @@ impl Overrides {
 
     /// The same with an override in a tick that isn't before the others.
     pub fn note(self, at: Tick) -> Overrides
-        ensures { (ticks : List ℕ) → Keeps ticks self → AllUpTo at.0 ticks → Keeps (at.0 ∷ ticks) result }
+        ensures { (ticks : List ℕ) → Keeps ticks self → AllUpTo at.0 ticks
+            → Keeps (at.0 ∷ ticks) result }
     {
         match self.latest {
             Some(tick) if tick.0 == at.0 => self,
@@ -34,7 +35,8 @@ impl Overrides {
 
     /// The latest override before a tick, where none was after it.
     pub fn last_before(self, now: Tick) -> Option<Tick>
-        ensures { (ticks : List ℕ) → Keeps ticks self → AllUpTo now.0 ticks → result ≡ last_before now.0 ticks }
+        ensures { (ticks : List ℕ) → Keeps ticks self → AllUpTo now.0 ticks
+            → result ≡ last_before now.0 ticks }
     {
         match self.latest {
             Some(tick) if tick.0 < now.0 => self.latest,

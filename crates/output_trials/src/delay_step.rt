@@ -19,8 +19,8 @@ pub(crate) enum DelayStep {
 }
 
 impl DelayStep {
-    /// The step that words spell: `ask bells fans`, `by hand fans`, or the line of a record for an operation, with `early ` in front of one that is
-    /// done before the turn.
+    /// The step that words spell: `ask bells fans`, `by hand fans`, or the line of a record for an operation,
+    /// with `early ` in front of one that is done before the turn.
     pub(crate) fn read(alloc: Global, site: &Site, words: &str) -> Result<DelayStep>
         requires { IsValid site.now }
     {

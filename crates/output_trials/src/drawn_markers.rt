@@ -1,5 +1,6 @@
-//! Drawn tables of markers of all kinds, solved from scratch and from change to change, against a plain program that goes over all markers again
-//! and again, from none true, until as many rounds are made as there are markers.
+//! Drawn tables of markers of all kinds, solved from scratch and from change to change, against a plain
+//! program that goes over all markers again and again, from none true, until as many rounds are made as there
+//! are markers.
 
 ghost use Rattle.std.specs.Prelude.{◌≡◌, ◌<◌};
 

@@ -53,8 +53,8 @@ enum Sounders {
     Drove([u32; 8]),
 }
 
-// Whether the sounders are quiet after these, the oldest first: the last that isn't a turn is a silence, and each turn since finds some zone, and
-// none that the last turn before the silence hadn't.
+// Whether the sounders are quiet after these, the oldest first: the last that isn't a turn is a silence, and
+// each turn since finds some zone, and none that the last turn before the silence hadn't.
 fn is_quiet(done: &[Sounders]) -> bool {
     let mut last = None;
     for (place, step) in done.iter().enumerate() {
@@ -154,8 +154,8 @@ fn all_alike(alloc: Global, sample: &Sample) -> Result<String> {
 
 // ---- delays
 
-// How many of the latest turns found an output in their mask, one after the other, and the tick of the first of them. The turns are those of
-// ticks 1, 2 and so on.
+// How many of the latest turns found an output in their mask, one after the other, and the tick of the first
+// of them. The turns are those of ticks 1, 2 and so on.
 fn run_of(masks: &[u32], number: u8) -> (u64, u64) {
     let run = masks
         .iter()
@@ -244,7 +244,8 @@ pub(crate) fn try_delays(alloc: Global, site: &Site, line: &str) -> Result<Strin
 
 // ---- confirmations
 
-// What an output is at after the latest turn, with the ticks and numbers of confirmations that came before the turn of their tick.
+// What an output is at after the latest turn, with the ticks and numbers of confirmations that came before
+// the turn of their tick.
 fn state_of(on: &[u32], confirmations: &[(u64, u8)], limit: u64, number: u8) -> RoutingState {
     let now = on.len() as u64;
     let (run, first) = run_of(on, number);

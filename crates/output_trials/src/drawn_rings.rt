@@ -13,7 +13,8 @@ use trial_cases::{Sample, below};
 /// The stream of numbers that is drawn from.
 const STREAM: u64 = 54;
 
-/// A turn of a panel, in which it had a word of its own with this stamp, and the links that were up in its tick, link 1 first.
+/// A turn of a panel, in which it had a word of its own with this stamp, and the links that were up in its
+/// tick, link 1 first.
 #[derive(Clone, Copy)]
 struct Turn {
     tick: u64,
@@ -57,8 +58,9 @@ fn carries(panels: u8, tick: u64, panel: u8) -> bool {
     panels <= 4 || (tick % 2 == 1) == (panel <= 4)
 }
 
-// The greatest stamp over all chains of turns from a panel to another, 0 where there is none. A chain begins with a turn of the one, each
-// further turn is later and of a neighbour of the panel before, over a link that is up, in a tick that carries the word, and the last is of the other.
+// The greatest stamp over all chains of turns from a panel to another, 0 where there is none. A chain begins
+// with a turn of the one, each further turn is later and of a neighbour of the panel before, over a link that
+// is up, in a tick that carries the word, and the last is of the other.
 fn heard_by_chains(alloc: Global, panels: u8, turns: &[Turn], at: u8, of: u8) -> Result<u64> {
     let mut heard = 0;
     let mut ends: Vec<(usize, u64)> = Vec::new(alloc);

@@ -9,8 +9,8 @@ use std::alloc::{AllocError, Global};
 use tick_units::Tick;
 use trial_cases::{History, event_of, named, output_names, outputs_of};
 
-/// Each tick in which an output of panel 1 comes to be at something else, with all that aren't idle. Confirmations come before the turn of their
-/// tick.
+/// Each tick in which an output of panel 1 comes to be at something else, with all that aren't idle.
+/// Confirmations come before the turn of their tick.
 pub(crate) fn route(alloc: Global, site: &Site, line: &str) -> Result<String>
     requires { IsValid site.now }
 {
@@ -56,7 +56,8 @@ fn confirm(alloc: Global, site: &Site, words: &str, routing: &mut Routing) -> Re
     Ok(())
 }
 
-/// What the outputs of a panel are at, where all numbers are on and the time for confirming is over at once: before and after each is confirmed.
+/// What the outputs of a panel are at, where all numbers are on and the time for confirming is over at once:
+/// before and after each is confirmed.
 pub(crate) fn confirm_all(alloc: Global, site: &Site, panel: &str) -> Result<String> {
     let panel = match panel {
         "panel 1" => 1,

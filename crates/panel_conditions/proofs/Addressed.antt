@@ -1,5 +1,7 @@
 -- A point of a panel stands at its address, and no other does.
-use Rattle.std.proofs.Common.{◌≡◌, ◌≢◌, ◌⊎◌, inl, inr, ℕ, ◌<◌, Bool, true, false, List, [], ◌∷◌, map, length, get_or, Option, Some, None, option_map, slice_get, ◌==◌, ◌&&◌, nat_le, nat_lt, if◌then◌else◌, refl, sym, ◌∙◌, ap, subst, cond, arith}
+use Rattle.std.proofs.Common.{◌≡◌, ◌≢◌, ◌⊎◌, inl, inr, ℕ, ◌<◌, Bool, true, false, List, [], ◌∷◌, map, length, get_or}
+use Rattle.std.proofs.Common.{Option, Some, None, option_map, slice_get, ◌==◌, ◌&&◌, nat_le, nat_lt, if◌then◌else◌}
+use Rattle.std.proofs.Common.{refl, sym, ◌∙◌, ap, subst, cond, arith}
 use Rattle.std.specs.List.{position, position_or_len}
 use Rattle.std.proofs.lemmas.Bool.{eqb-true, eq-eqb}
 use Rattle.std.proofs.lemmas.Bool.Decides.{nat_tests, eqb_tells}
@@ -24,11 +26,13 @@ pub record StandsAt (site : Site) (panel line address place : ℕ) : Type 0 wher
   pub line_is : point.line ≡ line
   pub address_is : point.address ≡ address
 
-pub of_addressed : (site : Site) (panel line address place : ℕ) → addressed site panel line address ≡ Some place → StandsAt site panel line address place
+pub of_addressed : (site : Site) (panel line address place : ℕ) → addressed site panel line address ≡ Some place
+    → StandsAt site panel line address place
 of_addressed site panel line address place h = go site.points refl
   where
     go : (points : List Point) → site.points ≡ points → StandsAt site panel line address place
-    go [] e = let none : position (is_addressed panel line address) [] ≡ Some place = subst (λ l. position (is_addressed panel line address) l ≡ Some place) e h in cc
+    go [] e = let none : position (is_addressed panel line address) [] ≡ Some place =
+        subst (λ l. position (is_addressed panel line address) l ≡ Some place) e h in cc
     go (p ∷ ps) e =
         let found = position-Some (is_addressed panel line address) site.points place p h in
         let point = get_or site.points place p in
@@ -43,7 +47,8 @@ of_addressed site panel line address place h = go site.points refl
         }
 
 -- a point is found at its address
-pub addressed_of : (site : Site) (place : ℕ) (point : Point) → HasOwnPlaces site → slice_get site.points place ≡ Some point → addressed site point.panel point.line point.address ≡ Some place
+pub addressed_of : (site : Site) (place : ℕ) (point : Point) → HasOwnPlaces site → slice_get site.points place ≡ Some point
+    → addressed site point.panel point.line point.address ≡ Some place
 addressed_of site place point own is = found (position_or_len test site.points) first small
   where
     test : Point → Bool
@@ -59,7 +64,8 @@ addressed_of site place point own is = found (position_or_len test site.points) 
     passes =
         ap test here
         ∙ both_and (point.panel == point.panel) ((point.line == point.line) && (point.address == point.address)) (eq-eqb point.panel point.panel refl)
-        (both_and (point.line == point.line) (point.address == point.address) (eq-eqb point.line point.line refl) (eq-eqb point.address point.address refl))
+        (both_and (point.line == point.line) (point.address == point.address) (eq-eqb point.line point.line refl)
+        (eq-eqb point.address point.address refl))
 
     only : (k : ℕ) → k < place → (b : Bool) → test (get_or site.points k point) ≡ b → b ≡ false
     only k less false e = refl
@@ -69,14 +75,17 @@ addressed_of site place point own is = found (position_or_len test site.points) 
         let rest = and_both (other.line == point.line) (other.address == point.address) both.1 in
         let at : slice_get site.points k ≡ Some other = slice_get-get_or site.points k point (omega (arith, less, small)) in
         let one =
-        own.points_apart k place other point at is (eqb-true other.panel point.panel both.0) (eqb-true other.line point.line rest.0) (eqb-true other.address point.address rest.1) in
+        own.points_apart k place other point at is (eqb-true other.panel point.panel both.0) (eqb-true other.line point.line rest.0)
+        (eqb-true other.address point.address rest.1) in
         absurd (omega (arith, one, less))
 
     first : position_or_len test site.points ≡ place
-    first = position_or_len_is test site.points place point (omega (arith, small)) (λ k less. only k less (test (get_or site.points k point)) refl) (λ _. passes)
+    first = position_or_len_is test site.points place point (omega (arith, small)) (λ k less. only k less (test (get_or site.points k point)) refl)
+        (λ _. passes)
 
     found : (n : ℕ) → n ≡ place → place < length site.points → cond (nat_lt n (length site.points)) (Some n) None ≡ Some place
-    found n e less = ap (λ m. cond (nat_lt m (length site.points)) (Some m) None) e ∙ ap (λ b. cond b (Some place) None) (lt_true place (length site.points) less)
+    found n e less =
+        ap (λ m. cond (nat_lt m (length site.points)) (Some m) None) e ∙ ap (λ b. cond b (Some place) None) (lt_true place (length site.points) less)
 
 pub neq_false : (m n : ℕ) → m ≢ n → (m == n) ≡ false
 neq_false m n apart = elim (eqb_tells m n) [ inl same ↦ absurd (apart same.1) | inr far ↦ far.0 ]
@@ -89,7 +98,8 @@ but_same : (place : ℕ) (on : Bool) (test : ℕ → Bool) → but_at place on t
 but_same place on test = ap (λ b. if b then on else test place) (eq-eqb place place refl)
 
 but_other : (place other : ℕ) (on : Bool) (test : ℕ → Bool) → place ≢ other → test other ≡ but_at place on test other
-but_other place other on test apart = elim (eqb_tells place other) [ inl same ↦ absurd (apart same.1) | inr far ↦ ap (λ b. if b then on else test other) (sym far.0) ]
+but_other place other on test apart =
+    elim (eqb_tells place other) [ inl same ↦ absurd (apart same.1) | inr far ↦ ap (λ b. if b then on else test other) (sym far.0) ]
 
 -- nothing changes at an address where another point stands, or none
 elsewhere : (place : ℕ) (on : Bool) (test : ℕ → Bool) (o : Option ℕ) → (o ≡ Some place → ⊥) → on_point test o ≡ on_point (but_at place on test) o
@@ -104,7 +114,8 @@ place_true line address h =
     (both_and (nat_le 1 address) (nat_le address 192) (grind (arith, nat_tests, c)) (grind (arith, nat_tests, d)))
 
 module _ (site : Site) (panel place : ℕ) (on : Bool) (test : ℕ → Bool) (own : HasOwnPlaces site) where
-  other_panel : (point : Point) → slice_get site.points place ≡ Some point → point.panel ≢ panel → points_where site panel test ≡ points_where site panel (but_at place on test)
+  other_panel : (point : Point) → slice_get site.points place ≡ Some point → point.panel ≢ panel
+      → points_where site panel test ≡ points_where site panel (but_at place on test)
   other_panel point is far =
       sets_agree site panel test (but_at place on test)
       (λ line address. elsewhere place on test (addressed site panel line address) (λ e.
@@ -114,12 +125,16 @@ module _ (site : Site) (panel place : ℕ) (on : Bool) (test : ℕ → Bool) (ow
   no_point : slice_get site.points place ≡ None → points_where site panel test ≡ points_where site panel (but_at place on test)
   no_point none =
       sets_agree site panel test (but_at place on test)
-      (λ line address. elsewhere place on test (addressed site panel line address) (λ e. let found = of_addressed site panel line address place e in let no_way = sym none ∙ found.is in cc))
+      (λ line address. elsewhere place on test (addressed site panel line address) (λ e. let found = of_addressed site panel line address place e in
+      let no_way = sym none ∙ found.is in cc))
 
-  at_address : (point : Point) → slice_get site.points place ≡ Some point → point.panel ≡ panel → with_point (points_where site panel test) point.line point.address on ≡ points_where site panel (but_at place on test)
+  at_address : (point : Point) → slice_get site.points place ≡ Some point → point.panel ≡ panel
+      → with_point (points_where site panel test) point.line point.address on ≡ points_where site panel (but_at place on test)
   at_address point is at =
-      let here : addressed site panel point.line point.address ≡ Some place = subst (λ n. addressed site n point.line point.address ≡ Some place) at (addressed_of site place point own is) in
-      put_is site panel test (but_at place on test) point.line point.address on (ap (on_point (but_at place on test)) here ∙ but_same place on test) (own.point place point is).1
+      let here : addressed site panel point.line point.address ≡ Some place =
+      subst (λ n. addressed site n point.line point.address ≡ Some place) at (addressed_of site place point own is) in
+      put_is site panel test (but_at place on test) point.line point.address on (ap (on_point (but_at place on test)) here ∙ but_same place on test)
+      (own.point place point is).1
       (λ l a apart. elsewhere place on test (addressed site panel l a) (λ e.
       let found = of_addressed site panel l a place e in
       let same = same_Some point found.point (sym is ∙ found.is) in
@@ -130,18 +145,23 @@ module _ (site : Site) (panel place : ℕ) (on : Bool) (test : ℕ → Bool) (ow
       clash l a (inr far) e f = far f
 
   -- the point at a place is put in or taken out
-  pub put_point : (o : Option Point) → slice_get site.points place ≡ o → put_at (address_in (option_map (loop_address panel) o)) on (points_where site panel test) ≡ points_where site panel (but_at place on test)
+  pub put_point : (o : Option Point) → slice_get site.points place ≡ o
+      → put_at (address_in (option_map (loop_address panel) o)) on (points_where site panel test) ≡ points_where site panel (but_at place on test)
   put_point None is = no_point is
   put_point (Some point) is = elim (eqb_tells point.panel panel) [
-    | inl same ↦ ap (λ b. put_at (if b then Some (record { line = point.line; address = point.address }) else None) on (points_where site panel test)) same.0
-        ∙ ap (λ b. if b then with_point (points_where site panel test) point.line point.address on else points_where site panel test) (place_true point.line point.address (own.point place point is).1)
+    | inl same ↦ ap (λ b. put_at (if b then Some (record { line = point.line; address = point.address }) else None) on (points_where site panel test))
+        same.0
+        ∙ ap (λ b. if b then with_point (points_where site panel test) point.line point.address on else points_where site panel test)
+        (place_true point.line point.address (own.point place point is).1)
         ∙ at_address point is same.1
-    | inr far ↦ ap (λ b. put_at (if b then Some (record { line = point.line; address = point.address }) else None) on (points_where site panel test)) far.0
+    | inr far ↦ ap (λ b. put_at (if b then Some (record { line = point.line; address = point.address }) else None) on (points_where site panel test))
+        far.0
         ∙ other_panel point is far.1
   ]
 
   -- by the list of addresses
-  pub put_place : put_at (address_in (slice_get (map (loop_address panel) site.points) place)) on (points_where site panel test) ≡ points_where site panel (but_at place on test)
+  pub put_place : put_at (address_in (slice_get (map (loop_address panel) site.points) place)) on (points_where site panel test)
+      ≡ points_where site panel (but_at place on test)
   put_place =
       ap (λ o. put_at (address_in o) on (points_where site panel test)) (slice_get-map (loop_address panel) site.points place)
       ∙ put_point (slice_get site.points place) refl

@@ -11,18 +11,19 @@ use Rattle.site_types.specs.declared.retained.Retained.{Retained}
 use Rattle.site_types.specs.declared.buzzer.Buzzer.{Buzzer}
 use Rattle.site_types.specs.declared.fault_set.FaultSet.{FaultSet}
 use Rattle.site_types.specs.declared.word.Word.{Word}
-use Rattle.site_types.specs.Bits.{has_bit}
+use Rattle.site_types.specs.Bits.{any_below, has_bit}
 use Rattle.site_types.specs.Done.{Done, AreBy}
 use Rattle.coincidence_rules.specs.declared.finding.Finding.{Finding}
 use Rattle.panel_conditions.specs.declared.hold.Hold.{Hold}
-use Rattle.panel_conditions.specs.declared.last_tick.LastTick.{LastTick}
+use Rattle.tick_units.specs.declared.last_done.LastDone.{LastDone}
 use Rattle.panel_conditions.specs.declared.outside.Outside.{Outside}
 use Rattle.panel_conditions.specs.declared.point_switch.PointSwitch.{PointSwitch}
 use Rattle.panel_conditions.specs.declared.shown.Shown.{Shown}
 use Rattle.panel_conditions.specs.declared.sign.Sign.TheVariants.{Alarm, Manual, Released, First}
-use Rattle.panel_conditions.specs.Parts.{last_at, later_tick, points_at, points_shown, signs_at}
+use Rattle.panel_conditions.specs.Parts.{later_tick, points_at, points_shown, signs_at}
+use Rattle.tick_units.specs.LastTicks.{last_at}
 use Rattle.panel_conditions.specs.PointSets.{set_without}
-use Rattle.panel_conditions.specs.Shown.{any_below, has_more, has_more_points, is_in_fire_alarm, is_news, on_lines, sounds}
+use Rattle.panel_conditions.specs.Shown.{has_more, has_more_points, is_in_fire_alarm, is_news, on_lines, sounds}
 use Rattle.panel_conditions.specs.Stands.{HoldsFor, IsUnchanged, ShownStays, TakesFindings, Watches, entries_then, faults_now, newly_then, nothing_shown, shown_at, shown_now, shown_then, word_with}
 use Rattle.panel_conditions.specs.Turns.{HoldTurn, latest_tick}
 use Rattle.panel_conditions.specs.Words.{faults_at, has_fault, word_after, word_at}
@@ -33,7 +34,8 @@ use Rattle.panel_conditions.proofs.Watched.{missing_shown}
 
 pub same_sets : (a b : PointSet) (r : Bool) → r ≡ pointwise (pointwise nat_eq) a.loops b.loops → r ≡ true → a ≡ b
 same_sets a b r is holds =
-    ap (λ (l : List (List ℕ)). record { loops = l }) ((slice_eq-Decides (λ xs ys. slice_eq-Decides Decides-eqb xs ys (pointwise nat_eq xs ys) refl) a.loops b.loops r is).0 holds)
+    ap (λ (l : List (List ℕ)). record { loops = l })
+    ((slice_eq-Decides (λ xs ys. slice_eq-Decides Decides-eqb xs ys (pointwise nat_eq xs ys) refl) a.loops b.loops r is).0 holds)
 
 -- ---- nothing has more than itself
 
@@ -60,37 +62,52 @@ no_more_points set = neither (line 0) (neither (line 1) (neither (line 2) (line 
 
 no_news : (word : Word) (tick : ℕ) (faults : FaultSet) → is_news (record word { stamp = record { 0 = tick } }) faults word faults ≡ false
 no_news word tick f =
-    neither (no_more 32 word.alarm) (neither (no_more 32 word.first) (neither (no_more_points f.missing) (neither (no_more 8 f.broken) (neither (no_more 8 f.shorted) (neither (no_more 8 f.supply) (neither (no_more 8 f.silent) (neither (no_more 8 f.links) (no_more 32 f.unconfirmed))))))))
+    neither (no_more 32 word.alarm)
+    (neither (no_more 32 word.first)
+    (neither (no_more_points f.missing)
+    (neither (no_more 8 f.broken)
+    (neither (no_more 8 f.shorted)
+    (neither (no_more 8 f.supply) (neither (no_more 8 f.silent) (neither (no_more 8 f.links) (no_more 32 f.unconfirmed))))))))
 
 same_record : (word : Word) (faults : FaultSet) (n m : Tick) (e g : ℕ) (b c : Buzzer) → n ≡ m → e ≡ g → b ≡ c →
-    ◌≡◌ {A = Shown} (record { word = word; faults = faults; newly = n; entries = e; buzzer = b }) (record { word = word; faults = faults; newly = m; entries = g; buzzer = c })
+    ◌≡◌ {A = Shown} (record { word = word; faults = faults; newly = n; entries = e; buzzer = b })
+    (record { word = word; faults = faults; newly = m; entries = g; buzzer = c })
 same_record word faults n m e g b c p q r = cc
 
 -- the same word and faults again, at another tick
 shown_again : (shown : Shown) (tick : ℕ) (muted : Tick) → shown.buzzer ≡ sounds shown.word (nat_lt muted.0 shown.newly.0) →
-    shown_then shown (record shown.word { stamp = record { 0 = tick } }) shown.faults muted ≡ record shown { word = record shown.word { stamp = record { 0 = tick } } }
+    shown_then shown (record shown.word { stamp = record { 0 = tick } }) shown.faults muted ≡ record shown {
+      word =
+          record shown.word { stamp = record { 0 = tick } };
+    }
 shown_again shown tick muted buzzer =
     let word = record shown.word { stamp = record { 0 = tick } } in
-    let newly : newly_then shown word shown.faults ≡ shown.newly = ap (λ b. if b then word.stamp else shown.newly) (no_news shown.word tick shown.faults) in
-    let entries : entries_then shown.entries word shown.word ≡ shown.entries = ap (λ b. if b then min (shown.entries + 1) (2 ^ 64 - 1) else shown.entries) (and_not (is_in_fire_alarm shown.word)) in
-    same_record word shown.faults _ shown.newly _ shown.entries _ shown.buzzer newly entries (ap (λ (n : Tick). sounds word (nat_lt muted.0 n.0)) newly ∙ sym buzzer)
+    let newly : newly_then shown word shown.faults ≡ shown.newly =
+    ap (λ b. if b then word.stamp else shown.newly) (no_news shown.word tick shown.faults) in
+    let entries : entries_then shown.entries word shown.word ≡ shown.entries =
+    ap (λ b. if b then min (shown.entries + 1) (2 ^ 64 - 1) else shown.entries) (and_not (is_in_fire_alarm shown.word)) in
+    same_record word shown.faults _ shown.newly _ shown.entries _ shown.buzzer newly entries
+    (ap (λ (n : Tick). sounds word (nat_lt muted.0 n.0)) newly ∙ sym buzzer)
 
 -- ---- switches behind the latest operation
 
 switched : (switch : PointSwitch) (moved x : ℕ) → switch.since.0 ≤ moved → moved < x → points_at x switch ≡ switch.after
 switched switch moved x by later = ap (λ b. if b then switch.after else switch.before) (lt-ltb switch.since.0 x (omega (arith, by, later)))
 
-last_is : (last : LastTick) (moved x : ℕ) → last.tick.0 ≤ moved → moved < x → last_at x last ≡ last.tick.0
+last_is : (last : LastDone) (moved x : ℕ) → last.tick.0 ≤ moved → moved < x → last_at x last ≡ last.tick.0
 last_is last moved x by later = ap (λ b. if b then last.tick.0 else last.earlier.0) (lt-ltb last.tick.0 x (omega (arith, by, later)))
 
 -- ---- what follows at a tick
 
-module _ {site : Site} {kept : Retained} {panel : ℕ} {done : List Done} {taken : List Finding} {hold : Hold} (h : Watches site kept panel done taken hold) where
+module _ {site : Site} {kept : Retained} {panel : ℕ} {done : List Done} {taken : List Finding} {hold : Hold} (h :
+    Watches site kept panel done taken hold) where
   points_are : (tick : ℕ) → AreBy hold.zones.moved.0 done → hold.zones.moved.0 < tick →
       points_shown tick hold.points ≡ set_without (set_without hold.points.missing hold.points.off.after) hold.points.zone_off.after
   points_are tick by later =
-      ap (λ s. set_without (set_without hold.points.missing s) (points_at tick hold.points.zone_off)) (switched hold.points.off hold.zones.moved.0 tick (h.points.off.by hold.zones.moved.0 by) later)
-      ∙ ap (set_without (set_without hold.points.missing hold.points.off.after)) (switched hold.points.zone_off hold.zones.moved.0 tick (h.points.zone_off.by hold.zones.moved.0 by) later)
+      ap (λ s. set_without (set_without hold.points.missing s) (points_at tick hold.points.zone_off))
+      (switched hold.points.off hold.zones.moved.0 tick (h.points.off.by hold.zones.moved.0 by) later)
+      ∙ ap (set_without (set_without hold.points.missing hold.points.off.after))
+      (switched hold.points.zone_off hold.zones.moved.0 tick (h.points.zone_off.by hold.zones.moved.0 by) later)
 
   muted_is : (tick : ℕ) → AreBy hold.zones.moved.0 done → hold.zones.moved.0 < tick → last_at tick hold.muted ≡ hold.muted.tick.0
   muted_is tick by later = last_is hold.muted hold.zones.moved.0 tick (h.muted.by hold.zones.moved.0 by) later
@@ -101,7 +118,16 @@ module _ {site : Site} {kept : Retained} {panel : ℕ} {done : List Done} {taken
   shown_is tick outside signs since =
       let shown = zones_shown site panel done taken hold.zones.watches.items tick in
       let faults : faults_now tick outside hold ≡ faults_at site kept panel done taken tick outside =
-      ap (λ (m : PointSet). record { missing = m; broken = outside.broken; shorted = outside.shorted; supply = outside.supply; silent = outside.silent; links = outside.links; unconfirmed = outside.unconfirmed })
+      ap (λ (m : PointSet). record {
+        missing = m;
+        broken = outside.broken;
+        shorted = outside.shorted;
+        supply = outside.supply;
+        silent =
+            outside.silent;
+        links = outside.links;
+        unconfirmed = outside.unconfirmed;
+      })
       (missing_shown site kept panel done taken hold.points tick since h.points)
       in
       let fault = has_fault (faults_now tick outside hold) in
@@ -129,8 +155,26 @@ module _ {site : Site} {kept : Retained} {panel : ℕ} {done : List Done} {taken
       ∙ stays.missing same.moved
       in
       let faults : faults_now tick outside hold ≡ was.faults =
-      ap (λ (m : PointSet). record { missing = m; broken = outside.broken; shorted = outside.shorted; supply = outside.supply; silent = outside.silent; links = outside.links; unconfirmed = outside.unconfirmed }) missing
-      ∙ ap (λ (o : Outside). record { missing = was.faults.missing; broken = o.broken; shorted = o.shorted; supply = o.supply; silent = o.silent; links = o.links; unconfirmed = o.unconfirmed }) same.outside_is
+      ap (λ (m : PointSet). record {
+        missing = m;
+        broken = outside.broken;
+        shorted = outside.shorted;
+        supply = outside.supply;
+        silent =
+            outside.silent;
+        links = outside.links;
+        unconfirmed = outside.unconfirmed;
+      }) missing
+      ∙ ap (λ (o : Outside). record {
+        missing = was.faults.missing;
+        broken = o.broken;
+        shorted = o.shorted;
+        supply = o.supply;
+        silent =
+            o.silent;
+        links = o.links;
+        unconfirmed = o.unconfirmed;
+      }) same.outside_is
       in
       let word : word_with tick (has_fault (faults_now tick outside hold)) hold.zones.signs ≡ record was.word { stamp = record { 0 = tick } } =
       ap (λ f. word_with tick (has_fault f) hold.zones.signs) faults
@@ -139,13 +183,16 @@ module _ {site : Site} {kept : Retained} {panel : ℕ} {done : List Done} {taken
       in
       let muted = muted_is tick stays.by later in
       sym (
-      ap (λ f. shown_then was (word_with tick (has_fault (faults_now tick outside hold)) hold.zones.signs) f (record { 0 = last_at tick hold.muted })) faults
+      ap (λ f. shown_then was (word_with tick (has_fault (faults_now tick outside hold)) hold.zones.signs) f (record { 0 = last_at tick hold.muted }))
+      faults
       ∙ ap (λ w. shown_then was w was.faults (record { 0 = last_at tick hold.muted })) word
-      ∙ shown_again was tick (record { 0 = last_at tick hold.muted }) (stays.buzzer same.moved ∙ ap (λ n. sounds was.word (nat_lt n was.newly.0)) (sym muted))
+      ∙ shown_again was tick (record { 0 = last_at tick hold.muted })
+      (stays.buzzer same.moved ∙ ap (λ n. sounds was.word (nat_lt n was.newly.0)) (sym muted))
       )
 
   -- and stays so
-  pub stays_now : (tick : ℕ) (outside : Outside) (after : Hold) → AreBy hold.zones.moved.0 done → after.shown ≡ shown_now tick outside hold → after.missing ≡ hold.points.missing →
+  pub stays_now : (tick : ℕ) (outside : Outside) (after : Hold) → AreBy hold.zones.moved.0 done → after.shown ≡ shown_now tick outside hold
+      → after.missing ≡ hold.points.missing →
       after.zones ≡ hold.zones → after.points ≡ hold.points → after.muted ≡ hold.muted → ShownStays done after
   stays_now tick outside after by shown missing zones points muted =
       let moved : after.zones.moved.0 ≡ hold.zones.moved.0 = ap (λ z. z.moved.0) zones in
@@ -160,7 +207,8 @@ module _ {site : Site} {kept : Retained} {panel : ℕ} {done : List Done} {taken
             ∙ sym (ap (λ s. s.faults.missing) shown);
         buzzer = λ lt.
             ap (λ s. s.buzzer) shown
-            ∙ ap (λ n. sounds (shown_now tick outside hold).word (nat_lt n (shown_now tick outside hold).newly.0)) (muted_is tick by (omega (arith, lt, moved, stamp)))
+            ∙ ap (λ n. sounds (shown_now tick outside hold).word (nat_lt n (shown_now tick outside hold).newly.0))
+            (muted_is tick by (omega (arith, lt, moved, stamp)))
             ∙ sym (ap (λ s. sounds s.word (nat_lt hold.muted.tick.0 s.newly.0)) shown)
             ∙ sym (ap (λ m. sounds after.shown.word (nat_lt m.tick.0 after.shown.newly.0)) muted);
       }
@@ -215,7 +263,8 @@ by_later : (done : List Done) (m n : ℕ) → m ≤ n → AreBy m done → AreBy
 by_later [] m n le by = tt
 by_later (d ∷ ds) m n le by = (omega (arith, le, by.0), by_later ds m n le by.1)
 
-pub stays_done : (done : List Done) (d : Done) (at : Tick) (was after : Hold) → d.tick ≡ at.0 → after.zones.moved ≡ later_tick was.zones.moved at → after.shown ≡ was.shown → was.shown.word.stamp.0 ≤ at.0 →
+pub stays_done : (done : List Done) (d : Done) (at : Tick) (was after : Hold) → d.tick ≡ at.0 → after.zones.moved ≡ later_tick was.zones.moved at
+    → after.shown ≡ was.shown → was.shown.word.stamp.0 ≤ at.0 →
     ShownStays done was → ShownStays (d ∷ done) after
 stays_done done d at was after tick moved shown turned h =
     let left = later_left was.zones.moved at in
@@ -230,9 +279,11 @@ stays_done done d at was after tick moved shown turned h =
     }
 
 -- it was shown in the latest turn
-stamp_after : (site : Site) (kept : Retained) (panel : ℕ) (done : List Done) (turns : List HoldTurn) → (word_after site kept panel done turns).stamp.0 ≡ latest_tick turns
+stamp_after : (site : Site) (kept : Retained) (panel : ℕ) (done : List Done) (turns : List HoldTurn)
+    → (word_after site kept panel done turns).stamp.0 ≡ latest_tick turns
 stamp_after site kept panel done [] = refl
 stamp_after site kept panel done (turn ∷ before) = refl
 
-pub shown_in : (site : Site) (kept : Retained) (panel : ℕ) (done : List Done) (turns : List HoldTurn) (hold : Hold) → HoldsFor site kept panel done turns hold → hold.shown.word.stamp.0 ≡ latest_tick turns
+pub shown_in : (site : Site) (kept : Retained) (panel : ℕ) (done : List Done) (turns : List HoldTurn) (hold : Hold)
+    → HoldsFor site kept panel done turns hold → hold.shown.word.stamp.0 ≡ latest_tick turns
 shown_in site kept panel done turns hold h = ap (λ w. w.stamp.0) h.shows.word ∙ stamp_after site kept panel done turns

@@ -4,9 +4,9 @@ use Rattle.std.proofs.lemmas.Bool.Decides.{nat_tests}
 use Rattle.std.proofs.lemmas.Nat.{pow_pos}
 use Rattle.std.specs.Int.{Width, bit_not}
 use mir.Val.{bits}
-use Rattle.site_types.specs.Bits.{has_bit, mask_of}
+use Rattle.site_types.specs.Bits.{any_below, has_bit, mask_of}
 use Rattle.site_types.proofs.Masks.{mask_none, mask_more, mask_without}
-use Rattle.panel_conditions.specs.Shown.{any_below, has_more}
+use Rattle.panel_conditions.specs.Shown.{has_more}
 
 or_false : (a : Bool) {b : Bool} → b ≡ false → (a || b) ≡ a
 or_false true e = refl

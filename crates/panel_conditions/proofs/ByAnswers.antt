@@ -23,28 +23,39 @@ use Rattle.panel_conditions.proofs.Tells.{alarm_tells, hand_tells, release_tells
 use Rattle.panel_conditions.proofs.Yet.{points_same, same_words}
 
 -- two tests that agree on a panel's zones make one mask
-own_same : (site : Site) (panel : ℕ) (p q : ℕ → Bool) → ((place : ℕ) (zone : Zone) → slice_get site.zones place ≡ Some zone → zone.panel ≡ panel → p place ≡ q place) →
+own_same : (site : Site) (panel : ℕ) (p q : ℕ → Bool) → ((place : ℕ) (zone : Zone) → slice_get site.zones place ≡ Some zone → zone.panel ≡ panel
+    → p place ≡ q place) →
     zones_where site panel p ≡ zones_where site panel q
 unfolding zones_where
 own_same site panel p q same =
-    mask_same 32 (λ k. on_zone p (numbered site panel (k + 1))) (λ k. on_zone q (numbered site panel (k + 1))) (λ k small. go (k + 1) (numbered site panel (k + 1)) refl)
+    mask_same 32 (λ k. on_zone p (numbered site panel (k + 1))) (λ k. on_zone q (numbered site panel (k + 1)))
+    (λ k small. go (k + 1) (numbered site panel (k + 1)) refl)
   where
     go : (number : ℕ) (o : Option ℕ) → numbered site panel number ≡ o → on_zone p o ≡ on_zone q o
     go number None e = refl
     go number (Some place) e = let n = of_numbered site panel number place e in same place n.zone n.is n.panel_is
 
-pub word_by_answers : (site : Site) (kept : Retained) (panel tick : ℕ) (done : List Done) (answers : List Answer) (fault : Bool) → IsWired site → AreInOrder answers →
+pub word_by_answers : (site : Site) (kept : Retained) (panel tick : ℕ) (done : List Done) (answers : List Answer) (fault : Bool) → IsWired site
+    → AreInOrder answers →
     word_at site panel done (findings_of site kept panel done answers) tick fault ≡ answered_word site kept panel done answers tick fault
 word_by_answers site kept panel tick done answers fault wired order =
     same_words tick fault
     (own_same site panel (λ z. alarm_found site done taken z tick) (λ z. is_in_alarm site kept done answers z tick)
-    (λ place zone is at. at_panel at (λ p. alarm_found site done (findings_of site kept p done answers) place tick ≡ is_in_alarm site kept done answers place tick) (alarm_tells site kept done answers place tick zone wired is order)))
+    (λ place zone is at.
+    at_panel at (λ p. alarm_found site done (findings_of site kept p done answers) place tick ≡ is_in_alarm site kept done answers place tick)
+    (alarm_tells site kept done answers place tick zone wired is order)))
     (own_same site panel (λ z. hand_found site done taken z tick) (λ z. is_by_hand site kept done answers z tick)
-    (λ place zone is at. at_panel at (λ p. hand_found site done (findings_of site kept p done answers) place tick ≡ is_by_hand site kept done answers place tick) (hand_tells site kept done answers place tick zone wired is)))
+    (λ place zone is at.
+    at_panel at (λ p. hand_found site done (findings_of site kept p done answers) place tick ≡ is_by_hand site kept done answers place tick)
+    (hand_tells site kept done answers place tick zone wired is)))
     (own_same site panel (λ z. release_found site done taken z tick) (λ z. is_released site kept done answers z tick)
-    (λ place zone is at. at_panel at (λ p. release_found site done (findings_of site kept p done answers) place tick ≡ is_released site kept done answers place tick) (release_tells site kept done answers place tick zone wired is order)))
+    (λ place zone is at.
+    at_panel at (λ p. release_found site done (findings_of site kept p done answers) place tick ≡ is_released site kept done answers place tick)
+    (release_tells site kept done answers place tick zone wired is order)))
     (own_same site panel (λ z. first_found site done taken z tick) (λ z. is_first site kept done answers z tick)
-    (λ place zone is at. at_panel at (λ p. first_found site done (findings_of site kept p done answers) place tick ≡ is_first site kept done answers place tick) (first_state_tells site kept done answers place tick zone wired is order)))
+    (λ place zone is at.
+    at_panel at (λ p. first_found site done (findings_of site kept p done answers) place tick ≡ is_first site kept done answers place tick)
+    (first_state_tells site kept done answers place tick zone wired is order)))
   where
     taken : List Finding
     taken = findings_of site kept panel done answers

@@ -1,5 +1,7 @@
 -- What zones show stays as it was drawn, where nothing was told and no first state lasts.
-use Rattle.std.proofs.Common.{◌≡◌, ◌≢◌, ◌⊎◌, inl, inr, ℕ, ◌+◌, ◌-◌, ◌<◌, ◌≤◌, ◌^◌, Bool, true, false, not, List, map, Option, Some, None, option_map, slice_get, ◌==◌, ◌&&◌, ◌||◌, nat_lt, nat_le, if◌then◌else◌, bit_or, refl, sym, ◌∙◌, ap, subst, arith}
+use Rattle.std.proofs.Common.{◌≡◌, ◌≢◌, ◌⊎◌, inl, inr, ℕ, ◌+◌, ◌-◌, ◌<◌, ◌≤◌, ◌^◌, Bool, true, false, not, List, map}
+use Rattle.std.proofs.Common.{Option, Some, None, option_map, slice_get, ◌==◌, ◌&&◌, ◌||◌, nat_lt, nat_le}
+use Rattle.std.proofs.Common.{if◌then◌else◌, bit_or, refl, sym, ◌∙◌, ap, subst, arith}
 use Rattle.std.specs.Option.{is_some}
 use Rattle.std.proofs.lemmas.Bool.Decides.{nat_tests, eqb_tells}
 use Rattle.std.proofs.lemmas.Bool.{eq-eqb}
@@ -12,13 +14,14 @@ use Rattle.site_types.specs.declared.operation.Operation.{Operation}
 use Rattle.site_types.proofs.Masks.{mask_same, has_bit-mask, has_bit-or, has_bit-above}
 use Rattle.site_types.proofs.Done.{lt_tells, lt_true, lt_false}
 use Rattle.coincidence_rules.specs.declared.finding.Finding.{Finding}
-use Rattle.panel_conditions.specs.declared.last_tick.LastTick.{LastTick}
+use Rattle.tick_units.specs.declared.last_done.LastDone.{LastDone}
 use Rattle.panel_conditions.specs.declared.sign.Sign.{Sign}
 use Rattle.panel_conditions.specs.declared.sign.Sign.TheVariants.{Alarm, Manual, Released, First}
 use Rattle.panel_conditions.specs.declared.signs.Signs.{Signs}
 use Rattle.panel_conditions.specs.declared.zone_watch.ZoneWatch.{ZoneWatch}
 use Rattle.panel_conditions.specs.declared.zones.Zones.{Zones}
-use Rattle.panel_conditions.specs.Parts.{first_shows, last_at, last_if, later_tick, sign_at, sign_mask, signs_at, told_by, watch_shows, zone_done, zone_taken, zone_taken_at}
+use Rattle.panel_conditions.specs.Parts.{first_shows, later_tick, sign_at, sign_mask, signs_at, told_by, watch_shows, zone_done, zone_taken, zone_taken_at}
+use Rattle.tick_units.specs.LastTicks.{last_at, last_if}
 use Rattle.panel_conditions.specs.Stands.{AreNumbered, Settled, are_first_watches}
 use Rattle.panel_conditions.proofs.Watched.{get_map}
 use Rattle.panel_conditions.proofs.Firsts.{first_at}
@@ -26,7 +29,7 @@ use Rattle.panel_conditions.proofs.Addressed.{neq_false}
 
 -- ---- after the latest operation
 
-last_stays : (tick x : ℕ) (last : LastTick) → last.tick.0 < tick → tick ≤ x → last_at x last ≡ last_at tick last
+last_stays : (tick x : ℕ) (last : LastDone) → last.tick.0 < tick → tick ≤ x → last_at x last ≡ last_at tick last
 last_stays tick x last less le =
     ap (λ b. if b then last.tick.0 else last.earlier.0) (lt_true last.tick.0 x (omega (arith, less, le)))
     ∙ sym (ap (λ b. if b then last.tick.0 else last.earlier.0) (lt_true last.tick.0 tick less))
@@ -44,9 +47,14 @@ module _ (tick x : ℕ) (watch : ZoneWatch) (floor : watch.floor.tick.0 < tick) 
   first_ends : (o : Option ℕ) → first_shows tick watch o ≡ false → first_shows x watch o ≡ false
   first_ends None h = refl
   first_ends (Some within) h =
-      ap (λ n. not (nat_lt n watch.confirmed.0) && ((nat_lt n watch.told.0 && nat_lt (last_at x watch.cancelled) watch.told.0) && nat_le (x - watch.told.0) within)) (last_stays tick x watch.floor floor le)
-      ∙ ap (λ n. not (nat_lt (last_at tick watch.floor) watch.confirmed.0) && ((nat_lt (last_at tick watch.floor) watch.told.0 && nat_lt n watch.told.0) && nat_le (x - watch.told.0) within)) (last_stays tick x watch.cancelled cancelled le)
-      ∙ fade (not (nat_lt (last_at tick watch.floor) watch.confirmed.0)) (nat_lt (last_at tick watch.floor) watch.told.0 && nat_lt (last_at tick watch.cancelled) watch.told.0)
+      ap (λ n. not (nat_lt n watch.confirmed.0)
+      && ((nat_lt n watch.told.0 && nat_lt (last_at x watch.cancelled) watch.told.0) && nat_le (x - watch.told.0) within))
+      (last_stays tick x watch.floor floor le)
+      ∙ ap (λ n. not (nat_lt (last_at tick watch.floor) watch.confirmed.0)
+      && ((nat_lt (last_at tick watch.floor) watch.told.0 && nat_lt n watch.told.0) && nat_le (x - watch.told.0) within))
+      (last_stays tick x watch.cancelled cancelled le)
+      ∙ fade (not (nat_lt (last_at tick watch.floor) watch.confirmed.0)) (nat_lt (last_at tick watch.floor) watch.told.0
+      && nat_lt (last_at tick watch.cancelled) watch.told.0)
       (nat_le (tick - watch.told.0) within) (nat_le (x - watch.told.0) within) (passed tick x watch.told.0 within le) h
 
   off_with : (p a b : Bool) → (a ≡ false → b ≡ false) → (p && a) ≡ false → (p && b) ≡ (p && a)
@@ -57,47 +65,62 @@ module _ (tick x : ℕ) (watch : ZoneWatch) (floor : watch.floor.tick.0 < tick) 
   watch_stays Alarm h = ap (λ n. is_some watch.place && nat_lt n watch.confirmed.0) (last_stays tick x watch.floor floor le)
   watch_stays Manual h = ap (λ n. is_some watch.place && nat_lt n watch.called.0) (last_stays tick x watch.floor floor le)
   watch_stays Released h = ap (λ n. is_some watch.place && nat_lt n watch.released.0) (last_stays tick x watch.floor floor le)
-  watch_stays First h = off_with (is_some watch.place) (first_shows tick watch watch.within) (first_shows x watch watch.within) (first_ends watch.within) h
+  watch_stays First h =
+      off_with (is_some watch.place) (first_shows tick watch watch.within) (first_shows x watch watch.within) (first_ends watch.within) h
 
 -- ---- a turn
 
 all_bits : (k : ℕ) → k < 32 → has_bit (2 ^ 32 - 1) k ≡ true
 all_bits k small = ap (λ n. n == 1) (bit_at_ones 32 k small)
 
-sign_of : (sign : Sign) (tick k : ℕ) (watches : List ZoneWatch) (signs : Signs) → k < 32 → signs ≡ signs_at tick watches → has_bit (sign_mask sign signs) k ≡ watch_shows sign tick (slice_get watches k)
-sign_of Alarm tick k watches signs small e = ap (λ s. has_bit s.alarm k) e ∙ has_bit-mask 32 (λ j. watch_shows Alarm tick (slice_get watches j)) k small
-sign_of Manual tick k watches signs small e = ap (λ s. has_bit s.manual k) e ∙ has_bit-mask 32 (λ j. watch_shows Manual tick (slice_get watches j)) k small
-sign_of Released tick k watches signs small e = ap (λ s. has_bit s.released k) e ∙ has_bit-mask 32 (λ j. watch_shows Released tick (slice_get watches j)) k small
-sign_of First tick k watches signs small e = ap (λ s. has_bit s.first k) e ∙ has_bit-mask 32 (λ j. watch_shows First tick (slice_get watches j)) k small
+sign_of : (sign : Sign) (tick k : ℕ) (watches : List ZoneWatch) (signs : Signs) → k < 32 → signs ≡ signs_at tick watches
+    → has_bit (sign_mask sign signs) k ≡ watch_shows sign tick (slice_get watches k)
+sign_of Alarm tick k watches signs small e =
+    ap (λ s. has_bit s.alarm k) e ∙ has_bit-mask 32 (λ j. watch_shows Alarm tick (slice_get watches j)) k small
+sign_of Manual tick k watches signs small e =
+    ap (λ s. has_bit s.manual k) e ∙ has_bit-mask 32 (λ j. watch_shows Manual tick (slice_get watches j)) k small
+sign_of Released tick k watches signs small e =
+    ap (λ s. has_bit s.released k) e ∙ has_bit-mask 32 (λ j. watch_shows Released tick (slice_get watches j)) k small
+sign_of First tick k watches signs small e =
+    ap (λ s. has_bit s.first k) e ∙ has_bit-mask 32 (λ j. watch_shows First tick (slice_get watches j)) k small
 
 -- the mask of a sign, where the zones to look at are drawn anew
 pub drawn_is : (tick now : ℕ) (zones : Zones) (sign : Sign) → Settled tick zones → tick ≤ now →
-    mask_of 32 (λ k. if has_bit (bit_or zones.stirred zones.signs.first) k then watch_shows sign now (slice_get zones.watches.items k) else has_bit (sign_mask sign zones.signs) k)
+    mask_of 32 (λ k. if has_bit (bit_or zones.stirred zones.signs.first) k then watch_shows sign now (slice_get zones.watches.items k) else has_bit
+    (sign_mask sign zones.signs) k)
     ≡ sign_at sign now zones.watches.items
 drawn_is tick now zones sign h le =
-    mask_same 32 (λ k. if has_bit (bit_or zones.stirred zones.signs.first) k then watch_shows sign now (slice_get zones.watches.items k) else has_bit (sign_mask sign zones.signs) k)
+    mask_same 32 (λ k. if has_bit (bit_or zones.stirred zones.signs.first) k then watch_shows sign now (slice_get zones.watches.items k) else has_bit
+    (sign_mask sign zones.signs) k)
     (λ k. watch_shows sign now (slice_get zones.watches.items k))
     (λ k small.
-    ap (λ b. if b then watch_shows sign now (slice_get zones.watches.items k) else has_bit (sign_mask sign zones.signs) k) (has_bit-or zones.stirred zones.signs.first k)
+    ap (λ b. if b then watch_shows sign now (slice_get zones.watches.items k) else has_bit (sign_mask sign zones.signs) k)
+    (has_bit-or zones.stirred zones.signs.first k)
     ∙ one k small (has_bit zones.stirred k) (has_bit zones.signs.first k) refl refl)
   where
     one : (k : ℕ) → k < 32 → (s f : Bool) → has_bit zones.stirred k ≡ s → has_bit zones.signs.first k ≡ f →
-        (if s || f then watch_shows sign now (slice_get zones.watches.items k) else has_bit (sign_mask sign zones.signs) k) ≡ watch_shows sign now (slice_get zones.watches.items k)
+        (if s || f then watch_shows sign now (slice_get zones.watches.items k) else has_bit (sign_mask sign zones.signs) k)
+        ≡ watch_shows sign now (slice_get zones.watches.items k)
     one k small true f es ef = refl
     one k small false true es ef = refl
     one k small false false es ef = sym (h.held sign k now small le es ef)
 
-pub settled_drawn : (tick now : ℕ) (zones after : Zones) → Settled tick zones → after.watches.items ≡ zones.watches.items → after.moved ≡ zones.moved → after.signs ≡ signs_at now zones.watches.items →
+pub settled_drawn : (tick now : ℕ) (zones after : Zones) → Settled tick zones → after.watches.items ≡ zones.watches.items → after.moved ≡ zones.moved
+    → after.signs ≡ signs_at now zones.watches.items →
     after.stirred ≡ (if nat_lt zones.moved.0 now then 0 else 2 ^ 32 - 1) → Settled now after
 settled_drawn tick now zones after h watches moved signs stirred = record {
-  moved = λ k watch at. subst (λ m. (watch.floor.tick.0 ≤ m.0) × (watch.cancelled.tick.0 ≤ m.0)) (sym moved) (h.moved k watch (subst (λ l. slice_get l k ≡ Some watch) watches at));
+  moved =
+      λ k watch at. subst (λ m. (watch.floor.tick.0 ≤ m.0) × (watch.cancelled.tick.0 ≤ m.0)) (sym moved)
+      (h.moved k watch (subst (λ l. slice_get l k ≡ Some watch) watches at));
   held = λ sign k x small le calm first.
       ap (λ l. watch_shows sign x (slice_get l k)) watches
-      ∙ later sign k x small le (lt_tells zones.moved.0 now) calm (sym (sign_of First now k zones.watches.items after.signs small signs) ∙ first) (slice_get zones.watches.items k) refl
+      ∙ later sign k x small le (lt_tells zones.moved.0 now) calm (sym (sign_of First now k zones.watches.items after.signs small signs) ∙ first)
+      (slice_get zones.watches.items k) refl
       ∙ sym (sign_of sign now k zones.watches.items after.signs small signs);
 }
   where
-    stays : (sign : Sign) (k x : ℕ) → now ≤ x → zones.moved.0 < now → (o : Option ZoneWatch) → slice_get zones.watches.items k ≡ o → watch_shows First now o ≡ false → watch_shows sign x o ≡ watch_shows sign now o
+    stays : (sign : Sign) (k x : ℕ) → now ≤ x → zones.moved.0 < now → (o : Option ZoneWatch) → slice_get zones.watches.items k ≡ o
+        → watch_shows First now o ≡ false → watch_shows sign x o ≡ watch_shows sign now o
     stays sign k x le less None e off = refl
     stays sign k x le less (Some watch) e off =
         let bounds = h.moved k watch e in
@@ -105,11 +128,14 @@ settled_drawn tick now zones after h watches moved signs stirred = record {
         let b = bounds.1 in
         watch_stays now x watch (omega (arith, a, less)) (omega (arith, b, less)) le sign off
 
-    later : (sign : Sign) (k x : ℕ) → k < 32 → now ≤ x → ((nat_lt zones.moved.0 now ≡ true) × (zones.moved.0 < now)) ⊎ ((nat_lt zones.moved.0 now ≡ false) × (now ≤ zones.moved.0)) → has_bit after.stirred k ≡ false →
-        watch_shows First now (slice_get zones.watches.items k) ≡ false → (o : Option ZoneWatch) → slice_get zones.watches.items k ≡ o → watch_shows sign x (slice_get zones.watches.items k) ≡ watch_shows sign now (slice_get zones.watches.items k)
+    later : (sign : Sign) (k x : ℕ) → k < 32 → now ≤ x → ((nat_lt zones.moved.0 now ≡ true) × (zones.moved.0 < now))
+        ⊎ ((nat_lt zones.moved.0 now ≡ false) × (now ≤ zones.moved.0)) → has_bit after.stirred k ≡ false →
+        watch_shows First now (slice_get zones.watches.items k) ≡ false → (o : Option ZoneWatch) → slice_get zones.watches.items k ≡ o
+        → watch_shows sign x (slice_get zones.watches.items k) ≡ watch_shows sign now (slice_get zones.watches.items k)
     later sign k x small le (inl less) calm off o e = stays sign k x le less.1 (slice_get zones.watches.items k) refl off
     later sign k x small le (inr other) calm off o e =
-        absurd (let on = ap (λ m. has_bit m k) (stirred ∙ ap (λ b. if b then 0 else 2 ^ 32 - 1) other.0) ∙ all_bits k small in let no_way : true ≡ false = sym on ∙ calm in cc)
+        absurd (let on = ap (λ m. has_bit m k) (stirred ∙ ap (λ b. if b then 0 else 2 ^ 32 - 1) other.0) ∙ all_bits k small in
+        let no_way : true ≡ false = sym on ∙ calm in cc)
 
 -- ---- a finding
 
@@ -121,14 +147,17 @@ or_off false true c d h = absurd (cc)
 or_off false false true d h = absurd (cc)
 or_off false false false true h = absurd (cc)
 
-told_bits : (f : Finding) (k : ℕ) → has_bit (told_by f) k ≡ (((has_bit f.counted k || has_bit f.confirmed k) || has_bit f.manual k) || has_bit f.released k)
+told_bits : (f : Finding) (k : ℕ)
+    → has_bit (told_by f) k ≡ (((has_bit f.counted k || has_bit f.confirmed k) || has_bit f.manual k) || has_bit f.released k)
 told_bits f k =
     has_bit-or (bit_or (bit_or f.counted f.confirmed) f.manual) f.released k
-    ∙ ap (λ b. b || has_bit f.released k) (has_bit-or (bit_or f.counted f.confirmed) f.manual k ∙ ap (λ b. b || has_bit f.manual k) (has_bit-or f.counted f.confirmed k))
+    ∙ ap (λ b. b || has_bit f.released k)
+    (has_bit-or (bit_or f.counted f.confirmed) f.manual k ∙ ap (λ b. b || has_bit f.manual k) (has_bit-or f.counted f.confirmed k))
 
 untold : (f : Finding) (watch : ZoneWatch) → has_bit (told_by f) watch.bit ≡ false → zone_taken f watch ≡ watch
 untold f watch h =
-    let off = or_off (has_bit f.counted watch.bit) (has_bit f.confirmed watch.bit) (has_bit f.manual watch.bit) (has_bit f.released watch.bit) (sym (told_bits f watch.bit) ∙ h) in
+    let off = or_off (has_bit f.counted watch.bit) (has_bit f.confirmed watch.bit) (has_bit f.manual watch.bit) (has_bit f.released watch.bit)
+    (sym (told_bits f watch.bit) ∙ h) in
     rw (off.0, off.1, off.2, off.3) refl
 
 -- what stands at a place, where the places of a mask before one have something new
@@ -141,23 +170,31 @@ up_none k look j new old none = elim (lt_tells j k) [
   | inr other ↦ sym (ap (λ b. if b && has_bit look j then new else old) other.0)
 ]
 
-up_beyond : {X : Type 0} (k next look j : ℕ) (new old : X) → ((i : ℕ) → k + 1 ≤ i → i < next → has_bit look i ≡ false) → k ≤ j → k ≢ j → old ≡ up_to next look j new old
+up_beyond : {X : Type 0} (k next look j : ℕ) (new old : X) → ((i : ℕ) → k + 1 ≤ i → i < next → has_bit look i ≡ false) → k ≤ j → k ≢ j
+    → old ≡ up_to next look j new old
 up_beyond k next look j new old none le apart = elim (lt_tells j next) [
-  | inl within ↦ sym (ap (λ b. if b && has_bit look j then new else old) within.0 ∙ ap (λ b. if b then new else old) (none j (omega (arith, le, apart)) within.1))
+  | inl within ↦
+      sym (ap (λ b. if b && has_bit look j then new else old) within.0 ∙ ap (λ b. if b then new else old)
+      (none j (omega (arith, le, apart)) within.1))
   | inr past ↦ sym (ap (λ b. if b && has_bit look j then new else old) past.0)
 ]
 
-up_other : {X : Type 0} (k next look j : ℕ) (new old : X) → k < next → ((i : ℕ) → k + 1 ≤ i → i < next → has_bit look i ≡ false) → k ≢ j → up_to k look j new old ≡ up_to next look j new old
+up_other : {X : Type 0} (k next look j : ℕ) (new old : X) → k < next → ((i : ℕ) → k + 1 ≤ i → i < next → has_bit look i ≡ false) → k ≢ j
+    → up_to k look j new old ≡ up_to next look j new old
 up_other k next look j new old less none apart = elim (lt_tells j k) [
   | inl before ↦ (let b = before.1 in ap (λ c. if c && has_bit look j then new else old) (before.0 ∙ sym (lt_true j next (omega (arith, b, less)))))
   | inr after ↦ ap (λ c. if c && has_bit look j then new else old) after.0 ∙ up_beyond k next look j new old none after.1 apart
 ]
 
 -- one more place has it
-pub up_more : {X : Type 0} (k next look j : ℕ) (new old was after : X) → k < next → has_bit look k ≡ true → ((i : ℕ) → k + 1 ≤ i → i < next → has_bit look i ≡ false) →
+pub up_more : {X : Type 0} (k next look j : ℕ) (new old was after : X) → k < next → has_bit look k ≡ true
+    → ((i : ℕ) → k + 1 ≤ i → i < next → has_bit look i ≡ false) →
     was ≡ up_to k look j new old → (k ≡ j → after ≡ new) → (k ≢ j → after ≡ was) → after ≡ up_to next look j new old
 up_more k next look j new old was after less on none is here elsewhere = elim (eqb_tells k j) [
-  | inl same ↦ (let e = same.1 in here e ∙ sym (ap (λ b. if b && has_bit look j then new else old) (lt_true j next (omega (arith, e, less))) ∙ ap (λ b. if b then new else old) (ap (has_bit look) (sym e) ∙ on)))
+  | inl same ↦
+      (let e = same.1 in
+      here e ∙ sym (ap (λ b. if b && has_bit look j then new else old) (lt_true j next (omega (arith, e, less))) ∙ ap (λ b. if b then new else old)
+      (ap (has_bit look) (sym e) ∙ on)))
   | inr far ↦ elsewhere far.1 ∙ is ∙ up_other k next look j new old less none far.1
 ]
 
@@ -168,22 +205,26 @@ up_all k look j new old less = ap (λ b. if b && has_bit look j then new else ol
 abbrev pub told_up_to : ℕ → Finding → ℕ → Option ZoneWatch → Option ZoneWatch
 told_up_to k f j o = up_to k (told_by f) j (option_map (zone_taken f) o) o
 
-at_place : (k j : ℕ) (f : Finding) (o : Option ZoneWatch) (b : Bool) → (k == j) ≡ b → option_map (zone_taken_at k f j) o ≡ (if b then option_map (zone_taken f) o else o)
+at_place : (k j : ℕ) (f : Finding) (o : Option ZoneWatch) (b : Bool) → (k == j) ≡ b
+    → option_map (zone_taken_at k f j) o ≡ (if b then option_map (zone_taken f) o else o)
 at_place k j f None true e = refl
 at_place k j f None false e = refl
 at_place k j f (Some watch) true e = ap (λ b. Some (if b then zone_taken f watch else watch)) e
 at_place k j f (Some watch) false e = ap (λ b. Some (if b then zone_taken f watch else watch)) e
 
-pub told_more : (k next : ℕ) (f : Finding) (j : ℕ) (first o after : Option ZoneWatch) → k < next → has_bit (told_by f) k ≡ true → ((i : ℕ) → k + 1 ≤ i → i < next → has_bit (told_by f) i ≡ false) →
+pub told_more : (k next : ℕ) (f : Finding) (j : ℕ) (first o after : Option ZoneWatch) → k < next → has_bit (told_by f) k ≡ true
+    → ((i : ℕ) → k + 1 ≤ i → i < next → has_bit (told_by f) i ≡ false) →
     o ≡ told_up_to k f j first → after ≡ option_map (zone_taken_at k f j) o → after ≡ told_up_to next f j first
 told_more k next f j first o after less on none was is =
     up_more k next (told_by f) j (option_map (zone_taken f) first) first o after less on none was
     (λ e. is ∙ at_place k j f o true (eq-eqb k j e)
-    ∙ ap (option_map (zone_taken f)) (was ∙ ap (λ b. if b && has_bit (told_by f) j then option_map (zone_taken f) first else first) (lt_false j k (omega (arith, e)))))
+    ∙ ap (option_map (zone_taken f)) (was ∙ ap (λ b. if b && has_bit (told_by f) j then option_map (zone_taken f) first else first)
+    (lt_false j k (omega (arith, e)))))
     (λ apart. is ∙ at_place k j f o false (neq_false k j apart))
 
 -- all places were told
-pub told_all : (k : ℕ) (f : Finding) (j : ℕ) (o : Option ZoneWatch) → told_by f < 2 ^ 32 → 32 ≤ k → ((watch : ZoneWatch) → o ≡ Some watch → watch.bit ≡ j) → told_up_to k f j o ≡ option_map (zone_taken f) o
+pub told_all : (k : ℕ) (f : Finding) (j : ℕ) (o : Option ZoneWatch) → told_by f < 2 ^ 32 → 32 ≤ k
+    → ((watch : ZoneWatch) → o ≡ Some watch → watch.bit ≡ j) → told_up_to k f j o ≡ option_map (zone_taken f) o
 told_all k f j None below past numbered = none (nat_lt j k && has_bit (told_by f) j)
   where
     none : (b : Bool) → ◌≡◌ {A = Option ZoneWatch} (if b then None else None) None
@@ -191,7 +232,8 @@ told_all k f j None below past numbered = none (nat_lt j k && has_bit (told_by f
     none false = refl
 told_all k f j (Some watch) below past numbered = go (has_bit (told_by f) j) refl (lt_tells j k)
   where
-    go : (b : Bool) → has_bit (told_by f) j ≡ b → ((nat_lt j k ≡ true) × (j < k)) ⊎ ((nat_lt j k ≡ false) × (k ≤ j)) → (if nat_lt j k && has_bit (told_by f) j then Some (zone_taken f watch) else Some watch) ≡ Some (zone_taken f watch)
+    go : (b : Bool) → has_bit (told_by f) j ≡ b → ((nat_lt j k ≡ true) × (j < k)) ⊎ ((nat_lt j k ≡ false) × (k ≤ j))
+        → (if nat_lt j k && has_bit (told_by f) j then Some (zone_taken f watch) else Some watch) ≡ Some (zone_taken f watch)
     go false off either =
         let same = untold f watch (ap (has_bit (told_by f)) (numbered watch refl) ∙ off) in
         either_same (nat_lt j k && has_bit (told_by f) j) same
@@ -199,8 +241,11 @@ told_all k f j (Some watch) below past numbered = go (has_bit (told_by f) j) ref
         either_same : (b : Bool) → zone_taken f watch ≡ watch → (if b then Some (zone_taken f watch) else Some watch) ≡ Some (zone_taken f watch)
         either_same true e = refl
         either_same false e = ap (λ w. Some w) (sym e)
-    go true on (inl less) = ap (λ b. if b && has_bit (told_by f) j then Some (zone_taken f watch) else Some watch) less.0 ∙ ap (λ b. if b then Some (zone_taken f watch) else Some watch) on
-    go true on (inr other) = absurd (let o = other.1 in let off = has_bit-above 32 (told_by f) j below (omega (arith, o, past)) in let no_way : true ≡ false = sym on ∙ off in cc)
+    go true on (inl less) =
+        ap (λ b. if b && has_bit (told_by f) j then Some (zone_taken f watch) else Some watch) less.0 ∙ ap
+        (λ b. if b then Some (zone_taken f watch) else Some watch) on
+    go true on (inr other) = absurd (let o = other.1 in let off = has_bit-above 32 (told_by f) j below (omega (arith, o, past)) in
+        let no_way : true ≡ false = sym on ∙ off in cc)
 
 -- ---- what was held stays
 
@@ -208,12 +253,16 @@ or_left : (a b : Bool) → (a || b) ≡ false → (a ≡ false) × (b ≡ false)
 or_left false b h = (refl, h)
 or_left true b h = absurd (cc)
 
-pub settled_more : (tick : ℕ) (f : Finding) (before after : Zones) → AreNumbered before.watches.items → ((k : ℕ) → slice_get after.watches.items k ≡ option_map (zone_taken f) (slice_get before.watches.items k)) →
-    after.stirred ≡ bit_or before.stirred (told_by f) → after.signs ≡ before.signs → after.moved ≡ before.moved → Settled tick before → Settled tick after
+pub settled_more : (tick : ℕ) (f : Finding) (before after : Zones) → AreNumbered before.watches.items
+    → ((k : ℕ) → slice_get after.watches.items k ≡ option_map (zone_taken f) (slice_get before.watches.items k)) →
+    after.stirred ≡ bit_or before.stirred (told_by f) → after.signs ≡ before.signs → after.moved ≡ before.moved → Settled tick before
+    → Settled tick after
 settled_more tick f before after numbered taken stirred signs moved h = record {
   moved = λ k watch at. moved_at k watch (slice_get before.watches.items k) refl (sym (taken k) ∙ at);
   held = λ sign k x small le calm first.
-      let off = or_left (has_bit before.stirred k) (has_bit (told_by f) k) (sym (has_bit-or before.stirred (told_by f) k) ∙ ap (λ m. has_bit m k) (sym stirred) ∙ calm) in
+      let off =
+      or_left (has_bit before.stirred k) (has_bit (told_by f) k)
+      (sym (has_bit-or before.stirred (told_by f) k) ∙ ap (λ m. has_bit m k) (sym stirred) ∙ calm) in
       ap (watch_shows sign x) (taken k ∙ same k off.1 (slice_get before.watches.items k) refl)
       ∙ h.held sign k x small le off.0 (ap (λ s. has_bit s.first k) (sym signs) ∙ first)
       ∙ ap (λ s. has_bit (sign_mask sign s) k) (sym signs);
@@ -223,7 +272,8 @@ settled_more tick f before after numbered taken stirred signs moved h = record {
     same k off None e = refl
     same k off (Some watch) e = ap (λ w. Some w) (untold f watch (ap (has_bit (told_by f)) (numbered k watch e) ∙ off))
 
-    moved_at : (k : ℕ) (watch : ZoneWatch) (o : Option ZoneWatch) → slice_get before.watches.items k ≡ o → option_map (zone_taken f) o ≡ Some watch → (watch.floor.tick.0 ≤ after.moved.0) × (watch.cancelled.tick.0 ≤ after.moved.0)
+    moved_at : (k : ℕ) (watch : ZoneWatch) (o : Option ZoneWatch) → slice_get before.watches.items k ≡ o → option_map (zone_taken f) o ≡ Some watch
+        → (watch.floor.tick.0 ≤ after.moved.0) × (watch.cancelled.tick.0 ≤ after.moved.0)
     moved_at k watch None e is = cc
     moved_at k watch (Some w) e is =
         subst (λ (v : ZoneWatch). (v.floor.tick.0 ≤ after.moved.0) × (v.cancelled.tick.0 ≤ after.moved.0)) (same_Some (zone_taken f w) watch is)
@@ -235,11 +285,12 @@ later_left a b = elim (lt_tells a.0 b.0) [ inl less ↦ (let l = less.1 in rw le
 pub later_right : (a b : Tick) → b.0 ≤ (later_tick a b).0
 later_right a b = elim (lt_tells a.0 b.0) [ inl less ↦ rw less.0 (omega arith) | inr other ↦ rw other.0 other.1 ]
 
-last_within : (on : Bool) (at : Tick) (last : LastTick) (bound : ℕ) → last.tick.0 ≤ bound → at.0 ≤ bound → (last_if on at last).tick.0 ≤ bound
+last_within : (on : Bool) (at : Tick) (last : LastDone) (bound : ℕ) → last.tick.0 ≤ bound → at.0 ≤ bound → (last_if on at last).tick.0 ≤ bound
 last_within false at last bound a b = a
 last_within true at last bound a b = elim (lt_tells last.tick.0 at.0) [ inl less ↦ rw less.0 b | inr other ↦ rw other.0 a ]
 
-pub settled_after : (tick : ℕ) (operation : Operation) (at : Tick) (before after : Zones) → after.watches.items ≡ map (zone_done operation at) before.watches.items → after.stirred ≡ 2 ^ 32 - 1 →
+pub settled_after : (tick : ℕ) (operation : Operation) (at : Tick) (before after : Zones)
+    → after.watches.items ≡ map (zone_done operation at) before.watches.items → after.stirred ≡ 2 ^ 32 - 1 →
     after.moved ≡ later_tick before.moved at → Settled tick before → Settled tick after
 settled_after tick operation at before after done stirred moved h = record {
   moved = λ k watch here.
@@ -253,13 +304,17 @@ settled_after tick operation at before after done stirred moved h = record {
         last_within _ at w.0.floor (later_tick before.moved at).0 (omega (arith, a, left)) (later_right before.moved at),
         last_within _ at w.0.cancelled (later_tick before.moved at).0 (omega (arith, b, left)) (later_right before.moved at),
       ));
-  held = λ sign k x small le calm first. absurd (let on = ap (λ m. has_bit m k) stirred ∙ all_bits k small in let no_way : true ≡ false = sym on ∙ calm in cc);
+  held = λ sign k x small le calm first. absurd (let on = ap (λ m. has_bit m k) stirred ∙ all_bits k small in let no_way : true ≡ false =
+      sym on ∙ calm in cc);
 }
 
 -- at first all zones are to be looked at
-pub settled_first : (site : Site) (panel : ℕ) (zones : Zones) → zones.watches.items ≡ are_first_watches site panel 32 → zones.stirred ≡ 2 ^ 32 - 1 → Settled 0 zones
+pub settled_first : (site : Site) (panel : ℕ) (zones : Zones) → zones.watches.items ≡ are_first_watches site panel 32 → zones.stirred ≡ 2 ^ 32 - 1
+    → Settled 0 zones
 settled_first site panel zones first stirred = record {
   moved = λ k watch here.
-      subst (λ (v : ZoneWatch). (v.floor.tick.0 ≤ zones.moved.0) × (v.cancelled.tick.0 ≤ zones.moved.0)) (sym (first_at site panel 32 k watch (subst (λ l. slice_get l k ≡ Some watch) first here))) (omega arith, omega arith);
-  held = λ sign k x small le calm none. absurd (let on = ap (λ m. has_bit m k) stirred ∙ all_bits k small in let no_way : true ≡ false = sym on ∙ calm in cc);
+      subst (λ (v : ZoneWatch). (v.floor.tick.0 ≤ zones.moved.0) × (v.cancelled.tick.0 ≤ zones.moved.0))
+      (sym (first_at site panel 32 k watch (subst (λ l. slice_get l k ≡ Some watch) first here))) (omega arith, omega arith);
+  held = λ sign k x small le calm none. absurd (let on = ap (λ m. has_bit m k) stirred ∙ all_bits k small in let no_way : true ≡ false =
+      sym on ∙ calm in cc);
 }

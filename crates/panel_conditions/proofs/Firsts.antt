@@ -1,5 +1,7 @@
 -- What the parts are at first, one after the other.
-use Rattle.std.proofs.Common.{◌≡◌, ◌⊎◌, inl, inr, ℕ, zero, suc, ◌+◌, ◌≤◌, Bool, true, false, List, [], ◌∷◌, ◌++◌, map, Option, Some, None, length, replicate, ◌<◌, slice_get, ◌==◌, ◌&&◌, nat_lt, if◌then◌else◌, refl, sym, ◌∙◌, ap, subst, add-one, arith}
+use Rattle.std.proofs.Common.{◌≡◌, ◌⊎◌, inl, inr, ℕ, zero, suc, ◌+◌, ◌≤◌, Bool, true, false, List, [], ◌∷◌, ◌++◌, map}
+use Rattle.std.proofs.Common.{Option, Some, None, length, replicate, ◌<◌, slice_get, ◌==◌, ◌&&◌, nat_lt}
+use Rattle.std.proofs.Common.{if◌then◌else◌, refl, sym, ◌∙◌, ap, subst, add-one, arith}
 use Rattle.std.proofs.lemmas.List.{get_or-replicate, length_push, length-replicate}
 use Rattle.std.proofs.lemmas.Option.{get_or_from_slice_get, same_Some, slice_get_within}
 use Rattle.std.proofs.lemmas.Bool.Decides.{eqb_tells}
@@ -14,15 +16,19 @@ use Rattle.panel_conditions.specs.declared.zone_watch.ZoneWatch.{ZoneWatch}
 use Rattle.panel_conditions.specs.declared.asked.Asked.{Asked}
 use Rattle.panel_conditions.specs.declared.asked.Asked.TheVariants.{Disabled, ZoneDisabled, OfZone}
 use Rattle.panel_conditions.specs.declared.points.Points.{Points}
-use Rattle.panel_conditions.specs.PointSets.{loop_address, no_set, put_at}
+use Rattle.panel_conditions.specs.PointSets.{loop_address, put_at}
+use Rattle.site_types.specs.Bits.{no_set}
 use Rattle.panel_conditions.specs.Points.{points_where}
 use Rattle.panel_conditions.specs.Missing.{zone_is_off}
 use Rattle.panel_conditions.specs.Parts.{is_asked, is_so, points_from}
-use Rattle.panel_conditions.specs.Stands.{are_first_watches, first_watch, AreZoneSets, TellMissing, TellsPoints, WatchesZone, WatchesZones, WatchesPoints, Shows, nothing_shown, HasPlaces, HasZoneNumber, set_or_none, point_is_off, zone_of_is_off}
+use Rattle.panel_conditions.specs.Stands.{are_first_watches, first_watch, AreZoneSets, TellMissing, TellsPoints}
+use Rattle.panel_conditions.specs.Stands.{WatchesZone, WatchesZones, WatchesPoints, Shows, nothing_shown, HasPlaces}
+use Rattle.panel_conditions.specs.Stands.{HasZoneNumber, set_or_none, point_is_off, zone_of_is_off}
 use Rattle.site_types.specs.Changes.{HasOwnPlaces}
 use Rattle.site_types.specs.declared.zone.Zone.{Zone}
 use Rattle.site_types.specs.Done.{moves_floor, cancels, kept_point}
-use Rattle.panel_conditions.proofs.Told.{told_never, told_from}
+use Rattle.panel_conditions.proofs.Told.{told_from}
+use Rattle.coincidence_rules.proofs.LastDone.{told_never}
 use Rattle.panel_conditions.proofs.Masked.{none_past}
 use Rattle.panel_conditions.proofs.Yet.{points_same}
 use Rattle.panel_conditions.proofs.PointSets.{none_is}
@@ -33,7 +39,8 @@ unfolding are_first_watches
 first_more site panel n = ap (are_first_watches site panel) (add-one n)
 
 -- what stands at a place of a list with one item more
-pub get_push : {X : Type 0} (xs : List X) (x : X) (k : ℕ) (y : X) → slice_get (xs ++ x ∷ []) k ≡ Some y → (slice_get xs k ≡ Some y) ⊎ ((k ≡ length xs) × (x ≡ y))
+pub get_push : {X : Type 0} (xs : List X) (x : X) (k : ℕ) (y : X) → slice_get (xs ++ x ∷ []) k ≡ Some y
+    → (slice_get xs k ≡ Some y) ⊎ ((k ≡ length xs) × (x ≡ y))
 get_push [] x zero y h = inr (refl, same_Some x y h)
 get_push [] x (suc k) y h = absurd (cc)
 get_push (z ∷ xs) x zero y h = inl h
@@ -43,9 +50,11 @@ get_push (z ∷ xs) x (suc k) y h = elim (get_push xs x k y h) [ inl a ↦ inl a
 pub length-first : (site : Site) (panel n : ℕ) → length (are_first_watches site panel n) ≡ n
 unfolding are_first_watches
 length-first site panel zero = refl
-length-first site panel (suc n) = length_push (are_first_watches site panel n) (first_watch site panel n) ∙ ap (λ k. k + 1) (length-first site panel n) ∙ add-one n
+length-first site panel (suc n) =
+    length_push (are_first_watches site panel n) (first_watch site panel n) ∙ ap (λ k. k + 1) (length-first site panel n) ∙ add-one n
 
-pub first_at : (site : Site) (panel n k : ℕ) (watch : ZoneWatch) → slice_get (are_first_watches site panel n) k ≡ Some watch → watch ≡ first_watch site panel k
+pub first_at : (site : Site) (panel n k : ℕ) (watch : ZoneWatch) → slice_get (are_first_watches site panel n) k ≡ Some watch
+    → watch ≡ first_watch site panel k
 unfolding are_first_watches
 first_at site panel zero k watch h = absurd (cc)
 first_at site panel (suc n) k watch h = elim (get_push (are_first_watches site panel n) (first_watch site panel n) k watch h) [
@@ -78,53 +87,66 @@ zone_first site panel k = record {
   told = refl;
 }
 
-pub zones_first : (site : Site) (panel : ℕ) (watches : List ZoneWatch) → watches ≡ are_first_watches site panel 32 → WatchesZones site panel [] [] watches
+pub zones_first : (site : Site) (panel : ℕ) (watches : List ZoneWatch) → watches ≡ are_first_watches site panel 32
+    → WatchesZones site panel [] [] watches
 zones_first site panel watches e = record {
   count = ap length e ∙ length-first site panel 32;
   each = λ k watch at.
-      subst (WatchesZone site panel [] [] k) (sym (first_at site panel 32 k watch (subst (λ l. slice_get l k ≡ Some watch) e at))) (zone_first site panel k);
+      subst (WatchesZone site panel [] [] k) (sym (first_at site panel 32 k watch (subst (λ l. slice_get l k ≡ Some watch) e at)))
+      (zone_first site panel k);
 }
 
 -- one point more was asked
 asked_more : (k place : ℕ) (on at : Bool) → (k ≡ place → on ≡ at) → (if k == place then on else (nat_lt place k && at)) ≡ (nat_lt place (k + 1) && at)
 asked_more k place on at here = elim (eqb_tells k place) [
-  | inl same ↦ (let e = same.1 in ap (λ b. if b then on else (nat_lt place k && at)) same.0 ∙ here e ∙ sym (ap (λ b. b && at) (lt_true place (k + 1) (omega (arith, e)))))
+  | inl same ↦
+      (let e = same.1 in
+      ap (λ b. if b then on else (nat_lt place k && at)) same.0 ∙ here e ∙ sym (ap (λ b. b && at) (lt_true place (k + 1) (omega (arith, e)))))
   | inr far ↦ (let f = far.1 in ap (λ b. if b then on else (nat_lt place k && at)) far.0 ∙ ap (λ b. b && at) (elim (lt_tells place k) [
     | inl less ↦ (let l = less.1 in less.0 ∙ sym (lt_true place (k + 1) (omega (arith, l))))
     | inr other ↦ (let o = other.1 in other.0 ∙ sym (lt_false place (k + 1) (omega (arith, o, f))))
   ]))
 ]
 
-pub points_asked : (site : Site) (kept : Retained) (panel : ℕ) (asked : Asked) (k : ℕ) (point : Point) (on : Bool) → HasOwnPlaces site → slice_get site.points k ≡ Some point → on ≡ is_so site kept asked point →
+pub points_asked : (site : Site) (kept : Retained) (panel : ℕ) (asked : Asked) (k : ℕ) (point : Point) (on : Bool) → HasOwnPlaces site
+    → slice_get site.points k ≡ Some point → on ≡ is_so site kept asked point →
     put_at (loop_address panel point) on (points_where site panel (λ place. nat_lt place k && is_asked site kept asked (slice_get site.points place)))
     ≡ points_where site panel (λ place. nat_lt place (k + 1) && is_asked site kept asked (slice_get site.points place))
 points_asked site kept panel asked k point on own is so =
     put_point site panel k on (λ place. nat_lt place k && is_asked site kept asked (slice_get site.points place)) own (Some point) is
     ∙ points_same site panel _ (λ place. nat_lt place (k + 1) && is_asked site kept asked (slice_get site.points place))
-    (λ place. asked_more k place on (is_asked site kept asked (slice_get site.points place)) (λ e. so ∙ sym (ap (is_asked site kept asked) (ap (slice_get site.points) (sym e) ∙ is))))
+    (λ place. asked_more k place on (is_asked site kept asked (slice_get site.points place))
+    (λ e. so ∙ sym (ap (is_asked site kept asked) (ap (slice_get site.points) (sym e) ∙ is))))
 
-pub none_asked : (site : Site) (kept : Retained) (panel : ℕ) (asked : Asked) → no_set ≡ points_where site panel (λ place. nat_lt place 0 && is_asked site kept asked (slice_get site.points place))
+pub none_asked : (site : Site) (kept : Retained) (panel : ℕ) (asked : Asked)
+    → no_set ≡ points_where site panel (λ place. nat_lt place 0 && is_asked site kept asked (slice_get site.points place))
 none_asked site kept panel asked =
     sym (points_same site panel (λ place. nat_lt place 0 && is_asked site kept asked (slice_get site.points place)) (λ place. false)
     (λ place. ap (λ b. b && is_asked site kept asked (slice_get site.points place)) (lt_false place 0 (omega arith))) ∙ none_is site panel)
 
 pub all_asked : (site : Site) (kept : Retained) (panel : ℕ) (asked : Asked) (k : ℕ) → length site.points ≤ k →
-    points_where site panel (λ place. nat_lt place k && is_asked site kept asked (slice_get site.points place)) ≡ points_where site panel (λ place. is_asked site kept asked (slice_get site.points place))
+    points_where site panel (λ place. nat_lt place k && is_asked site kept asked (slice_get site.points place))
+    ≡ points_where site panel (λ place. is_asked site kept asked (slice_get site.points place))
 all_asked site kept panel asked k whole =
-    points_same site panel (λ place. nat_lt place k && is_asked site kept asked (slice_get site.points place)) (λ place. is_asked site kept asked (slice_get site.points place)) (λ place. one place (slice_get site.points place) refl)
+    points_same site panel (λ place. nat_lt place k && is_asked site kept asked (slice_get site.points place))
+    (λ place. is_asked site kept asked (slice_get site.points place)) (λ place. one place (slice_get site.points place) refl)
   where
-    one : (place : ℕ) (o : Option Point) → slice_get site.points place ≡ o → (nat_lt place k && is_asked site kept asked o) ≡ is_asked site kept asked o
+    one : (place : ℕ) (o : Option Point) → slice_get site.points place ≡ o
+        → (nat_lt place k && is_asked site kept asked o) ≡ is_asked site kept asked o
     one place None is = none (nat_lt place k)
       where
         none : (b : Bool) → (b && false) ≡ false
         none true = refl
         none false = refl
-    one place (Some p) is = ap (λ b. b && is_asked site kept asked (Some p)) (lt_true place k (omega (arith, whole, slice_get_within site.points place p is)))
+    one place (Some p) is =
+        ap (λ b. b && is_asked site kept asked (Some p)) (lt_true place k (omega (arith, whole, slice_get_within site.points place p is)))
 
 -- a zone that is not there has no points
-no_zone_asked : (site : Site) (kept : Retained) (panel zone : ℕ) → IsValid site → length site.zones ≤ zone → no_set ≡ points_where site panel (λ place. is_asked site kept (OfZone zone) (slice_get site.points place))
+no_zone_asked : (site : Site) (kept : Retained) (panel zone : ℕ) → IsValid site → length site.zones ≤ zone
+    → no_set ≡ points_where site panel (λ place. is_asked site kept (OfZone zone) (slice_get site.points place))
 no_zone_asked site kept panel zone valid past =
-    sym (points_same site panel (λ place. is_asked site kept (OfZone zone) (slice_get site.points place)) (λ place. false) (λ place. one place (slice_get site.points place) refl) ∙ none_is site panel)
+    sym (points_same site panel (λ place. is_asked site kept (OfZone zone) (slice_get site.points place)) (λ place. false)
+    (λ place. one place (slice_get site.points place) refl) ∙ none_is site panel)
   where
     one : (place : ℕ) (o : Option Point) → slice_get site.points place ≡ o → is_asked site kept (OfZone zone) o ≡ false
     one place None is = refl
@@ -133,24 +155,28 @@ no_zone_asked site kept panel zone valid past =
         let small = slice_get_within site.zones p.zone of_zone.zone of_zone.is in
         neq_false p.zone zone (λ e. omega (arith, small, past, e))
 
-zones_asked : (site : Site) (kept : Retained) (panel : ℕ) (sets : List PointSet) → IsValid site → AreZoneSets site kept panel (length site.zones) sets → (zone : ℕ) →
+zones_asked : (site : Site) (kept : Retained) (panel : ℕ) (sets : List PointSet) → IsValid site → AreZoneSets site kept panel (length site.zones) sets
+    → (zone : ℕ) →
     set_or_none (slice_get sets zone) ≡ points_where site panel (λ place. is_asked site kept (OfZone zone) (slice_get site.points place))
 zones_asked site kept panel sets valid h zone = go (slice_get sets zone) refl
   where
-    go : (o : Option PointSet) → slice_get sets zone ≡ o → set_or_none o ≡ points_where site panel (λ place. is_asked site kept (OfZone zone) (slice_get site.points place))
+    go : (o : Option PointSet) → slice_get sets zone ≡ o
+        → set_or_none o ≡ points_where site panel (λ place. is_asked site kept (OfZone zone) (slice_get site.points place))
     go (Some points) is = h.each zone points is
     go None is = elim (lt_tells zone (length sets)) [
       | inl less ↦ absurd (none_past sets zone less.1 is)
       | inr past ↦ (let p = past.1 in let c = h.count in no_zone_asked site kept panel zone valid (omega (arith, p, c)))
     ]
 
-pub zone_sets_more : (site : Site) (kept : Retained) (panel n : ℕ) (before after : List PointSet) (s : PointSet) → AreZoneSets site kept panel n before → after ≡ before ++ s ∷ [] →
+pub zone_sets_more : (site : Site) (kept : Retained) (panel n : ℕ) (before after : List PointSet) (s : PointSet)
+    → AreZoneSets site kept panel n before → after ≡ before ++ s ∷ [] →
     s ≡ points_where site panel (λ place. is_asked site kept (OfZone n) (slice_get site.points place)) → AreZoneSets site kept panel (n + 1) after
 zone_sets_more site kept panel n before after s h e is = record {
   count = count_more before after s n h.count e;
   each = λ zone points at. elim (get_push before s zone points (subst (λ l. slice_get l zone ≡ Some points) e at)) [
     | inl earlier ↦ h.each zone points earlier
-    | inr last ↦ sym last.1 ∙ is ∙ ap (λ z. points_where site panel (λ place. is_asked site kept (OfZone z) (slice_get site.points place))) (sym (last.0 ∙ h.count))
+    | inr last ↦ sym last.1 ∙ is ∙ ap (λ z. points_where site panel (λ place. is_asked site kept (OfZone z) (slice_get site.points place)))
+        (sym (last.0 ∙ h.count))
   ];
 }
 
@@ -162,10 +188,12 @@ none_told n told is place b at =
     let small : place < n = omega (arith, within, length-replicate n false) in
     sym (get_or_from_slice_get (replicate n false) place b false here) ∙ get_or-replicate n place false false small
 
-pub points_first : (site : Site) (kept : Retained) (panel : ℕ) (points : Points) → IsValid site → HasOwnPlaces site → points.addresses.items ≡ map (loop_address panel) site.points →
+pub points_first : (site : Site) (kept : Retained) (panel : ℕ) (points : Points) → IsValid site → HasOwnPlaces site
+    → points.addresses.items ≡ map (loop_address panel) site.points →
     AreZoneSets site kept panel (length site.zones) points.of_zones.items → points.missing ≡ no_set → TellMissing [] points.told.items →
     (off zone_off : PointSet) → points.off ≡ points_from off → points.zone_off ≡ points_from zone_off →
-    off ≡ points_where site panel (λ place. is_asked site kept Disabled (slice_get site.points place)) → zone_off ≡ points_where site panel (λ place. is_asked site kept ZoneDisabled (slice_get site.points place)) →
+    off ≡ points_where site panel (λ place. is_asked site kept Disabled (slice_get site.points place))
+    → zone_off ≡ points_where site panel (λ place. is_asked site kept ZoneDisabled (slice_get site.points place)) →
     WatchesPoints site kept panel [] [] points
 points_first site kept panel points valid own addresses sets missing told off zone_off from zone_from is zone_is = record {
   own = own;
@@ -174,9 +202,13 @@ points_first site kept panel points valid own addresses sets missing told off zo
   missing = missing ∙ sym (none_is site panel);
   told = told;
   off = subst (TellsPoints site panel (point_is_off site kept []) []) (sym from)
-      (told_from site panel (point_is_off site kept []) off (λ x. is ∙ points_same site panel (λ place. is_asked site kept Disabled (slice_get site.points place)) (point_is_off site kept [] x) (λ place. retained (slice_get site.points place))));
+      (told_from site panel (point_is_off site kept []) off
+      (λ x. is ∙ points_same site panel (λ place. is_asked site kept Disabled (slice_get site.points place)) (point_is_off site kept [] x)
+      (λ place. retained (slice_get site.points place))));
   zone_off = subst (TellsPoints site panel (zone_of_is_off site kept []) []) (sym zone_from)
-      (told_from site panel (zone_of_is_off site kept []) zone_off (λ x. zone_is ∙ points_same site panel (λ place. is_asked site kept ZoneDisabled (slice_get site.points place)) (zone_of_is_off site kept [] x) (λ place. zone_retained x (slice_get site.points place))));
+      (told_from site panel (zone_of_is_off site kept []) zone_off
+      (λ x. zone_is ∙ points_same site panel (λ place. is_asked site kept ZoneDisabled (slice_get site.points place))
+      (zone_of_is_off site kept [] x) (λ place. zone_retained x (slice_get site.points place))));
 }
   where
     retained : (o : Option Point) → is_asked site kept Disabled o ≡ kept_point kept o

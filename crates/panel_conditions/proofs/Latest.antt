@@ -12,7 +12,8 @@ max-assoc : (a b c : ℕ) → max a (max b c) ≡ max (max a b) c
 max-assoc a b c = omega arith
 
 -- with one more finding
-pub latest-push : (test : Finding → Bool) (taken : List Finding) (f : Finding) → latest_stamp test (taken ++ f ∷ []) ≡ max (latest_stamp test taken) (if test f then f.stamp.0 else 0)
+pub latest-push : (test : Finding → Bool) (taken : List Finding) (f : Finding)
+    → latest_stamp test (taken ++ f ∷ []) ≡ max (latest_stamp test taken) (if test f then f.stamp.0 else 0)
 latest-push test [] f = omega arith
 latest-push test (g ∷ taken) f =
     ap (λ n. max (if test g then g.stamp.0 else 0) n) (latest-push test taken f)
@@ -26,7 +27,8 @@ stamp_max true stamp latest = elim (lt_tells latest.0 stamp.0) [
 ]
 
 -- the stamp that is kept is the latest one
-pub stamp_more : (test : Finding → Bool) (taken : List Finding) (f : Finding) (on : Bool) (latest : Tick) → on ≡ test f → latest.0 ≡ latest_stamp test taken →
+pub stamp_more : (test : Finding → Bool) (taken : List Finding) (f : Finding) (on : Bool) (latest : Tick) → on ≡ test f
+    → latest.0 ≡ latest_stamp test taken →
     (stamp_if on f.stamp latest).0 ≡ latest_stamp test (taken ++ f ∷ [])
 stamp_more test taken f on latest e same =
     stamp_max on f.stamp latest
@@ -60,7 +62,8 @@ either_max stamps up m n = elim (le_or m n) [
 
 -- some finding passes a test at a stamp, where later stamps pass if an earlier one does: the latest stamp decides
 pub any_latest : (stamps : ℕ → Bool) → stamps 0 ≡ false → ((m n : ℕ) → m ≤ n → stamps m ≡ true → stamps n ≡ true) →
-    (test both : Finding → Bool) → ((f : Finding) → both f ≡ (test f && stamps f.stamp.0)) → (taken : List Finding) → list_any both taken ≡ stamps (latest_stamp test taken)
+    (test both : Finding → Bool) → ((f : Finding) → both f ≡ (test f && stamps f.stamp.0)) → (taken : List Finding)
+    → list_any both taken ≡ stamps (latest_stamp test taken)
 any_latest stamps none up test both same [] = sym none
 any_latest stamps none up test both same (f ∷ taken) =
     ap (λ b. b || list_any both taken) (same f)
@@ -70,7 +73,8 @@ any_latest stamps none up test both same (f ∷ taken) =
     none_left : max 0 (latest_stamp test taken) ≡ latest_stamp test taken
     none_left = omega arith
 
-    go : (b : Bool) → ((b && stamps f.stamp.0) || stamps (latest_stamp test taken)) ≡ stamps (max (if b then f.stamp.0 else 0) (latest_stamp test taken))
+    go : (b : Bool)
+        → ((b && stamps f.stamp.0) || stamps (latest_stamp test taken)) ≡ stamps (max (if b then f.stamp.0 else 0) (latest_stamp test taken))
     go true = either_max stamps up f.stamp.0 (latest_stamp test taken)
     go false = ap stamps (sym none_left)
 

@@ -23,11 +23,15 @@ pub record IsNext (mask from next : ℕ) : Type 0 where
   pub set : has_bit mask next ≡ true
   pub none : (k : ℕ) → from ≤ k → k < next → has_bit mask k ≡ false
 
-pub next_from : (mask from zeros : ℕ) → mask < 2 ^ 32 → from < 32 → 0 < mask / 2 ^ from → zeros ≡ trailing_zeros w32 (mask / 2 ^ from) → IsNext mask from (from + zeros)
+pub next_from : (mask from zeros : ℕ) → mask < 2 ^ 32 → from < 32 → 0 < mask / 2 ^ from → zeros ≡ trailing_zeros w32 (mask / 2 ^ from)
+    → IsNext mask from (from + zeros)
 next_from mask from zeros below small some e = record {
   small = within (lt_tells zeros (32 - from));
   set = sym (shifted mask from zeros) ∙ ap (λ n. n == 1) one;
-  none = λ k le less. seen mask from k le ∙ ap (λ n. n == 1) (lowest.2 (k - from) (subst (λ n. k - from < n) e (let l : k - from < zeros = omega (arith, le, less) in l)));
+  none =
+      λ k le less.
+      seen mask from k le ∙ ap (λ n. n == 1)
+      (lowest.2 (k - from) (subst (λ n. k - from < n) e (let l : k - from < zeros = omega (arith, le, less) in l)));
 }
   where
     rest : ℕ
@@ -39,12 +43,14 @@ next_from mask from zeros below small some e = record {
     fits_32 : rest < 2 ^ 32
     fits_32 = omega (arith, below, shr_le mask from)
 
-    lowest : (trailing_zeros w32 rest < 32) × (bit_at rest (trailing_zeros w32 rest) ≡ 1) × ((i : ℕ) → i < trailing_zeros w32 rest → bit_at rest i ≡ 0)
+    lowest : (trailing_zeros w32 rest < 32) × (bit_at rest (trailing_zeros w32 rest) ≡ 1)
+        × ((i : ℕ) → i < trailing_zeros w32 rest → bit_at rest i ≡ 0)
     lowest = bit_at-trailing_zeros w32 rest some fits_32
 
     one : bit_at rest zeros ≡ 1
     one = ap (bit_at rest) e ∙ lowest.1
 
-    within : ((nat_lt zeros (32 - from) ≡ true) × (zeros < 32 - from)) ⊎ ((nat_lt zeros (32 - from) ≡ false) × (32 - from ≤ zeros)) → from + zeros < 32
+    within : ((nat_lt zeros (32 - from) ≡ true) × (zeros < 32 - from)) ⊎ ((nat_lt zeros (32 - from) ≡ false) × (32 - from ≤ zeros))
+        → from + zeros < 32
     within (inl less) = let l = less.1 in omega (arith, l, small)
     within (inr other) = let none : bit_at rest zeros ≡ 0 = bit_at_above rest (32 - from) zeros fits other.1 in let no_way = sym none ∙ one in cc

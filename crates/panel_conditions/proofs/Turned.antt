@@ -1,5 +1,7 @@
 -- The part that holds, after one more turn or operation, and at first.
-use Rattle.std.proofs.Common.{◌≡◌, ℕ, ◌+◌, ◌-◌, ◌<◌, ◌≤◌, ◌^◌, min, Bool, true, false, not, List, [], ◌∷◌, ◌++◌, length, take, get_or, append_assoc, ◌&&◌, nat_lt, if◌then◌else◌, refl, sym, ◌∙◌, ap, subst, arith}
+use Rattle.std.proofs.Common.{◌≡◌, ℕ, ◌+◌, ◌-◌, ◌<◌, ◌≤◌, ◌^◌, min, Bool, true, false, not, List, [], ◌∷◌, ◌++◌}
+use Rattle.std.proofs.Common.{length, take, get_or, append_assoc, ◌&&◌, nat_lt, if◌then◌else◌, refl, sym, ◌∙◌, ap}
+use Rattle.std.proofs.Common.{subst, arith}
 use Rattle.std.proofs.lemmas.List.{take_more}
 use Rattle.tick_units.specs.declared.tick.Tick.{Tick}
 use Rattle.site_types.specs.declared.site.Site.{Site}
@@ -22,7 +24,8 @@ tick_if true s t = refl
 tick_if false s t = refl
 
 -- entries stay far below the greatest number
-entries_more : (b : Bool) (e latest tick : ℕ) → e ≤ latest → latest < tick → tick < 2 ^ 64 → (if b then min (e + 1) (2 ^ 64 - 1) else e) ≡ e + (if b then 1 else 0)
+entries_more : (b : Bool) (e latest tick : ℕ) → e ≤ latest → latest < tick → tick < 2 ^ 64
+    → (if b then min (e + 1) (2 ^ 64 - 1) else e) ≡ e + (if b then 1 else 0)
 entries_more true e latest tick few later fits = omega (arith, few, later, fits)
 entries_more false e latest tick few later fits = omega arith
 
@@ -31,7 +34,8 @@ entries_few true e latest tick few later = omega (arith, few, later)
 entries_few false e latest tick few later = omega (arith, few, later)
 
 -- what is shown after a turn
-shows_more : (site : Site) (kept : Retained) (panel : ℕ) (done : List Done) (turn : HoldTurn) (before : List HoldTurn) (shown : Shown) → Shows site kept panel done before shown →
+shows_more : (site : Site) (kept : Retained) (panel : ℕ) (done : List Done) (turn : HoldTurn) (before : List HoldTurn) (shown : Shown)
+    → Shows site kept panel done before shown →
     entries_after site kept panel done before ≤ latest_tick before → latest_tick before < turn.tick → turn.tick < 2 ^ 64 →
     Shows site kept panel done (turn ∷ before) (shown_at site kept panel done (findings_taken (turn ∷ before)) turn.tick turn.outside shown)
 shows_more site kept panel done turn before shown h few later fits = record {
@@ -40,8 +44,10 @@ shows_more site kept panel done turn before shown h few later fits = record {
   newly = newly;
   entries =
       ap (λ e. if enters shown.word then min (e + 1) (2 ^ 64 - 1) else e) h.entries
-      ∙ ap (λ w. if enters w then min (entries_after site kept panel done before + 1) (2 ^ 64 - 1) else entries_after site kept panel done before) h.word
-      ∙ entries_more (enters (word_after site kept panel done before)) (entries_after site kept panel done before) (latest_tick before) turn.tick few later fits;
+      ∙ ap (λ w. if enters w then min (entries_after site kept panel done before + 1) (2 ^ 64 - 1) else entries_after site kept panel done before)
+      h.word
+      ∙ entries_more (enters (word_after site kept panel done before)) (entries_after site kept panel done before) (latest_tick before) turn.tick few
+      later fits;
   buzzer = ap (λ n. sounds word (nat_lt (muted_before panel turn.tick done) n)) newly;
 }
   where
@@ -59,16 +65,20 @@ shows_more site kept panel done turn before shown h few later fits = record {
         tick_if (is_news word faults shown.word shown.faults) word.stamp shown.newly
         ∙ ap (λ n. if is_news word faults shown.word shown.faults then turn.tick else n) h.newly
         ∙ ap (λ w. if is_news word faults w shown.faults then turn.tick else last_news site kept panel done before) h.word
-        ∙ ap (λ f. if is_news word faults (word_after site kept panel done before) f then turn.tick else last_news site kept panel done before) h.faults
+        ∙ ap (λ f. if is_news word faults (word_after site kept panel done before) f then turn.tick else last_news site kept panel done before)
+        h.faults
 
 -- one more turn
-pub holds_turn : (site : Site) (kept : Retained) (panel : ℕ) (done : List Done) (turn : HoldTurn) (before : List HoldTurn) (was amid after : Hold) → turn.tick < 2 ^ 64 → HoldsFor site kept panel done before was →
-    MayTurn done before turn.tick → amid.shown ≡ was.shown → Settled turn.tick after.zones → ShowsThen site kept panel done (findings_taken before ++ turn.found) turn.tick turn.outside amid after →
+pub holds_turn : (site : Site) (kept : Retained) (panel : ℕ) (done : List Done) (turn : HoldTurn) (before : List HoldTurn) (was amid after : Hold)
+    → turn.tick < 2 ^ 64 → HoldsFor site kept panel done before was →
+    MayTurn done before turn.tick → amid.shown ≡ was.shown → Settled turn.tick after.zones
+    → ShowsThen site kept panel done (findings_taken before ++ turn.found) turn.tick turn.outside amid after →
     HoldsFor site kept panel done (turn ∷ before) after
 holds_turn site kept panel done turn before was amid after fits h may same settled step = record {
   watches = step.watches;
   shows =
-      subst (Shows site kept panel done (turn ∷ before)) (sym (step.shown ∙ ap (shown_at site kept panel done (findings_taken (turn ∷ before)) turn.tick turn.outside) same))
+      subst (Shows site kept panel done (turn ∷ before))
+      (sym (step.shown ∙ ap (shown_at site kept panel done (findings_taken (turn ∷ before)) turn.tick turn.outside) same))
       (shows_more site kept panel done turn before was.shown h.shows h.few may.later fits);
   settled = settled;
   stays = step.stays;
@@ -77,8 +87,10 @@ holds_turn site kept panel done turn before was amid after fits h may same settl
 }
 
 -- one more operation: what is shown stays
-pub shows_after : (site : Site) (kept : Retained) (panel : ℕ) (done : List Done) (turns : List HoldTurn) (operation : Operation) (at : Tick) (was : Hold) → HoldsFor site kept panel done turns was →
-    MayApply panel done turns operation at.0 → Shows site kept panel (record { tick = at.0; panel = panel; operation = operation } ∷ done) turns was.shown
+pub shows_after : (site : Site) (kept : Retained) (panel : ℕ) (done : List Done) (turns : List HoldTurn) (operation : Operation) (at : Tick) (was :
+    Hold) → HoldsFor site kept panel done turns was →
+    MayApply panel done turns operation at.0
+    → Shows site kept panel (record { tick = at.0; panel = panel; operation = operation } ∷ done) turns was.shown
 shows_after site kept panel done turns operation at was h may = record {
   word = h.shows.word ∙ sym (word-yet site kept panel d done turns may.turned);
   faults = h.shows.faults ∙ sym (faults-yet site kept panel d done turns may.turned);
@@ -90,18 +102,24 @@ shows_after site kept panel done turns operation at was h may = record {
     d : Done
     d = record { tick = at.0; panel = panel; operation = operation }
 
-pub few_after : (site : Site) (kept : Retained) (panel : ℕ) (done : List Done) (turns : List HoldTurn) (operation : Operation) (at : Tick) (was : Hold) → HoldsFor site kept panel done turns was →
-    MayApply panel done turns operation at.0 → entries_after site kept panel (record { tick = at.0; panel = panel; operation = operation } ∷ done) turns ≤ latest_tick turns
+pub few_after : (site : Site) (kept : Retained) (panel : ℕ) (done : List Done) (turns : List HoldTurn) (operation : Operation) (at : Tick) (was :
+    Hold) → HoldsFor site kept panel done turns was →
+    MayApply panel done turns operation at.0
+    → entries_after site kept panel (record { tick = at.0; panel = panel; operation = operation } ∷ done) turns ≤ latest_tick turns
 few_after site kept panel done turns operation at was h may =
-    subst (λ n. n ≤ latest_tick turns) (sym (entries-yet site kept panel (record { tick = at.0; panel = panel; operation = operation }) done turns h.rising may.turned)) h.few
+    subst (λ n. n ≤ latest_tick turns)
+    (sym (entries-yet site kept panel (record { tick = at.0; panel = panel; operation = operation }) done turns h.rising may.turned)) h.few
 
 -- what is shown goes by the word, the faults and the last mute
-pub shown_same : (shown : Shown) (word other_word : Word) (faults other_faults : FaultSet) (muted : Tick) (tick : ℕ) → word ≡ other_word → faults ≡ other_faults → muted.0 ≡ tick →
+pub shown_same : (shown : Shown) (word other_word : Word) (faults other_faults : FaultSet) (muted : Tick) (tick : ℕ) → word ≡ other_word
+    → faults ≡ other_faults → muted.0 ≡ tick →
     shown_then shown word faults muted ≡ shown_then shown other_word other_faults (record { 0 = tick })
 shown_same shown word other_word faults other_faults muted tick p q r =
-    ap (λ w. shown_then shown w faults muted) p ∙ ap (λ f. shown_then shown other_word f muted) q ∙ ap (λ n. shown_then shown other_word other_faults (record { 0 = n })) r
+    ap (λ w. shown_then shown w faults muted) p ∙ ap (λ f. shown_then shown other_word f muted) q ∙ ap
+    (λ n. shown_then shown other_word other_faults (record { 0 = n })) r
 
 -- one more of the findings of a batch
-pub batch_more : (P : List Finding → Type 0) (taken batch : List Finding) (k : ℕ) (d : Finding) → k < length batch → P ((taken ++ take k batch) ++ get_or batch k d ∷ []) → P (taken ++ take (k + 1) batch)
+pub batch_more : (P : List Finding → Type 0) (taken batch : List Finding) (k : ℕ) (d : Finding) → k < length batch
+    → P ((taken ++ take k batch) ++ get_or batch k d ∷ []) → P (taken ++ take (k + 1) batch)
 batch_more P taken batch k d small h =
     subst P (append_assoc taken (take k batch) (get_or batch k d ∷ []) ∙ ap (λ l. taken ++ l) (sym (take_more batch k d small))) h

@@ -26,13 +26,15 @@ point_same : (p q : ℕ → Bool) → ((place : ℕ) → p place ≡ q place) �
 point_same p q same None = refl
 point_same p q same (Some place) = same place
 
-addresses_same : (site : Site) (panel : ℕ) (p q : ℕ → Bool) (line past : ℕ) → ((place : ℕ) → p place ≡ q place) → addresses_where site panel p line past ≡ addresses_where site panel q line past
+addresses_same : (site : Site) (panel : ℕ) (p q : ℕ → Bool) (line past : ℕ) → ((place : ℕ) → p place ≡ q place)
+    → addresses_where site panel p line past ≡ addresses_where site panel q line past
 unfolding addresses_where
 addresses_same site panel p q line past same =
     mask_same 96 (λ k. on_point p (addressed site panel line (past + k + 1))) (λ k. on_point q (addressed site panel line (past + k + 1)))
     (λ k small. point_same p q same (addressed site panel line (past + k + 1)))
 
-pub points_same : (site : Site) (panel : ℕ) (p q : ℕ → Bool) → ((place : ℕ) → p place ≡ q place) → points_where site panel p ≡ points_where site panel q
+pub points_same : (site : Site) (panel : ℕ) (p q : ℕ → Bool) → ((place : ℕ) → p place ≡ q place)
+    → points_where site panel p ≡ points_where site panel q
 unfolding points_where
 points_same site panel p q same =
     let one = λ (line past : ℕ). addresses_same site panel p q line past same in
@@ -49,14 +51,18 @@ module _ (site : Site) (kept : Retained) (panel : ℕ) (d : Done) (done : List D
     since-yet : (zone : ℕ) (test : Finding → Bool) → found_since site (d ∷ done) taken zone tick test ≡ found_since site done taken zone tick test
     since-yet zone test = ap (λ floor. list_any (λ f. nat_lt floor f.stamp.0 && test f) taken) (floor-yet site zone tick d done le)
 
-    first_told-yet : (zone within : ℕ) → list_any (tells_first site (d ∷ done) within zone tick) taken ≡ list_any (tells_first site done within zone tick) taken
+    first_told-yet : (zone within : ℕ)
+        → list_any (tells_first site (d ∷ done) within zone tick) taken ≡ list_any (tells_first site done within zone tick) taken
     first_told-yet zone within =
-        ap (λ floor. list_any (λ f. (tells site zone f.counted && not (tells site zone f.manual)) && ((nat_lt floor f.stamp.0 && nat_lt (cancelled_before zone tick (d ∷ done)) f.stamp.0) && nat_le tick (f.stamp.0 + within))) taken)
+        ap (λ floor. list_any (λ f. (tells site zone f.counted && not (tells site zone f.manual))
+        && ((nat_lt floor f.stamp.0 && nat_lt (cancelled_before zone tick (d ∷ done)) f.stamp.0) && nat_le tick (f.stamp.0 + within))) taken)
         (floor-yet site zone tick d done le)
-        ∙ ap (λ cancelled. list_any (λ f. (tells site zone f.counted && not (tells site zone f.manual)) && ((nat_lt (floor_before site zone tick done) f.stamp.0 && nat_lt cancelled f.stamp.0) && nat_le tick (f.stamp.0 + within))) taken)
+        ∙ ap (λ cancelled. list_any (λ f. (tells site zone f.counted && not (tells site zone f.manual))
+        && ((nat_lt (floor_before site zone tick done) f.stamp.0 && nat_lt cancelled f.stamp.0) && nat_le tick (f.stamp.0 + within))) taken)
         (cancelled-yet zone tick d done le)
 
-    first_by-yet : (zone : ℕ) (rule : Option Rule) → first_found_by site (d ∷ done) taken zone tick rule ≡ first_found_by site done taken zone tick rule
+    first_by-yet : (zone : ℕ) (rule : Option Rule)
+        → first_found_by site (d ∷ done) taken zone tick rule ≡ first_found_by site done taken zone tick rule
     first_by-yet zone None = refl
     first_by-yet zone (Some Plain) = refl
     first_by-yet zone (Some (A verify within)) = refl
@@ -71,7 +77,8 @@ module _ (site : Site) (kept : Retained) (panel : ℕ) (d : Done) (done : List D
 
     missing-yet : (place : ℕ) → shows_missing site kept (d ∷ done) taken tick place ≡ shows_missing site kept done taken tick place
     missing-yet place =
-        ap (λ b. missing_found taken place && not (b || zone_is_off site kept (d ∷ done) (slice_get site.points place) tick)) (in_force-yet site kept (PointOff place) tick d done le)
+        ap (λ b. missing_found taken place && not (b || zone_is_off site kept (d ∷ done) (slice_get site.points place) tick))
+        (in_force-yet site kept (PointOff place) tick d done le)
         ∙ ap (λ b. missing_found taken place && not (in_force site kept (PointOff place) tick done || b)) (zone_off-yet (slice_get site.points place))
 
     faults_at-yet : (outside : Outside) → faults_at site kept panel (d ∷ done) taken tick outside ≡ faults_at site kept panel done taken tick outside
@@ -94,11 +101,13 @@ module _ (site : Site) (kept : Retained) (panel : ℕ) (d : Done) (done : List D
         let first = zones_same site panel _ _ (λ zone. first_by-yet zone (rule_of (slice_get site.zones zone))) in
         same_words tick fault alarm manual released first
 
-  pub faults-yet : (turns : List HoldTurn) → latest_tick turns ≤ d.tick → faults_after site kept panel (d ∷ done) turns ≡ faults_after site kept panel done turns
+  pub faults-yet : (turns : List HoldTurn) → latest_tick turns ≤ d.tick
+      → faults_after site kept panel (d ∷ done) turns ≡ faults_after site kept panel done turns
   faults-yet [] le = refl
   faults-yet (turn ∷ before) le = faults_at-yet (findings_taken (turn ∷ before)) turn.tick le turn.outside
 
-  pub word-yet : (turns : List HoldTurn) → latest_tick turns ≤ d.tick → word_after site kept panel (d ∷ done) turns ≡ word_after site kept panel done turns
+  pub word-yet : (turns : List HoldTurn) → latest_tick turns ≤ d.tick
+      → word_after site kept panel (d ∷ done) turns ≡ word_after site kept panel done turns
   word-yet [] le = refl
   word-yet (turn ∷ before) le =
       ap (λ f. word_at site panel (d ∷ done) (findings_taken (turn ∷ before)) turn.tick (has_fault f)) (faults-yet (turn ∷ before) le)
@@ -111,26 +120,32 @@ module _ (site : Site) (kept : Retained) (panel : ℕ) (d : Done) (done : List D
   earlier : (turn : HoldTurn) (before : List HoldTurn) → AreRising (turn ∷ before) → turn.tick ≤ d.tick → latest_tick before ≤ d.tick
   earlier turn before rising le = let less = rising.0 in omega (arith, less, le)
 
-  pub news-yet : (turns : List HoldTurn) → AreRising turns → latest_tick turns ≤ d.tick → last_news site kept panel (d ∷ done) turns ≡ last_news site kept panel done turns
+  pub news-yet : (turns : List HoldTurn) → AreRising turns → latest_tick turns ≤ d.tick
+      → last_news site kept panel (d ∷ done) turns ≡ last_news site kept panel done turns
   news-yet [] rising le = refl
   news-yet (turn ∷ before) rising le =
       let under = earlier turn before rising le in
-      ap (λ n. if is_news (word_after site kept panel (d ∷ done) (turn ∷ before)) (faults_after site kept panel (d ∷ done) (turn ∷ before)) (word_after site kept panel (d ∷ done) before) (faults_after site kept panel (d ∷ done) before) then turn.tick else n)
+      ap (λ n. if is_news (word_after site kept panel (d ∷ done) (turn ∷ before)) (faults_after site kept panel (d ∷ done) (turn ∷ before))
+      (word_after site kept panel (d ∷ done) before) (faults_after site kept panel (d ∷ done) before) then turn.tick else n)
       (news-yet before rising.1 under)
       ∙ ap (λ b. if b then turn.tick else last_news site kept panel done before)
       (news_same (word-yet (turn ∷ before) le) (faults-yet (turn ∷ before) le) (word-yet before under) (faults-yet before under))
 
-  pub entries-yet : (turns : List HoldTurn) → AreRising turns → latest_tick turns ≤ d.tick → entries_after site kept panel (d ∷ done) turns ≡ entries_after site kept panel done turns
+  pub entries-yet : (turns : List HoldTurn) → AreRising turns → latest_tick turns ≤ d.tick
+      → entries_after site kept panel (d ∷ done) turns ≡ entries_after site kept panel done turns
   entries-yet [] rising le = refl
   entries-yet (turn ∷ before) rising le =
       let under = earlier turn before rising le in
       ap (λ n. n + (if is_in_fire_alarm (word_after site kept panel (d ∷ done) (turn ∷ before)) && not (is_in_fire_alarm (word_after site kept panel (d ∷ done) before)) then 1 else 0))
       (entries-yet before rising.1 under)
       ∙ ap (λ w. entries_after site kept panel done before + (if is_in_fire_alarm w && not (is_in_fire_alarm (word_after site kept panel (d ∷ done) before)) then 1 else 0)) (word-yet (turn ∷ before) le)
-      ∙ ap (λ w. entries_after site kept panel done before + (if is_in_fire_alarm (word_after site kept panel done (turn ∷ before)) && not (is_in_fire_alarm w) then 1 else 0)) (word-yet before under)
+      ∙ ap (λ w. entries_after site kept panel done before + (if is_in_fire_alarm (word_after site kept panel done (turn ∷ before))
+      && not (is_in_fire_alarm w) then 1 else 0)) (word-yet before under)
 
-  pub buzzer-yet : (turns : List HoldTurn) → AreRising turns → latest_tick turns ≤ d.tick → buzzer_after site kept panel (d ∷ done) turns ≡ buzzer_after site kept panel done turns
+  pub buzzer-yet : (turns : List HoldTurn) → AreRising turns → latest_tick turns ≤ d.tick
+      → buzzer_after site kept panel (d ∷ done) turns ≡ buzzer_after site kept panel done turns
   buzzer-yet turns rising le =
       ap (λ w. sounds w (nat_lt (muted_before panel (latest_tick turns) (d ∷ done)) (last_news site kept panel (d ∷ done) turns))) (word-yet turns le)
-      ∙ ap (λ m. sounds (word_after site kept panel done turns) (nat_lt m (last_news site kept panel (d ∷ done) turns))) (latest-yet (mutes panel) (latest_tick turns) d done le)
+      ∙ ap (λ m. sounds (word_after site kept panel done turns) (nat_lt m (last_news site kept panel (d ∷ done) turns)))
+      (latest-yet (mutes panel) (latest_tick turns) d done le)
       ∙ ap (λ n. sounds (word_after site kept panel done turns) (nat_lt (muted_before panel (latest_tick turns) done) n)) (news-yet turns rising le)

@@ -30,7 +30,9 @@ answered_word site kept panel done answers tick fault =
 abbrev pub answered_faults : Site → Retained → ℕ → List Done → List Answer → ℕ → Outside → FaultSet
 answered_faults site kept panel done answers tick outside =
     record {
-      missing = points_where site panel (λ place. is_missing answers place && not (is_off site kept done place tick));
+      missing =
+          points_where site panel (λ place. is_missing answers place
+          && not (is_off site kept done place tick));
       broken = outside.broken;
       shorted = outside.shorted;
       supply = outside.supply;

@@ -8,3 +8,5 @@ pub mod Shown
 pub mod PointSets
 pub mod Parts
 pub mod Stands
+pub mod Changes
+pub mod Laws

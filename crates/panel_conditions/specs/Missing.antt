@@ -1,5 +1,6 @@
 -- When a point is shown as missing. Points are places in the site's list.
-use Rattle.std.specs.Prelude.{ℕ, Bool, false, not, List, [], ◌∷◌, Option, Some, None, slice_get, ◌==◌, ◌&&◌, ◌||◌, if◌then◌else◌}
+use Rattle.std.specs.Prelude.{ℕ, Bool, false, not, List, [], ◌∷◌, Option, Some, None, slice_get, ◌==◌, ◌&&◌, ◌||◌}
+use Rattle.std.specs.Prelude.{if◌then◌else◌}
 use Rattle.site_types.specs.declared.site.Site.{Site}
 use Rattle.site_types.specs.declared.point.Point.{Point}
 use Rattle.site_types.specs.declared.retained.Retained.{Retained}
@@ -21,8 +22,10 @@ zone_is_off site kept done (Some p) tick = in_force site kept (ZoneOff p.zone) t
 
 -- the point or its zone is disabled at a tick
 abbrev pub is_off : Site → Retained → List Done → ℕ → ℕ → Bool
-is_off site kept done place tick = in_force site kept (PointOff place) tick done || zone_is_off site kept done (slice_get site.points place) tick
+is_off site kept done place tick = in_force site kept (PointOff place) tick done
+    || zone_is_off site kept done (slice_get site.points place) tick
 
 -- the point is shown as missing at a tick
 abbrev pub shows_missing : Site → Retained → List Done → List Finding → ℕ → ℕ → Bool
-shows_missing site kept done taken tick place = missing_found taken place && not (is_off site kept done place tick)
+shows_missing site kept done taken tick place =
+    missing_found taken place && not (is_off site kept done place tick)

@@ -1,5 +1,6 @@
 -- What the parts that hold make of a finding or an operation, and what they show at a tick.
-use Rattle.std.specs.Prelude.{ℕ, ◌-◌, Bool, true, false, not, List, Option, Some, None, slice_get, bit_or, ◌==◌, ◌&&◌, nat_lt, nat_le, if◌then◌else◌}
+use Rattle.std.specs.Prelude.{ℕ, ◌-◌, Bool, true, false, not, List, Option, Some, None, slice_get, bit_or, ◌==◌, ◌&&◌}
+use Rattle.std.specs.Prelude.{nat_lt, nat_le, if◌then◌else◌}
 use Rattle.std.specs.Option.{is_some}
 use Rattle.tick_units.specs.declared.tick.Tick.{Tick}
 use Rattle.site_types.specs.declared.site.Site.{Site}
@@ -13,7 +14,7 @@ use Rattle.site_types.specs.declared.operation.Operation.TheVariants.{Reset, Dis
 use Rattle.site_types.specs.Bits.{has_bit, mask_of}
 use Rattle.site_types.specs.Done.{is_cancel, kept_point, kept_zone}
 use Rattle.coincidence_rules.specs.declared.finding.Finding.{Finding}
-use Rattle.panel_conditions.specs.declared.last_tick.LastTick.{LastTick}
+use Rattle.tick_units.specs.LastTicks.{last_at, last_if}
 use Rattle.panel_conditions.specs.declared.sign.Sign.{Sign}
 use Rattle.panel_conditions.specs.declared.sign.Sign.TheVariants.{Alarm, Manual, Released, First}
 use Rattle.panel_conditions.specs.declared.signs.Signs.{Signs}
@@ -23,16 +24,6 @@ use Rattle.panel_conditions.specs.declared.asked.Asked.TheVariants.{Disabled, Zo
 use Rattle.panel_conditions.specs.declared.point_switch.PointSwitch.{PointSwitch}
 use Rattle.panel_conditions.specs.declared.points.Points.{Points}
 use Rattle.panel_conditions.specs.PointSets.{address_in, put_at, put_all, set_without}
-
-abbrev pub never_done : LastTick
-never_done = record { tick = record { 0 = 0 }; earlier = record { 0 = 0 } }
-
--- the latest tick before one that isn't before the latest of all
-abbrev pub last_at : ℕ → LastTick → ℕ
-last_at x last = if nat_lt last.tick.0 x then last.tick.0 else last.earlier.0
-
-abbrev pub last_if : Bool → Tick → LastTick → LastTick
-last_if on at last = if on && nat_lt last.tick.0 at.0 then record { tick = at; earlier = last.tick } else last
 
 -- the later of two stamps, where the second one is of something that was told
 abbrev pub stamp_if : Bool → Tick → Tick → Tick
@@ -65,14 +56,17 @@ zone_taken finding watch =
       confirmed = stamp_if (has_bit finding.confirmed watch.bit) finding.stamp watch.confirmed;
       called = stamp_if (has_bit finding.manual watch.bit) finding.stamp watch.called;
       released = stamp_if (has_bit finding.released watch.bit) finding.stamp watch.released;
-      told = stamp_if (has_bit finding.counted watch.bit && not (has_bit finding.manual watch.bit)) finding.stamp watch.told;
+      told =
+          stamp_if (has_bit finding.counted watch.bit && not (has_bit finding.manual watch.bit)) finding.stamp
+          watch.told;
     }
 
 abbrev pub first_shows : ℕ → ZoneWatch → Option ℕ → Bool
 first_shows tick watch None = false
 first_shows tick watch (Some within) =
     not (nat_lt (last_at tick watch.floor) watch.confirmed.0)
-    && ((nat_lt (last_at tick watch.floor) watch.told.0 && nat_lt (last_at tick watch.cancelled) watch.told.0) && nat_le (tick - watch.told.0) within)
+    && ((nat_lt (last_at tick watch.floor) watch.told.0 && nat_lt (last_at tick watch.cancelled) watch.told.0)
+    && nat_le (tick - watch.told.0) within)
 
 abbrev pub sign_shows : Sign → ℕ → ZoneWatch → Bool
 sign_shows Alarm tick watch = nat_lt (last_at tick watch.floor) watch.confirmed.0
@@ -114,9 +108,21 @@ sign_mask First signs = signs.first
 abbrev pub sign_at : Sign → ℕ → List ZoneWatch → ℕ
 sign_at sign tick watches = mask_of 32 (λ k. watch_shows sign tick (slice_get watches k))
 
+-- the mask of a sign drawn anew for the zones to look at, as it was for all others
+abbrev pub drawn_mask : Sign → ℕ → List ZoneWatch → ℕ → ℕ → ℕ
+drawn_mask sign tick watches look before =
+    mask_of 32 (λ k. if has_bit look k then watch_shows sign tick (slice_get watches k) else has_bit before k)
+
 -- what zones show at a tick
 abbrev pub signs_at : ℕ → List ZoneWatch → Signs
-signs_at tick watches = record { alarm = sign_at Alarm tick watches; manual = sign_at Manual tick watches; released = sign_at Released tick watches; first = sign_at First tick watches }
+signs_at tick watches =
+    record {
+      alarm = sign_at Alarm tick watches;
+      manual = sign_at Manual tick watches;
+      released =
+          sign_at Released tick watches;
+      first = sign_at First tick watches;
+    }
 
 -- ---- points
 
@@ -130,7 +136,12 @@ points_at x switch = if nat_lt switch.since.0 x then switch.after else switch.be
 
 -- what is set from now on is in force after this tick
 abbrev pub begun : Tick → PointSwitch → PointSwitch
-begun at switch = if nat_lt switch.since.0 at.0 then record { before = switch.after; after = switch.after; since = at } else switch
+begun at switch = if nat_lt switch.since.0 at.0 then record {
+  before = switch.after;
+  after =
+      switch.after;
+  since = at;
+} else switch
 
 -- the set is changed in a tick
 abbrev pub switch_points : (PointSet → PointSet) → Tick → PointSwitch → PointSwitch
@@ -138,8 +149,16 @@ switch_points change at switch = record (begun at switch) { after = change (begu
 
 -- an item is disabled or enabled in a tick
 abbrev pub item_set : Item → Bool → Tick → Points → Points
-item_set (Point point) on at points = record points { off = switch_points (put_at (address_in (slice_get points.addresses.items point)) on) at points.off }
-item_set (Zone zone) on at points = record points { zone_off = switch_points (put_all (slice_get points.of_zones.items zone) on) at points.zone_off }
+item_set (Point point) on at points =
+    record points {
+      off =
+          switch_points (put_at (address_in (slice_get points.addresses.items point)) on) at points.off;
+    }
+item_set (Zone zone) on at points =
+    record points {
+      zone_off =
+          switch_points (put_all (slice_get points.of_zones.items zone) on) at points.zone_off;
+    }
 item_set (Output output) on at points = points
 
 -- an operation is done in a tick
@@ -150,11 +169,16 @@ points_done _ at points = points
 
 -- the point of a finding is missing or not
 abbrev pub points_taken : Finding → Points → Points
-points_taken finding points = record points { missing = put_at (address_in (slice_get points.addresses.items finding.point)) finding.missing points.missing }
+points_taken finding points =
+    record points {
+      missing =
+          put_at (address_in (slice_get points.addresses.items finding.point)) finding.missing points.missing;
+    }
 
 -- the missing points that aren't disabled, nor their zone
 abbrev pub points_shown : ℕ → Points → PointSet
-points_shown tick points = set_without (set_without points.missing (points_at tick points.off)) (points_at tick points.zone_off)
+points_shown tick points =
+    set_without (set_without points.missing (points_at tick points.off)) (points_at tick points.zone_off)
 
 -- ---- points at the opening
 

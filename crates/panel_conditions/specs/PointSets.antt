@@ -1,14 +1,11 @@
 -- What is made of sets of points: one point put in or taken out, and two sets joined or parted.
-use Rattle.std.specs.Prelude.{ℕ, Bool, List, [], ◌∷◌, Option, Some, None, replicate, slice_index, slice_index_or, bit_or, bit_and, ◌&&◌, ◌==◌, nat_le, if◌then◌else◌}
+use Rattle.std.specs.Prelude.{ℕ, Bool, List, [], ◌∷◌, Option, Some, None, slice_index, slice_index_or}
+use Rattle.std.specs.Prelude.{bit_or, bit_and, ◌&&◌, ◌==◌, nat_le, if◌then◌else◌}
 use Rattle.std.specs.Int.{w128, bit_not}
 use Rattle.site_types.specs.declared.point.Point.{Point}
 use Rattle.site_types.specs.declared.point_set.PointSet.{PointSet}
 use Rattle.site_types.specs.Bits.{with_point}
 use Rattle.panel_conditions.specs.declared.loop_address.LoopAddress.{LoopAddress}
-
--- no point
-abbrev pub no_set : PointSet
-no_set = record { loops = replicate 4 (replicate 2 0) }
 
 -- the loop and address of a point, if it is of the panel
 abbrev pub loop_address : ℕ → Point → Option LoopAddress
@@ -34,7 +31,8 @@ either_line a b = bit_or (slice_index a 0) (slice_index b 0) ∷ bit_or (slice_i
 
 -- those with the points of the first that aren't in the second
 abbrev pub line_without : List ℕ → List ℕ → List ℕ
-line_without a b = bit_and (slice_index a 0) (bit_not w128 (slice_index b 0)) ∷ bit_and (slice_index a 1) (bit_not w128 (slice_index b 1)) ∷ []
+line_without a b = bit_and (slice_index a 0) (bit_not w128 (slice_index b 0))
+    ∷ bit_and (slice_index a 1) (bit_not w128 (slice_index b 1)) ∷ []
 
 -- the two numbers of a loop, counted from 0
 abbrev pub line_in : PointSet → ℕ → List ℕ

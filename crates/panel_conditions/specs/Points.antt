@@ -20,7 +20,8 @@ on_point test (Some point) = test point
 
 -- the addresses of one number of a loop, those that come after so many
 unfoldable pub addresses_where : Site → ℕ → (ℕ → Bool) → ℕ → ℕ → ℕ
-addresses_where site panel test line past = mask_of 96 (λ k. on_point test (addressed site panel line (past + k + 1)))
+addresses_where site panel test line past =
+    mask_of 96 (λ k. on_point test (addressed site panel line (past + k + 1)))
 
 -- the set of the points of a panel that pass a test
 unfoldable pub points_where : Site → ℕ → (ℕ → Bool) → PointSet

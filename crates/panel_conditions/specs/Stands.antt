@@ -1,5 +1,6 @@
 -- The part that holds stands for the operations done and the turns made.
-use Rattle.std.specs.Prelude.{◌≡◌, ◌≢◌, ◌<◌, ◌≤◌, ◌+◌, ◌-◌, ◌^◌, min, max, ℕ, zero, suc, Bool, true, false, not, List, [], ◌∷◌, ◌++◌, Option, Some, None, length, map, slice_get, ◌&&◌, nat_lt, if◌then◌else◌}
+use Rattle.std.specs.Prelude.{◌≡◌, ◌<◌, ◌≤◌, ◌+◌, ◌-◌, ◌^◌, min, max, ℕ, zero, suc, Bool, false, not, List, [], ◌∷◌}
+use Rattle.std.specs.Prelude.{◌++◌, Option, Some, None, length, map, slice_get, ◌&&◌, nat_lt, if◌then◌else◌}
 use Rattle.tick_units.specs.declared.tick.Tick.{Tick}
 use Rattle.site_types.specs.declared.site.Site.{Site}
 use Rattle.site_types.specs.declared.point.Point.{Point as PointPlan}
@@ -12,12 +13,12 @@ use Rattle.site_types.specs.declared.fault_set.FaultSet.{FaultSet}
 use Rattle.site_types.specs.declared.buzzer.Buzzer.TheVariants.{Off}
 use Rattle.site_types.specs.declared.word.Word.{Word}
 use Rattle.site_types.specs.declared.operation.Operation.{Operation}
-use Rattle.site_types.specs.Bits.{IsPlace, has_bit}
+use Rattle.site_types.specs.Bits.{IsPlace, has_bit, no_set}
 use Rattle.site_types.specs.Changes.{IsPanelNumber, IsNumber, HasOwnPlaces}
-use Rattle.site_types.specs.Done.{Done, Setting, PointOff, is_on, operation_setting, in_force, latest_before, moves_floor, cancels, mutes, muted_before, AreBy}
+use Rattle.site_types.specs.Done.{Done, PointOff, in_force, moves_floor, cancels, mutes, muted_before, AreBy}
 use Rattle.coincidence_rules.specs.declared.finding.Finding.{Finding}
+use Rattle.coincidence_rules.specs.Applied.{MayBeDone, TellsLast}
 use Rattle.coincidence_rules.specs.Places.{numbered}
-use Rattle.panel_conditions.specs.declared.last_tick.LastTick.{LastTick}
 use Rattle.panel_conditions.specs.declared.zone_watch.ZoneWatch.{ZoneWatch}
 use Rattle.panel_conditions.specs.declared.sign.Sign.{Sign}
 use Rattle.panel_conditions.specs.declared.zones.Zones.{Zones}
@@ -27,13 +28,15 @@ use Rattle.panel_conditions.specs.declared.points.Points.{Points}
 use Rattle.panel_conditions.specs.declared.shown.Shown.{Shown}
 use Rattle.panel_conditions.specs.declared.hold.Hold.{Hold}
 use Rattle.panel_conditions.specs.declared.outside.Outside.{Outside}
-use Rattle.panel_conditions.specs.PointSets.{loop_address, no_set, set_without}
+use Rattle.panel_conditions.specs.PointSets.{loop_address, set_without}
 use Rattle.panel_conditions.specs.declared.signs.Signs.{Signs}
-use Rattle.panel_conditions.specs.Parts.{never_done, last_at, points_at, points_shown, is_asked, watch_shows, sign_mask}
+use Rattle.panel_conditions.specs.Parts.{points_at, points_shown, is_asked, watch_shows, sign_mask}
+use Rattle.tick_units.specs.LastTicks.{last_at, never_done}
 use Rattle.panel_conditions.specs.Points.{points_where}
 use Rattle.panel_conditions.specs.Turns.{HoldTurn, findings_taken, latest_tick, AreRising}
 use Rattle.panel_conditions.specs.Missing.{missing_found, zone_is_off}
-use Rattle.panel_conditions.specs.Words.{empty_word, no_faults, has_fault, word_at, faults_at, word_after, faults_after}
+use Rattle.panel_conditions.specs.Words.{has_fault, word_at, faults_at, word_after, faults_after}
+use Rattle.site_types.specs.Words.{empty_word, no_faults}
 use Rattle.panel_conditions.specs.Shown.{is_news, is_in_fire_alarm, sounds, last_news, buzzer_after, entries_after}
 
 -- ---- at first
@@ -66,7 +69,8 @@ no_zone_yet place bit within =
     }
 
 abbrev pub first_watch : Site → ℕ → ℕ → ZoneWatch
-first_watch site panel bit = no_zone_yet (numbered site panel (bit + 1)) bit (within_at site (numbered site panel (bit + 1)))
+first_watch site panel bit =
+    no_zone_yet (numbered site panel (bit + 1)) bit (within_at site (numbered site panel (bit + 1)))
 
 -- the first so many
 unfoldable pub are_first_watches : Site → ℕ → ℕ → List ZoneWatch
@@ -80,16 +84,25 @@ HasZoneNumber (Some z) = IsPanelNumber z.panel × IsNumber z.number
 
 -- a point and its zone have their places in what is retained
 abbrev pub HasPlaces : Site → PointPlan → Type 0
-HasPlaces site point = IsPanelNumber point.panel × IsPlace point.line point.address × HasZoneNumber (slice_get site.zones point.zone)
+HasPlaces site point = IsPanelNumber point.panel × IsPlace point.line point.address
+    × HasZoneNumber (slice_get site.zones point.zone)
 
 -- ---- what is shown
 
 abbrev pub nothing_shown : Shown
-nothing_shown = record { word = empty_word; faults = no_faults; newly = record { 0 = 0 }; entries = 0; buzzer = Off }
+nothing_shown = record {
+  word = empty_word;
+  faults = no_faults;
+  newly = record { 0 = 0 };
+  entries =
+      0;
+  buzzer = Off;
+}
 
 -- entries with a word after another; they stay at the greatest number of 64 bits
 abbrev pub entries_then : ℕ → Word → Word → ℕ
-entries_then entries word before = if is_in_fire_alarm word && not (is_in_fire_alarm before) then min (entries + 1) (2 ^ 64 - 1) else entries
+entries_then entries word before =
+    if is_in_fire_alarm word && not (is_in_fire_alarm before) then min (entries + 1) (2 ^ 64 - 1) else entries
 
 abbrev pub newly_then : Shown → Word → FaultSet → Tick
 newly_then shown word faults = if is_news word faults shown.word shown.faults then word.stamp else shown.newly
@@ -115,43 +128,48 @@ abbrev pub zone_of_is_off : Site → Retained → List Done → ℕ → ℕ → 
 zone_of_is_off site kept done x place = zone_is_off site kept done (slice_get site.points place) x
 
 -- a set of points that changes tells a test of them at each tick from its own on
-pub record TellsPoints (site : Site) (panel : ℕ) (test : ℕ → ℕ → Bool) (done : List Done) (switch : PointSwitch) : Type 0 where
+pub record TellsPoints (site : Site) (panel : ℕ) (test : ℕ → ℕ → Bool) (done : List Done) (switch :
+    PointSwitch) : Type 0 where
   pub at : (x : ℕ) → switch.since.0 ≤ x → points_at x switch ≡ points_where site panel (test x)
   pub by : (x : ℕ) → AreBy x done → switch.since.0 ≤ x
-
--- the latest tick of a kind of operations, at each tick from it on
-pub record TellsLast (test : Done → Bool) (done : List Done) (last : LastTick) : Type 0 where
-  pub at : (x : ℕ) → last.tick.0 ≤ x → latest_before test x done ≡ last_at x last
-  pub by : (x : ℕ) → AreBy x done → last.tick.0 ≤ x
 
 -- the latest stamp of a finding that passes the test, else 0
 abbrev pub latest_stamp : (Finding → Bool) → List Finding → ℕ
 latest_stamp test [] = 0
 latest_stamp test (f ∷ rest) = max (if test f then f.stamp.0 else 0) (latest_stamp test rest)
 
-pub record WatchesZone (site : Site) (panel : ℕ) (done : List Done) (taken : List Finding) (k : ℕ) (watch : ZoneWatch) : Type 0 where
+pub record WatchesZone (site : Site) (panel : ℕ) (done : List Done) (taken : List Finding) (k : ℕ) (watch :
+    ZoneWatch) : Type 0 where
   pub place : watch.place ≡ numbered site panel (k + 1)
   pub bit : watch.bit ≡ k
   pub within : watch.within ≡ within_at site (numbered site panel (k + 1))
-  pub floor : (place : ℕ) → numbered site panel (k + 1) ≡ Some place → TellsLast (moves_floor site place) done watch.floor
-  pub cancelled : (place : ℕ) → numbered site panel (k + 1) ≡ Some place → TellsLast (cancels place) done watch.cancelled
+  pub floor : (place : ℕ) → numbered site panel (k + 1) ≡ Some place
+      → TellsLast (moves_floor site place) done watch.floor
+  pub cancelled : (place : ℕ) → numbered site panel (k + 1) ≡ Some place
+      → TellsLast (cancels place) done watch.cancelled
   pub confirmed : watch.confirmed.0 ≡ latest_stamp (λ f. has_bit f.confirmed k) taken
   pub called : watch.called.0 ≡ latest_stamp (λ f. has_bit f.manual k) taken
   pub released : watch.released.0 ≡ latest_stamp (λ f. has_bit f.released k) taken
   pub told : watch.told.0 ≡ latest_stamp (λ f. has_bit f.counted k && not (has_bit f.manual k)) taken
 
-pub record WatchesZones (site : Site) (panel : ℕ) (done : List Done) (taken : List Finding) (watches : List ZoneWatch) : Type 0 where
+pub record WatchesZones (site : Site) (panel : ℕ) (done : List Done) (taken : List Finding) (watches :
+    List ZoneWatch) : Type 0 where
   pub count : length watches ≡ 32
-  pub each : (k : ℕ) (watch : ZoneWatch) → slice_get watches k ≡ Some watch → WatchesZone site panel done taken k watch
+  pub each : (k : ℕ) (watch : ZoneWatch) → slice_get watches k ≡ Some watch
+      → WatchesZone site panel done taken k watch
 
 -- each zone has the bit of its number
 abbrev pub AreNumbered : List ZoneWatch → Type 0
 AreNumbered watches = (k : ℕ) (watch : ZoneWatch) → slice_get watches k ≡ Some watch → watch.bit ≡ k
 
--- from a tick on, zones that aren't stirred nor in first state show what they showed when it was drawn last; no operation is later than the latest
+-- from a tick on, zones that aren't stirred nor in first state show what they showed when it was drawn last;
+-- no operation is later than the latest
 pub record Settled (tick : ℕ) (zones : Zones) : Type 0 where
-  pub moved : (k : ℕ) (watch : ZoneWatch) → slice_get zones.watches.items k ≡ Some watch → (watch.floor.tick.0 ≤ zones.moved.0) × (watch.cancelled.tick.0 ≤ zones.moved.0)
-  pub held : (sign : Sign) (k x : ℕ) → k < 32 → tick ≤ x → has_bit zones.stirred k ≡ false → has_bit zones.signs.first k ≡ false → watch_shows sign x (slice_get zones.watches.items k) ≡ has_bit (sign_mask sign zones.signs) k
+  pub moved : (k : ℕ) (watch : ZoneWatch) → slice_get zones.watches.items k ≡ Some watch
+      → (watch.floor.tick.0 ≤ zones.moved.0) × (watch.cancelled.tick.0 ≤ zones.moved.0)
+  pub held : (sign : Sign) (k x : ℕ) → k < 32 → tick ≤ x → has_bit zones.stirred k ≡ false
+      → has_bit zones.signs.first k ≡ false
+      → watch_shows sign x (slice_get zones.watches.items k) ≡ has_bit (sign_mask sign zones.signs) k
 
 -- a set, empty where there is none
 abbrev pub set_or_none : Option PointSet → PointSet
@@ -161,30 +179,38 @@ set_or_none (Some points) = points
 -- the first so many zones have their sets
 pub record AreZoneSets (site : Site) (kept : Retained) (panel n : ℕ) (sets : List PointSet) : Type 0 where
   pub count : length sets ≡ n
-  pub each : (zone : ℕ) (points : PointSet) → slice_get sets zone ≡ Some points → points ≡ points_where site panel (λ place. is_asked site kept (OfZone zone) (slice_get site.points place))
+  pub each : (zone : ℕ) (points : PointSet) → slice_get sets zone ≡ Some points
+      → points ≡ points_where site panel
+      (λ place. is_asked site kept (OfZone zone) (slice_get site.points place))
 
 -- by the places of points, whether the last finding of each told it missing
 abbrev pub TellMissing : List Finding → List Bool → Type 0
-TellMissing taken told = (place : ℕ) (b : Bool) → slice_get told place ≡ Some b → b ≡ missing_found taken place
+TellMissing taken told = (place : ℕ) (b : Bool) → slice_get told place ≡ Some b
+    → b ≡ missing_found taken place
 
 -- the points are kept by address, zone and state as the findings and operations tell
-pub record WatchesPoints (site : Site) (kept : Retained) (panel : ℕ) (done : List Done) (taken : List Finding) (points : Points) : Type 0 where
+pub record WatchesPoints (site : Site) (kept : Retained) (panel : ℕ) (done : List Done) (taken : List Finding)
+    (points : Points) : Type 0 where
   pub own : HasOwnPlaces site
   pub addresses : points.addresses.items ≡ map (loop_address panel) site.points
-  pub of_zones : (zone : ℕ) → set_or_none (slice_get points.of_zones.items zone) ≡ points_where site panel (λ place. is_asked site kept (OfZone zone) (slice_get site.points place))
+  pub of_zones : (zone : ℕ)
+      → set_or_none (slice_get points.of_zones.items zone) ≡ points_where site panel
+      (λ place. is_asked site kept (OfZone zone) (slice_get site.points place))
   pub missing : points.missing ≡ points_where site panel (missing_found taken)
   pub told : TellMissing taken points.told.items
   pub off : TellsPoints site panel (point_is_off site kept done) done points.off
   pub zone_off : TellsPoints site panel (zone_of_is_off site kept done) done points.zone_off
 
 -- all that is kept of findings and operations
-pub record Watches (site : Site) (kept : Retained) (panel : ℕ) (done : List Done) (taken : List Finding) (hold : Hold) : Type 0 where
+pub record Watches (site : Site) (kept : Retained) (panel : ℕ) (done : List Done) (taken : List Finding)
+    (hold : Hold) : Type 0 where
   pub zones : WatchesZones site panel done taken hold.zones.watches.items
   pub points : WatchesPoints site kept panel done taken hold.points
   pub muted : TellsLast (mutes panel) done hold.muted
 
 -- what is shown is what these turns and operations make
-pub record Shows (site : Site) (kept : Retained) (panel : ℕ) (done : List Done) (turns : List HoldTurn) (shown : Shown) : Type 0 where
+pub record Shows (site : Site) (kept : Retained) (panel : ℕ) (done : List Done) (turns : List HoldTurn)
+    (shown : Shown) : Type 0 where
   pub word : shown.word ≡ word_after site kept panel done turns
   pub faults : shown.faults ≡ faults_after site kept panel done turns
   pub newly : shown.newly.0 ≡ last_news site kept panel done turns
@@ -205,16 +231,33 @@ faults_now tick outside hold =
     }
 
 abbrev pub word_with : ℕ → Bool → Signs → Word
-word_with tick fault signs = record { stamp = record { 0 = tick }; alarm = signs.alarm; manual = signs.manual; released = signs.released; first = signs.first; fault = fault }
+word_with tick fault signs = record {
+  stamp = record { 0 = tick };
+  alarm = signs.alarm;
+  manual =
+      signs.manual;
+  released = signs.released;
+  first = signs.first;
+  fault = fault;
+}
 
 abbrev pub shown_now : ℕ → Outside → Hold → Shown
 shown_now tick outside hold =
-    shown_then hold.shown (word_with tick (has_fault (faults_now tick outside hold)) hold.zones.signs) (faults_now tick outside hold) (record { 0 = last_at tick hold.muted })
+    shown_then hold.shown (word_with tick (has_fault (faults_now tick outside hold)) hold.zones.signs)
+    (faults_now tick outside hold) (record { 0 = last_at tick hold.muted })
 
 -- what the other parts told of these faults
 abbrev pub outside_of : FaultSet → Outside
 outside_of faults =
-    record { supply = faults.supply; broken = faults.broken; shorted = faults.shorted; silent = faults.silent; links = faults.links; unconfirmed = faults.unconfirmed }
+    record {
+      supply = faults.supply;
+      broken = faults.broken;
+      shorted = faults.shorted;
+      silent =
+          faults.silent;
+      links = faults.links;
+      unconfirmed = faults.unconfirmed;
+    }
 
 -- nothing was told since it was shown, and each operation was in force then
 pub record IsUnchanged (outside : Outside) (hold : Hold) : Type 0 where
@@ -223,12 +266,16 @@ pub record IsUnchanged (outside : Outside) (hold : Hold) : Type 0 where
   pub outside_is : outside ≡ outside_of hold.shown.faults
   pub missing : hold.points.missing ≡ hold.missing
 
--- no operation is later than the latest; and where each was in force when it was shown, the same follows again from the points that were missing
+-- no operation is later than the latest; and where each was in force when it was shown, the same follows
+-- again from the points that were missing
 pub record ShownStays (done : List Done) (hold : Hold) : Type 0 where
   pub by : AreBy hold.zones.moved.0 done
   pub fault : hold.shown.word.fault ≡ has_fault hold.shown.faults
-  pub missing : hold.zones.moved.0 < hold.shown.word.stamp.0 → set_without (set_without hold.missing hold.points.off.after) hold.points.zone_off.after ≡ hold.shown.faults.missing
-  pub buzzer : hold.zones.moved.0 < hold.shown.word.stamp.0 → hold.shown.buzzer ≡ sounds hold.shown.word (nat_lt hold.muted.tick.0 hold.shown.newly.0)
+  pub missing : hold.zones.moved.0 < hold.shown.word.stamp.0
+      → set_without (set_without hold.missing hold.points.off.after) hold.points.zone_off.after
+      ≡ hold.shown.faults.missing
+  pub buzzer : hold.zones.moved.0 < hold.shown.word.stamp.0
+      → hold.shown.buzzer ≡ sounds hold.shown.word (nat_lt hold.muted.tick.0 hold.shown.newly.0)
 
 -- findings change nothing of what is shown, nor of operations
 pub record TakesFindings (before after : Hold) : Type 0 where
@@ -239,7 +286,8 @@ pub record TakesFindings (before after : Hold) : Type 0 where
   pub zone_off : after.points.zone_off ≡ before.points.zone_off
   pub muted : after.muted ≡ before.muted
 
-pub record HoldsFor (site : Site) (kept : Retained) (panel : ℕ) (done : List Done) (turns : List HoldTurn) (hold : Hold) : Type 0 where
+pub record HoldsFor (site : Site) (kept : Retained) (panel : ℕ) (done : List Done) (turns : List HoldTurn)
+    (hold : Hold) : Type 0 where
   pub watches : Watches site kept panel done (findings_taken turns) hold
   pub shows : Shows site kept panel done turns hold.shown
   pub settled : Settled (latest_tick turns) hold.zones
@@ -247,31 +295,30 @@ pub record HoldsFor (site : Site) (kept : Retained) (panel : ℕ) (done : List D
   pub rising : AreRising turns
   pub few : entries_after site kept panel done turns ≤ latest_tick turns
 
--- no operation on the setting was done in a tick
-abbrev pub NoneIn : ℕ → Setting → List Done → Type 0
-NoneIn tick setting [] = Unit {0}
-NoneIn tick setting (d ∷ ds) = (is_on setting d ≡ true → d.tick ≢ tick) × NoneIn tick setting ds
-
 -- a turn may be made in a tick: it is later than those made, and no operation was done after it
 pub record MayTurn (done : List Done) (turns : List HoldTurn) (tick : ℕ) : Type 0 where
   pub later : latest_tick turns < tick
   pub since : AreBy tick done
 
--- an operation of a panel may be applied in a tick: it is not earlier than those done and the turns made, and the only one on its setting in that tick
-pub record MayApply (panel : ℕ) (done : List Done) (turns : List HoldTurn) (operation : Operation) (tick : ℕ) : Type 0 where
-  pub counted : 1 ≤ tick
-  pub since : AreBy tick done
+-- an operation of a panel may be applied in a tick: it may be done after those done, and is not earlier than
+-- the turns made
+pub record MayApply (panel : ℕ) (done : List Done) (turns : List HoldTurn) (operation : Operation) (tick :
+    ℕ) : Type 0 where
+  pub next : MayBeDone panel done operation tick
   pub turned : latest_tick turns ≤ tick
-  pub once : (setting : Setting) → operation_setting panel operation ≡ Some setting → NoneIn tick setting done
 
 -- what is shown at a tick, with these findings taken, after what was shown before
 abbrev pub shown_at : Site → Retained → ℕ → List Done → List Finding → ℕ → Outside → Shown → Shown
 shown_at site kept panel done taken tick outside before =
-    shown_then before (word_at site panel done taken tick (has_fault (faults_at site kept panel done taken tick outside))) (faults_at site kept panel done taken tick outside)
+    shown_then before
+    (word_at site panel done taken tick (has_fault (faults_at site kept panel done taken tick outside)))
+    (faults_at site kept panel done taken tick outside)
     (record { 0 = muted_before panel tick done })
 
--- after a turn in a tick with these findings taken: what is shown follows from what was shown before, and all else stays
-pub record ShowsThen (site : Site) (kept : Retained) (panel : ℕ) (done : List Done) (taken : List Finding) (tick : ℕ) (outside : Outside) (before after : Hold) : Type 0 where
+-- after a turn in a tick with these findings taken: what is shown follows from what was shown before, and all
+-- else stays
+pub record ShowsThen (site : Site) (kept : Retained) (panel : ℕ) (done : List Done) (taken : List Finding)
+    (tick : ℕ) (outside : Outside) (before after : Hold) : Type 0 where
   pub watches : Watches site kept panel done taken after
   pub shown : after.shown ≡ shown_at site kept panel done taken tick outside before.shown
   pub stays : ShownStays done after

@@ -1,5 +1,5 @@
 -- The faults that a panel shows after a turn, and the word that it tells the others.
-use Rattle.std.specs.Prelude.{ℕ, Bool, false, not, List, [], ◌∷◌, ◌==◌, ◌||◌, replicate, slice_index, slice_index_or}
+use Rattle.std.specs.Prelude.{ℕ, Bool, not, List, [], ◌∷◌, ◌==◌, ◌||◌, slice_index, slice_index_or}
 use Rattle.site_types.specs.declared.site.Site.{Site}
 use Rattle.site_types.specs.declared.retained.Retained.{Retained}
 use Rattle.site_types.specs.declared.fault_set.FaultSet.{FaultSet}
@@ -8,6 +8,7 @@ use Rattle.site_types.specs.declared.word.Word.{Word}
 use Rattle.site_types.specs.Done.{Done}
 use Rattle.coincidence_rules.specs.declared.finding.Finding.{Finding}
 use Rattle.coincidence_rules.specs.Places.{zones_where}
+use Rattle.site_types.specs.Words.{empty_word, no_faults}
 use Rattle.panel_conditions.specs.declared.outside.Outside.{Outside}
 use Rattle.panel_conditions.specs.Points.{points_where}
 use Rattle.panel_conditions.specs.Turns.{HoldTurn, findings_taken}
@@ -28,7 +29,10 @@ has_points set = on_line set 0 || (on_line set 1 || (on_line set 2 || on_line se
 abbrev pub has_fault : FaultSet → Bool
 has_fault f =
     has_points f.missing
-    || (not (f.broken == 0) || (not (f.shorted == 0) || (not (f.supply == 0) || (not (f.silent == 0) || (not (f.links == 0) || not (f.unconfirmed == 0))))))
+    || (not (f.broken == 0)
+    || (not (f.shorted == 0)
+    || (not (f.supply == 0)
+    || (not (f.silent == 0) || (not (f.links == 0) || not (f.unconfirmed == 0))))))
 
 -- the faults at a tick: missing points by the findings taken, the others as the other parts tell them
 abbrev pub faults_at : Site → Retained → ℕ → List Done → List Finding → ℕ → Outside → FaultSet
@@ -55,19 +59,15 @@ word_at site panel done taken tick fault =
       fault = fault;
     }
 
-abbrev pub no_faults : FaultSet
-no_faults = record { missing = record { loops = replicate 4 (replicate 2 0) }; broken = 0; shorted = 0; supply = 0; silent = 0; links = 0; unconfirmed = 0 }
-
-abbrev pub empty_word : Word
-empty_word = record { stamp = record { 0 = 0 }; alarm = 0; manual = 0; released = 0; first = 0; fault = false }
-
 -- the faults shown after these turns
 abbrev pub faults_after : Site → Retained → ℕ → List Done → List HoldTurn → FaultSet
 faults_after site kept panel done [] = no_faults
-faults_after site kept panel done (turn ∷ before) = faults_at site kept panel done (findings_taken (turn ∷ before)) turn.tick turn.outside
+faults_after site kept panel done (turn ∷ before) =
+    faults_at site kept panel done (findings_taken (turn ∷ before)) turn.tick turn.outside
 
 -- the word after these turns
 abbrev pub word_after : Site → Retained → ℕ → List Done → List HoldTurn → Word
 word_after site kept panel done [] = empty_word
 word_after site kept panel done (turn ∷ before) =
-    word_at site panel done (findings_taken (turn ∷ before)) turn.tick (has_fault (faults_after site kept panel done (turn ∷ before)))
+    word_at site panel done (findings_taken (turn ∷ before)) turn.tick
+    (has_fault (faults_after site kept panel done (turn ∷ before)))

@@ -1,13 +1,11 @@
-ghost use Rattle.std.specs.Prelude.{◌≡◌, ◌<◌, ◌≤◌, ◌^◌, ◌++◌, [], ◌∷◌, ℕ, List, take, IfOk};
-ghost use Rattle.tick_units.specs.Lane.{turn_count, after_turn};
+ghost use Rattle.std.specs.Prelude.{◌≡◌, ◌<◌, ◌≤◌, ◌^◌, [], ◌∷◌, ℕ, List, IfOk};
+ghost use Rattle.tick_units.specs.Lane.{after_turn};
 ghost use Rattle.site_types.specs.declared.site.Site.{Site as SitePlan};
 ghost use Rattle.site_types.specs.declared.retained.Retained.{Retained as Kept};
-ghost use Rattle.site_types.specs.Done.{Done, AreBy, muted_before};
+ghost use Rattle.site_types.specs.Done.{Done};
 ghost use Rattle.site_types.specs.Valid.{IsValid};
-ghost use Rattle.coincidence_rules.specs.declared.finding.Finding.{Finding as Found};
-ghost use Rattle.panel_conditions.specs.Turns.{HoldTurn, findings_taken};
+ghost use Rattle.panel_conditions.specs.Turns.{HoldTurn};
 
-use crate::last_tick::LastTick;
 use crate::outside::Outside;
 use crate::points::Points;
 use crate::shown::{Shown, has_fault};
@@ -17,14 +15,14 @@ use arrayvec::ArrayVec;
 use coincidence_rules::Finding;
 use site_types::{Buzzer, FaultSet, Operation, PointSet, Retained, Site, Word};
 use std::alloc::Global;
-use tick_units::{Lane, NoMemory, Tick};
+use tick_units::{Lane, LastDone, NoMemory, Tick};
 
 /// Holds the conditions of a panel: its zones, faults and buzzer, and how often it entered the fire alarm condition.
 #[derive(Drop)]
 pub struct Hold {
     zones: Zones,
     points: Points,
-    muted: LastTick,
+    muted: LastDone,
     shown: Shown,
     /// The points that were missing when it was shown.
     missing: PointSet,
@@ -33,37 +31,42 @@ pub struct Hold {
 impl Hold {
     ghost use Rattle.panel_conditions.specs.Words.{faults_after, word_after};
     ghost use Rattle.panel_conditions.specs.Shown.{buzzer_after, entries_after};
-    ghost use Rattle.panel_conditions.specs.Stands.{HoldsFor, IsUnchanged, MayApply, MayTurn, Settled, ShownStays, TakesFindings, Watches, faults_now, shown_now};
+    ghost use Rattle.panel_conditions.specs.Changes.{AppliesOperation, MakesTurn, ShowsWhatFollows, StaysSettled};
+    ghost use Rattle.panel_conditions.specs.Changes.{WatchesMore, moved_from, turn_from};
+    ghost use Rattle.panel_conditions.specs.Stands.{HoldsFor, IsUnchanged, Settled, TakesFindings, faults_now};
+    ghost use Rattle.panel_conditions.specs.Stands.{shown_now};
 
     /// Nothing found or shown, with what is retained in force.
     pub fn new(alloc: Global, site: &Site, panel: u8, kept: &Retained) -> Result<Hold, NoMemory>
-        ensures { IfOk result (λ hold. IsValid site.now → HoldsFor site.now kept.now panel [] [] hold) }
+        ensures { IfOk result (λ hold. IsValid site.now
+            → HoldsFor site.now kept.now panel [] [] hold) }
     {
         let zones = Zones::new(alloc, site, panel)?;
         let points = Points::new(alloc, site, panel, kept)?;
         Ok(Hold {
             zones,
             points,
-            muted: LastTick::never(),
+            muted: LastDone::never(),
             shown: Shown::nothing(),
             missing: PointSet::default(),
         })
     }
 
-    /// Takes the findings that a turn moves, and shows what follows from them, from the operations done before the tick and
-    /// from what the other parts tell.
+    /// Takes the findings that a turn moves, and shows what follows from them, from the operations done
+    /// before the tick and from what the other parts tell.
     pub fn turn(&mut self, now: Tick, findings: &mut Lane<Finding>, outside: &Outside)
         requires { findings.old.quota ≤ 32 }
-        ensures stands { (site : SitePlan) (kept : Kept) (panel : ℕ) (done : List Done) (turns : List HoldTurn) → HoldsFor site kept panel done turns self.old → MayTurn done turns now.0 → HoldsFor site kept panel done (record { tick = now.0; found = take (turn_count findings.old) findings.old.items; outside = outside.now } ∷ turns) self.new }
+        ensures stands { MakesTurn self.old (turn_from now.0 findings.old outside.now) self.new }
         ensures lane { findings.new ≡ after_turn findings.old }
     {
         self.take_turn(findings);
         self.show(now, outside);
     }
 
-    /// Takes an operation that was done in a tick. It is in force from the next tick on, so what is shown stays until then.
+    /// Takes an operation that was done in a tick. It is in force from the next tick on, so what is shown
+    /// stays until then.
     pub fn apply(&mut self, operation: &Operation, at: Tick)
-        ensures { (site : SitePlan) (kept : Kept) (panel : ℕ) (done : List Done) (turns : List HoldTurn) → HoldsFor site kept panel done turns self.old → MayApply panel done turns operation.now at.0 → HoldsFor site kept panel (record { tick = at.0; panel = panel; operation = operation.now } ∷ done) turns self.new }
+        ensures { AppliesOperation self.old operation.now at.0 self.new }
     {
         self.zones.apply(operation, at);
         self.points.apply(operation, at);
@@ -72,35 +75,45 @@ impl Hold {
 
     /// The panel's word, made in its latest turn.
     pub fn word(&self) -> Word
-        ensures { (site : SitePlan) (kept : Kept) (panel : ℕ) (done : List Done) (turns : List HoldTurn) → HoldsFor site kept panel done turns self.now → result ≡ word_after site kept panel done turns }
+        ensures { (site : SitePlan) (kept : Kept) (panel : ℕ) (done : List Done) (turns :
+            List HoldTurn) → HoldsFor site kept panel done turns self.now
+            → result ≡ word_after site kept panel done turns }
     {
         self.shown.word
     }
 
     /// The zones in alarm, bit `number - 1`.
     pub fn zones(&self) -> u32
-        ensures { (site : SitePlan) (kept : Kept) (panel : ℕ) (done : List Done) (turns : List HoldTurn) → HoldsFor site kept panel done turns self.now → result ≡ (word_after site kept panel done turns).alarm }
+        ensures { (site : SitePlan) (kept : Kept) (panel : ℕ) (done : List Done) (turns :
+            List HoldTurn) → HoldsFor site kept panel done turns self.now
+            → result ≡ (word_after site kept panel done turns).alarm }
     {
         self.shown.word.alarm
     }
 
     /// The faults that are shown.
     pub fn faults(&self) -> FaultSet
-        ensures { (site : SitePlan) (kept : Kept) (panel : ℕ) (done : List Done) (turns : List HoldTurn) → HoldsFor site kept panel done turns self.now → result ≡ faults_after site kept panel done turns }
+        ensures { (site : SitePlan) (kept : Kept) (panel : ℕ) (done : List Done) (turns :
+            List HoldTurn) → HoldsFor site kept panel done turns self.now
+            → result ≡ faults_after site kept panel done turns }
     {
         self.shown.faults
     }
 
     /// What the buzzer sounds.
     pub fn buzzer(&self) -> Buzzer
-        ensures { (site : SitePlan) (kept : Kept) (panel : ℕ) (done : List Done) (turns : List HoldTurn) → HoldsFor site kept panel done turns self.now → result ≡ buzzer_after site kept panel done turns }
+        ensures { (site : SitePlan) (kept : Kept) (panel : ℕ) (done : List Done) (turns :
+            List HoldTurn) → HoldsFor site kept panel done turns self.now
+            → result ≡ buzzer_after site kept panel done turns }
     {
         self.shown.buzzer
     }
 
     /// How often the panel entered the fire alarm condition since opening.
     pub fn counter_entries(&self) -> u64
-        ensures { (site : SitePlan) (kept : Kept) (panel : ℕ) (done : List Done) (turns : List HoldTurn) → HoldsFor site kept panel done turns self.now → result ≡ entries_after site kept panel done turns }
+        ensures { (site : SitePlan) (kept : Kept) (panel : ℕ) (done : List Done) (turns :
+            List HoldTurn) → HoldsFor site kept panel done turns self.now
+            → result ≡ entries_after site kept panel done turns }
     {
         self.shown.entries
     }
@@ -108,8 +121,8 @@ impl Hold {
     // Takes the findings that a turn moves.
     fn take_turn(&mut self, findings: &mut Lane<Finding>)
         requires { findings.old.quota ≤ 32 }
-        ensures watches { (site : SitePlan) (kept : Kept) (panel : ℕ) (done : List Done) (taken : List Found) → Watches site kept panel done taken self.old → Watches site kept panel done (taken ++ take (turn_count findings.old) findings.old.items) self.new }
-        ensures settled { (site : SitePlan) (kept : Kept) (panel : ℕ) (done : List Done) (taken : List Found) (tick : ℕ) → Watches site kept panel done taken self.old → Settled tick self.old.zones → Settled tick self.new.zones }
+        ensures watches { WatchesMore self.old (moved_from findings.old) self.new }
+        ensures settled { StaysSettled self.old self.new }
         ensures kept { TakesFindings self.old self.new }
         ensures lane { findings.new ≡ after_turn findings.old }
     {
@@ -123,8 +136,8 @@ impl Hold {
 
     // Takes findings, one after the other.
     fn take_all(&mut self, findings: &[Finding])
-        ensures watches { (site : SitePlan) (kept : Kept) (panel : ℕ) (done : List Done) (taken : List Found) → Watches site kept panel done taken self.old → Watches site kept panel done (taken ++ findings.now) self.new }
-        ensures settled { (site : SitePlan) (kept : Kept) (panel : ℕ) (done : List Done) (taken : List Found) (tick : ℕ) → Watches site kept panel done taken self.old → Settled tick self.old.zones → Settled tick self.new.zones }
+        ensures watches { WatchesMore self.old findings.now self.new }
+        ensures settled { StaysSettled self.old self.new }
         ensures kept { TakesFindings self.old self.new }
     {
         for finding in findings {
@@ -133,8 +146,8 @@ impl Hold {
     }
 
     fn take(&mut self, finding: &Finding)
-        ensures watches { (site : SitePlan) (kept : Kept) (panel : ℕ) (done : List Done) (taken : List Found) → Watches site kept panel done taken self.old → Watches site kept panel done (taken ++ finding.now ∷ []) self.new }
-        ensures settled { (site : SitePlan) (kept : Kept) (panel : ℕ) (done : List Done) (taken : List Found) (tick : ℕ) → Watches site kept panel done taken self.old → Settled tick self.old.zones → Settled tick self.new.zones }
+        ensures watches { WatchesMore self.old (finding.now ∷ []) self.new }
+        ensures settled { StaysSettled self.old self.new }
         ensures kept { TakesFindings self.old self.new }
     {
         self.zones.take(finding);
@@ -144,8 +157,9 @@ impl Hold {
     // Shows what follows at a tick, which isn't before that of the latest turn.
     fn show(&mut self, now: Tick, outside: &Outside)
         ensures fits { now.0 < 2 ^ 64 }
-        ensures shows { (site : SitePlan) (kept : Kept) (panel : ℕ) (done : List Done) (taken : List Found) (tick : ℕ) → Watches site kept panel done taken self.old → Settled tick self.old.zones → tick ≤ now.0 → AreBy now.0 done → ShownStays done self.old → self.old.shown.word.stamp.0 ≤ now.0 → ShowsThen site kept panel done taken now.0 outside.now self.old self.new }
-        ensures settled { (tick : ℕ) → Settled tick self.old.zones → tick ≤ now.0 → Settled now.0 self.new.zones }
+        ensures shows { ShowsWhatFollows self.old now.0 outside.now self.new }
+        ensures settled { (tick : ℕ) → Settled tick self.old.zones → tick ≤ now.0
+            → Settled now.0 self.new.zones }
     {
         self.zones.draw(now);
         if self.is_unchanged(outside) {
@@ -169,7 +183,8 @@ impl Hold {
     fn show_anew(&mut self, now: Tick, outside: &Outside)
         ensures shown { self.new.shown ≡ shown_now now.0 outside.now self.old }
         ensures missing { self.new.missing ≡ self.old.points.missing }
-        ensures rest { (self.new.zones ≡ self.old.zones) × (self.new.points ≡ self.old.points) × (self.new.muted ≡ self.old.muted) }
+        ensures rest { (self.new.zones ≡ self.old.zones) × (self.new.points ≡ self.old.points)
+            × (self.new.muted ≡ self.old.muted) }
     {
         let faults = self.faults_at(now, outside);
         let word = self.word_at(now, has_fault(&faults));
@@ -240,7 +255,6 @@ fn is_same_set(a: &PointSet, b: &PointSet) -> bool
 }
 
 ghost use Rattle.site_types.specs.Done.{is_mute as mutes_all};
-ghost use Rattle.panel_conditions.specs.Stands.{ShowsThen};
 
 fn is_mute(operation: &Operation) -> bool
     ensures { result ≡ mutes_all operation.now }

@@ -48,7 +48,8 @@ impl PointSwitch {
 
     /// In a tick these points are put in or taken out.
     pub fn put_all(&mut self, points: Option<&PointSet>, on: bool, at: Tick)
-        ensures { self.new ≡ switch_points (put_all_in (option_copied points.entry) on) at self.old }
+        ensures { self.new ≡ switch_points (put_all_in (option_copied points.entry) on) at
+            self.old }
     {
         self.begin(at);
         if let Some(points) = points {

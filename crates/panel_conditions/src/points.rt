@@ -1,5 +1,6 @@
-ghost use Rattle.std.specs.Prelude.{◌≡◌, ◌≢◌, ◌⊎◌, ◌-◌, ◌++◌, ◌∷◌, ℕ, Bool, List, true, map, slice_get, slice_index, IfOk, Some, option_copied};
-ghost use Rattle.site_types.specs.Bits.{has_bit};
+ghost use Rattle.std.specs.Prelude.{◌≡◌, ◌≢◌, ◌⊎◌, ◌-◌, ◌++◌, ◌∷◌, ℕ, Bool, List, true, map, slice_get, slice_index};
+ghost use Rattle.std.specs.Prelude.{IfOk, Some, option_copied};
+ghost use Rattle.site_types.specs.Bits.{has_bit, no_set};
 ghost use Rattle.site_types.specs.Valid.{IsValid};
 ghost use Rattle.site_types.specs.declared.site.Site.{Site as SitePlan};
 ghost use Rattle.site_types.specs.declared.retained.Retained.{Retained as Kept};
@@ -37,7 +38,8 @@ impl Points {
 
     /// The points of a panel, of which nothing was found, with what is retained in force.
     pub fn new(alloc: Global, site: &Site, panel: u8, kept: &Retained) -> Result<Points, NoMemory>
-        ensures { IfOk result (λ points. IsValid site.now → WatchesPoints site.now kept.now panel [] [] points) }
+        ensures { IfOk result (λ points. IsValid site.now
+            → WatchesPoints site.now kept.now panel [] [] points) }
     {
         let addresses = addresses_of(alloc, site, panel)?;
         let of_zones = sets_of_zones(alloc, site, panel, kept)?;
@@ -56,7 +58,9 @@ impl Points {
 
     /// Takes note of a finding.
     pub fn take(&mut self, finding: &Finding)
-        ensures watches { (site : SitePlan) (kept : Kept) (panel : ℕ) (done : List Done) (taken : List Found) → WatchesPoints site kept panel done taken self.old → WatchesPoints site kept panel done (taken ++ finding.now ∷ []) self.new }
+        ensures watches { (site : SitePlan) (kept : Kept) (panel : ℕ) (done : List Done) (taken :
+            List Found) → WatchesPoints site kept panel done taken self.old
+            → WatchesPoints site kept panel done (taken ++ finding.now ∷ []) self.new }
         ensures off { (self.new.off ≡ self.old.off) × (self.new.zone_off ≡ self.old.zone_off) }
     {
         let place = finding.point as usize;
@@ -87,8 +91,11 @@ impl Points {
 
     // Marks what the finding of a point told.
     fn mark(&mut self, place: usize, missing: bool)
-        ensures told { (k : ℕ) (b : Bool) → slice_get self.new.told.items k ≡ Some b → ((k ≡ place) × (missing ≡ b)) ⊎ ((k ≢ place) × (slice_get self.old.told.items k ≡ Some b)) }
-        ensures kept { (self.new.addresses ≡ self.old.addresses) × (self.new.of_zones ≡ self.old.of_zones) × (self.new.missing ≡ self.old.missing) }
+        ensures told { (k : ℕ) (b : Bool) → slice_get self.new.told.items k ≡ Some b
+            → ((k ≡ place) × (missing ≡ b))
+            ⊎ ((k ≢ place) × (slice_get self.old.told.items k ≡ Some b)) }
+        ensures kept { (self.new.addresses ≡ self.old.addresses)
+            × (self.new.of_zones ≡ self.old.of_zones) × (self.new.missing ≡ self.old.missing) }
         ensures off { (self.new.off ≡ self.old.off) × (self.new.zone_off ≡ self.old.zone_off) }
     {
         if place < self.told.len() {
@@ -154,13 +161,14 @@ ghost use Rattle.std.specs.Prelude.{[], length};
 ghost use Rattle.site_types.specs.Changes.{HasOwnPlaces, IsNumber, IsPanelNumber};
 ghost use Rattle.site_types.specs.Bits.{IsPlace};
 ghost use Rattle.site_types.specs.Done.{kept_point, kept_zone};
-ghost use Rattle.panel_conditions.specs.PointSets.{loop_address, no_set};
+ghost use Rattle.panel_conditions.specs.PointSets.{loop_address};
 ghost use Rattle.panel_conditions.specs.Points.{points_where};
 ghost use Rattle.panel_conditions.specs.Parts.{is_asked, is_so as is_so_of};
 ghost use Rattle.panel_conditions.specs.Stands.{AreZoneSets, HasPlaces, HasZoneNumber};
 
 fn addresses_of(alloc: Global, site: &Site, panel: u8) -> Result<Vec<Option<LoopAddress>>, NoMemory>
-    ensures { IfOk result (λ addresses. addresses.items ≡ map (loop_address panel) site.now.points) }
+    ensures { IfOk result
+        (λ addresses. addresses.items ≡ map (loop_address panel) site.now.points) }
 {
     let points = site.points.as_slice();
     let points = site.points.as_slice();
@@ -203,7 +211,8 @@ fn sets_of_zones(
     panel: u8,
     kept: &Retained,
 ) -> Result<Vec<PointSet>, NoMemory>
-    ensures { IfOk result (λ sets. HasOwnPlaces site.now → AreZoneSets site.now kept.now panel (length site.now.zones) sets.items) }
+    ensures { IfOk result (λ sets. HasOwnPlaces site.now
+        → AreZoneSets site.now kept.now panel (length site.now.zones) sets.items) }
 {
     let mut sets = Vec::with_capacity(alloc, site.zones.len())?;
     for zone in 0..site.zones.len() {
@@ -214,7 +223,9 @@ fn sets_of_zones(
 
 // The points of a panel of which something is so.
 fn points_that(site: &Site, panel: u8, kept: &Retained, asked: Asked) -> PointSet
-    ensures { HasOwnPlaces site.now → result ≡ points_where site.now panel (λ place. is_asked site.now kept.now asked (slice_get site.now.points place)) }
+    ensures { HasOwnPlaces site.now
+        → result ≡ points_where site.now panel
+        (λ place. is_asked site.now kept.now asked (slice_get site.now.points place)) }
 {
     let points = site.points.as_slice();
     let mut set = no_points();
@@ -240,7 +251,8 @@ fn is_so(asked: Asked, site: &Site, kept: &Retained, point: &Point) -> bool
 
 // Whether a point is retained as disabled. Only a point with a place in what is retained can be.
 fn is_point_off(kept: &Retained, point: &Point) -> bool
-    ensures { IsPanelNumber point.now.panel → IsPlace point.now.line point.now.address → result ≡ kept_point kept.now (Some point.now) }
+    ensures { IsPanelNumber point.now.panel → IsPlace point.now.line point.now.address
+        → result ≡ kept_point kept.now (Some point.now) }
 {
     let at_panel = point.panel >= 1 && point.panel <= 8;
     let on_line = point.line >= 1 && point.line <= 4;
@@ -253,7 +265,8 @@ fn is_point_off(kept: &Retained, point: &Point) -> bool
 
 // Whether a zone is retained as disabled. Only a zone with a place in what is retained can be.
 fn is_zone_off(kept: &Retained, zone: Option<&Zone>) -> bool
-    ensures { HasZoneNumber (option_copied zone.entry) → result ≡ kept_zone kept.now (option_copied zone.entry) }
+    ensures { HasZoneNumber (option_copied zone.entry)
+        → result ≡ kept_zone kept.now (option_copied zone.entry) }
 {
     match zone {
         None => false,
@@ -262,7 +275,8 @@ fn is_zone_off(kept: &Retained, zone: Option<&Zone>) -> bool
 }
 
 fn is_off(kept: &Retained, panel: u8, number: u8) -> bool
-    ensures { IsPanelNumber panel → IsNumber number → result ≡ has_bit (slice_index kept.now.zones (panel - 1)) (number - 1) }
+    ensures { IsPanelNumber panel → IsNumber number
+        → result ≡ has_bit (slice_index kept.now.zones (panel - 1)) (number - 1) }
 {
     let at_panel = panel >= 1 && panel <= 8;
     let has_number = number >= 1 && number <= 32;

@@ -51,7 +51,8 @@ fn zone(number: u8, rule: Rule) -> Zone {
     }
 }
 
-// What comes in a tick, the operation done after its turns, and what is then shown: zones, first states, buzzer, entries, a missing point.
+// What comes in a tick, the operation done after its turns, and what is then shown: zones, first states,
+// buzzer, entries, a missing point.
 #[derive(Clone, Copy)]
 struct Row {
     tick: u64,
@@ -173,7 +174,8 @@ fn holds_a_zone_until_a_reset(rt: HostRuntime) -> Result<(), Fail> {
     )
 }
 
-// Six hundred ticks after its answer a first state still holds; one tick later it ends. The second answer of a pair ends it too.
+// Six hundred ticks after its answer a first state still holds; one tick later it ends. The second answer of
+// a pair ends it too.
 #[test]
 fn ends_a_first_state(rt: HostRuntime) -> Result<(), Fail> {
     drive(

@@ -1,13 +1,13 @@
 ghost use Rattle.std.specs.Prelude.{◌≡◌, ◌&&◌, nat_lt, if◌then◌else◌};
 ghost use Rattle.site_types.specs.Bits.{has_bit};
 ghost use Rattle.site_types.specs.Done.{is_cancel};
-ghost use Rattle.panel_conditions.specs.Parts.{first_shows, on_watched, raises, stamp_if, zone_done, zone_shows, zone_taken};
+ghost use Rattle.panel_conditions.specs.Parts.{first_shows, on_watched, raises, stamp_if, zone_done, zone_shows};
+ghost use Rattle.panel_conditions.specs.Parts.{zone_taken};
 
-use crate::last_tick::LastTick;
 use crate::sign::Sign;
 use coincidence_rules::Finding;
 use site_types::{Item, Operation, has_bit_32};
-use tick_units::Tick;
+use tick_units::{LastDone, Tick};
 
 /// What is kept of the zone with one number.
 #[derive(Clone, Copy)]
@@ -19,8 +19,8 @@ pub struct ZoneWatch {
     /// How long a first state lasts, for type B.
     pub within: Option<u16>,
     /// The last reset, disabling or test.
-    pub floor: LastTick,
-    pub cancelled: LastTick,
+    pub floor: LastDone,
+    pub cancelled: LastDone,
     /// The latest stamp at which an answer confirmed it; 0 for none, as below.
     pub confirmed: Tick,
     /// The same of a manual call point.
@@ -42,8 +42,8 @@ impl ZoneWatch {
             place,
             bit,
             within,
-            floor: LastTick::never(),
-            cancelled: LastTick::never(),
+            floor: LastDone::never(),
+            cancelled: LastDone::never(),
             confirmed: Tick(0),
             called: Tick(0),
             released: Tick(0),

@@ -1,6 +1,5 @@
-ghost use Rattle.std.specs.Prelude.{◌≡◌, ◌+◌, ◌-◌, ◌^◌, ◌<◌, ◌≤◌, ℕ, map, length, slice_get, bit_or, nat_lt, if◌then◌else◌, IfOk, None, Some, option_copied, option_map};
-ghost use Rattle.site_types.specs.Bits.{has_bit, mask_of};
-ghost use Rattle.site_types.specs.declared.zone.Zone.{Zone as ZonePlan};
+ghost use Rattle.std.specs.Prelude.{◌≡◌, ◌-◌, ◌^◌, ◌<◌, ◌≤◌, ℕ, map, length, slice_get, bit_or, nat_lt};
+ghost use Rattle.std.specs.Prelude.{if◌then◌else◌, IfOk, option_copied, option_map};
 ghost use Rattle.coincidence_rules.specs.Places.{numbered};
 
 use crate::next_bit::next_bit;
@@ -14,7 +13,8 @@ use tick_units::{NoMemory, Tick};
 
 /// The zones of a panel by number: the first has number 1. A panel has 32 numbers.
 ///
-/// What they show is drawn once in a turn: only a zone of which a finding or an operation told, or that is in first state, may show anything new.
+/// What they show is drawn once in a turn: only a zone of which a finding or an operation told, or that is in
+/// first state, may show anything new.
 #[derive(Drop)]
 pub struct Zones {
     watches: Vec<ZoneWatch>,
@@ -27,12 +27,14 @@ pub struct Zones {
 }
 
 impl Zones {
-    ghost use Rattle.panel_conditions.specs.Parts.{later_tick, no_signs, signs_at, told_by, watch_shows, zone_done, zone_taken, zone_taken_at};
+    ghost use Rattle.panel_conditions.specs.Parts.{drawn_mask, later_tick, signs_at, told_by, watch_shows, zone_done};
+    ghost use Rattle.panel_conditions.specs.Parts.{zone_taken, zone_taken_at};
     ghost use Rattle.panel_conditions.specs.Stands.{AreNumbered, Settled, first_watch, are_first_watches};
 
     /// The zones of a panel, of which nothing was told.
     pub fn new(alloc: Global, site: &Site, panel: u8) -> Result<Zones, NoMemory>
-        ensures { IfOk result (λ zones. (zones.watches.items ≡ are_first_watches site.now panel 32) × (zones.stirred ≡ 2 ^ 32 - 1)) }
+        ensures { IfOk result (λ zones. (zones.watches.items ≡ are_first_watches site.now panel 32)
+            × (zones.stirred ≡ 2 ^ 32 - 1)) }
     {
         let mut watches = Vec::with_capacity(alloc, 32)?;
         for bit in 0..32u8 {
@@ -48,7 +50,9 @@ impl Zones {
 
     /// Takes note of a finding.
     pub fn take(&mut self, finding: &Finding)
-        ensures watches { AreNumbered self.old.watches.items → (k : ℕ) → slice_get self.new.watches.items k ≡ option_map (zone_taken finding.now) (slice_get self.old.watches.items k) }
+        ensures watches { AreNumbered self.old.watches.items → (k : ℕ)
+            → slice_get self.new.watches.items k ≡ option_map (zone_taken finding.now)
+            (slice_get self.old.watches.items k) }
         ensures count { length self.new.watches.items ≡ length self.old.watches.items }
         ensures stirred { self.new.stirred ≡ bit_or self.old.stirred (told_by finding.now) }
         ensures signs { self.new.signs ≡ self.old.signs }
@@ -65,9 +69,12 @@ impl Zones {
 
     // Takes note of a finding that tells of the zone at a place.
     fn take_at(&mut self, k: u8, finding: &Finding)
-        ensures watches { (j : ℕ) → slice_get self.new.watches.items j ≡ option_map (zone_taken_at k finding.now j) (slice_get self.old.watches.items j) }
+        ensures watches { (j : ℕ)
+            → slice_get self.new.watches.items j ≡ option_map (zone_taken_at k finding.now j)
+            (slice_get self.old.watches.items j) }
         ensures count { length self.new.watches.items ≡ length self.old.watches.items }
-        ensures rest { (self.new.stirred ≡ self.old.stirred) × (self.new.signs ≡ self.old.signs) × (self.new.moved ≡ self.old.moved) }
+        ensures rest { (self.new.stirred ≡ self.old.stirred) × (self.new.signs ≡ self.old.signs)
+            × (self.new.moved ≡ self.old.moved) }
     {
         let place = k as usize;
         if place < self.watches.len() {
@@ -78,7 +85,8 @@ impl Zones {
 
     /// Takes note of an operation that was done in a tick.
     pub fn apply(&mut self, operation: &Operation, at: Tick)
-        ensures watches { self.new.watches.items ≡ map (zone_done operation.now at) self.old.watches.items }
+        ensures watches { self.new.watches.items ≡ map (zone_done operation.now at)
+            self.old.watches.items }
         ensures stirred { self.new.stirred ≡ 2 ^ 32 - 1 }
         ensures moved { self.new.moved ≡ later_tick self.old.moved at }
     {
@@ -96,8 +104,10 @@ impl Zones {
     pub fn draw(&mut self, now: Tick)
         ensures watches { self.new.watches.items ≡ self.old.watches.items }
         ensures moved { self.new.moved ≡ self.old.moved }
-        ensures signs { (tick : ℕ) → Settled tick self.old → tick ≤ now.0 → self.new.signs ≡ signs_at now.0 self.old.watches.items }
-        ensures settled { (tick : ℕ) → Settled tick self.old → tick ≤ now.0 → Settled now.0 self.new }
+        ensures signs { (tick : ℕ) → Settled tick self.old → tick ≤ now.0
+            → self.new.signs ≡ signs_at now.0 self.old.watches.items }
+        ensures settled { (tick : ℕ) → Settled tick self.old → tick ≤ now.0
+            → Settled now.0 self.new }
     {
         let look = self.stirred | self.signs.first;
         let alarm = self.drawn(Sign::Alarm, self.signs.alarm, look, now);
@@ -129,7 +139,7 @@ impl Zones {
 
     // The mask of a sign: drawn anew for the zones to look at, as it was for all others.
     fn drawn(&self, sign: Sign, before: u32, look: u32, now: Tick) -> u32
-        ensures { result ≡ mask_of 32 (λ k. if has_bit look k then watch_shows sign now.0 (slice_get self.now.watches.items k) else has_bit before k) }
+        ensures { result ≡ drawn_mask sign now.0 self.now.watches.items look before }
     {
         let mut mask = before;
         let mut k = next_bit(look, 0);
@@ -161,7 +171,8 @@ fn told(finding: &Finding) -> u32
     finding.counted | finding.confirmed | finding.manual | finding.released
 }
 
-// The zones to look at after they were drawn at a tick: all, if an operation of that tick or a later one is yet to come in force.
+// The zones to look at after they were drawn at a tick: all, if an operation of that tick or a later one is
+// yet to come in force.
 fn stirred_after(moved: Tick, now: Tick) -> u32
     ensures { result ≡ (if nat_lt moved.0 now.0 then 0 else 2 ^ 32 - 1) }
 {

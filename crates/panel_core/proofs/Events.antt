@@ -22,34 +22,61 @@ use Rattle.loop_poller.specs.Calls.{Call, Reported, Cabled}
 use Rattle.loop_poller.specs.Stands.{StandsFor as PollsFor}
 use Rattle.panel_rules.specs.Moments.{Moment, Happened, IsPanel}
 use Rattle.panel_rules.proofs.Bools.{parts as both_parts, at_any}
+use Rattle.panel_rules.proofs.Reports.{is_line}
 use Rattle.panel_rules.proofs.Told.{eq_true}
 use Rattle.panel_rules.proofs.Floors.{lt_from}
 use Rattle.panel_core.specs.declared.parts.Parts.{Parts}
 use Rattle.panel_core.specs.declared.system.System.{System}
-use Rattle.panel_core.specs.Reports.{stands_at, and_report, reports}
+use Rattle.panel_rules.specs.Reports.{and_report, is_on_panel, reports}
 use Rattle.panel_core.specs.Stands.{PanelStands, StandsFor}
 use Rattle.panel_core.proofs.Panels.{get_set, panel_at}
 
 -- a panel after an event of which its poller was told
-told : (site : Site) (kept : Retained) (panel : ℕ) (before : List Moment) (parts : Parts) (poller : Poller) (event : Event) → PanelStands site kept panel before parts → PollsFor site panel (and_report site panel event (reports site panel before)) poller → PanelStands site kept panel (Happened event ∷ before) (record parts { poller = poller })
-told site kept panel before parts poller event h p = record { member = h.member; polls = p; answers = h.answers; decides = h.decides; findings = h.findings; holds = h.holds }
+told : (site : Site) (kept : Retained) (panel : ℕ) (before : List Moment) (parts : Parts) (poller : Poller) (event : Event)
+    → PanelStands site kept panel before parts → PollsFor site panel (and_report site panel event (reports site panel before)) poller
+    → PanelStands site kept panel (Happened event ∷ before) (record parts { poller = poller })
+told site kept panel before parts poller event h p = record {
+  member = h.member;
+  polls = p;
+  answers = h.answers;
+  decides = h.decides;
+  findings =
+      h.findings;
+  holds = h.holds;
+}
 
-pub after_point : (site : Site) (kept : Retained) (panel : ℕ) (before : List Moment) (parts : Parts) (poller : Poller) (point : ℕ) (state : PointState) → PanelStands site kept panel before parts → stands_at panel (slice_get site.points point) ≡ true → PollsFor site panel (Reported point state ∷ reports site panel before) poller → PanelStands site kept panel (Happened (Point point state) ∷ before) (record parts { poller = poller })
+pub after_point : (site : Site) (kept : Retained) (panel : ℕ) (before : List Moment) (parts : Parts) (poller : Poller) (point : ℕ) (state :
+    PointState) → PanelStands site kept panel before parts → is_on_panel panel (slice_get site.points point) ≡ true
+    → PollsFor site panel (Reported point state ∷ reports site panel before) poller
+    → PanelStands site kept panel (Happened (Point point state) ∷ before) (record parts { poller = poller })
 after_point site kept panel before parts poller point state h at p =
-    told site kept panel before parts poller (Point point state) h (subst (λ b. PollsFor site panel (if b then Reported point state ∷ reports site panel before else reports site panel before) poller) (sym at) p)
+    told site kept panel before parts poller (Point point state) h
+    (subst (λ b. PollsFor site panel (if b then Reported point state ∷ reports site panel before else reports site panel before) poller) (sym at)
+    p)
 
-pub after_piece : (site : Site) (kept : Retained) (panel : ℕ) (before : List Moment) (parts : Parts) (poller : Poller) (line piece : ℕ) (state : PieceState) → PanelStands site kept panel before parts → PollsFor site panel (Cabled line piece state ∷ reports site panel before) poller → PanelStands site kept panel (Happened (Cable panel line piece state) ∷ before) (record parts { poller = poller })
-after_piece site kept panel before parts poller line piece state h p =
-    told site kept panel before parts poller (Cable panel line piece state) h (subst (λ b. PollsFor site panel (if b then Cabled line piece state ∷ reports site panel before else reports site panel before) poller) (sym (eq_true panel panel refl)) p)
+pub after_piece : (site : Site) (kept : Retained) (panel : ℕ) (before : List Moment) (parts : Parts) (poller : Poller) (line piece : ℕ) (state :
+    PieceState) → 1 ≤ line → line ≤ 4 → PanelStands site kept panel before parts
+    → PollsFor site panel (Cabled line piece state ∷ reports site panel before) poller
+    → PanelStands site kept panel (Happened (Cable panel line piece state) ∷ before) (record parts { poller = poller })
+after_piece site kept panel before parts poller line piece state low high h p =
+    told site kept panel before parts poller (Cable panel line piece state) h
+    (subst (λ b. PollsFor site panel (if b then Cabled line piece state ∷ reports site panel before else reports site panel before) poller)
+    (sym (ap (λ b. b && (nat_le 1 line && nat_le line 4)) (eq_true panel panel refl) ∙ is_line line low high)) p)
 
 -- a panel that an event doesn't concern
-untold : (site : Site) (kept : Retained) (panel : ℕ) (before : List Moment) (parts : Parts) (event : Event) → PanelStands site kept panel before parts → and_report site panel event (reports site panel before) ≡ reports site panel before → PanelStands site kept panel (Happened event ∷ before) parts
-untold site kept panel before parts event h e = told site kept panel before parts parts.poller event h (subst (λ calls. PollsFor site panel calls parts.poller) (sym e) h.polls)
+untold : (site : Site) (kept : Retained) (panel : ℕ) (before : List Moment) (parts : Parts) (event : Event) → PanelStands site kept panel before parts
+    → and_report site panel event (reports site panel before) ≡ reports site panel before
+    → PanelStands site kept panel (Happened event ∷ before) parts
+untold site kept panel before parts event h e =
+    told site kept panel before parts parts.poller event h (subst (λ calls. PollsFor site panel calls parts.poller) (sym e) h.polls)
 
 not_there : (a b : ℕ) → a ≢ b → (a == b) ≡ false
 not_there a b n = elim (eqb_tells a b) [ inl t ↦ absurd (n t.1) | inr t ↦ t.0 ]
 
-pub stands_after_point : (site : Site) (kept : Retained) (before : List Moment) (system : System) (plan : PointPlan) (point : ℕ) (state : PointState) (parts : Parts) → StandsFor site kept before system → 1 ≤ plan.panel → slice_get site.points point ≡ Some plan → PanelStands site kept plan.panel (Happened (Point point state) ∷ before) parts → StandsFor site kept (Happened (Point point state) ∷ before) (record system { panels = with_item system.panels (plan.panel - 1) parts })
+pub stands_after_point : (site : Site) (kept : Retained) (before : List Moment) (system : System) (plan : PointPlan) (point : ℕ) (state : PointState)
+    (parts : Parts) → StandsFor site kept before system → 1 ≤ plan.panel → slice_get site.points point ≡ Some plan
+    → PanelStands site kept plan.panel (Happened (Point point state) ∷ before) parts
+    → StandsFor site kept (Happened (Point point state) ∷ before) (record system { panels = with_item system.panels (plan.panel - 1) parts })
 stands_after_point site kept before system plan point state parts h one is p =
     record {
       valid = h.valid;
@@ -60,15 +87,19 @@ stands_after_point site kept before system plan point state parts h one is p =
           elim (get_set system.panels.items (plan.panel - 1) place q parts at) [
             | inl g ↦
                 (let same : plan.panel ≡ place + 1 = omega (arith, g.0) in
-                subst (λ n. PanelStands site kept n (Happened (Point point state) ∷ before) q) same (subst (λ r. PanelStands site kept plan.panel (Happened (Point point state) ∷ before) r) (sym g.1) p))
+                subst (λ n. PanelStands site kept n (Happened (Point point state) ∷ before) q) same
+                (subst (λ r. PanelStands site kept plan.panel (Happened (Point point state) ∷ before) r) (sym g.1) p))
             | inr g ↦
                 (let apart : (plan.panel == (place + 1)) ≡ false = not_there plan.panel (place + 1) (λ e. g.0 (omega (arith, e))) in
-                let away : stands_at (place + 1) (slice_get site.points point) ≡ false = ap (stands_at (place + 1)) is ∙ apart in
-                untold site kept (place + 1) before q (Point point state) (h.each place q g.1) (ap (λ b. if b then Reported point state ∷ reports site (place + 1) before else reports site (place + 1) before) away))
+                let away : is_on_panel (place + 1) (slice_get site.points point) ≡ false = ap (is_on_panel (place + 1)) is ∙ apart in
+                untold site kept (place + 1) before q (Point point state) (h.each place q g.1)
+                (ap (λ b. if b then Reported point state ∷ reports site (place + 1) before else reports site (place + 1) before) away))
           ]);
     }
 
-pub stands_after_piece : (site : Site) (kept : Retained) (before : List Moment) (system : System) (panel line piece : ℕ) (state : PieceState) (parts : Parts) → StandsFor site kept before system → 1 ≤ panel → PanelStands site kept panel (Happened (Cable panel line piece state) ∷ before) parts → StandsFor site kept (Happened (Cable panel line piece state) ∷ before) (record system { panels = with_item system.panels (panel - 1) parts })
+pub stands_after_piece : (site : Site) (kept : Retained) (before : List Moment) (system : System) (panel line piece : ℕ) (state : PieceState) (parts :
+    Parts) → StandsFor site kept before system → 1 ≤ panel → PanelStands site kept panel (Happened (Cable panel line piece state) ∷ before) parts
+    → StandsFor site kept (Happened (Cable panel line piece state) ∷ before) (record system { panels = with_item system.panels (panel - 1) parts })
 stands_after_piece site kept before system panel line piece state parts h one p =
     record {
       valid = h.valid;
@@ -79,10 +110,13 @@ stands_after_piece site kept before system panel line piece state parts h one p 
           elim (get_set system.panels.items (panel - 1) place q parts at) [
             | inl g ↦
                 (let same : panel ≡ place + 1 = omega (arith, g.0) in
-                subst (λ n. PanelStands site kept n (Happened (Cable panel line piece state) ∷ before) q) same (subst (λ r. PanelStands site kept panel (Happened (Cable panel line piece state) ∷ before) r) (sym g.1) p))
+                subst (λ n. PanelStands site kept n (Happened (Cable panel line piece state) ∷ before) q) same
+                (subst (λ r. PanelStands site kept panel (Happened (Cable panel line piece state) ∷ before) r) (sym g.1) p))
             | inr g ↦
                 (let apart : (panel == (place + 1)) ≡ false = not_there panel (place + 1) (λ e. g.0 (omega (arith, e))) in
-                untold site kept (place + 1) before q (Cable panel line piece state) (h.each place q g.1) (ap (λ b. if b then Cabled line piece state ∷ reports site (place + 1) before else reports site (place + 1) before) apart))
+                untold site kept (place + 1) before q (Cable panel line piece state) (h.each place q g.1)
+                (ap (λ b. if b && (nat_le 1 line && nat_le line 4) then Cabled line piece state
+                ∷ reports site (place + 1) before else reports site (place + 1) before) apart))
           ]);
     }
 
@@ -97,14 +131,17 @@ not_reported site panel (Point point state) calls o = absurd o
 not_reported site panel (Cable other line piece state) calls o = absurd o
 not_reported site panel event calls o = refl
 
-pub stands_after_other : (site : Site) (kept : Retained) (before : List Moment) (system : System) (event : Event) → StandsFor site kept before system → IsOther event → StandsFor site kept (Happened event ∷ before) system
+pub stands_after_other : (site : Site) (kept : Retained) (before : List Moment) (system : System) (event : Event) → StandsFor site kept before system
+    → IsOther event → StandsFor site kept (Happened event ∷ before) system
 stands_after_other site kept before system event h o =
     record {
       valid = h.valid;
       same = h.same;
       tick = h.tick;
       count = h.count;
-      each = λ place q at. untold site kept (place + 1) before q event (h.each place q at) (not_reported site (place + 1) event (reports site (place + 1) before) o);
+      each =
+          λ place q at. untold site kept (place + 1) before q event (h.each place q at)
+          (not_reported site (place + 1) event (reports site (place + 1) before) o);
     }
 
 -- a piece that the site has is of a panel and a loop
@@ -121,25 +158,40 @@ piece_line site panel line piece valid h =
     let is = loop_at site valid g.place g.item g.is in
     let at_panel = eqb-true g.item.panel panel q.0 in
     let at_line = eqb-true g.item.line line q.1 in
-    record { member = (omega (arith, is.panel.0, at_panel), omega (arith, is.panel.1, at_panel)); low = omega (arith, is.line.0, at_line); high = omega (arith, is.line.1, at_line) }
+    record {
+      member = (omega (arith, is.panel.0, at_panel), omega (arith, is.panel.1, at_panel));
+      low = omega (arith, is.line.0, at_line);
+      high =
+          omega (arith, is.line.1, at_line);
+    }
 
 -- the plan of a point that an event names, read from the system's site
 pub record PointRead (site : Site) (point : ℕ) (plan : PointPlan) : Type 0 where
   pub is : slice_get site.points point ≡ Some plan
   pub member : IsPanel site.panels plan.panel
-  pub there : stands_at plan.panel (slice_get site.points point) ≡ true
+  pub there : is_on_panel plan.panel (slice_get site.points point) ≡ true
 
-pub point_read : (site : Site) (kept : Retained) (before : List Moment) (system : System) (point : ℕ) (state : PointState) (points : List PointPlan) (plan : PointPlan) → StandsFor site kept before system → has_event site (Point point state) ≡ true → points ≡ system.site.points → plan ≡ get_or points point plan → PointRead site point plan
+pub point_read : (site : Site) (kept : Retained) (before : List Moment) (system : System) (point : ℕ) (state : PointState) (points : List PointPlan)
+    (plan : PointPlan) → StandsFor site kept before system → has_event site (Point point state) ≡ true → points ≡ system.site.points
+    → plan ≡ get_or points point plan → PointRead site point plan
 point_read site kept before system point state points plan h has same read =
     let within = lt_from point (length site.points) has in
     let e : points ≡ site.points = same ∙ ap (λ (s : Site). s.points) h.same in
     let at = slice_get_read site.points (length site.points) point plan refl within (read ∙ ap (λ xs. get_or xs point plan) e) in
-    record { is = at; member = (point_at site h.valid point plan at).panel; there = ap (stands_at plan.panel) at ∙ eq_true plan.panel plan.panel refl }
+    record {
+      is = at;
+      member = (point_at site h.valid point plan at).panel;
+      there =
+          ap (is_on_panel plan.panel) at ∙ eq_true plan.panel plan.panel refl;
+    }
 
 -- the panel at a place of the system
-pub panel_read : (site : Site) (kept : Retained) (before : List Moment) (system : System) (panel : ℕ) (parts : Parts) → StandsFor site kept before system → IsPanel site.panels panel → parts ≡ get_or system.panels.items (panel - 1) parts → PanelStands site kept panel before parts
+pub panel_read : (site : Site) (kept : Retained) (before : List Moment) (system : System) (panel : ℕ) (parts : Parts)
+    → StandsFor site kept before system → IsPanel site.panels panel → parts ≡ get_or system.panels.items (panel - 1) parts
+    → PanelStands site kept panel before parts
 panel_read site kept before system panel parts h p read =
-    panel_at site kept before system panel parts h p.0 (slice_get_read system.panels.items site.panels (panel - 1) parts (sym h.count) (omega (arith, p.0, p.1)) read)
+    panel_at site kept before system panel parts h p.0
+    (slice_get_read system.panels.items site.panels (panel - 1) parts (sym h.count) (omega (arith, p.0, p.1)) read)
 
 -- the panel of a point that an event names, as the system finds it
 pub record PointPanel (site : Site) (kept : Retained) (before : List Moment) (point : ℕ) (plan : PointPlan) (parts : Parts) : Type 0 where
@@ -147,30 +199,47 @@ pub record PointPanel (site : Site) (kept : Retained) (before : List Moment) (po
   pub stands : PanelStands site kept plan.panel before parts
   pub within : point < length parts.poller.states.items
 
-pub point_panel : (site : Site) (kept : Retained) (before : List Moment) (system : System) (event : Event) (point : ℕ) (state : PointState) (points : List PointPlan) (plan : PointPlan) (parts : Parts) → StandsFor site kept before system → has_event site event ≡ true → event ≡ Point point state → points ≡ system.site.points → plan ≡ get_or points point plan → parts ≡ get_or system.panels.items ((get_or points point plan).panel - 1) parts → PointPanel site kept before point plan parts
+pub point_panel : (site : Site) (kept : Retained) (before : List Moment) (system : System) (event : Event) (point : ℕ) (state : PointState) (points :
+    List PointPlan) (plan : PointPlan) (parts : Parts) → StandsFor site kept before system → has_event site event ≡ true → event ≡ Point point state
+    → points ≡ system.site.points → plan ≡ get_or points point plan → parts ≡ get_or system.panels.items ((get_or points point plan).panel - 1) parts
+    → PointPanel site kept before point plan parts
 point_panel site kept before system event point state points plan parts h has is same read found =
     let had : has_event site (Point point state) ≡ true = ap (has_event site) (sym is) ∙ has in
     let r = point_read site kept before system point state points plan h had same read in
-    let stands = panel_read site kept before system plan.panel parts h r.member (found ∙ ap (λ (p : PointPlan). get_or system.panels.items (p.panel - 1) parts) (sym read)) in
+    let stands =
+    panel_read site kept before system plan.panel parts h r.member
+    (found ∙ ap (λ (p : PointPlan). get_or system.panels.items (p.panel - 1) parts) (sym read)) in
     let size = stands.polls.states.size in
     let inside = lt_from point (length site.points) had in
     record { read = r; stands = stands; within = omega (arith, size, inside) }
 
 -- the system after a report on a point
-pub point_done : (site : Site) (kept : Retained) (before : List Moment) (system : System) (event : Event) (point : ℕ) (state : PointState) (points : List PointPlan) (plan : PointPlan) (old new : Parts) → StandsFor site kept before system → event ≡ Point point state → plan ≡ get_or points point plan → PointPanel site kept before point plan old → PanelStands site kept plan.panel (Happened (Point point state) ∷ before) new → StandsFor site kept (Happened event ∷ before) (record system { panels = with_item system.panels ((get_or points point plan).panel - 1) new })
+pub point_done : (site : Site) (kept : Retained) (before : List Moment) (system : System) (event : Event) (point : ℕ) (state : PointState) (points :
+    List PointPlan) (plan : PointPlan) (old new : Parts) → StandsFor site kept before system → event ≡ Point point state
+    → plan ≡ get_or points point plan → PointPanel site kept before point plan old
+    → PanelStands site kept plan.panel (Happened (Point point state) ∷ before) new
+    → StandsFor site kept (Happened event ∷ before) (record system { panels = with_item system.panels ((get_or points point plan).panel - 1) new })
 point_done site kept before system event point state points plan old new h is read p stands =
     subst (λ e. StandsFor site kept (Happened e ∷ before) (record system { panels = with_item system.panels ((get_or points point plan).panel - 1) new })) (sym is)
-    (subst (λ (q : PointPlan). StandsFor site kept (Happened (Point point state) ∷ before) (record system { panels = with_item system.panels (q.panel - 1) new })) read
+    (subst
+    (λ (q : PointPlan). StandsFor site kept (Happened (Point point state) ∷ before)
+    (record system { panels = with_item system.panels (q.panel - 1) new })) read
     (stands_after_point site kept before system plan point state new h p.read.member.0 p.read.is stands))
 
 -- the panel of a piece of cable
-pub piece_read : (site : Site) (event : Event) (panel line piece : ℕ) (state : PieceState) → IsValid site → has_event site event ≡ true → event ≡ Cable panel line piece state → HasLine site panel line
+pub piece_read : (site : Site) (event : Event) (panel line piece : ℕ) (state : PieceState) → IsValid site → has_event site event ≡ true
+    → event ≡ Cable panel line piece state → HasLine site panel line
 piece_read site event panel line piece state valid has is = piece_line site panel line piece valid (ap (has_event site) (sym is) ∙ has)
 
-pub piece_done : (site : Site) (kept : Retained) (before : List Moment) (system : System) (event : Event) (panel line piece : ℕ) (state : PieceState) (new : Parts) → StandsFor site kept before system → event ≡ Cable panel line piece state → IsPanel site.panels panel → PanelStands site kept panel (Happened (Cable panel line piece state) ∷ before) new → StandsFor site kept (Happened event ∷ before) (record system { panels = with_item system.panels (panel - 1) new })
+pub piece_done : (site : Site) (kept : Retained) (before : List Moment) (system : System) (event : Event) (panel line piece : ℕ) (state : PieceState)
+    (new : Parts) → StandsFor site kept before system → event ≡ Cable panel line piece state → IsPanel site.panels panel
+    → PanelStands site kept panel (Happened (Cable panel line piece state) ∷ before) new
+    → StandsFor site kept (Happened event ∷ before) (record system { panels = with_item system.panels (panel - 1) new })
 piece_done site kept before system event panel line piece state new h is member stands =
     subst (λ e. StandsFor site kept (Happened e ∷ before) (record system { panels = with_item system.panels (panel - 1) new })) (sym is)
     (stands_after_piece site kept before system panel line piece state new h member.0 stands)
 
-pub other_done : (site : Site) (kept : Retained) (before : List Moment) (system : System) (event other : Event) → StandsFor site kept before system → event ≡ other → IsOther other → StandsFor site kept (Happened event ∷ before) system
-other_done site kept before system event other h is o = subst (λ e. StandsFor site kept (Happened e ∷ before) system) (sym is) (stands_after_other site kept before system other h o)
+pub other_done : (site : Site) (kept : Retained) (before : List Moment) (system : System) (event other : Event) → StandsFor site kept before system
+    → event ≡ other → IsOther other → StandsFor site kept (Happened event ∷ before) system
+other_done site kept before system event other h is o =
+    subst (λ e. StandsFor site kept (Happened e ∷ before) system) (sym is) (stands_after_other site kept before system other h o)

@@ -20,22 +20,27 @@ drop_none (suc k) = refl
 
 -- the next items after a front make a longer front
 pub front_more : {X : Type 0} (d n : ℕ) (xs : List X) → take d xs ++ take n (drop d xs) ≡ take (d + n) xs
-front_more {X = X} d n [] = ap (λ ys. ys ++ take n (drop d [])) (take_none {X = X} d) ∙ ap (take n) (drop_none {X = X} d) ∙ take_none n ∙ sym (take_none (d + n))
+front_more {X = X} d n [] =
+    ap (λ ys. ys ++ take n (drop d [])) (take_none {X = X} d) ∙ ap (take n) (drop_none {X = X} d) ∙ take_none n ∙ sym (take_none (d + n))
 front_more zero n (x ∷ xs) = let e : n ≡ 0 + n = omega arith in ap (λ k. take k (x ∷ xs)) e
 front_more (suc d) n (x ∷ xs) = let e : suc (d + n) ≡ suc d + n = omega arith in ap (λ ys. x ∷ ys) (front_more d n xs) ∙ ap (λ k. take k (x ∷ xs)) e
 
 module _ (site : Site) (kept : Retained) (panel : ℕ) (done : List Done) where
-  found_append : (before xs ys : List Answer) → findings_after site kept panel done before (xs ++ ys) ≡ findings_after site kept panel done before xs ++ findings_after site kept panel done (before ++ xs) ys
+  found_append : (before xs ys : List Answer) → findings_after site kept panel done before (xs ++ ys) ≡ findings_after site kept panel done before xs
+      ++ findings_after site kept panel done (before ++ xs) ys
   found_append before [] ys = ap (λ b. findings_after site kept panel done b ys) (nil before)
     where
       nil : (xs : List Answer) → xs ≡ xs ++ []
       nil [] = refl
       nil (x ∷ xs) = ap (λ ys. x ∷ ys) (nil xs)
   found_append before (x ∷ xs) ys =
-      ap (λ zs. finding_of site kept panel done before x ∷ zs) (found_append (before ++ x ∷ []) xs ys ∙ ap (λ b. findings_after site kept panel done (before ++ x ∷ []) xs ++ findings_after site kept panel done b ys) (append_on before (x ∷ []) xs))
+      ap (λ zs. finding_of site kept panel done before x ∷ zs)
+      (found_append (before ++ x ∷ []) xs ys ∙ ap (λ b. findings_after site kept panel done (before ++ x ∷ []) xs
+      ++ findings_after site kept panel done b ys) (append_on before (x ∷ []) xs))
 
   -- what is found of more answers comes behind
-  pub found_more : (xs ys : List Answer) → findings_of site kept panel done (xs ++ ys) ≡ findings_of site kept panel done xs ++ findings_after site kept panel done xs ys
+  pub found_more : (xs ys : List Answer) → findings_of site kept panel done (xs ++ ys) ≡ findings_of site kept panel done xs
+      ++ findings_after site kept panel done xs ys
   found_more xs ys = found_append [] xs ys
 
   -- one finding for each answer

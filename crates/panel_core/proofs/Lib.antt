@@ -1,4 +1,3 @@
-pub mod Reports
 pub mod Fronts
 pub mod Steps
 pub mod Rooms

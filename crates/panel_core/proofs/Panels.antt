@@ -1,5 +1,7 @@
 -- What befalls one panel, and what it is to the others.
-use Rattle.std.proofs.Common.{◌≡◌, ℕ, ◌+◌, ◌≤◌, ◌==◌, List, [], ◌∷◌, ◌++◌, length, length-append, Some, slice_get, ◌⊎◌, inl, inr, zero, suc, ◌-◌, ◌≢◌, Contains, Bool, true, false, refl, sym, ◌∙◌, ap, subst, arith}
+use Rattle.std.proofs.Common.{◌≡◌, ℕ, ◌+◌, ◌≤◌, ◌==◌, List, [], ◌∷◌, ◌++◌, length, length-append, Some, slice_get}
+use Rattle.std.proofs.Common.{◌⊎◌, inl, inr, zero, suc, ◌-◌, ◌≢◌, Contains, Bool, true, false, refl, sym, ◌∙◌, ap}
+use Rattle.std.proofs.Common.{subst, arith}
 use Rattle.tick_units.specs.Lane.{LaneState, with_put}
 use Rattle.tick_units.specs.declared.task.Task.{Task}
 use Rattle.tick_units.specs.declared.task.Task.TheVariants.{Poll, Decide, Hold}
@@ -14,7 +16,7 @@ use Rattle.panel_core.specs.Turns.{hold_turns}
 use Rattle.panel_rules.specs.Moments.{Moment, Began, Turned, Kept, turn_of, IsPanel, tick_of}
 use Rattle.panel_rules.specs.Answers.{asked}
 use Rattle.panel_core.specs.declared.parts.Parts.{Parts}
-use Rattle.panel_core.specs.Reports.{reports}
+use Rattle.panel_rules.specs.Reports.{reports}
 use Rattle.panel_core.specs.Lanes.{answer_lane, finding_lane, decided}
 use Rattle.std.proofs.lemmas.Bool.Decides.{eqb_tells}
 use Rattle.std.proofs.Math.ListN.{set, length-set}
@@ -26,10 +28,13 @@ use Rattle.tick_units.proofs.Canonical.{IsPanelSeat, Contains-canonical_seats-ca
 use Rattle.panel_core.specs.declared.system.System.{System}
 use Rattle.panel_core.specs.Stands.{PanelStands, StandsFor}
 use Rattle.panel_rules.proofs.Places.{get_either}
-use Rattle.panel_core.proofs.Reports.{asked_told}
+use Rattle.panel_rules.proofs.Reports.{asked_told}
 use Rattle.panel_core.proofs.Steps.{polled, decided_after_poll, findings_after_poll}
 
-pub after_poll : (site : Site) (kept : Retained) (panel : ℕ) (before : List Moment) (parts : Parts) (lane : LaneState Answer) (now : ℕ) → PanelStands site kept panel before parts → now ≡ tick_of before → lane ≡ with_put parts.answers (asked_in site panel (told_point (reports site panel before)) (told_cable (reports site panel before)) now) → PanelStands site kept panel (Turned panel Poll ∷ before) (record parts { answers = lane })
+pub after_poll : (site : Site) (kept : Retained) (panel : ℕ) (before : List Moment) (parts : Parts) (lane : LaneState Answer) (now : ℕ)
+    → PanelStands site kept panel before parts → now ≡ tick_of before
+    → lane ≡ with_put parts.answers (asked_in site panel (told_point (reports site panel before)) (told_cable (reports site panel before)) now)
+    → PanelStands site kept panel (Turned panel Poll ∷ before) (record parts { answers = lane })
 after_poll site kept panel before parts lane now h tick put =
     let format = h.polls.valid.forms.format.0 in
     record {
@@ -37,7 +42,8 @@ after_poll site kept panel before parts lane now h tick put =
       polls = h.polls;
       answers =
           put
-          ∙ ap (λ t. with_put parts.answers (asked_in site panel (told_point (reports site panel before)) (told_cable (reports site panel before)) t)) tick
+          ∙ ap (λ t. with_put parts.answers (asked_in site panel (told_point (reports site panel before)) (told_cable (reports site panel before)) t))
+          tick
           ∙ ap (with_put parts.answers) (asked_told site panel before format)
           ∙ ap (λ l. with_put l (asked site panel before)) h.answers
           ∙ polled site panel before;
@@ -46,8 +52,17 @@ after_poll site kept panel before parts lane now h tick put =
       holds = h.holds;
     }
 
-pub after_begin : (site : Site) (kept : Retained) (panel : ℕ) (before : List Moment) (parts : Parts) → PanelStands site kept panel before parts → PanelStands site kept panel (Began ∷ before) parts
-after_begin site kept panel before parts h = record { member = h.member; polls = h.polls; answers = h.answers; decides = h.decides; findings = h.findings; holds = h.holds }
+pub after_begin : (site : Site) (kept : Retained) (panel : ℕ) (before : List Moment) (parts : Parts) → PanelStands site kept panel before parts
+    → PanelStands site kept panel (Began ∷ before) parts
+after_begin site kept panel before parts h = record {
+  member = h.member;
+  polls = h.polls;
+  answers = h.answers;
+  decides = h.decides;
+  findings =
+      h.findings;
+  holds = h.holds;
+}
 
 -- the moment of a panel's turn
 pub turn_is : (panel : ℕ) (task : Task) → task ≢ Keep → turn_of false panel task ≡ Turned panel task
@@ -63,27 +78,32 @@ seat_panel panels seat known n = go ((Contains-canonical_seats-cases panels seat
     go (inr e) = absurd (n (ap (λ (s : Seat). s.task) e))
 
 -- a turn of another panel leaves the lanes
-findings_stay : (site : Site) (kept : Retained) (panel other : ℕ) (task : Task) (before : List Moment) → (other == panel) ≡ false → finding_lane site kept [] panel (Turned other task ∷ before) ≡ finding_lane site kept [] panel before
+findings_stay : (site : Site) (kept : Retained) (panel other : ℕ) (task : Task) (before : List Moment) → (other == panel) ≡ false
+    → finding_lane site kept [] panel (Turned other task ∷ before) ≡ finding_lane site kept [] panel before
 findings_stay site kept panel other Poll before e = rw e refl
 findings_stay site kept panel other Decide before e = rw e refl
 findings_stay site kept panel other Hold before e = rw e refl
 findings_stay site kept panel other task before e = refl
 
-turns_stay : (site : Site) (kept : Retained) (panel other : ℕ) (task : Task) (before : List Moment) → (other == panel) ≡ false → hold_turns site kept [] panel (Turned other task ∷ before) ≡ hold_turns site kept [] panel before
+turns_stay : (site : Site) (kept : Retained) (panel other : ℕ) (task : Task) (before : List Moment) → (other == panel) ≡ false
+    → hold_turns site kept [] panel (Turned other task ∷ before) ≡ hold_turns site kept [] panel before
 turns_stay site kept panel other Hold before e = rw e refl
 turns_stay site kept panel other task before e = refl
 
-decided_stay : (site : Site) (panel other : ℕ) (task : Task) (before : List Moment) → (other == panel) ≡ false → decided site panel (Turned other task ∷ before) ≡ decided site panel before
+decided_stay : (site : Site) (panel other : ℕ) (task : Task) (before : List Moment) → (other == panel) ≡ false
+    → decided site panel (Turned other task ∷ before) ≡ decided site panel before
 decided_stay site panel other Poll before e = rw e refl
 decided_stay site panel other Decide before e = rw e refl
 decided_stay site panel other task before e = refl
 
-lane_stays : (site : Site) (panel other : ℕ) (task : Task) (before : List Moment) → (other == panel) ≡ false → answer_lane site panel (Turned other task ∷ before) ≡ answer_lane site panel before
+lane_stays : (site : Site) (panel other : ℕ) (task : Task) (before : List Moment) → (other == panel) ≡ false
+    → answer_lane site panel (Turned other task ∷ before) ≡ answer_lane site panel before
 lane_stays site panel other Poll before e = rw e refl
 lane_stays site panel other Decide before e = rw e refl
 lane_stays site panel other task before e = refl
 
-pub others_stay : (site : Site) (kept : Retained) (panel other : ℕ) (task : Task) (before : List Moment) (parts : Parts) → other ≢ panel → PanelStands site kept panel before parts → PanelStands site kept panel (Turned other task ∷ before) parts
+pub others_stay : (site : Site) (kept : Retained) (panel other : ℕ) (task : Task) (before : List Moment) (parts : Parts) → other ≢ panel
+    → PanelStands site kept panel before parts → PanelStands site kept panel (Turned other task ∷ before) parts
 others_stay site kept panel other task before parts n h =
     record {
       member = h.member;
@@ -97,11 +117,21 @@ others_stay site kept panel other task before parts n h =
     apart : (other == panel) ≡ false
     apart = elim (eqb_tells other panel) [ inl t ↦ absurd (n t.1) | inr t ↦ t.0 ]
 
-pub after_keep : (site : Site) (kept : Retained) (panel : ℕ) (failed : Bool) (before : List Moment) (parts : Parts) → PanelStands site kept panel before parts → PanelStands site kept panel (Kept failed ∷ before) parts
-after_keep site kept panel failed before parts h = record { member = h.member; polls = h.polls; answers = h.answers; decides = h.decides; findings = h.findings; holds = h.holds }
+pub after_keep : (site : Site) (kept : Retained) (panel : ℕ) (failed : Bool) (before : List Moment) (parts : Parts)
+    → PanelStands site kept panel before parts → PanelStands site kept panel (Kept failed ∷ before) parts
+after_keep site kept panel failed before parts h = record {
+  member = h.member;
+  polls = h.polls;
+  answers = h.answers;
+  decides = h.decides;
+  findings =
+      h.findings;
+  holds = h.holds;
+}
 
 -- what stands in a list after one item was put in place of another
-pub get_set : {X : Type 0} (xs : List X) (i k : ℕ) (x y : X) → slice_get (set xs i y) k ≡ Some x → ((k ≡ i) × (x ≡ y)) ⊎ ((k ≢ i) × (slice_get xs k ≡ Some x))
+pub get_set : {X : Type 0} (xs : List X) (i k : ℕ) (x y : X) → slice_get (set xs i y) k ≡ Some x
+    → ((k ≡ i) × (x ≡ y)) ⊎ ((k ≢ i) × (slice_get xs k ≡ Some x))
 get_set [] i k x y h = cc
 get_set (z ∷ xs) zero zero x y h = let e : y ≡ x = cc in inl (refl, sym e)
 get_set (z ∷ xs) zero (suc k) x y h = inr (λ e. omega (arith, e), h)
@@ -113,7 +143,9 @@ get_set (z ∷ xs) (suc i) (suc k) x y h =
     ]
 
 -- a panel had its turn
-pub stands_after_turn : (site : Site) (kept : Retained) (before : List Moment) (system : System) (panel : ℕ) (task : Task) (parts : Parts) → StandsFor site kept before system → 1 ≤ panel → PanelStands site kept panel (Turned panel task ∷ before) parts → StandsFor site kept (Turned panel task ∷ before) (record system { panels = with_item system.panels (panel - 1) parts })
+pub stands_after_turn : (site : Site) (kept : Retained) (before : List Moment) (system : System) (panel : ℕ) (task : Task) (parts : Parts)
+    → StandsFor site kept before system → 1 ≤ panel → PanelStands site kept panel (Turned panel task ∷ before) parts
+    → StandsFor site kept (Turned panel task ∷ before) (record system { panels = with_item system.panels (panel - 1) parts })
 stands_after_turn site kept before system panel task parts h one p =
     record {
       valid = h.valid;
@@ -124,16 +156,28 @@ stands_after_turn site kept before system panel task parts h one p =
           elim (get_set system.panels.items (panel - 1) place q parts is) [
             | inl g ↦
                 (let at : panel ≡ place + 1 = omega (arith, g.0) in
-                subst (λ n. PanelStands site kept n (Turned panel task ∷ before) q) at (subst (λ r. PanelStands site kept panel (Turned panel task ∷ before) r) (sym g.1) p))
+                subst (λ n. PanelStands site kept n (Turned panel task ∷ before) q) at
+                (subst (λ r. PanelStands site kept panel (Turned panel task ∷ before) r) (sym g.1) p))
             | inr g ↦ others_stay site kept (place + 1) panel task before q (λ e. g.0 (omega (arith, e))) (h.each place q g.1)
           ]);
     }
 
-pub stands_after_keep : (site : Site) (kept : Retained) (before : List Moment) (system : System) (failed : Bool) → StandsFor site kept before system → StandsFor site kept (Kept failed ∷ before) system
-stands_after_keep site kept before system failed h = record { valid = h.valid; same = h.same; tick = h.tick; count = h.count; each = λ place q is. after_keep site kept (place + 1) failed before q (h.each place q is) }
+pub stands_after_keep : (site : Site) (kept : Retained) (before : List Moment) (system : System) (failed : Bool) → StandsFor site kept before system
+    → StandsFor site kept (Kept failed ∷ before) system
+stands_after_keep site kept before system failed h =
+    record {
+      valid = h.valid;
+      same = h.same;
+      tick = h.tick;
+      count = h.count;
+      each =
+          λ place q is. after_keep site kept (place + 1) failed before q (h.each place q is);
+    }
 
 -- the panel at a place
-pub panel_at : (site : Site) (kept : Retained) (before : List Moment) (system : System) (panel : ℕ) (parts : Parts) → StandsFor site kept before system → 1 ≤ panel → slice_get system.panels.items (panel - 1) ≡ Some parts → PanelStands site kept panel before parts
+pub panel_at : (site : Site) (kept : Retained) (before : List Moment) (system : System) (panel : ℕ) (parts : Parts)
+    → StandsFor site kept before system → 1 ≤ panel → slice_get system.panels.items (panel - 1) ≡ Some parts
+    → PanelStands site kept panel before parts
 panel_at site kept before system panel parts h one is =
     let at : panel - 1 + 1 ≡ panel = omega arith in
     subst (λ n. PanelStands site kept n before parts) at (h.each (panel - 1) parts is)
@@ -142,7 +186,9 @@ panel_at site kept before system panel parts h one is =
 pub panels_counted : (xs ys : List Parts) (x : Parts) (n : ℕ) → ys ≡ xs ++ x ∷ [] → length xs ≡ n → length ys ≡ n + 1
 panels_counted xs ys x n e l = let m = ap length e ∙ length-append xs (x ∷ []) in omega (arith, m, l)
 
-pub panel_added : (site : Site) (kept : Retained) (xs ys : List Parts) (x : Parts) (n : ℕ) → ys ≡ xs ++ x ∷ [] → length xs ≡ n → ((place : ℕ) (parts : Parts) → slice_get xs place ≡ Some parts → PanelStands site kept (place + 1) [] parts) → PanelStands site kept (n + 1) [] x → (place : ℕ) (parts : Parts) → slice_get ys place ≡ Some parts → PanelStands site kept (place + 1) [] parts
+pub panel_added : (site : Site) (kept : Retained) (xs ys : List Parts) (x : Parts) (n : ℕ) → ys ≡ xs ++ x ∷ [] → length xs ≡ n
+    → ((place : ℕ) (parts : Parts) → slice_get xs place ≡ Some parts → PanelStands site kept (place + 1) [] parts)
+    → PanelStands site kept (n + 1) [] x → (place : ℕ) (parts : Parts) → slice_get ys place ≡ Some parts → PanelStands site kept (place + 1) [] parts
 panel_added site kept xs ys x n e l each new place parts is =
     elim (get_either xs (x ∷ []) place parts (sym (ap (λ zs. slice_get zs place) e) ∙ is)) [
       | inl g ↦ each place parts g
@@ -174,17 +220,25 @@ idle_from task (inr (inr (inr (inl e)))) = ap is_idle e
 idle_from task (inr (inr (inr (inr (inl e))))) = ap is_idle e
 idle_from task (inr (inr (inr (inr (inr e))))) = ap is_idle e
 
-idle_stays : (site : Site) (kept : Retained) (panel : ℕ) (before : List Moment) (parts : Parts) (task : Task) → is_idle task ≡ true → PanelStands site kept panel before parts → PanelStands site kept panel (Turned panel task ∷ before) parts
+idle_stays : (site : Site) (kept : Retained) (panel : ℕ) (before : List Moment) (parts : Parts) (task : Task) → is_idle task ≡ true
+    → PanelStands site kept panel before parts → PanelStands site kept panel (Turned panel task ∷ before) parts
 idle_stays site kept panel before parts Poll idle h = cc
 idle_stays site kept panel before parts Decide idle h = cc
 idle_stays site kept panel before parts Hold idle h = cc
-idle_stays site kept panel before parts Supply idle h = record { member = h.member; polls = h.polls; answers = h.answers; decides = h.decides; findings = h.findings; holds = h.holds }
-idle_stays site kept panel before parts Desk idle h = record { member = h.member; polls = h.polls; answers = h.answers; decides = h.decides; findings = h.findings; holds = h.holds }
-idle_stays site kept panel before parts Link idle h = record { member = h.member; polls = h.polls; answers = h.answers; decides = h.decides; findings = h.findings; holds = h.holds }
-idle_stays site kept panel before parts Effect idle h = record { member = h.member; polls = h.polls; answers = h.answers; decides = h.decides; findings = h.findings; holds = h.holds }
-idle_stays site kept panel before parts Drive idle h = record { member = h.member; polls = h.polls; answers = h.answers; decides = h.decides; findings = h.findings; holds = h.holds }
-idle_stays site kept panel before parts Keep idle h = record { member = h.member; polls = h.polls; answers = h.answers; decides = h.decides; findings = h.findings; holds = h.holds }
+idle_stays site kept panel before parts Supply idle h =
+    record { member = h.member; polls = h.polls; answers = h.answers; decides = h.decides; findings = h.findings; holds = h.holds }
+idle_stays site kept panel before parts Desk idle h =
+    record { member = h.member; polls = h.polls; answers = h.answers; decides = h.decides; findings = h.findings; holds = h.holds }
+idle_stays site kept panel before parts Link idle h =
+    record { member = h.member; polls = h.polls; answers = h.answers; decides = h.decides; findings = h.findings; holds = h.holds }
+idle_stays site kept panel before parts Effect idle h =
+    record { member = h.member; polls = h.polls; answers = h.answers; decides = h.decides; findings = h.findings; holds = h.holds }
+idle_stays site kept panel before parts Drive idle h =
+    record { member = h.member; polls = h.polls; answers = h.answers; decides = h.decides; findings = h.findings; holds = h.holds }
+idle_stays site kept panel before parts Keep idle h =
+    record { member = h.member; polls = h.polls; answers = h.answers; decides = h.decides; findings = h.findings; holds = h.holds }
 
 -- its turn changes nothing
-pub after_idle : (site : Site) (kept : Retained) (panel : ℕ) (before : List Moment) (parts : Parts) (task : Task) → IsIdle task → PanelStands site kept panel before parts → PanelStands site kept panel (Turned panel task ∷ before) parts
+pub after_idle : (site : Site) (kept : Retained) (panel : ℕ) (before : List Moment) (parts : Parts) (task : Task) → IsIdle task
+    → PanelStands site kept panel before parts → PanelStands site kept panel (Turned panel task ∷ before) parts
 after_idle site kept panel before parts task idle h = idle_stays site kept panel before parts task (idle_from task idle) h

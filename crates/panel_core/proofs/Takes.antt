@@ -36,20 +36,25 @@ order_front n xs order =
     }
 
 -- what lies before Decide may be taken
-pub may_take : (site : Site) (panel : ℕ) (before : List Moment) → IsPanel site.panels panel → IsRun site.panels before → MayTake site panel [] (decided site panel before) (taken_by (answer_lane site panel before))
+pub may_take : (site : Site) (panel : ℕ) (before : List Moment) → IsPanel site.panels panel → IsRun site.panels before
+    → MayTake site panel [] (decided site panel before) (taken_by (answer_lane site panel before))
 may_take site panel before p run =
     let d = taken_by_decide site panel before in
     let n = turn_count (answer_lane site panel before) in
     record {
       own = λ k answer is. (
           let got = take_get n (drop d (answers site panel before)) k answer is in
-          let tells = told_by site site.panels panel before before (d + k) answer run present (drop_get d (answers site panel before) k answer got.1) in
+          let tells = told_by site site.panels panel before before (d + k) answer run present (drop_get d (answers site panel before) k answer got.1)
+          in
           record { point = tells.plan; is = tells.is; at = tells.of_panel });
-      order = subst AreInOrder (sym (front_more d n (answers site panel before))) (order_front (d + n) (answers site panel before) (answers_in_order site site.panels panel before p run));
+      order =
+          subst AreInOrder (sym (front_more d n (answers site panel before)))
+          (order_front (d + n) (answers site panel before) (answers_in_order site site.panels panel before p run));
       since = λ k answer is. tt;
     }
 
-pub can_take : (site : Site) (kept : Retained) (panel : ℕ) (before : List Moment) (parts : Parts) → PanelStands site kept panel before parts → IsRun site.panels before → CanTake parts.decide (taken_by parts.answers)
+pub can_take : (site : Site) (kept : Retained) (panel : ℕ) (before : List Moment) (parts : Parts) → PanelStands site kept panel before parts
+    → IsRun site.panels before → CanTake parts.decide (taken_by parts.answers)
 can_take site kept panel before parts h run =
     record {
       site = site;
@@ -61,18 +66,39 @@ can_take site kept panel before parts h run =
       may = subst (λ (l : LaneState Answer). MayTake site panel [] (decided site panel before) (taken_by l)) (sym h.answers) (may_take site panel before h.member run);
     }
 
-pub after_decide : (site : Site) (kept : Retained) (panel : ℕ) (before : List Moment) (parts : Parts) (decide : DecidePart) (answers' : LaneState Answer) (findings' : LaneState Finding) → PanelStands site kept panel before parts → IsRun site.panels before → answers' ≡ after_turn parts.answers → (DecidesFor site kept panel [] (decided site panel before) parts.decide → MayTake site panel [] (decided site panel before) (taken_by parts.answers) → DecidesFor site kept panel [] (decided site panel before ++ taken_by parts.answers) decide) → (DecidesFor site kept panel [] (decided site panel before) parts.decide → MayTake site panel [] (decided site panel before) (taken_by parts.answers) → findings' ≡ with_put parts.findings (findings_after site kept panel [] (decided site panel before) (taken_by parts.answers))) → PanelStands site kept panel (Turned panel Decide ∷ before) (record { poller = parts.poller; decide = decide; hold = parts.hold; answers = answers'; findings = findings' })
+pub after_decide : (site : Site) (kept : Retained) (panel : ℕ) (before : List Moment) (parts : Parts) (decide : DecidePart) (answers' :
+    LaneState Answer) (findings' : LaneState Finding) → PanelStands site kept panel before parts → IsRun site.panels before
+    → answers' ≡ after_turn parts.answers
+    → (DecidesFor site kept panel [] (decided site panel before) parts.decide
+    → MayTake site panel [] (decided site panel before) (taken_by parts.answers)
+    → DecidesFor site kept panel [] (decided site panel before ++ taken_by parts.answers) decide)
+    → (DecidesFor site kept panel [] (decided site panel before) parts.decide
+    → MayTake site panel [] (decided site panel before) (taken_by parts.answers)
+    → findings' ≡ with_put parts.findings (findings_after site kept panel [] (decided site panel before) (taken_by parts.answers)))
+    → PanelStands site kept panel (Turned panel Decide ∷ before) (record {
+      poller = parts.poller;
+      decide = decide;
+      hold = parts.hold;
+      answers =
+          answers';
+      findings = findings';
+    })
 after_decide site kept panel before parts decide answers' findings' h run taken stands found =
-    let may = subst (λ (l : LaneState Answer). MayTake site panel [] (decided site panel before) (taken_by l)) (sym h.answers) (may_take site panel before h.member run) in
+    let may =
+    subst (λ (l : LaneState Answer). MayTake site panel [] (decided site panel before) (taken_by l)) (sym h.answers)
+    (may_take site panel before h.member run) in
     record {
       member = h.member;
       polls = h.polls;
       answers = taken ∙ ap after_turn h.answers ∙ decided_answers site panel before;
       decides =
-          subst (λ xs. DecidesFor site kept panel [] xs decide) (ap (λ (l : LaneState Answer). decided site panel before ++ taken_by l) h.answers ∙ decided_more site panel before) (stands h.decides may);
+          subst (λ xs. DecidesFor site kept panel [] xs decide)
+          (ap (λ (l : LaneState Answer). decided site panel before ++ taken_by l) h.answers ∙ decided_more site panel before)
+          (stands h.decides may);
       findings =
           found h.decides may
-          ∙ ap (λ (l : LaneState Answer). with_put parts.findings (findings_after site kept panel [] (decided site panel before) (taken_by l))) h.answers
+          ∙ ap (λ (l : LaneState Answer). with_put parts.findings (findings_after site kept panel [] (decided site panel before) (taken_by l)))
+          h.answers
           ∙ ap (λ l. with_put l (findings_after site kept panel [] (decided site panel before) (taken_by (answer_lane site panel before)))) h.findings
           ∙ decided_findings site kept [] panel before;
       holds = h.holds;

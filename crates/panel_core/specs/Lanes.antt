@@ -26,7 +26,14 @@ decided site panel before = take (taken_by_decide site panel before) (answers si
 -- the answers that it has yet to take
 abbrev pub answer_lane : Site → ℕ → List Moment → LaneState Answer
 answer_lane site panel before =
-    record { items = drop (taken_by_decide site panel before) (answers site panel before); put = answer_count site panel before; taken = taken_by_decide site panel before; quota = 32; capacity = 64 }
+    record {
+      items = drop (taken_by_decide site panel before) (answers site panel before);
+      put =
+          answer_count site panel before;
+      taken = taken_by_decide site panel before;
+      quota = 32;
+      capacity = 64;
+    }
 
 -- what Decide found of the answers that it took
 abbrev pub found : Site → Retained → List Done → ℕ → List Moment → List Finding
@@ -35,8 +42,12 @@ found site kept done panel before = findings_of site kept panel done (decided si
 -- the findings that Hold has yet to take
 abbrev pub finding_lane : Site → Retained → List Done → ℕ → List Moment → LaneState Finding
 finding_lane site kept done panel before =
-    record { items = drop (taken_by_hold site panel before) (found site kept done panel before); put = taken_by_decide site panel before; taken = taken_by_hold site panel before; quota = 32; capacity = 64 }
-
--- the findings that it has taken
-abbrev pub seen : Site → Retained → List Done → ℕ → List Moment → List Finding
-seen site kept done panel before = take (taken_by_hold site panel before) (found site kept done panel before)
+    record {
+      items = drop (taken_by_hold site panel before) (found site kept done panel before);
+      put =
+          taken_by_decide site panel before;
+      taken = taken_by_hold site panel before;
+      quota = 32;
+      capacity =
+          64;
+    }

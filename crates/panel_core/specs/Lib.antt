@@ -1,4 +1,5 @@
-pub mod Reports
 pub mod Lanes
 pub mod Turns
 pub mod Stands
+pub mod Changes
+pub mod ShownZones

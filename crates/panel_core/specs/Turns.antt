@@ -7,20 +7,22 @@ use Rattle.site_types.specs.declared.site.Site.{Site}
 use Rattle.site_types.specs.Bits.{mask_of}
 use Rattle.site_types.specs.Done.{Done}
 use Rattle.isolators.specs.Reach.{Cable}
-use Rattle.loop_poller.specs.Asked.{loop_at, status_on}
+use Rattle.loop_poller.specs.Asked.{status_on}
+use Rattle.site_types.specs.Things.{loop_of}
 use Rattle.panel_conditions.specs.declared.outside.Outside.{Outside}
 use Rattle.panel_conditions.specs.Turns.{HoldTurn}
 use Rattle.panel_rules.specs.Moments.{Moment, Began, Happened, Turned, Kept, tick_of}
 use Rattle.panel_rules.specs.States.{piece_of}
 use Rattle.panel_core.specs.Lanes.{finding_lane}
 
--- what is told from outside, with the cables of the panel's loops in these states: the loops with an open and with a short piece
+-- what is told from outside, with the cables of the panel's loops in these states: the loops with an open and
+-- with a short piece
 abbrev pub outside_of : Site → ℕ → (ℕ → Cable) → Outside
 outside_of site panel cables =
     record {
       supply = 0;
-      broken = mask_of 4 (λ k. (status_on (loop_at site panel (k + 1)) (cables (k + 1))).broken);
-      shorted = mask_of 4 (λ k. (status_on (loop_at site panel (k + 1)) (cables (k + 1))).shorted);
+      broken = mask_of 4 (λ k. (status_on (loop_of site panel (k + 1)) (cables (k + 1))).broken);
+      shorted = mask_of 4 (λ k. (status_on (loop_of site panel (k + 1)) (cables (k + 1))).shorted);
       silent = 0;
       links = 0;
       unconfirmed = 0;
@@ -34,7 +36,9 @@ abbrev pub hold_turn : Site → Retained → List Done → ℕ → List Moment �
 hold_turn site kept done panel before =
     record {
       tick = tick_of before;
-      found = take (turn_count (finding_lane site kept done panel before)) (finding_lane site kept done panel before).items;
+      found =
+          take (turn_count (finding_lane site kept done panel before))
+          (finding_lane site kept done panel before).items;
       outside = outside_at site panel before;
     }
 
@@ -44,6 +48,7 @@ hold_turns site kept done panel [] = []
 hold_turns site kept done panel (Began ∷ before) = hold_turns site kept done panel before
 hold_turns site kept done panel (Happened event ∷ before) = hold_turns site kept done panel before
 hold_turns site kept done panel (Turned other Hold ∷ before) =
-    if other == panel then hold_turn site kept done panel before ∷ hold_turns site kept done panel before else hold_turns site kept done panel before
+    if other == panel then hold_turn site kept done panel before
+    ∷ hold_turns site kept done panel before else hold_turns site kept done panel before
 hold_turns site kept done panel (Turned other task ∷ before) = hold_turns site kept done panel before
 hold_turns site kept done panel (Kept failed ∷ before) = hold_turns site kept done panel before

@@ -1,14 +1,17 @@
 //! The panels of a site at work: in each tick every task of every panel has one turn, in whatever order the tick gives.
 //!
-//! Begin with [`System`]. It stands for a history of moments: [`System::open`] for the empty one, [`System::begin`], [`System::event`] and
-//! [`System::turns`] for one that is longer by the beginning of a tick, an event and the turns of an order. What it tells is computed from
-//! that history by the definitions of `panel_rules`, whatever the orders were: how many answers each task has taken, and which zones each
+//! Begin with [`System`]. It stands for a history of moments: [`System::open`] for the empty one,
+//! [`System::begin`], [`System::event`] and [`System::turns`] for one that is longer by the beginning of a
+//! tick, an event and the turns of an order. What it tells is computed from that history by the definitions
+//! of `panel_rules`, whatever the orders were: how many answers each task has taken, and which zones each
 //! panel shows in alarm and in first state. A zone that is due is shown, and none is shown without a cause.
 //!
-//! So far the tasks Poll, Decide and Hold are at work, no operation is done, and what is retained stays. Within a panel two lanes join the three
-//! tasks; they never hold more than 64 items, so no turn has an answer for a full lane.
+//! So far the tasks Poll, Decide and Hold are at work, no operation is done, and what is retained stays.
+//! Within a panel two lanes join the three tasks; they never hold more than 64 items, so no turn has an
+//! answer for a full lane.
 //!
-//! [`System::open`] alone takes memory. A tick costs a turn of each seat: Poll looks at 32 addresses, Decide and Hold take at most 32 items.
+//! [`System::open`] alone takes memory. A tick costs a turn of each seat: Poll looks at 32 addresses, Decide
+//! and Hold take at most 32 items.
 #![tactic(auto)]
 
 mod parts;

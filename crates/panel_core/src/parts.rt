@@ -1,10 +1,8 @@
-ghost use Rattle.std.specs.Prelude.{◌≡◌, ◌≤◌, [], ◌∷◌, List, ℕ, IfOk, true, slice_get};
-ghost use Rattle.site_types.specs.declared.event.Event.TheVariants.{Point as PointEvent, Cable as CableEvent};
-ghost use Rattle.site_types.specs.declared.retained.Retained.{Retained as RetainedOf};
+ghost use Rattle.std.specs.Prelude.{◌≡◌, ◌≤◌, [], List, ℕ, IfOk};
 ghost use Rattle.site_types.specs.declared.site.Site.{Site as SiteOf};
 ghost use Rattle.site_types.specs.Valid.{IsValid};
 ghost use Rattle.loop_poller.specs.Stands.{HasPoint};
-ghost use Rattle.panel_rules.specs.Moments.{Moment, Happened, Turned, IsPanel, IsRun, tick_of};
+ghost use Rattle.panel_rules.specs.Moments.{IsPanel};
 
 use coincidence::{Decide, Finding};
 use loop_poller::Poller;
@@ -26,7 +24,7 @@ pub struct Parts {
 impl Parts {
     ghost use Rattle.loop_poller.specs.Calls.{Call, told_cable};
     ghost use Rattle.loop_poller.specs.Stands.{StandsFor as PollsFor};
-    ghost use Rattle.panel_core.specs.Reports.{stands_at};
+    ghost use Rattle.panel_core.specs.Changes.{HearsPiece, HearsPoint, MakesTurn};
     ghost use Rattle.panel_core.specs.Turns.{outside_of};
     ghost use Rattle.panel_core.specs.Stands.{PanelStands, MayTurn};
 
@@ -52,7 +50,7 @@ impl Parts {
     /// A report comes on a point of the panel.
     pub fn set_point(&mut self, point: u16, state: PointState)
         requires { HasPoint self.old.poller point }
-        ensures { (site : SiteOf) (kept : RetainedOf) (panel : ℕ) (before : List Moment) → PanelStands site kept panel before self.old → stands_at panel (slice_get site.points point) ≡ true → PanelStands site kept panel (Happened (PointEvent point state) ∷ before) self.new }
+        ensures { HearsPoint self.old point state self.new }
     {
         self.poller.set_point(point, state);
     }
@@ -60,7 +58,7 @@ impl Parts {
     /// A report comes on a piece of cable of the panel.
     pub fn set_piece(&mut self, line: u8, piece: u8, state: PieceState)
         requires { (1 ≤ line) × (line ≤ 4) }
-        ensures { (site : SiteOf) (kept : RetainedOf) (panel : ℕ) (before : List Moment) → PanelStands site kept panel before self.old → PanelStands site kept panel (Happened (CableEvent panel line piece state) ∷ before) self.new }
+        ensures { HearsPiece self.old line piece state self.new }
     {
         self.poller.set_piece(line, piece, state);
     }
@@ -68,7 +66,7 @@ impl Parts {
     /// A task has its turn.
     pub fn turn(&mut self, task: Task, now: Tick)
         requires { MayTurn task now.0 self.old }
-        ensures { (site : SiteOf) (kept : RetainedOf) (panel : ℕ) (before : List Moment) → PanelStands site kept panel before self.old → now.0 ≡ tick_of before → IsRun site.panels (Turned panel task ∷ before) → PanelStands site kept panel (Turned panel task ∷ before) self.new }
+        ensures { MakesTurn self.old task now.0 self.new }
     {
         match task {
             Task::Poll => self.poller.turn(now, &mut self.answers),
@@ -83,7 +81,9 @@ impl Parts {
 
     // What the other parts tell Hold.
     fn outside(&self) -> Outside
-        ensures { (site : SiteOf) (panel : ℕ) (calls : List Call) → PollsFor site panel calls self.now.poller → result ≡ outside_of site panel (told_cable calls) }
+        ensures { (site : SiteOf) (panel : ℕ) (calls : List Call)
+            → PollsFor site panel calls self.now.poller
+            → result ≡ outside_of site panel (told_cable calls) }
     {
         let first = self.poller.status(1);
         let second = self.poller.status(2);

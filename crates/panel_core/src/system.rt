@@ -1,15 +1,8 @@
-ghost use Rattle.std.specs.Prelude.{◌≡◌, ◌⊎◌, ◌-◌, [], ◌∷◌, List, ℕ, true, false, IfOk, Some, slice_get};
-ghost use Rattle.tick_units.specs.declared.task.Task.TheVariants.{Hold as HoldTask};
-ghost use Rattle.site_types.specs.declared.zone.Zone.{Zone as ZoneOf};
-ghost use Rattle.site_types.specs.Bits.{has_bit};
-ghost use Rattle.coincidence_rules.specs.Places.{zones_where};
-ghost use Rattle.panel_rules.specs.Zones.{holds_alarm, holds_first};
-ghost use Rattle.panel_rules.specs.Due.{IsDue, LoneSignals};
-ghost use Rattle.panel_rules.specs.Caused.{IsCausedAt};
+ghost use Rattle.std.specs.Prelude.{◌≡◌, [], ◌∷◌, List, IfOk};
 ghost use Rattle.site_types.specs.declared.retained.Retained.{Retained as RetainedOf};
 ghost use Rattle.site_types.specs.declared.site.Site.{Site as SiteOf};
 ghost use Rattle.site_types.specs.Valid.{IsValid};
-ghost use Rattle.panel_rules.specs.Moments.{Moment, Began, Happened, IsRun, HaveAllTurned, and_turns, latest_turn, tick_of};
+ghost use Rattle.panel_rules.specs.Moments.{Moment, tick_of};
 
 use crate::parts::Parts;
 use site_types::{Event, Retained, Site};
@@ -25,7 +18,10 @@ pub struct System {
 }
 
 impl System {
+    ghost use Rattle.panel_core.specs.Changes.{BeginsTick, MakesTurns, TakesEvent};
     ghost use Rattle.panel_core.specs.Lanes.{taken_by};
+    ghost use Rattle.panel_core.specs.ShownZones.{ShowsCausedZones, ShowsDueZones, ShowsLoneSignals};
+    ghost use Rattle.panel_core.specs.ShownZones.{ShowsOwnFirsts, ShowsOwnZones};
     ghost use Rattle.panel_core.specs.Stands.{StandsFor, HasPanel, MayHappen, MayTurnAll, MayTurnSeat};
 
     /// The panels of a site before its first tick.
@@ -46,7 +42,7 @@ impl System {
 
     /// A tick begins.
     pub fn begin(&mut self, tick: Tick)
-        ensures { (site : SiteOf) (kept : RetainedOf) (before : List Moment) → StandsFor site kept before self.old → tick.0 ≡ tick_of (Began ∷ before) → StandsFor site kept (Began ∷ before) self.new }
+        ensures { BeginsTick self.old tick.0 self.new }
     {
         self.tick = tick;
     }
@@ -54,7 +50,7 @@ impl System {
     /// An event happens in the tick that began last, before its turns.
     pub fn event(&mut self, event: &Event)
         requires { MayHappen event.now self.old }
-        ensures { (site : SiteOf) (kept : RetainedOf) (before : List Moment) → StandsFor site kept before self.old → StandsFor site kept (Happened event.now ∷ before) self.new }
+        ensures { TakesEvent self.old event.now self.new }
     {
         match *event {
             Event::Point { point, state } => {
@@ -81,7 +77,7 @@ impl System {
     /// Each seat has its turn, in this order.
     pub fn turns(&mut self, order: &Order)
         requires { MayTurnAll order.now self.old }
-        ensures { (site : SiteOf) (kept : RetainedOf) (before : List Moment) → StandsFor site kept before self.old → IsRun site.panels (and_turns false order.now before) → StandsFor site kept (and_turns false order.now before) self.new }
+        ensures { MakesTurns self.old order.now self.new }
     {
         for place in 0..order.len() {
             self.turn_of(order.seat(place));
@@ -91,7 +87,7 @@ impl System {
     // One seat has its turn.
     fn turn_of(&mut self, seat: Seat)
         requires { MayTurnSeat seat self.old }
-        ensures { (site : SiteOf) (kept : RetainedOf) (before : List Moment) → StandsFor site kept before self.old → IsRun site.panels (and_turns false (seat ∷ []) before) → StandsFor site kept (and_turns false (seat ∷ []) before) self.new }
+        ensures { MakesTurns self.old (seat ∷ []) self.new }
     {
         match seat.task {
             Task::Keep => {}
@@ -105,7 +101,8 @@ impl System {
     /// How many answers the Decide of a panel, or how many findings its Hold, has taken. Other tasks take none.
     pub fn taken(&self, panel: u8, task: Task) -> u64
         requires { HasPanel panel self.now }
-        ensures { (site : SiteOf) (kept : RetainedOf) (before : List Moment) → StandsFor site kept before self.now → result ≡ taken_by task site panel before }
+        ensures { (site : SiteOf) (kept : RetainedOf) (before : List Moment)
+            → StandsFor site kept before self.now → result ≡ taken_by task site panel before }
     {
         let parts = &self.panels[panel as usize - 1];
         match task {
@@ -124,13 +121,9 @@ impl System {
     /// The zones that a panel shows of its own in alarm, bit `number - 1`.
     pub fn zones(&self, panel: u8) -> u32
         requires { HasPanel panel self.now }
-        ensures shown { (site : SiteOf) (kept : RetainedOf) (before : List Moment) → StandsFor site kept before self.now → IsRun site.panels before → result ≡ zones_where site panel (λ zone. holds_alarm site kept [] panel before zone) }
-
-        // After a tick each zone that is due is shown, whatever the orders of turns were.
-        ensures due { (site : SiteOf) (kept : RetainedOf) (before : List Moment) (zone : ℕ) (plan : ZoneOf) → StandsFor site kept before self.now → IsRun site.panels before → HaveAllTurned site.panels before → slice_get site.zones zone ≡ Some plan → plan.panel ≡ panel → IsDue site kept [] before zone panel → has_bit result (plan.number - 1) ≡ true }
-
-        // None is shown without a cause.
-        ensures caused { (site : SiteOf) (kept : RetainedOf) (before : List Moment) (zone : ℕ) (plan : ZoneOf) → StandsFor site kept before self.now → IsRun site.panels before → slice_get site.zones zone ≡ Some plan → plan.panel ≡ panel → has_bit result (plan.number - 1) ≡ true → IsCausedAt site kept [] before zone (latest_turn panel HoldTask before) }
+        ensures shown { ShowsOwnZones self.now panel result }
+        ensures due { ShowsDueZones self.now panel result }
+        ensures caused { ShowsCausedZones self.now panel result }
     {
         let parts = &self.panels[panel as usize - 1];
         parts.hold.word().alarm
@@ -139,10 +132,8 @@ impl System {
     /// The zones that a panel shows of its own in first state, bit `number - 1`.
     pub fn first(&self, panel: u8) -> u32
         requires { HasPanel panel self.now }
-        ensures shown { (site : SiteOf) (kept : RetainedOf) (before : List Moment) → StandsFor site kept before self.now → IsRun site.panels before → result ≡ zones_where site panel (λ zone. holds_first site kept [] panel before zone) }
-
-        // After a tick a zone of type B with one lasting signal is in alarm or shown here, until its time ends.
-        ensures lone { (site : SiteOf) (kept : RetainedOf) (before : List Moment) (zone : ℕ) (plan : ZoneOf) → StandsFor site kept before self.now → IsRun site.panels before → HaveAllTurned site.panels before → slice_get site.zones zone ≡ Some plan → plan.panel ≡ panel → LoneSignals site kept [] before zone (tick_of before) → (holds_alarm site kept [] panel before zone ≡ true) ⊎ (has_bit result (plan.number - 1) ≡ true) }
+        ensures shown { ShowsOwnFirsts self.now panel result }
+        ensures lone { ShowsLoneSignals self.now panel result }
     {
         let parts = &self.panels[panel as usize - 1];
         parts.hold.word().first
@@ -150,13 +141,15 @@ impl System {
 
     /// The tick that began last, 0 before the first.
     pub fn now(&self) -> Tick
-        ensures { (site : SiteOf) (kept : RetainedOf) (before : List Moment) → StandsFor site kept before self.now → result.0 ≡ tick_of before }
+        ensures { (site : SiteOf) (kept : RetainedOf) (before : List Moment)
+            → StandsFor site kept before self.now → result.0 ≡ tick_of before }
     {
         self.tick
     }
 
     pub fn site(&self) -> &Site
-        ensures { (site : SiteOf) (kept : RetainedOf) (before : List Moment) → StandsFor site kept before self.now → result.now ≡ site }
+        ensures { (site : SiteOf) (kept : RetainedOf) (before : List Moment)
+            → StandsFor site kept before self.now → result.now ≡ site }
     {
         &self.site
     }

@@ -40,4 +40,5 @@ front_none a b xs e = ([], xs, refl, grows_same a a b [] e (grows_none a))
 -- a text whose front was written, after the first bytes of its rest
 pub split_more : (text front rest back : List ℕ) (n : ℕ) → text ≡ front ++ rest → back ≡ drop n rest → text ≡ (front ++ take n rest) ++ back
 split_more text front rest back n e f =
-    e ∙ ap (λ xs. front ++ xs) (sym (take-append-drop n rest)) ∙ ap (λ xs. front ++ (take n rest ++ xs)) (sym f) ∙ sym (append_assoc front (take n rest) back)
+    e ∙ ap (λ xs. front ++ xs) (sym (take-append-drop n rest)) ∙ ap (λ xs. front ++ (take n rest ++ xs)) (sym f) ∙ sym
+    (append_assoc front (take n rest) back)

@@ -8,7 +8,9 @@ module _ {D : Type 0} (moment : D → ℕ) (left_since : D → ℕ → List ℕ 
   stays disk P here = record { later = omega arith; each = here; before = λ t c le left. inl left }
 
   -- one call
-  pub one_call : (old new : D) (P images : List ℕ → Type 0) → ((c : List ℕ) → left_since old (moment old) c → P c) → Elapses (moment old) (moment new) (left_since old) (left_since new) images → ((c : List ℕ) → images c → P c) → LeavesOnly moment left_since old new P
+  pub one_call : (old new : D) (P images : List ℕ → Type 0) → ((c : List ℕ) → left_since old (moment old) c → P c)
+      → Elapses (moment old) (moment new) (left_since old) (left_since new) images → ((c : List ℕ) → images c → P c)
+      → LeavesOnly moment left_since old new P
   one_call old new P images start time here = record {
     later = time.later;
     each = λ c left. ⊎_elim (start c) (here c) (time.nothing_else (moment old) c (omega arith) left);
@@ -16,7 +18,8 @@ module _ {D : Type 0} (moment : D → ℕ) (left_since : D → ℕ → List ℕ 
   }
 
   -- one part after another
-  pub then_more : (old mid new : D) (P : List ℕ → Type 0) → LeavesOnly moment left_since old mid P → LeavesOnly moment left_since mid new P → LeavesOnly moment left_since old new P
+  pub then_more : (old mid new : D) (P : List ℕ → Type 0) → LeavesOnly moment left_since old mid P → LeavesOnly moment left_since mid new P
+      → LeavesOnly moment left_since old new P
   then_more old mid new P first second = record {
     later = omega (arith, first.later, second.later);
     each = λ c left. ⊎_elim (first.each c) (λ p. p) (second.before (moment old) c first.later left);
@@ -24,7 +27,8 @@ module _ {D : Type 0} (moment : D → ℕ) (left_since : D → ℕ → List ℕ 
   }
 
   -- what has P has Q
-  pub weaker : (old new : D) (P Q : List ℕ → Type 0) → ((c : List ℕ) → P c → Q c) → LeavesOnly moment left_since old new P → LeavesOnly moment left_since old new Q
+  pub weaker : (old new : D) (P Q : List ℕ → Type 0) → ((c : List ℕ) → P c → Q c) → LeavesOnly moment left_since old new P
+      → LeavesOnly moment left_since old new Q
   weaker old new P Q f l = record {
     later = l.later;
     each = λ c left. f c (l.each c left);

@@ -17,4 +17,5 @@ consumes_same a b c xs e g = rw e g
 
 -- a read of the next bytes, and what is left behind them
 pub read_front : (bytes into : List ℕ) (at n : ℕ) → take n into ≡ take n (drop at bytes) → drop at bytes ≡ take n into ++ drop (at + n) bytes
-read_front bytes into at n e = sym (take-append-drop n (drop at bytes)) ∙ ap (λ xs. xs ++ drop n (drop at bytes)) (sym e) ∙ ap (λ xs. take n into ++ xs) (drop-drop n at bytes)
+read_front bytes into at n e =
+    sym (take-append-drop n (drop at bytes)) ∙ ap (λ xs. xs ++ drop n (drop at bytes)) (sym e) ∙ ap (λ xs. take n into ++ xs) (drop-drop n at bytes)

@@ -2,15 +2,18 @@
 use Rattle.std.specs.Prelude.{◌≡◌, ℕ, List, ◌++◌, Option, Some, None}
 use Rattle.std.specs.Io.KnownBytes.{Consumes as TakesFromFront}
 
--- these bytes stood at the front of what was left, and the rest is left; nothing is said where nothing was told
+-- these bytes stood at the front of what was left, and the rest is left; nothing is said where nothing was
+-- told
 abbrev pub Consumes : Option (List ℕ) → Option (List ℕ) → List ℕ → Type 0
 Consumes old new bytes = TakesFromFront old new bytes
 
--- what is told as written was told before, and these bytes came behind; nothing is said where nothing is told any more
+-- what is told as written was told before, and these bytes came behind; nothing is said where nothing is told
+-- any more
 abbrev pub Grows : Option (List ℕ) → Option (List ℕ) → List ℕ → Type 0
 Grows old None bytes = Unit {0}
 Grows old (Some after) bytes = (before : List ℕ) × (old ≡ Some before) × (after ≡ before ++ bytes)
 
 -- some front of these bytes came behind what was written
 abbrev pub GrowsByFront : Option (List ℕ) → Option (List ℕ) → List ℕ → Type 0
-GrowsByFront old new bytes = (front : List ℕ) × (rest : List ℕ) × (bytes ≡ front ++ rest) × Grows old new front
+GrowsByFront old new bytes = (front : List ℕ) × (rest : List ℕ) × (bytes ≡ front ++ rest)
+    × Grows old new front

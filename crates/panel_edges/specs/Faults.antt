@@ -16,7 +16,8 @@ pub record HasCause {T E : Type 0} (before after : ℕ) (result : Result T E) : 
   pub later : before ≤ after
   pub failed : OnErr result (Rose before after)
 
--- The count of faults never falls, and a fetch that answered Failed has raised it. A file that is too long and want of memory are no faults.
+-- The count of faults never falls, and a fetch that answered Failed has raised it. A file that is too long
+-- and want of memory are no faults.
 pub record HasFetchCause {T : Type 0} (before after : ℕ) (result : Result T FetchFault) : Type 0 where
   pub later : before ≤ after
   pub failed : result ≡ Err Failed → Rose before after

@@ -1,5 +1,6 @@
 -- What a shelf of files answers to a name.
-use Rattle.std.specs.Prelude.{◌≡◌, ℕ, ◌<◌, ◌≤◌, List, [], ◌∷◌, length, Option, Some, None, Result, Ok, Err, if◌then◌else◌, bytes_eq, string_bytes}
+use Rattle.std.specs.Prelude.{◌≡◌, ℕ, ◌<◌, ◌≤◌, List, [], ◌∷◌, length, Option, Some, None, Result, Ok, Err}
+use Rattle.std.specs.Prelude.{if◌then◌else◌, bytes_eq, string_bytes}
 use Rattle.panel_edges.specs.Limits.{most_file_bytes}
 use Rattle.panel_edges.specs.declared.fetching.Found.{Found}
 use Rattle.panel_edges.specs.declared.fetching.Found.TheVariants.{Here, Absent}
@@ -7,7 +8,8 @@ use Rattle.panel_edges.specs.declared.fetching.FetchFault.{FetchFault}
 use Rattle.panel_edges.specs.declared.fetching.FetchFault.TheVariants.{Failed, TooLong, NoMemory}
 use Rattle.panel_edges.specs.declared.shelf_file.ShelfFile.{ShelfFile}
 
--- the bytes that stand under a name, by the list of names and bytes; of two entries of one name the first counts
+-- the bytes that stand under a name, by the list of names and bytes; of two entries of one name the first
+-- counts
 abbrev pub file_of : List ℕ → List (List ℕ × List ℕ) → Option (List ℕ)
 file_of name [] = None
 file_of name (file ∷ files) = if bytes_eq file.0 name then Some file.1 else file_of name files
@@ -24,7 +26,8 @@ Fetched file (Err TooLong) into = (bytes : List ℕ) × (file ≡ Some bytes) ×
 Fetched file (Err Failed) into = Unit {0}
 Fetched file (Err NoMemory) into = Unit {0}
 
--- what was handed over to be filled holds at most a whole file where the file is here, and in every other case what it held
+-- what was handed over to be filled holds at most a whole file where the file is here, and in every other
+-- case what it held
 abbrev pub Filled : Result Found FetchFault → List ℕ → List ℕ → Type 0
 Filled (Ok Here) old new = length new ≤ most_file_bytes
 Filled (Ok Absent) old new = new ≡ old

@@ -1,6 +1,5 @@
-ghost use Rattle.std.specs.Prelude.{◌≡◌, ℕ, List, ◌∷◌, take, drop, slice_index, IfOk, OnOk};
-ghost use Rattle.panel_edges.specs.DiskLogs.{calls_of, cut_by, cut_from, front_written};
-ghost use Rattle.panel_edges.specs.declared.disk_call.DiskCall.{DiskCall as CallOfLog};
+ghost use Rattle.std.specs.Prelude.{◌≡◌, take, drop, IfOk, OnOk};
+ghost use Rattle.panel_edges.specs.DiskLogs.{DoesAgain, calls_of, cut_by, front_written};
 
 use crate::disk_call::DiskCall;
 use crate::overwriting::overwrite;
@@ -15,7 +14,8 @@ pub(crate) fn cut_file(
     log_bytes: &[u8],
     kept: &[usize],
 ) -> Result<Vec<u8>, AllocError>
-    ensures { IfOk result (λ file. file.items ≡ cut_by start.now (calls_of log.now log_bytes.now) kept.now) }
+    ensures { IfOk result (λ file. file.items ≡ cut_by start.now (calls_of log.now log_bytes.now)
+        kept.now) }
 {
     let mut whole = Vec::from_slice(alloc, start)?;
     let mut torn = Vec::from_slice(alloc, start)?;
@@ -27,8 +27,8 @@ pub(crate) fn cut_file(
     Ok(torn)
 }
 
-// Does one call again: to the file as it reads, and to the file as cut, where a write leaves so many of its first bytes.
-// The bytes of the log come in, and those of the calls behind go out.
+// Does one call again: to the file as it reads, and to the file as cut, where a write leaves so many of its
+// first bytes. The bytes of the log come in, and those of the calls behind go out.
 fn replay<'a>(
     call: &DiskCall,
     left: usize,
@@ -36,8 +36,8 @@ fn replay<'a>(
     whole: &mut Vec<u8>,
     torn: &mut Vec<u8>,
 ) -> Result<&'a [u8], AllocError>
-    ensures { IfOk result (λ behind. (log : List CallOfLog) (kept : List ℕ) → slice_index kept 0 ≡ left →
-        cut_from whole.old.items torn.old.items (calls_of (call.now ∷ log) rest.now) kept ≡ cut_from whole.new.items torn.new.items (calls_of log behind.now) (drop 1 kept)) }
+    ensures { IfOk result (λ behind. DoesAgain call.now left rest.now behind.now
+        whole.old.items torn.old.items whole.new.items torn.new.items) }
 {
     match call {
         DiskCall::Wrote { at, count, kept } => {

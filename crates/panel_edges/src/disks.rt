@@ -1,4 +1,5 @@
-ghost use Rattle.std.specs.Prelude.{◌≡◌, ◌+◌, ◌≤◌, List, ℕ, Option, Some, length, take, drop, IfOk, IfSome, OnErr, OnOk, ◌↔◌};
+ghost use Rattle.std.specs.Prelude.{◌≡◌, ◌+◌, ◌≤◌, List, ℕ, Option, Some, length, take, drop, IfOk, IfSome, OnErr};
+ghost use Rattle.std.specs.Prelude.{OnOk, ◌↔◌};
 ghost use Rattle.panel_edges.specs.Crashes.{Elapses, Follows, Only, Stays};
 ghost use Rattle.panel_edges.specs.Disks.{Becomes, Holds, Torn};
 ghost use Rattle.panel_edges.specs.Faults.{HasCause};
@@ -34,17 +35,22 @@ pub trait Disk {
         ensures seen { seen self.new ≡ seen self.old }
         ensures honest { honest self.new ↔ honest self.old }
         ensures crash { honest self.old → Stays (images self.old) (images self.new) }
-        ensures time { honest self.old → Elapses (moment self.old) (moment self.new) (left_since self.old) (left_since self.new) (images self.new) }
+        ensures time { honest self.old
+            → Elapses (moment self.old) (moment self.new) (left_since self.old)
+            (left_since self.new) (images self.new) }
         ensures cause { HasCause (faults self.old) (faults self.new) result };
 
     /// Fills `into` with the bytes from a place on. Past the end of a real file it fails.
     fn read_at(&mut self, at: u64, into: &mut [u8]) -> Result<(), Failed>
         requires { IfSome (seen self.old) (λ bytes. at + length into.old ≤ length bytes) }
-        ensures ok { OnOk result (IfSome (seen self.old) (λ bytes. into.new ≡ take (length into.old) (drop at bytes))) }
+        ensures ok { OnOk result
+            (IfSome (seen self.old) (λ bytes. into.new ≡ take (length into.old) (drop at bytes))) }
         ensures seen { seen self.new ≡ seen self.old }
         ensures honest { honest self.new ↔ honest self.old }
         ensures crash { honest self.old → Stays (images self.old) (images self.new) }
-        ensures time { honest self.old → Elapses (moment self.old) (moment self.new) (left_since self.old) (left_since self.new) (images self.new) }
+        ensures time { honest self.old
+            → Elapses (moment self.old) (moment self.new) (left_since self.old)
+            (left_since self.new) (images self.new) }
         ensures cause { HasCause (faults self.old) (faults self.new) result };
 
     /// Writes over what is there, and past the end. Whether or not it fails, a crash may leave any bytes in its range
@@ -52,19 +58,26 @@ pub trait Disk {
     fn write_at(&mut self, at: u64, bytes: &[u8]) -> Result<(), Failed>
         requires { at + length bytes.now ≤ most_disk_bytes }
         ensures ok { OnOk result (Becomes (Holds at bytes.now) (seen self.old) (seen self.new)) }
-        ensures err { OnErr result (Becomes (Torn at (length bytes.now)) (seen self.old) (seen self.new)) }
+        ensures err { OnErr result
+            (Becomes (Torn at (length bytes.now)) (seen self.old) (seen self.new)) }
         ensures honest { honest self.new ↔ honest self.old }
-        ensures crash { honest self.old → Follows (Torn at (length bytes.now)) (images self.old) (images self.new) }
-        ensures time { honest self.old → Elapses (moment self.old) (moment self.new) (left_since self.old) (left_since self.new) (images self.new) }
+        ensures crash { honest self.old
+            → Follows (Torn at (length bytes.now)) (images self.old) (images self.new) }
+        ensures time { honest self.old
+            → Elapses (moment self.old) (moment self.new) (left_since self.old)
+            (left_since self.new) (images self.new) }
         ensures cause { HasCause (faults self.old) (faults self.new) result };
 
     /// Makes what was written outlive a crash. Where it succeeds, a crash leaves what a read gives.
     fn sync(&mut self) -> Result<(), Failed>
         ensures seen { seen self.new ≡ seen self.old }
         ensures honest { honest self.new ↔ honest self.old }
-        ensures durable { honest self.old → OnOk result (IfSome (seen self.new) (λ file. Only file (images self.new))) }
+        ensures durable { honest self.old
+            → OnOk result (IfSome (seen self.new) (λ file. Only file (images self.new))) }
         ensures crash { honest self.old → Stays (images self.old) (images self.new) }
-        ensures time { honest self.old → Elapses (moment self.old) (moment self.new) (left_since self.old) (left_since self.new) (images self.new) }
+        ensures time { honest self.old
+            → Elapses (moment self.old) (moment self.new) (left_since self.old)
+            (left_since self.new) (images self.new) }
         ensures cause { HasCause (faults self.old) (faults self.new) result };
 
     /// An honest disk tells its bytes, which are one of its images.

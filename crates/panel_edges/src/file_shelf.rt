@@ -29,9 +29,11 @@ impl<R: Files + Drop> FileShelf<R> {
         }
     }
 
-    // The bytes of a file, or None where there is no file of that path. At most one byte more than a whole file is read.
+    // The bytes of a file, or None where there is no file of that path. At most one byte more than a whole
+    // file is read.
     fn read_file(&self, path: &str) -> Result<Option<Vec<u8>>, FetchFault>
-        ensures { IfOk result (λ file. IfSome file (λ bytes. length bytes.items ≤ most_file_bytes)) }
+        ensures { IfOk result
+            (λ file. IfSome file (λ bytes. length bytes.items ≤ most_file_bytes)) }
     {
         let mut file = match OpenOptions::new().read(true).open(&self.rt, path) {
             Ok(file) => file,

@@ -12,8 +12,8 @@ use crate::no_memory::NoMemory;
 use crate::overwriting::{append_reserved, overwrite_reserved};
 use std::alloc::Global;
 
-/// A disk in memory that keeps a log of its writes and syncs, and tells by it what a crash may leave at every moment since
-/// it was made.
+/// A disk in memory that keeps a log of its writes and syncs, and tells by it what a crash may leave at every
+/// moment since it was made.
 ///
 /// The calls whose numbers, from 1, are listed fail, and so does each write or sync that passes the log, and no other.
 /// A listed write that has room in the log leaves the first half of its bytes; whatever else fails changes nothing.
@@ -58,9 +58,14 @@ impl Disk for MemoryDisk {
 
     ghost faults = { λ d. d.faults };
 
-    ghost reads_as_image = { λ d honest. (d.bytes.items, refl, image_now d.start.items d.bytes.items (calls_of d.log.items d.log_bytes.items) d.whole) };
+    ghost reads_as_image = { λ d honest. (
+      d.bytes.items,
+      refl,
+      image_now d.start.items d.bytes.items (calls_of d.log.items d.log_bytes.items) d.whole,
+    ) };
 
-    ghost counts_now = { λ d t c honest le left. now_counts d.start.items (calls_of d.log.items d.log_bytes.items) t c le left };
+    ghost counts_now = { λ d t c honest le left.
+        now_counts d.start.items (calls_of d.log.items d.log_bytes.items) t c le left };
 
     ghost only_now = { λ d c honest left. none_since d.start.items (calls_of d.log.items d.log_bytes.items) c left };
 
@@ -70,16 +75,19 @@ impl Disk for MemoryDisk {
     ghost use Rattle.panel_edges.specs.DiskLogs.{Sync, Write};
     ghost use Rattle.panel_edges.specs.Faults.{HasCause, IsListed, counted};
     ghost use Rattle.panel_edges.specs.Limits.{most_disk_bytes};
-    ghost use Rattle.panel_edges.specs.MemoryDisks.{HasKept, HasLogged, IsFull, IsPassed, images_of, left_of, moment_of};
+    ghost use Rattle.panel_edges.specs.MemoryDisks.{HasKept, HasLogged, IsFull, IsPassed, images_of, left_of};
+    ghost use Rattle.panel_edges.specs.MemoryDisks.{moment_of};
 
     fn len(&mut self) -> Result<u64, Failed>
         ensures ok { IfOk result (λ n. n ≡ length self.old.bytes.items) }
         ensures kept { HasKept self.old self.new }
         ensures crash { Stays (images_of self.old) (images_of self.new) }
-        ensures time { Elapses (moment_of self.old) (moment_of self.new) (left_of self.old) (left_of self.new) (images_of self.new) }
+        ensures time { Elapses (moment_of self.old) (moment_of self.new) (left_of self.old)
+            (left_of self.new) (images_of self.new) }
         ensures cause { HasCause self.old.faults self.new.faults result }
         ensures fails { IsErr result ↔ IsListed self.old.fails.items self.old.calls }
-        ensures calls { (self.new.calls ≡ counted self.old.calls) × (self.new.fails.items ≡ self.old.fails.items) }
+        ensures calls { (self.new.calls ≡ counted self.old.calls)
+            × (self.new.fails.items ≡ self.old.fails.items) }
     {
         if count_call(&mut self.calls, &self.fails) {
             self.faults = self.faults.saturating_add(1);
@@ -90,13 +98,16 @@ impl Disk for MemoryDisk {
 
     fn read_at(&mut self, at: u64, into: &mut [u8]) -> Result<(), Failed>
         requires { at + length into.old ≤ length self.old.bytes.items }
-        ensures ok { OnOk result (into.new ≡ take (length into.old) (drop at self.old.bytes.items)) }
+        ensures ok { OnOk result
+            (into.new ≡ take (length into.old) (drop at self.old.bytes.items)) }
         ensures kept { HasKept self.old self.new }
         ensures crash { Stays (images_of self.old) (images_of self.new) }
-        ensures time { Elapses (moment_of self.old) (moment_of self.new) (left_of self.old) (left_of self.new) (images_of self.new) }
+        ensures time { Elapses (moment_of self.old) (moment_of self.new) (left_of self.old)
+            (left_of self.new) (images_of self.new) }
         ensures cause { HasCause self.old.faults self.new.faults result }
         ensures fails { IsErr result ↔ IsListed self.old.fails.items self.old.calls }
-        ensures calls { (self.new.calls ≡ counted self.old.calls) × (self.new.fails.items ≡ self.old.fails.items) }
+        ensures calls { (self.new.calls ≡ counted self.old.calls)
+            × (self.new.fails.items ≡ self.old.fails.items) }
     {
         if count_call(&mut self.calls, &self.fails) {
             self.faults = self.faults.saturating_add(1);
@@ -110,14 +121,21 @@ impl Disk for MemoryDisk {
     fn write_at(&mut self, at: u64, bytes: &[u8]) -> Result<(), Failed>
         requires { at + length bytes.now ≤ most_disk_bytes }
         ensures ok { OnOk result (Holds at bytes.now self.old.bytes.items self.new.bytes.items) }
-        ensures err { OnErr result (Torn at (length bytes.now) self.old.bytes.items self.new.bytes.items) }
-        ensures logged { OnOk result (HasLogged (Write at bytes.now (length bytes.now)) self.old self.new) }
-        ensures torn { OnErr result (HasLogged (Write at bytes.now (length bytes.now / 2)) self.old self.new ⊎ HasKept self.old self.new) }
-        ensures crash { Follows (Torn at (length bytes.now)) (images_of self.old) (images_of self.new) }
-        ensures time { Elapses (moment_of self.old) (moment_of self.new) (left_of self.old) (left_of self.new) (images_of self.new) }
+        ensures err { OnErr result
+            (Torn at (length bytes.now) self.old.bytes.items self.new.bytes.items) }
+        ensures logged { OnOk result (HasLogged (Write at bytes.now (length bytes.now)) self.old
+            self.new) }
+        ensures torn { OnErr result (HasLogged (Write at bytes.now (length bytes.now / 2)) self.old
+            self.new ⊎ HasKept self.old self.new) }
+        ensures crash { Follows (Torn at (length bytes.now)) (images_of self.old)
+            (images_of self.new) }
+        ensures time { Elapses (moment_of self.old) (moment_of self.new) (left_of self.old)
+            (left_of self.new) (images_of self.new) }
         ensures cause { HasCause self.old.faults self.new.faults result }
-        ensures fails { IsErr result ↔ (IsListed self.old.fails.items self.old.calls ⊎ IsPassed self.old (length bytes.now)) }
-        ensures calls { (self.new.calls ≡ counted self.old.calls) × (self.new.fails.items ≡ self.old.fails.items) }
+        ensures fails { IsErr result ↔ (IsListed self.old.fails.items self.old.calls
+            ⊎ IsPassed self.old (length bytes.now)) }
+        ensures calls { (self.new.calls ≡ counted self.old.calls)
+            × (self.new.fails.items ≡ self.old.fails.items) }
     {
         let is_listed = count_call(&mut self.calls, &self.fails);
         if self.is_passed(bytes.len()) {
@@ -139,10 +157,13 @@ impl Disk for MemoryDisk {
         ensures kept { OnErr result (HasKept self.old self.new) }
         ensures durable { OnOk result (Only self.new.bytes.items (images_of self.new)) }
         ensures crash { Stays (images_of self.old) (images_of self.new) }
-        ensures time { Elapses (moment_of self.old) (moment_of self.new) (left_of self.old) (left_of self.new) (images_of self.new) }
+        ensures time { Elapses (moment_of self.old) (moment_of self.new) (left_of self.old)
+            (left_of self.new) (images_of self.new) }
         ensures cause { HasCause self.old.faults self.new.faults result }
-        ensures fails { IsErr result ↔ (IsListed self.old.fails.items self.old.calls ⊎ IsFull self.old) }
-        ensures calls { (self.new.calls ≡ counted self.old.calls) × (self.new.fails.items ≡ self.old.fails.items) }
+        ensures fails { IsErr result ↔ (IsListed self.old.fails.items self.old.calls
+            ⊎ IsFull self.old) }
+        ensures calls { (self.new.calls ≡ counted self.old.calls)
+            × (self.new.fails.items ≡ self.old.fails.items) }
     {
         let is_listed = count_call(&mut self.calls, &self.fails);
         if is_listed || self.log.len() >= self.most_calls {
@@ -170,8 +191,10 @@ impl MemoryDisk {
         fails: Vec<u64>,
     ) -> Result<MemoryDisk, NoMemory>
         requires { length bytes.items ≤ most_disk_bytes }
-        ensures bytes { IfOk result (λ d. (d.bytes.items ≡ bytes.items) × (d.start.items ≡ bytes.items)) }
-        ensures log { IfOk result (λ d. (d.log.items ≡ []) × (d.log_bytes.items ≡ []) × (d.most_calls ≡ calls) × (d.most_written ≡ written)) }
+        ensures bytes { IfOk result (λ d. (d.bytes.items ≡ bytes.items)
+            × (d.start.items ≡ bytes.items)) }
+        ensures log { IfOk result (λ d. (d.log.items ≡ []) × (d.log_bytes.items ≡ [])
+            × (d.most_calls ≡ calls) × (d.most_written ≡ written)) }
         ensures fails { IfOk result (λ d. d.fails.items ≡ fails.items) }
         ensures counts { IfOk result (λ d. (d.calls ≡ 0) × (d.faults ≡ 0)) }
     {
@@ -200,12 +223,16 @@ impl MemoryDisk {
         })
     }
 
-    /// The file that a cut leaves after the first so many calls of the log. Each write since the last sync before left as
-    /// many of its first bytes as `kept` says at its place in the log, and none where it says nothing.
+    /// The file that a cut leaves after the first so many calls of the log. Each write since the last sync
+    /// before left as many of its first bytes as `kept` says at its place in the log, and none where it says
+    /// nothing.
     pub fn cut(&self, alloc: Global, calls: usize, kept: &[usize]) -> Result<Vec<u8>, NoMemory>
-        ensures file { IfOk result (λ file. file.items ≡ cut_by self.now.start.items (take calls (log_of self.now)) kept.now) }
+        ensures file { IfOk result
+            (λ file. file.items ≡ cut_by self.now.start.items (take calls (log_of self.now))
+            kept.now) }
         // It is one of the images since each moment up to the last of these calls.
-        ensures image { IfOk result (λ file. (t : ℕ) → t ≤ calls → t ≤ moment_of self.now → left_of self.now t file.items) }
+        ensures image { IfOk result (λ file. (t : ℕ) → t ≤ calls → t ≤ moment_of self.now
+            → left_of self.now t file.items) }
     {
         let log = &self.log[..calls.min(self.log.len())];
         match cut_file(alloc, &self.start, log, &self.log_bytes, kept) {
@@ -226,10 +253,13 @@ impl MemoryDisk {
         requires range { at + length bytes.now ≤ most_disk_bytes }
         requires front { kept ≤ length bytes.now }
         requires calls { length self.old.log.items < self.old.most_calls }
-        requires written { length self.old.log_bytes.items + length bytes.now ≤ self.old.most_written }
+        requires written { length self.old.log_bytes.items + length bytes.now ≤
+            self.old.most_written }
         ensures logged { HasLogged (Write at bytes.now kept) self.old self.new }
-        ensures bytes { self.new.bytes.items ≡ overwritten at (take kept bytes.now) self.old.bytes.items }
-        ensures counts { (self.new.calls ≡ self.old.calls) × (self.new.faults ≡ self.old.faults) × (self.new.fails.items ≡ self.old.fails.items) }
+        ensures bytes { self.new.bytes.items ≡ overwritten at (take kept bytes.now)
+            self.old.bytes.items }
+        ensures counts { (self.new.calls ≡ self.old.calls) × (self.new.faults ≡ self.old.faults)
+            × (self.new.fails.items ≡ self.old.fails.items) }
     {
         let count = bytes.len();
         self.log.push_reserved(DiskCall::Wrote { at, count, kept });
@@ -242,7 +272,8 @@ impl MemoryDisk {
         requires { length self.old.log.items < self.old.most_calls }
         ensures logged { HasLogged Sync self.old self.new }
         ensures bytes { self.new.bytes.items ≡ self.old.bytes.items }
-        ensures counts { (self.new.calls ≡ self.old.calls) × (self.new.faults ≡ self.old.faults) × (self.new.fails.items ≡ self.old.fails.items) }
+        ensures counts { (self.new.calls ≡ self.old.calls) × (self.new.faults ≡ self.old.faults)
+            × (self.new.fails.items ≡ self.old.fails.items) }
     {
         self.log.push_reserved(DiskCall::Synced);
     }

@@ -9,8 +9,8 @@ use crate::shelf_file::{ShelfFile, fetch_from};
 use crate::shelves::Shelf;
 use std::alloc::Global;
 
-/// Files in memory. The fetches whose numbers, from 1, are listed fail, and no other. Of two files of one name the first
-/// is found.
+/// Files in memory. The fetches whose numbers, from 1, are listed fail, and no other. Of two files of one
+/// name the first is found.
 #[derive(Drop)]
 pub struct MemoryShelf {
     pub files: Vec<ShelfFile>,
@@ -48,12 +48,16 @@ impl Shelf for MemoryShelf {
     ghost faults = { λ s. s.faults };
 
     fn fetch(&mut self, name: &str, into: &mut Vec<u8>) -> Result<Found, FetchFault>
-        ensures told { Fetched (file_of name.now (map file_view self.old.files.items)) result into.new.items }
+        ensures told { Fetched (file_of name.now (map file_view self.old.files.items)) result
+            into.new.items }
         ensures into { Filled result into.old.items into.new.items }
         ensures cause { HasFetchCause self.old.faults self.new.faults result }
         // It fails exactly where the call's number is listed.
-        ensures fails { (result ≡ Err FetchFault.Failed) ↔ IsListed self.old.fails.items self.old.calls }
-        ensures calls { (self.new.calls ≡ counted self.old.calls) × (self.new.fails.items ≡ self.old.fails.items) × (self.new.files.items ≡ self.old.files.items) }
+        ensures fails { (result ≡ Err FetchFault.Failed) ↔ IsListed self.old.fails.items
+            self.old.calls }
+        ensures calls { (self.new.calls ≡ counted self.old.calls)
+            × (self.new.fails.items ≡ self.old.fails.items)
+            × (self.new.files.items ≡ self.old.files.items) }
     {
         if count_call(&mut self.calls, &self.fails) {
             self.faults = self.faults.saturating_add(1);

@@ -1,4 +1,5 @@
-ghost use Rattle.std.specs.Prelude.{◌≡◌, ◌⊎◌, ◌+◌, ◌<◌, ◌≤◌, [], ◌++◌, ◌↔◌, Some, None, length, take, IfOk, IsErr, OnErr, vec_capacity};
+ghost use Rattle.std.specs.Prelude.{◌≡◌, ◌⊎◌, ◌+◌, ◌<◌, ◌≤◌, [], ◌++◌, ◌↔◌, Some, None, length, take, IfOk, IsErr};
+ghost use Rattle.std.specs.Prelude.{OnErr, vec_capacity};
 ghost use Rattle.panel_edges.specs.Faults.{HasCause, IsListed, counted};
 
 use crate::call_counts::count_call;
@@ -57,10 +58,14 @@ impl Sink for MemorySink {
         requires { 0 < length piece.now }
         ensures err { OnErr result (self.new.bytes.items ≡ self.old.bytes.items) }
         ensures cause { HasCause self.old.faults self.new.faults result }
-        // It fails exactly where the call's number is listed or the piece passes the room, and else takes the whole piece.
-        ensures fails { IsErr result ↔ (IsListed self.old.fails.items self.old.calls ⊎ (self.old.room < length self.old.bytes.items + length piece.now)) }
-        ensures whole { IfOk result (λ n. (n ≡ length piece.now) × (self.new.bytes.items ≡ self.old.bytes.items ++ piece.now)) }
-        ensures calls { (self.new.calls ≡ counted self.old.calls) × (self.new.fails.items ≡ self.old.fails.items) × (self.new.room ≡ self.old.room) }
+        // It fails exactly where the call's number is listed or the piece passes the room, and else takes the
+        // whole piece.
+        ensures fails { IsErr result ↔ (IsListed self.old.fails.items self.old.calls
+            ⊎ (self.old.room < length self.old.bytes.items + length piece.now)) }
+        ensures whole { IfOk result (λ n. (n ≡ length piece.now)
+            × (self.new.bytes.items ≡ self.old.bytes.items ++ piece.now)) }
+        ensures calls { (self.new.calls ≡ counted self.old.calls)
+            × (self.new.fails.items ≡ self.old.fails.items) × (self.new.room ≡ self.old.room) }
     {
         let is_listed = count_call(&mut self.calls, &self.fails);
         if is_listed || self.room - self.bytes.len() < piece.len() {

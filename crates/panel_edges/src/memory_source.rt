@@ -1,4 +1,5 @@
-ghost use Rattle.std.specs.Prelude.{◌≡◌, ◌<◌, ◌≤◌, [], ◌++◌, ◌↔◌, Some, None, length, take, drop, min, IfOk, IsErr, OnErr};
+ghost use Rattle.std.specs.Prelude.{◌≡◌, ◌<◌, ◌≤◌, [], ◌++◌, ◌↔◌, Some, None, length, take, drop, min, IfOk, IsErr};
+ghost use Rattle.std.specs.Prelude.{OnErr};
 ghost use Rattle.panel_edges.specs.Faults.{HasCause, IsListed, counted};
 
 use crate::call_counts::count_call;
@@ -52,14 +53,18 @@ impl Source for MemorySource {
     fn read(&mut self, into: &mut [u8]) -> Result<usize, Failed>
         requires { 0 < length into.old }
         ensures bound { IfOk result (λ n. n ≤ length into.new) }
-        ensures bytes { IfOk result (λ n. drop self.old.at self.old.bytes.items ≡ take n into.new ++ drop self.new.at self.new.bytes.items) }
+        ensures bytes { IfOk result (λ n. drop self.old.at self.old.bytes.items ≡ take n into.new
+            ++ drop self.new.at self.new.bytes.items) }
         ensures ends { IfOk result (λ n. (n ≡ 0) ↔ (drop self.old.at self.old.bytes.items ≡ [])) }
-        ensures err { OnErr result (drop self.new.at self.new.bytes.items ≡ drop self.old.at self.old.bytes.items) }
+        ensures err { OnErr result
+            (drop self.new.at self.new.bytes.items ≡ drop self.old.at self.old.bytes.items) }
         ensures cause { HasCause self.old.faults self.new.faults result }
         // It fails exactly where the call's number is listed, and else gives as many bytes as there are and fit.
         ensures fails { IsErr result ↔ IsListed self.old.fails.items self.old.calls }
-        ensures count { IfOk result (λ n. n ≡ min (length into.old) (length (drop self.old.at self.old.bytes.items))) }
-        ensures calls { (self.new.calls ≡ counted self.old.calls) × (self.new.fails.items ≡ self.old.fails.items) }
+        ensures count { IfOk result
+            (λ n. n ≡ min (length into.old) (length (drop self.old.at self.old.bytes.items))) }
+        ensures calls { (self.new.calls ≡ counted self.old.calls)
+            × (self.new.fails.items ≡ self.old.fails.items) }
     {
         if count_call(&mut self.calls, &self.fails) {
             self.faults = self.faults.saturating_add(1);

@@ -6,7 +6,8 @@ use std::alloc::AllocError;
 // Writes over what is there, and past the end. Zeros fill what lies between.
 pub(crate) fn overwrite(bytes: &mut Vec<u8>, at: usize, piece: &[u8]) -> Result<(), AllocError>
     ensures items { OnOk result (bytes.new.items ≡ overwritten at piece.now bytes.old.items) }
-    ensures succeeds { max (length bytes.old.items) (at + length piece.now) ≤ vec_capacity bytes.old → IsOk result }
+    ensures succeeds { max (length bytes.old.items) (at + length piece.now) ≤ vec_capacity bytes.old
+        → IsOk result }
     ensures room { vec_capacity bytes.old ≤ vec_capacity bytes.new }
 {
     pad(bytes, at)?;
@@ -17,7 +18,8 @@ pub(crate) fn overwrite(bytes: &mut Vec<u8>, at: usize, piece: &[u8]) -> Result<
 
 // Fills up with zeros to a length, where there are fewer bytes.
 fn pad(bytes: &mut Vec<u8>, len: usize) -> Result<(), AllocError>
-    ensures items { OnOk result (bytes.new.items ≡ bytes.old.items ++ replicate (len - length bytes.old.items) 0) }
+    ensures items { OnOk result (bytes.new.items ≡ bytes.old.items
+        ++ replicate (len - length bytes.old.items) 0) }
     ensures succeeds { len ≤ vec_capacity bytes.old → IsOk result }
     ensures room { vec_capacity bytes.old ≤ vec_capacity bytes.new }
 {

@@ -20,7 +20,8 @@ pub trait Shelf {
     /// `TooLong` exactly where there are more than `MOST_FILE_BYTES` bytes, and `NoMemory` where a growth was refused.
     fn fetch(&mut self, name: &str, into: &mut Vec<u8>) -> Result<Found, FetchFault>
         ensures files { files self.new ≡ files self.old }
-        ensures told { IfSome (files self.old) (λ held. Fetched (file_of name.now held) result into.new.items) }
+        ensures told { IfSome (files self.old)
+            (λ held. Fetched (file_of name.now held) result into.new.items) }
         ensures into { Filled result into.old.items into.new.items }
         ensures cause { HasFetchCause (faults self.old) (faults self.new) result };
 }

@@ -29,7 +29,8 @@ impl Shelf for SoundMemoryShelf {
     ghost faults = { λ s. 0 };
 
     fn fetch(&mut self, name: &str, into: &mut Vec<u8>) -> Result<Found, FetchFault>
-        ensures told { Fetched (file_of name.now (map file_view self.old.files.items)) result into.new.items }
+        ensures told { Fetched (file_of name.now (map file_view self.old.files.items)) result
+            into.new.items }
         ensures into { Filled result into.old.items into.new.items }
         ensures sound { result ≢ Err FetchFault.Failed }
         ensures files { self.new.files.items ≡ self.old.files.items }

@@ -1,4 +1,5 @@
-ghost use Rattle.std.specs.Prelude.{◌≡◌, ◌+◌, ◌<◌, ◌≤◌, [], ◌++◌, Some, None, Ok, Bool, true, false, if◌then◌else◌, ◌||◌, nat_lt, length, IfOk, vec_capacity};
+ghost use Rattle.std.specs.Prelude.{◌≡◌, ◌+◌, ◌<◌, ◌≤◌, [], ◌++◌, Some, None, Ok, Bool, true, false, if◌then◌else◌};
+ghost use Rattle.std.specs.Prelude.{◌||◌, nat_lt, length, IfOk, vec_capacity};
 
 use crate::failed::Failed;
 use crate::no_memory::NoMemory;
@@ -49,8 +50,12 @@ impl Sink for SoundMemorySink {
         requires { 0 < length piece.now }
         // It never fails and takes the whole piece, which is kept where no write has passed the room.
         ensures whole { result ≡ Ok (length piece.now) }
-        ensures passed { self.new.passed ≡ (self.old.passed || nat_lt self.old.room (length self.old.bytes.items + length piece.now)) }
-        ensures kept { self.new.bytes.items ≡ (if self.new.passed then self.old.bytes.items else self.old.bytes.items ++ piece.now) }
+        ensures passed { self.new.passed
+            ≡ (self.old.passed
+            || nat_lt self.old.room (length self.old.bytes.items + length piece.now)) }
+        ensures kept { self.new.bytes.items
+            ≡ (if self.new.passed then self.old.bytes.items else self.old.bytes.items
+            ++ piece.now) }
         ensures room { self.new.room ≡ self.old.room }
     {
         if self.passed || self.room - self.bytes.len() < piece.len() {

@@ -38,10 +38,12 @@ impl Source for SoundMemorySource {
     fn read(&mut self, into: &mut [u8]) -> Result<usize, Failed>
         requires { 0 < length into.old }
         ensures bound { IfOk result (λ n. n ≤ length into.new) }
-        ensures bytes { IfOk result (λ n. drop self.old.at self.old.bytes.items ≡ take n into.new ++ drop self.new.at self.new.bytes.items) }
+        ensures bytes { IfOk result (λ n. drop self.old.at self.old.bytes.items ≡ take n into.new
+            ++ drop self.new.at self.new.bytes.items) }
         ensures ends { IfOk result (λ n. (n ≡ 0) ↔ (drop self.old.at self.old.bytes.items ≡ [])) }
         // It never fails, and gives as many bytes as there are and fit.
-        ensures count { result ≡ Ok (min (length into.old) (length (drop self.old.at self.old.bytes.items))) }
+        ensures count { result
+            ≡ Ok (min (length into.old) (length (drop self.old.at self.old.bytes.items))) }
     {
         let count = copy_from(&self.bytes, self.at, into);
         self.at += count;

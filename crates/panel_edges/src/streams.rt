@@ -27,8 +27,10 @@ pub trait Source: Stream {
     fn read(&mut self, into: &mut [u8]) -> Result<usize, Failed>
         requires { 0 < length into.old }
         ensures bound { IfOk result (λ n. n ≤ length into.new) }
-        ensures bytes { IfOk result (λ n. Consumes (Self.left self.old) (Self.left self.new) (take n into.new)) }
-        ensures ends { IfOk result (λ n. IfSome (Self.left self.old) (λ bytes. (n ≡ 0) ↔ (bytes ≡ []))) }
+        ensures bytes { IfOk result
+            (λ n. Consumes (Self.left self.old) (Self.left self.new) (take n into.new)) }
+        ensures ends { IfOk result
+            (λ n. IfSome (Self.left self.old) (λ bytes. (n ≡ 0) ↔ (bytes ≡ []))) }
         ensures err { OnErr result (Self.left self.new ≡ Self.left self.old) }
         ensures cause { HasCause (Self.read_faults self.old) (Self.read_faults self.new) result }
         ensures written { Self.written self.new ≡ Self.written self.old }
@@ -41,7 +43,8 @@ pub trait Sink: Stream {
     fn write(&mut self, piece: &[u8]) -> Result<usize, Failed>
         requires { 0 < length piece.now }
         ensures bound { IfOk result (λ n. (1 ≤ n) × (n ≤ length piece.now)) }
-        ensures bytes { IfOk result (λ n. Grows (Self.written self.old) (Self.written self.new) (take n piece.now)) }
+        ensures bytes { IfOk result (λ n. Grows (Self.written self.old) (Self.written self.new)
+            (take n piece.now)) }
         ensures err { OnErr result (Self.written self.new ≡ Self.written self.old) }
         ensures cause { HasCause (Self.write_faults self.old) (Self.write_faults self.new) result }
         ensures left { Self.left self.new ≡ Self.left self.old }

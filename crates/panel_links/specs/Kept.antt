@@ -1,7 +1,8 @@
 -- What each panel keeps of each other one, turn by turn.
 use Rattle.std.specs.Prelude.{ℕ, ◌==◌, ◌&&◌, nat_lt, Bool, List, [], ◌∷◌, if◌then◌else◌}
 use Rattle.site_types.specs.declared.word.Word.{Word}
-use Rattle.panel_links.specs.Words.{Call, Linked, Took, carries, empty_word, is_up, left_of, right_of}
+use Rattle.panel_links.specs.Words.{Call, Linked, Took, carries, is_up, left_of, right_of}
+use Rattle.site_types.specs.Words.{empty_word}
 
 -- the newer of two words by stamp; of two of one stamp the first, which is the one that was kept
 abbrev pub newest : Word → Word → Word
@@ -15,10 +16,12 @@ after_word comes kept other = if comes then newest kept other else kept
 abbrev pub comes_over : ℕ → ℕ → ℕ → Bool → Bool
 comes_over panels tick from up = nat_lt 1 panels && (up && carries panels tick from)
 
--- what a panel keeps of a panel after its turn, from what it kept before, or its own word, and what its neighbours keep
+-- what a panel keeps of a panel after its turn, from what it kept before, or its own word, and what its
+-- neighbours keep
 abbrev pub after_turn : ℕ → ℕ → ℕ → Bool → Bool → Word → Word → Word → Word
 after_turn panels tick from left_up right_up own left right =
-    after_word (comes_over panels tick from right_up) (after_word (comes_over panels tick from left_up) own left) right
+    after_word (comes_over panels tick from right_up)
+    (after_word (comes_over panels tick from left_up) own left) right
 
 -- what a panel keeps of another
 abbrev pub kept_word : ℕ → ℕ → ℕ → List Call → Word
@@ -26,5 +29,7 @@ kept_word panels from at [] = empty_word
 kept_word panels from at (Linked link up ∷ before) = kept_word panels from at before
 kept_word panels from at (Took tick panel own ∷ before) =
     if panel == at
-    then after_turn panels tick from (is_up (left_of panels at) before) (is_up at before) (if from == at then own else kept_word panels from at before) (kept_word panels from (left_of panels at) before) (kept_word panels from (right_of panels at) before)
+    then after_turn panels tick from (is_up (left_of panels at) before) (is_up at before)
+    (if from == at then own else kept_word panels from at before)
+    (kept_word panels from (left_of panels at) before) (kept_word panels from (right_of panels at) before)
     else kept_word panels from at before

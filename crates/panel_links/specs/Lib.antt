@@ -2,3 +2,4 @@ pub mod Frames
 pub mod Kept
 pub mod Stands
 pub mod Words
+pub mod Changes

@@ -1,8 +1,10 @@
 -- What a ring keeps of the calls that were made.
-use Rattle.std.specs.Prelude.{◌≡◌, ℕ, ◌-◌, ◌≤◌, ◌&&◌, ◌||◌, ◌==◌, nat_le, nat_lt, not, Bool, false, List, [], slice_index_or}
+use Rattle.std.specs.Prelude.{◌≡◌, ℕ, ◌-◌, ◌≤◌, ◌&&◌, ◌||◌, ◌==◌, nat_le, nat_lt, not, Bool, false, List, []}
+use Rattle.std.specs.Prelude.{slice_index_or}
 use Rattle.site_types.specs.declared.word.Word.{Word}
 use Rattle.panel_links.specs.declared.ring.Ring.{Ring}
-use Rattle.panel_links.specs.Words.{Call, empty_word, is_up, left_of}
+use Rattle.panel_links.specs.Words.{Call, is_up, left_of}
+use Rattle.site_types.specs.Words.{empty_word}
 use Rattle.panel_links.specs.Kept.{kept_word}
 
 -- a number of the ring's panels
@@ -20,7 +22,8 @@ is_up_in ring link = slice_index_or ring.up (link - 1) false
 -- a ring of so many panels stands for the calls, the newest first
 pub record StandsFor (panels : ℕ) (calls : List Call) (ring : Ring) : Type 0 where
   pub size : ring.panels ≡ panels
-  pub words : (at from : ℕ) → HasPanel ring at → HasPanel ring from → kept_in ring at from ≡ kept_word panels from at calls
+  pub words : (at from : ℕ) → HasPanel ring at → HasPanel ring from
+      → kept_in ring at from ≡ kept_word panels from at calls
   pub links : (link : ℕ) → 1 ≤ link → link ≤ 8 → is_up_in ring link ≡ is_up link calls
 
 -- a link is one of the two of a panel
@@ -33,4 +36,5 @@ is_down_at panels panel calls link = is_link_of panels panel link && not (is_up 
 
 -- of another panel of the ring a panel has heard nothing newer for more ticks than a limit
 abbrev pub is_silent : ℕ → ℕ → List Call → ℕ → ℕ → ℕ → Bool
-is_silent panels at calls now limit from = nat_le from panels && nat_lt limit (now - (kept_word panels from at calls).stamp.0)
+is_silent panels at calls now limit from =
+    nat_le from panels && nat_lt limit (now - (kept_word panels from at calls).stamp.0)

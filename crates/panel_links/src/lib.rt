@@ -1,11 +1,14 @@
 //! What panels tell each other of themselves, round a ring of links.
 //!
-//! Panels stand in a ring, and a link joins each to the next. At its turn in a tick a panel takes the words of its two neighbours over the
-//! links that are up, and keeps of each panel the newest word by stamp. So a word goes round both ways, and a link that is down hides nobody. A link
-//! carries at most four words a tick: with more than four panels an odd tick carries the words of panels 1 to 4, an even tick those of the others.
+//! Panels stand in a ring, and a link joins each to the next. At its turn in a tick a panel takes the words
+//! of its two neighbours over the links that are up, and keeps of each panel the newest word by stamp. So a
+//! word goes round both ways, and a link that is down hides nobody. A link carries at most four words a tick:
+//! with more than four panels an odd tick carries the words of panels 1 to 4, an even tick those of the
+//! others.
 //!
-//! Begin with [`Ring`], which has what every panel keeps of every other. [`Ring::turn`] makes the turn of a panel; where panels are
-//! apart, [`Ring::frame`] is what one sends and [`Ring::receive`] what the other makes of it. No call takes memory, and a turn looks at eight words.
+//! Begin with [`Ring`], which has what every panel keeps of every other. [`Ring::turn`] makes the turn of a
+//! panel; where panels are apart, [`Ring::frame`] is what one sends and [`Ring::receive`] what the other
+//! makes of it. No call takes memory, and a turn looks at eight words.
 #![tactic(auto)]
 
 mod frame;

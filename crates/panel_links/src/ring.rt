@@ -1,8 +1,11 @@
-ghost use Rattle.std.specs.Prelude.{◌≡◌, ◌+◌, ◌-◌, ◌*◌, ◌≤◌, ◌<◌, ◌==◌, ◌&&◌, [], ◌∷◌, List, ℕ, length, nat_le, slice_index_or, if◌then◌else◌};
+ghost use Rattle.std.specs.Prelude.{◌≡◌, ◌+◌, ◌≤◌, ◌<◌, ◌==◌, ◌&&◌, [], ◌∷◌, List, ℕ, length, nat_le, slice_index_or};
+ghost use Rattle.std.specs.Prelude.{if◌then◌else◌};
 ghost use Rattle.site_types.specs.Bits.{mask_of};
-ghost use Rattle.panel_links.specs.Words.{Call, Linked, Took, IsHeard, IsNewest, OwnStampsRise, carries, empty_word, group_of, left_of, right_of};
-ghost use Rattle.panel_links.specs.Kept.{after_word, kept_word, newest};
-ghost use Rattle.panel_links.specs.Frames.{after_frame, group_words};
+ghost use Rattle.panel_links.specs.Words.{Call, Linked, Took, IsHeard, IsNewest, OwnStampsRise};
+ghost use Rattle.site_types.specs.Words.{empty_word};
+ghost use Rattle.panel_links.specs.Words.{left_of, right_of};
+ghost use Rattle.panel_links.specs.Kept.{kept_word, newest};
+ghost use Rattle.panel_links.specs.Frames.{after_frame, frame_of};
 
 use crate::frame::Frame;
 use site_types::{Word, mask_from_8};
@@ -22,7 +25,8 @@ pub struct Ring {
 }
 
 impl Ring {
-    ghost use Rattle.panel_links.specs.Stands.{HasPanel, StandsFor, is_down_at, is_silent, is_up_in, kept_in};
+    ghost use Rattle.panel_links.specs.Changes.{KeepsNewest, TakesOver};
+    ghost use Rattle.panel_links.specs.Stands.{HasPanel, StandsFor, is_down_at, is_silent, kept_in};
 
     /// A ring of 1 to 8 panels. All links are up, and nothing was heard.
     pub fn new(panels: u8) -> Ring
@@ -40,7 +44,8 @@ impl Ring {
     /// Takes a report on a link, 1 to the panels of the ring.
     pub fn set_link(&mut self, link: u8, up: bool)
         requires { (1 ≤ link) × (link ≤ 8) }
-        ensures stands { (panels : ℕ) (calls : List Call) → StandsFor panels calls self.old → StandsFor panels (Linked link up ∷ calls) self.new }
+        ensures stands { (panels : ℕ) (calls : List Call) → StandsFor panels calls self.old
+            → StandsFor panels (Linked link up ∷ calls) self.new }
         ensures panels { self.new.panels ≡ self.old.panels }
     {
         self.up[link as usize - 1] = up;
@@ -49,7 +54,8 @@ impl Ring {
     /// Makes the turn of a panel in a tick: it keeps its own word, then takes what is newer from its neighbours.
     pub fn turn(&mut self, now: Tick, panel: u8, own: Word)
         requires { HasPanel self.old panel }
-        ensures stands { (panels : ℕ) (calls : List Call) → StandsFor panels calls self.old → StandsFor panels (Took now.0 panel own ∷ calls) self.new }
+        ensures stands { (panels : ℕ) (calls : List Call) → StandsFor panels calls self.old
+            → StandsFor panels (Took now.0 panel own ∷ calls) self.new }
         ensures panels { self.new.panels ≡ self.old.panels }
     {
         self.keep(panel, panel, own);
@@ -65,8 +71,10 @@ impl Ring {
     pub fn heard(&self, at: u8, of: u8) -> Tick
         requires at { HasPanel self.now at }
         requires from { HasPanel self.now of }
-        ensures kept { (panels : ℕ) (calls : List Call) → StandsFor panels calls self.now → result ≡ (kept_word panels of at calls).stamp }
-        ensures newest { (panels : ℕ) (calls : List Call) → StandsFor panels calls self.now → OwnStampsRise calls → IsHeard panels of at calls result.0 }
+        ensures kept { (panels : ℕ) (calls : List Call) → StandsFor panels calls self.now
+            → result ≡ (kept_word panels of at calls).stamp }
+        ensures newest { (panels : ℕ) (calls : List Call) → StandsFor panels calls self.now
+            → OwnStampsRise calls → IsHeard panels of at calls result.0 }
     {
         self.word(at, of).stamp
     }
@@ -76,8 +84,10 @@ impl Ring {
         requires at { HasPanel self.now at }
         requires from { HasPanel self.now of }
         ensures value { result ≡ kept_in self.now at of }
-        ensures kept { (panels : ℕ) (calls : List Call) → StandsFor panels calls self.now → result ≡ kept_word panels of at calls }
-        ensures newest { (panels : ℕ) (calls : List Call) → StandsFor panels calls self.now → OwnStampsRise calls → IsNewest panels of at calls result }
+        ensures kept { (panels : ℕ) (calls : List Call) → StandsFor panels calls self.now
+            → result ≡ kept_word panels of at calls }
+        ensures newest { (panels : ℕ) (calls : List Call) → StandsFor panels calls self.now
+            → OwnStampsRise calls → IsNewest panels of at calls result }
     {
         self.words[at as usize - 1][of as usize - 1]
     }
@@ -85,7 +95,8 @@ impl Ring {
     /// The links of a panel that are down, by bit `link - 1`.
     pub fn links_down(&self, panel: u8) -> u8
         requires { HasPanel self.now panel }
-        ensures { (panels : ℕ) (calls : List Call) → StandsFor panels calls self.now → result ≡ mask_of 8 (λ k. is_down_at panels panel calls (k + 1)) }
+        ensures { (panels : ℕ) (calls : List Call) → StandsFor panels calls self.now
+            → result ≡ mask_of 8 (λ k. is_down_at panels panel calls (k + 1)) }
     {
         let left = self.left_of(panel);
         let mut down = [false; 8];
@@ -99,7 +110,8 @@ impl Ring {
     /// The panels of which a panel has heard nothing newer for more ticks than the limit, by bit `panel - 1`.
     pub fn silent(&self, panel: u8, now: Tick, limit: u64) -> u8
         requires { HasPanel self.now panel }
-        ensures { (panels : ℕ) (calls : List Call) → StandsFor panels calls self.now → result ≡ mask_of 8 (λ k. is_silent panels panel calls now.0 limit (k + 1)) }
+        ensures { (panels : ℕ) (calls : List Call) → StandsFor panels calls self.now
+            → result ≡ mask_of 8 (λ k. is_silent panels panel calls now.0 limit (k + 1)) }
     {
         let mut silent = [false; 8];
         for of in 1..self.panels + 1 {
@@ -112,7 +124,7 @@ impl Ring {
     /// What a panel sends over its links in a tick.
     pub fn frame(&self, from: u8, now: Tick) -> Frame
         requires { HasPanel self.now from }
-        ensures { result ≡ record { from = from; group = group_of self.now.panels now.0; words = group_words self.now.panels (group_of self.now.panels now.0) (kept_in self.now from) } }
+        ensures { result ≡ frame_of self.now.panels (kept_in self.now from) from now.0 }
     {
         let group = if self.panels <= 4 || now.0 % 2 == 1 {
             0
@@ -136,7 +148,9 @@ impl Ring {
     pub fn receive(&mut self, at: u8, frame: &Frame)
         requires at { HasPanel self.old at }
         requires group { frame.now.group ≤ 1 }
-        ensures words { (a o : ℕ) → HasPanel self.old a → HasPanel self.old o → kept_in self.new a o ≡ after_frame at frame.now.group frame.now.words a o (kept_in self.old a o) }
+        ensures words { (a o : ℕ) → HasPanel self.old a → HasPanel self.old o
+            → kept_in self.new a o ≡ after_frame at frame.now.group frame.now.words a o
+            (kept_in self.old a o) }
         ensures panels { self.new.panels ≡ self.old.panels }
         ensures links { self.new.up ≡ self.old.up }
     {
@@ -166,7 +180,7 @@ impl Ring {
         requires link { (1 ≤ link) × (link ≤ 8) }
         requires from { HasPanel self.old from }
         requires at { HasPanel self.old at }
-        ensures words { (a o : ℕ) → HasPanel self.old a → HasPanel self.old o → kept_in self.new a o ≡ after_word ((a == at) && (is_up_in self.old link && carries self.old.panels now.0 o)) (kept_in self.old a o) (kept_in self.old from o) }
+        ensures words { TakesOver self.old link from at now.0 self.new }
         ensures panels { self.new.panels ≡ self.old.panels }
         ensures links { self.new.up ≡ self.old.up }
     {
@@ -180,7 +194,7 @@ impl Ring {
     fn take(&mut self, at: u8, of: u8, word: Word)
         requires at { HasPanel self.old at }
         requires from { 1 ≤ of }
-        ensures words { (a o : ℕ) → HasPanel self.old a → HasPanel self.old o → kept_in self.new a o ≡ (if (a == at) && (o == of) then newest (kept_in self.old a o) word else kept_in self.old a o) }
+        ensures words { KeepsNewest self.old at of word self.new }
         ensures panels { self.new.panels ≡ self.old.panels }
         ensures links { self.new.up ≡ self.old.up }
     {
@@ -192,7 +206,8 @@ impl Ring {
     fn sent(&self, from: u8, of: u8) -> Word
         requires from { HasPanel self.now from }
         requires of { 1 ≤ of }
-        ensures { result ≡ (if nat_le of self.now.panels then kept_in self.now from of else empty_word) }
+        ensures { result
+            ≡ (if nat_le of self.now.panels then kept_in self.now from of else empty_word) }
     {
         if of <= self.panels {
             self.word(from, of)
@@ -204,7 +219,9 @@ impl Ring {
     fn keep(&mut self, at: u8, of: u8, word: Word)
         requires at { HasPanel self.old at }
         requires from { HasPanel self.old of }
-        ensures words { (a o : ℕ) → HasPanel self.old a → HasPanel self.old o → kept_in self.new a o ≡ (if (a == at) && (o == of) then word else kept_in self.old a o) }
+        ensures words { (a o : ℕ) → HasPanel self.old a → HasPanel self.old o
+            → kept_in self.new a o
+            ≡ (if (a == at) && (o == of) then word else kept_in self.old a o) }
         ensures panels { self.new.panels ≡ self.old.panels }
         ensures links { self.new.up ≡ self.old.up }
     {

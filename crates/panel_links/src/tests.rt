@@ -14,8 +14,9 @@ fn word(stamp: u64, alarm: u32) -> Word {
     }
 }
 
-// The first tick after which a panel of eight keeps a word of panel 1 with an alarm, which panel 1 makes in tick 3. Link 8
-// is down. In each tick panel 8 has its turn first and panel 1 last, each before it makes the word of the tick.
+// The first tick after which a panel of eight keeps a word of panel 1 with an alarm, which panel 1 makes in
+// tick 3. Link 8 is down. In each tick panel 8 has its turn first and panel 1 last, each before it makes the
+// word of the tick.
 fn first_heard(rt: &impl Abort, panel: u8) -> u64 {
     assert!(rt; panel >= 1 && panel <= 8);
     let mut ring = Ring::new(8);
@@ -42,8 +43,8 @@ fn a_word_goes_round_at_its_worst(rt: HostRuntime) {
     }
 }
 
-// The first tick in which a panel of eight finds others silent, before its turn. Links 7 and 8 are down from tick 100, and panel 1
-// has its turn first and panel 8 last, each after it has made the word of the tick.
+// The first tick in which a panel of eight finds others silent, before its turn. Links 7 and 8 are down from
+// tick 100, and panel 1 has its turn first and panel 8 last, each after it has made the word of the tick.
 fn first_silent(rt: &impl Abort, panel: u8, others: u8) -> u64 {
     assert!(rt; panel >= 1 && panel <= 8);
     let mut ring = Ring::new(8);

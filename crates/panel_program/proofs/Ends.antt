@@ -47,7 +47,9 @@ module _ (site : Site) (bytes consumed rest : List ℕ) (whole : bytes ≡ consu
   behind = subst (λ xs. Grown (reading_of site consumed) (reading_of site xs)) (sym there.is) (grown site consumed there.more)
 
   -- the reading was over
-  over_whole : (over : Over) (end : RunEnd) → ((count number : ℕ) → end_by count number (Some over) ≡ end) → (reading_of site consumed).ending ≡ Some over → list_all is_built (reading_of site consumed).lines ≡ true → (end ≡ end_of site bytes) × (ticks_run site consumed ≡ ticks_run site (within_limit bytes))
+  over_whole : (over : Over) (end : RunEnd) → ((count number : ℕ) → end_by count number (Some over) ≡ end)
+      → (reading_of site consumed).ending ≡ Some over → list_all is_built (reading_of site consumed).lines ≡ true
+      → (end ≡ end_of site bytes) × (ticks_run site consumed ≡ ticks_run site (within_limit bytes))
   over_whole over end by is all =
       let same : reading_of site (within_limit bytes) ≡ reading_of site consumed = behind.stays over is in
       let count = length (within_limit bytes) in
@@ -60,14 +62,17 @@ module _ (site : Site) (bytes consumed rest : List ℕ) (whole : bytes ≡ consu
       )
 
   -- a line came that no part takes
-  stopped_whole : (line : ℕ) → list_all is_built (reading_of site consumed).lines ≡ false → line ≡ number_behind (built_lines (reading_of site consumed).lines) → (NotBuilt line ≡ end_of site bytes) × (ticks_run site consumed ≡ ticks_run site (within_limit bytes))
+  stopped_whole : (line : ℕ) → list_all is_built (reading_of site consumed).lines ≡ false
+      → line ≡ number_behind (built_lines (reading_of site consumed).lines) → (NotBuilt line ≡ end_of site bytes)
+      × (ticks_run site consumed ≡ ticks_run site (within_limit bytes))
   stopped_whole line not_all is =
       let lines = (reading_of site consumed).lines in
       let stays = built_stays lines behind.more not_all in
       let all : list_all is_built (reading_of site (within_limit bytes)).lines ≡ false = ap (list_all is_built) behind.lines ∙ stays.0 in
       let built : built_lines (reading_of site (within_limit bytes)).lines ≡ built_lines lines = ap built_lines behind.lines ∙ stays.1 in
       let r = reading_of site (within_limit bytes) in (
-        ap NotBuilt is ∙ ap (λ ls. NotBuilt (number_behind ls)) (sym built) ∙ sym (ap (λ b. if b then end_by (length (within_limit bytes)) r.number r.ending else NotBuilt (number_behind (built_lines r.lines))) all),
+        ap NotBuilt is ∙ ap (λ ls. NotBuilt (number_behind ls)) (sym built) ∙ sym
+            (ap (λ b. if b then end_by (length (within_limit bytes)) r.number r.ending else NotBuilt (number_behind (built_lines r.lines))) all),
         ap (λ ls. (progress_of site ls).run) (sym built),
       )
 
@@ -80,7 +85,9 @@ module _ (site : Site) (bytes consumed rest : List ℕ) (whole : bytes ≡ consu
   ends_whole ReadFault h = absurd h
 
 -- nothing ended the run in these bytes, which are all that there are within the limit
-going_whole : (site : Site) (bytes consumed : List ℕ) → within_limit bytes ≡ consumed → IsGoing site consumed → (end_without (length consumed) (reading_of site consumed).number ≡ end_of site bytes) × (ticks_run site consumed ≡ ticks_run site (within_limit bytes))
+going_whole : (site : Site) (bytes consumed : List ℕ) → within_limit bytes ≡ consumed → IsGoing site consumed
+    → (end_without (length consumed) (reading_of site consumed).number ≡ end_of site bytes)
+    × (ticks_run site consumed ≡ ticks_run site (within_limit bytes))
 going_whole site bytes consumed is going =
     let r = reading_of site consumed in (
       ap (end_by (length consumed) r.number) (sym going.going)
@@ -96,25 +103,31 @@ lt_false : (n : ℕ) → nat_lt n n ≡ false
 lt_false n = grind (arith, nat_tests)
 
 -- the input ended
-pub truncated_whole : (site : Site) (bytes consumed rest : List ℕ) (number : ℕ) → bytes ≡ consumed ++ rest → rest ≡ [] → length consumed < most_record_bytes → IsGoing site consumed → number ≡ (reading_of site consumed).number → EndsRun site bytes consumed (Refused (record { line = number; why = Truncated }))
+pub truncated_whole : (site : Site) (bytes consumed rest : List ℕ) (number : ℕ) → bytes ≡ consumed ++ rest → rest ≡ []
+    → length consumed < most_record_bytes → IsGoing site consumed → number ≡ (reading_of site consumed).number
+    → EndsRun site bytes consumed (Refused (record { line = number; why = Truncated }))
 truncated_whole site bytes consumed rest number whole none few going is =
     let same : bytes ≡ consumed = whole ∙ ap (λ ys. consumed ++ ys) none ∙ append-nil consumed in
     let within : within_limit bytes ≡ consumed = ap within_limit same ∙ take_all most_record_bytes consumed (omega (arith, few)) in
     let h = going_whole site bytes consumed within going in (
       ap (λ n. Refused (record { line = n; why = Truncated })) is
-          ∙ sym (ap (λ b. if b then Refused (record { line = (reading_of site consumed).number; why = Truncated }) else TooManyBytes) (lt_true (length consumed) most_record_bytes few))
+          ∙ sym (ap (λ b. if b then Refused (record { line = (reading_of site consumed).number; why = Truncated }) else TooManyBytes)
+          (lt_true (length consumed) most_record_bytes few))
           ∙ h.0,
       h.1,
     )
 
 -- as many bytes were read as a record may have
-pub limit_whole : (site : Site) (bytes consumed rest : List ℕ) → bytes ≡ consumed ++ rest → length consumed ≡ most_record_bytes → IsGoing site consumed → EndsRun site bytes consumed TooManyBytes
+pub limit_whole : (site : Site) (bytes consumed rest : List ℕ) → bytes ≡ consumed ++ rest → length consumed ≡ most_record_bytes
+    → IsGoing site consumed → EndsRun site bytes consumed TooManyBytes
 limit_whole site bytes consumed rest whole count going =
     let within : within_limit bytes ≡ consumed =
-    ap (take most_record_bytes) whole ∙ ap (λ n. take n (consumed ++ rest)) (sym count) ∙ take-append-le (length consumed) consumed rest (omega arith) ∙ take_all (length consumed) consumed (omega arith)
+    ap (take most_record_bytes) whole ∙ ap (λ n. take n (consumed ++ rest)) (sym count) ∙ take-append-le (length consumed) consumed rest (omega arith)
+    ∙ take_all (length consumed) consumed (omega arith)
     in
     let h = going_whole site bytes consumed within going in (
-      sym (ap (λ b. if b then Refused (record { line = (reading_of site consumed).number; why = Truncated }) else TooManyBytes) (ap (λ n. nat_lt n most_record_bytes) count ∙ lt_false most_record_bytes))
+      sym (ap (λ b. if b then Refused (record { line = (reading_of site consumed).number; why = Truncated }) else TooManyBytes)
+          (ap (λ n. nat_lt n most_record_bytes) count ∙ lt_false most_record_bytes))
           ∙ h.0,
       h.1,
     )

@@ -3,7 +3,9 @@ use Rattle.std.proofs.Common.{◌≡◌, ◌∙◌, ◌++◌, ◌==◌, ℕ, zer
 use Rattle.std.proofs.lemmas.List.Sums.{fold_push}
 use Rattle.site_types.specs.declared.site.Site.{Site}
 use Rattle.record_lines.specs.Judged.{judged}
-use Rattle.record_lines.specs.Lines.{Reading, at_start, by_bytes, by_ending, byte_refusal, cut, is_printable, lines_read, next_line, reading_of, refusal_within, refused, refused_rest, rest_by_ending, verdict, with_rest}
+use Rattle.record_lines.specs.Lines.{Reading, at_start, by_bytes, by_ending, byte_refusal, cut, is_printable}
+use Rattle.record_lines.specs.Lines.{lines_read, next_line, reading_of, refusal_within, refused, refused_rest}
+use Rattle.record_lines.specs.Lines.{rest_by_ending, verdict, with_rest}
 use Rattle.record_lines.specs.declared.line.Line.{Line}
 use Rattle.record_lines.specs.declared.over.Over.{Over}
 use Rattle.record_lines.specs.declared.why.Why.{Why}
@@ -60,31 +62,39 @@ refusal_stays room [] more why e = absurd (none_some e)
 refusal_stays zero (byte ∷ text) more why e = e
 refusal_stays (suc room) (byte ∷ text) more why e = go (is_printable byte) e (refusal_stays room text more why)
   where
-    go : (b : Bool) → (if b then refusal_within room text else Some NotAscii) ≡ Some why → (refusal_within room text ≡ Some why → refusal_within room (text ++ more) ≡ Some why) → (if b then refusal_within room (text ++ more) else Some NotAscii) ≡ Some why
+    go : (b : Bool) → (if b then refusal_within room text else Some NotAscii) ≡ Some why
+        → (refusal_within room text ≡ Some why → refusal_within room (text ++ more) ≡ Some why)
+        → (if b then refusal_within room (text ++ more) else Some NotAscii) ≡ Some why
     go true e f = f e
     go false e f = e
 
 -- another byte of a line
-grown_byte_by : (a : Reading) (text more : List ℕ) (o : Option Why) → byte_refusal text ≡ o → a.ending ≡ None → Grown (refused_rest a o) (refused_rest a (byte_refusal (text ++ more)))
+grown_byte_by : (a : Reading) (text more : List ℕ) (o : Option Why) → byte_refusal text ≡ o → a.ending ≡ None
+    → Grown (refused_rest a o) (refused_rest a (byte_refusal (text ++ more)))
 grown_byte_by a text more None e going = grown_rest a (byte_refusal (text ++ more)) going
-grown_byte_by a text more (Some why) e going = grown_same (refused a why) (refused_rest a (byte_refusal (text ++ more))) (ap (refused_rest a) (refusal_stays 512 text more why e))
+grown_byte_by a text more (Some why) e going =
+    grown_same (refused a why) (refused_rest a (byte_refusal (text ++ more))) (ap (refused_rest a) (refusal_stays 512 text more why e))
 
 grown_byte : (a : Reading) (text more : List ℕ) (o : Option Over) → a.ending ≡ o → Grown (rest_by_ending a text o) (rest_by_ending a (text ++ more) o)
 grown_byte a text more None e = grown_byte_by a text more (byte_refusal text) refl e
 grown_byte a text more (Some over) e = grown_same a a refl
 
-grown_one : (site : Site) (bytes : List ℕ) (byte : ℕ) (b : Bool) → (byte == 10) ≡ b → Grown (reading_of site bytes) (reading_of site (bytes ++ byte ∷ []))
+grown_one : (site : Site) (bytes : List ℕ) (byte : ℕ) (b : Bool) → (byte == 10) ≡ b
+    → Grown (reading_of site bytes) (reading_of site (bytes ++ byte ∷ []))
 grown_one site bytes byte true e =
     let a = lines_read site (cut bytes).whole in
     let rest = (cut bytes).rest in
-    let whole : lines_read site (cut (bytes ++ byte ∷ [])).whole ≡ next_line site a rest = ap (λ c. lines_read site c.whole) (cut_end bytes byte e) ∙ fold_push (next_line site) at_start (cut bytes).whole rest in
+    let whole : lines_read site (cut (bytes ++ byte ∷ [])).whole ≡ next_line site a rest =
+    ap (λ c. lines_read site c.whole) (cut_end bytes byte e) ∙ fold_push (next_line site) at_start (cut bytes).whole rest in
     let behind = lines_read site (cut (bytes ++ byte ∷ [])).whole in
-    let is : reading_of site (bytes ++ byte ∷ []) ≡ next_line site a rest = ap (λ c. rest_by_ending behind c.rest behind.ending) (cut_end bytes byte e) ∙ no_rest behind behind.ending ∙ whole in
+    let is : reading_of site (bytes ++ byte ∷ []) ≡ next_line site a rest =
+    ap (λ c. rest_by_ending behind c.rest behind.ending) (cut_end bytes byte e) ∙ no_rest behind behind.ending ∙ whole in
     subst (Grown (reading_of site bytes)) (sym is) (grown_end site a rest a.ending refl)
 grown_one site bytes byte false e =
     let a = lines_read site (cut bytes).whole in
     let rest = (cut bytes).rest in
-    let is : reading_of site (bytes ++ byte ∷ []) ≡ with_rest a (rest ++ byte ∷ []) = ap (λ c. with_rest (lines_read site c.whole) c.rest) (cut_more bytes byte e) in
+    let is : reading_of site (bytes ++ byte ∷ []) ≡ with_rest a (rest ++ byte ∷ []) =
+    ap (λ c. with_rest (lines_read site c.whole) c.rest) (cut_more bytes byte e) in
     subst (Grown (reading_of site bytes)) (sym is) (grown_byte a rest (byte ∷ []) a.ending refl)
 
 -- more bytes
@@ -93,4 +103,5 @@ grown site bytes [] = grown_same (reading_of site bytes) (reading_of site (bytes
 grown site bytes (byte ∷ more) =
     let next = bytes ++ byte ∷ [] in
     subst (λ xs. Grown (reading_of site bytes) (reading_of site xs)) (append_assoc bytes (byte ∷ []) more)
-    (grown_trans (reading_of site bytes) (reading_of site next) (reading_of site (next ++ more)) (grown_one site bytes byte (byte == 10) refl) (grown site next more))
+    (grown_trans (reading_of site bytes) (reading_of site next) (reading_of site (next ++ more)) (grown_one site bytes byte (byte == 10) refl)
+    (grown site next more))

@@ -7,7 +7,8 @@ use Rattle.panel_program.specs.Commands.{site_word}
 use Rattle.panel_program.specs.Words.{command_of}
 
 -- words of a command have a second one
-pub site_word_is : (words : List (String Global)) (name : String Global) → (command_of (map string_bytes words) ≡ Usage → ⊥) → site_word (map string_bytes words) ≡ string_bytes (get_or words 1 name)
+pub site_word_is : (words : List (String Global)) (name : String Global) → (command_of (map string_bytes words) ≡ Usage → ⊥)
+    → site_word (map string_bytes words) ≡ string_bytes (get_or words 1 name)
 site_word_is [] name h = absurd (h refl)
 site_word_is (word ∷ []) name h = absurd (h refl)
 site_word_is (word ∷ site ∷ []) name h = refl

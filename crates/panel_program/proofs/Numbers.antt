@@ -1,21 +1,28 @@
 -- The numbers of lines and ticks of what is read.
-use Rattle.std.proofs.Common.{◌≡◌, ◌∙◌, ◌+◌, ◌-◌, ◌++◌, ◌==◌, ◌^◌, ℕ, Bool, true, false, min, List, [], ◌∷◌, length, Option, Some, None, Result, Ok, Err, if◌then◌else◌, refl, sym, ap, subst, arith, length-append}
+use Rattle.std.proofs.Common.{◌≡◌, ◌∙◌, ◌+◌, ◌-◌, ◌++◌, ◌==◌, ◌^◌, ℕ, Bool, true, false, min, List, [], ◌∷◌, length}
+use Rattle.std.proofs.Common.{Option, Some, None, Result, Ok, Err, if◌then◌else◌, refl, sym, ap, subst, arith}
+use Rattle.std.proofs.Common.{length-append}
 use Rattle.std.specs.Prelude.{nat_le}
 use Rattle.std.specs.List.{fold}
 use Rattle.std.proofs.lemmas.Bool.{eqb-true}
 use Rattle.site_types.specs.declared.site.Site.{Site}
 use Rattle.site_types.specs.declared.event.Event.{Event}
 use Rattle.site_types.specs.Events.{has_event}
+use Rattle.tick_units.specs.Ticks.{last_tick}
 use Rattle.tick_units.specs.declared.seat.Seat.{Seat}
 use Rattle.record_lines.specs.Events.{event_of, has_numbers}
-use Rattle.record_lines.specs.Fields.{field, space_count, after_space}
+use Rattle.record_lines.specs.Fields.{space_count}
+use Rattle.site_types.specs.Fields.{after_space, field}
 use Rattle.record_lines.specs.Forms.{form_of}
 use Rattle.record_lines.specs.Seats.{order_of, seats_of}
 use Rattle.site_types.specs.Numbers.{number_of}
-use Rattle.record_lines.specs.Judged.{judged, judged_as, content_of, may_stand, tick_as, last_tick, ordered, event_in}
+use Rattle.record_lines.specs.Judged.{judged, judged_as, content_of, may_stand, tick_as, ordered, event_in}
 use Rattle.record_lines.specs.Lines.{Reading, at_start, by_bytes, by_ending, byte_refusal, cut, lines_read, next_line, next_number, reading_of, refused_rest, rest_by_ending, stands_behind, verdict}
 use Rattle.record_lines.specs.declared.form.Form.{Form}
-use Rattle.record_lines.specs.declared.form.Form.TheVariants.{Tick as TickForm, Point as PointForm, Cable as CableForm, Supply as SupplyForm, Link as LinkForm, Routing as RoutingForm, Op as OpForm, Order as OrderForm, End as EndForm}
+use Rattle.record_lines.specs.declared.form.Form.TheVariants.{Tick as TickForm, Point as PointForm}
+use Rattle.record_lines.specs.declared.form.Form.TheVariants.{Cable as CableForm, Supply as SupplyForm}
+use Rattle.record_lines.specs.declared.form.Form.TheVariants.{Link as LinkForm, Routing as RoutingForm, Op as OpForm}
+use Rattle.record_lines.specs.declared.form.Form.TheVariants.{Order as OrderForm, End as EndForm}
 use Rattle.record_lines.specs.declared.line.Line.{Line}
 use Rattle.record_lines.specs.declared.line.Line.TheVariants.{Tick, Event as EventLine, Order, End}
 use Rattle.record_lines.specs.declared.over.Over.{Over}
@@ -40,7 +47,8 @@ AreNumbered n (EventLine event ∷ lines) = AreNumbered n lines
 AreNumbered n (Order seats ∷ lines) = AreNumbered n lines
 AreNumbered n (End ∷ lines) = AreNumbered n lines
 
-numbered_more : (n : ℕ) (lines : List Line) (line : Line) → AreNumbered n lines → IsNext line (n + tick_count lines) → AreNumbered n (lines ++ line ∷ [])
+numbered_more : (n : ℕ) (lines : List Line) (line : Line) → AreNumbered n lines → IsNext line (n + tick_count lines)
+    → AreNumbered n (lines ++ line ∷ [])
 numbered_more n [] (Tick tick) h next = (omega (arith, next), tt)
 numbered_more n [] (EventLine event) h next = tt
 numbered_more n [] (Order seats) h next = tt
@@ -79,7 +87,8 @@ next_if ticks false x y h k = k
 
 next_tick : (ticks : ℕ) (o : Option ℕ) → NextIn ticks (tick_as ticks o)
 next_tick ticks None = tt
-next_tick ticks (Some found) = next_if ticks (nat_le last_tick ticks) _ _ (λ e. tt) (next_if ticks (found == ticks + 1) _ _ (λ e. eqb-true found (ticks + 1) e) tt)
+next_tick ticks (Some found) =
+    next_if ticks (nat_le last_tick ticks) _ _ (λ e. tt) (next_if ticks (found == ticks + 1) _ _ (λ e. eqb-true found (ticks + 1) e) tt)
 
 next_event : (site : Site) (ticks : ℕ) (o : Option Event) → NextIn ticks (event_in site o)
 next_event site ticks None = tt
@@ -97,13 +106,16 @@ next_content site standing (SupplyForm kind bad) text = next_event site standing
 next_content site standing (LinkForm up) text = next_event site standing.ticks (event_of site (LinkForm up) text)
 next_content site standing RoutingForm text = next_event site standing.ticks (event_of site RoutingForm text)
 next_content site standing (OpForm action) text = next_event site standing.ticks (event_of site (OpForm action) text)
-next_content site standing OrderForm text = next_if standing.ticks standing.has_order _ _ (λ e. tt) (next_ordered standing.ticks (order_of site.panels (seats_of (space_count text) (after_space text))))
+next_content site standing OrderForm text =
+    next_if standing.ticks standing.has_order _ _ (λ e. tt)
+    (next_ordered standing.ticks (order_of site.panels (seats_of (space_count text) (after_space text))))
 next_content site standing EndForm text = tt
 
 next_as : (site : Site) (standing : Standing) (text : List ℕ) (o : Option Form) → NextIn standing.ticks (judged_as site standing text o)
 next_as site standing text None = tt
 next_as site standing text (Some form) =
-    next_if standing.ticks (may_stand standing form) _ _ (λ e. next_if standing.ticks (has_numbers form text) _ _ (λ f. next_content site standing form text) tt) tt
+    next_if standing.ticks (may_stand standing form) _ _
+    (λ e. next_if standing.ticks (has_numbers form text) _ _ (λ f. next_content site standing form text) tt) tt
 
 -- ---- readings
 
@@ -116,7 +128,8 @@ pub record IsCounted (r : Reading) : Type 0 where
 number_more : (n : ℕ) → min (min (n + 1) (2 ^ 64 - 1) + 1) (2 ^ 64 - 1) ≡ min (n + 1 + 1) (2 ^ 64 - 1)
 number_more n = omega arith
 
-stands_more : (standing : Standing) (lines : List Line) (line : Line) → standing.ticks ≡ tick_count lines → IsNext line (tick_count lines) → (stands_behind standing line).ticks ≡ tick_count lines + tick_count (line ∷ [])
+stands_more : (standing : Standing) (lines : List Line) (line : Line) → standing.ticks ≡ tick_count lines → IsNext line (tick_count lines)
+    → (stands_behind standing line).ticks ≡ tick_count lines + tick_count (line ∷ [])
 stands_more standing lines (Tick tick) e next = omega (arith, next)
 stands_more standing lines (EventLine event) e next = omega (arith, e)
 stands_more standing lines (Order seats) e next = omega (arith, e)
@@ -156,7 +169,8 @@ counted_rest r text (Some over) c = c
 pub counted : (site : Site) (bytes : List ℕ) → IsCounted (reading_of site bytes)
 counted site bytes =
     let whole = lines_read site (cut bytes).whole in
-    counted_rest whole (cut bytes).rest whole.ending (counted_lines site (cut bytes).whole at_start (record { number = omega arith; ticks = refl; numbered = tt }))
+    counted_rest whole (cut bytes).rest whole.ending
+    (counted_lines site (cut bytes).whole at_start (record { number = omega arith; ticks = refl; numbered = tt }))
 
 -- the line behind those of a reading is the next one
 pub next_of : (lines more : List Line) (line : Line) → more ≡ lines ++ line ∷ [] → AreNumbered 0 more → IsNext line (tick_count lines)

@@ -20,7 +20,8 @@ use Rattle.panel_program.proofs.Texts.{text_behind}
 use Rattle.panel_program.proofs.Written.{grows_then, front_then, says_then}
 
 -- a front of the text of what was read is a front of the whole text
-front_whole : (site : Site) (bytes consumed rest : List ℕ) (old new : Option (List ℕ)) → bytes ≡ consumed ++ rest → length consumed ≤ most_record_bytes → GrowsByFront old new (text_at site consumed) → GrowsByFront old new (run_text site bytes)
+front_whole : (site : Site) (bytes consumed rest : List ℕ) (old new : Option (List ℕ)) → bytes ≡ consumed ++ rest
+    → length consumed ≤ most_record_bytes → GrowsByFront old new (text_at site consumed) → GrowsByFront old new (run_text site bytes)
 front_whole site bytes consumed rest old new whole few g =
     let last = last_line (length (ticks_run site (within_limit bytes))) (end_of site bytes) in
     let within = within_rest bytes consumed rest whole few in
@@ -31,16 +32,28 @@ front_whole site bytes consumed rest old new whole few g =
     subst (GrowsByFront old new) (sym text) (front_longer old new (text_at site consumed) (behind.rest ++ last) g)
 
 -- memory ran out
-pub ran_nothing : (site : Site) (bytes : List ℕ) (old : Option (List ℕ)) (outcome : Outcome) → outcome.status ≡ 9 → outcome.ticks ≡ 0 → Ran site bytes old old outcome
+pub ran_nothing : (site : Site) (bytes : List ℕ) (old : Option (List ℕ)) (outcome : Outcome) → outcome.status ≡ 9 → outcome.ticks ≡ 0
+    → Ran site bytes old old outcome
 ran_nothing site bytes old outcome status ticks = inl (record { status = status; ticks = ticks; same = refl })
 
 -- the first write failed
-pub ran_opening : (site : Site) (bytes : List ℕ) (old new : Option (List ℕ)) (outcome : Outcome) → IsValid site → outcome.status ≡ 7 → outcome.ticks ≡ 0 → GrowsByFront old new (text_of site []) → Ran site bytes old new outcome
+pub ran_opening : (site : Site) (bytes : List ℕ) (old new : Option (List ℕ)) (outcome : Outcome) → IsValid site → outcome.status ≡ 7
+    → outcome.ticks ≡ 0 → GrowsByFront old new (text_of site []) → Ran site bytes old new outcome
 ran_opening site bytes old new outcome valid status ticks broke =
-    inr (inr (record { consumed = []; rest = bytes; whole = refl; ticks = ticks; promises = keeps site [] valid tt; status = status; broke = front_whole site bytes [] bytes old new refl (omega arith) broke }))
+    inr (inr (record {
+      consumed = [];
+      rest = bytes;
+      whole = refl;
+      ticks = ticks;
+      promises = keeps site [] valid tt;
+      status = status;
+      broke =
+          front_whole site bytes [] bytes old new refl (omega arith) broke;
+    }))
 
 -- a later write failed
-pub ran_until : (site : Site) (bytes : List ℕ) (old mid new : Option (List ℕ)) (run : Run) (outcome : Outcome) → IsValid site → outcome.status ≡ 7 → outcome.ticks ≡ run.ticks → Grows old mid (text_of site []) → ReadsUntil site bytes mid new run → Ran site bytes old new outcome
+pub ran_until : (site : Site) (bytes : List ℕ) (old mid new : Option (List ℕ)) (run : Run) (outcome : Outcome) → IsValid site → outcome.status ≡ 7
+    → outcome.ticks ≡ run.ticks → Grows old mid (text_of site []) → ReadsUntil site bytes mid new run → Ran site bytes old new outcome
 ran_until site bytes old mid new run outcome valid status ticks opened r =
     inr
     (inr
@@ -51,11 +64,14 @@ ran_until site bytes old mid new run outcome valid status ticks opened r =
       ticks = ticks ∙ r.ran.count;
       promises = keeps site (ticks_run site r.consumed) valid r.ran.ordered;
       status = status;
-      broke = front_whole site bytes r.consumed r.rest old new r.whole r.few (front_then old mid new (text_at site []) (text_at site r.consumed) opened r.broke);
+      broke =
+          front_whole site bytes r.consumed r.rest old new r.whole r.few
+          (front_then old mid new (text_at site []) (text_at site r.consumed) opened r.broke);
     }))
 
 -- the run ended
-pub ran_to : (site : Site) (bytes : List ℕ) (old mid last new : Option (List ℕ)) (run : Run) (end : RunEnd) (outcome : Outcome) → IsValid site → outcome.ticks ≡ run.ticks → Grows old mid (text_of site []) → ReadsTo site bytes mid last run end →
+pub ran_to : (site : Site) (bytes : List ℕ) (old mid last new : Option (List ℕ)) (run : Run) (end : RunEnd) (outcome : Outcome) → IsValid site
+    → outcome.ticks ≡ run.ticks → Grows old mid (text_of site []) → ReadsTo site bytes mid last run end →
     Says (status_of end) (last_line run.ticks end) last new outcome.status → Ran site bytes old new outcome
 ran_to site bytes old mid last new run end outcome valid ticks opened r says =
     inr
@@ -70,6 +86,7 @@ ran_to site bytes old mid last new run end outcome valid ticks opened r says =
         promises = keeps site (ticks_run site r.consumed) valid r.ran.ordered;
         says =
             subst (λ n. Says (status_of end) (text_at site r.consumed ++ last_line n end) old new outcome.status) (sym ticks)
-            (says_then (status_of end) outcome.status old last new (text_at site r.consumed) (last_line run.ticks end) (grows_then old mid last (text_at site []) (text_at site r.consumed) opened r.wrote) says);
+            (says_then (status_of end) outcome.status old last new (text_at site r.consumed) (last_line run.ticks end)
+            (grows_then old mid last (text_at site []) (text_at site r.consumed) opened r.wrote) says);
       },
     ))

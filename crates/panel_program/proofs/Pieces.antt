@@ -29,7 +29,8 @@ pub record SoFar (site : Site) (bytes : List ℕ) (left old new : Option (List �
 
 -- ---- a piece
 
-pub taking_none : (site : Site) (before piece : List ℕ) (out : Option (List ℕ)) (reader : LineReader) (run : Run) → IsAt site before reader run → Taking site before piece piece out out reader run
+pub taking_none : (site : Site) (before piece : List ℕ) (out : Option (List ℕ)) (reader : LineReader) (run : Run) → IsAt site before reader run
+    → Taking site before piece piece out out reader run
 taking_none site before piece out reader run h =
     record {
       front = [];
@@ -38,20 +39,27 @@ taking_none site before piece out reader run h =
       wrote = subst (λ xs. Advances out out (text_at site before) (text_at site xs)) (sym (append-nil before)) (stays out (text_at site before));
     }
 
-module _ (site : Site) (before piece rest : List ℕ) (old mid new : Option (List ℕ)) (reader : LineReader) (run : Run) (t : Taking site before piece rest old mid reader run) where
+module _ (site : Site) (before piece rest : List ℕ) (old mid new : Option (List ℕ)) (reader : LineReader) (run : Run) (t :
+    Taking site before piece rest old mid reader run) where
   -- the next line of it was taken
-  pub taking_more : (used : ℕ) (back : List ℕ) (new_reader : LineReader) (new_run : Run) → back ≡ drop used rest → GoesOn site (before ++ t.front) ((before ++ t.front) ++ take used rest) mid new new_reader new_run None → Taking site before piece back old new new_reader new_run
+  pub taking_more : (used : ℕ) (back : List ℕ) (new_reader : LineReader) (new_run : Run) → back ≡ drop used rest
+      → GoesOn site (before ++ t.front) ((before ++ t.front) ++ take used rest) mid new new_reader new_run None
+      → Taking site before piece back old new new_reader new_run
   taking_more used back new_reader new_run behind g =
       let whole = append_assoc before t.front (take used rest) in
       record {
         front = t.front ++ take used rest;
         is = split_more piece t.front rest back used t.is behind;
         is_at = subst (λ xs. IsAt site xs new_reader new_run) whole g.0;
-        wrote = subst (λ xs. Advances old new (text_at site before) (text_at site xs)) whole (advances_more old mid new (text_at site before) (text_at site (before ++ t.front)) (text_at site ((before ++ t.front) ++ take used rest)) t.wrote g.1);
+        wrote =
+            subst (λ xs. Advances old new (text_at site before) (text_at site xs)) whole
+            (advances_more old mid new (text_at site before) (text_at site (before ++ t.front)) (text_at site ((before ++ t.front) ++ take used rest))
+            t.wrote g.1);
       }
 
   -- the run ended in it
-  pub taking_ends : (used : ℕ) (end : RunEnd) (new_reader : LineReader) (new_run : Run) → GoesOn site (before ++ t.front) ((before ++ t.front) ++ take used rest) mid new new_reader new_run (Some end) →
+  pub taking_ends : (used : ℕ) (end : RunEnd) (new_reader : LineReader) (new_run : Run)
+      → GoesOn site (before ++ t.front) ((before ++ t.front) ++ take used rest) mid new new_reader new_run (Some end) →
       (front : List ℕ) × (behind : List ℕ) × (piece ≡ front ++ behind) × GoesOn site before (before ++ front) old new new_reader new_run (Some end)
   taking_ends used end new_reader new_run g =
       let whole = append_assoc before t.front (take used rest) in (
@@ -61,7 +69,9 @@ module _ (site : Site) (before piece rest : List ℕ) (old mid new : Option (Lis
         (
           subst (λ xs. EndsAt site xs end) whole g.0,
           subst (λ xs. HasRun site (ticks_run site xs) new_run) whole g.1,
-          subst (λ xs. Advances old new (text_at site before) (text_at site xs)) whole (advances_more old mid new (text_at site before) (text_at site (before ++ t.front)) (text_at site ((before ++ t.front) ++ take used rest)) t.wrote g.2),
+          subst (λ xs. Advances old new (text_at site before) (text_at site xs)) whole
+              (advances_more old mid new (text_at site before) (text_at site (before ++ t.front))
+              (text_at site ((before ++ t.front) ++ take used rest)) t.wrote g.2),
         ),
       )
 
@@ -74,11 +84,17 @@ module _ (site : Site) (before piece rest : List ℕ) (old mid new : Option (Lis
         rest = b.rest;
         is = t.is ∙ ap (λ xs. t.front ++ xs) b.is ∙ sym (append_assoc t.front b.front b.rest);
         ran = subst (λ xs. HasRun site (ticks_run site xs) new_run) whole b.ran;
-        broke = subst (λ xs. Breaks old new (text_at site before) (text_at site xs)) whole (breaks_more old mid new (text_at site before) (text_at site (before ++ t.front)) (text_at site ((before ++ t.front) ++ b.front)) t.wrote b.broke);
+        broke =
+            subst (λ xs. Breaks old new (text_at site before) (text_at site xs)) whole
+            (breaks_more old mid new (text_at site before) (text_at site (before ++ t.front)) (text_at site ((before ++ t.front) ++ b.front)) t.wrote
+            b.broke);
       }
 
 -- the whole piece was taken
-pub taking_whole : (site : Site) (before piece rest : List ℕ) (old new : Option (List ℕ)) (reader : LineReader) (run : Run) → Taking site before piece rest old new reader run → rest ≡ [] → GoesOn site before (before ++ piece) old new reader run None
+pub taking_whole : (site : Site) (before piece rest : List ℕ) (old new : Option (List ℕ)) (reader : LineReader) (run : Run)
+    → Taking site before piece rest old new reader run → rest ≡ [] → GoesOn site before (before ++ piece) old new reader run None
 taking_whole site before piece rest old new reader run t none =
-    let same : t.front ≡ piece = sym (t.is ∙ ap (λ xs. t.front ++ xs) none ∙ append-nil t.front) in
-    (subst (λ xs. IsAt site (before ++ xs) reader run) same t.is_at, subst (λ xs. Advances old new (text_at site before) (text_at site (before ++ xs))) same t.wrote)
+    let same : t.front ≡ piece = sym (t.is ∙ ap (λ xs. t.front ++ xs) none ∙ append-nil t.front) in (
+      subst (λ xs. IsAt site (before ++ xs) reader run) same t.is_at,
+      subst (λ xs. Advances old new (text_at site before) (text_at site (before ++ xs))) same t.wrote,
+    )

@@ -16,16 +16,19 @@ use Rattle.panel_rules.specs.Records.{AreOrdered}
 use Rattle.panel_program.specs.Records.{Block, Progress, at_beginning, closed_by, closed, with_event, with_order, after_line, progress_of, is_built, is_built_event, built_lines, ticks_run}
 use Rattle.panel_program.proofs.Numbers.{tick_count}
 
-pub progress_more : (site : Site) (lines : List Line) (line : Line) → progress_of site (lines ++ line ∷ []) ≡ after_line site (progress_of site lines) line
+pub progress_more : (site : Site) (lines : List Line) (line : Line)
+    → progress_of site (lines ++ line ∷ []) ≡ after_line site (progress_of site lines) line
 progress_more site lines line = fold_push (after_line site) at_beginning lines line
 
 -- ---- how many ticks
 
-event_length : (event : Event) (o : Option Block) (ticks : List TickBlock) → length (closed_by (with_event event o) ticks) ≡ length (closed_by o ticks)
+event_length : (event : Event) (o : Option Block) (ticks : List TickBlock)
+    → length (closed_by (with_event event o) ticks) ≡ length (closed_by o ticks)
 event_length event None ticks = refl
 event_length event (Some block) ticks = refl
 
-order_length : (seats : List Seat) (o : Option Block) (ticks : List TickBlock) → length (closed_by (with_order seats o) ticks) ≡ length (closed_by o ticks)
+order_length : (seats : List Seat) (o : Option Block) (ticks : List TickBlock)
+    → length (closed_by (with_order seats o) ticks) ≡ length (closed_by o ticks)
 order_length seats None ticks = refl
 order_length seats (Some block) ticks = refl
 
@@ -41,7 +44,8 @@ count_rest (EventLine event) lines = omega arith
 count_rest (Order seats) lines = omega arith
 count_rest End lines = omega arith
 
-lines_length : (site : Site) (p : Progress) (lines : List Line) → length (closed (fold (after_line site) p lines)) ≡ length (closed p) + tick_count lines
+lines_length : (site : Site) (p : Progress) (lines : List Line)
+    → length (closed (fold (after_line site) p lines)) ≡ length (closed p) + tick_count lines
 lines_length site p [] = omega arith
 lines_length site p (line ∷ lines) =
     let ih = lines_length site (after_line site p line) lines in
@@ -91,7 +95,8 @@ pub built_all : (lines : List Line) → list_all is_built lines ≡ true → bui
 built_all [] h = refl
 built_all (line ∷ lines) h = go (is_built line) h (built_all lines)
   where
-    go : (b : Bool) → (b && list_all is_built lines) ≡ true → (list_all is_built lines ≡ true → built_lines lines ≡ lines) → (if b then line ∷ built_lines lines else []) ≡ line ∷ lines
+    go : (b : Bool) → (b && list_all is_built lines) ≡ true → (list_all is_built lines ≡ true → built_lines lines ≡ lines)
+        → (if b then line ∷ built_lines lines else []) ≡ line ∷ lines
     go true h f = ap (λ ls. line ∷ ls) (f h)
     go false h f = absurd (false_true h)
       where
@@ -107,7 +112,9 @@ all_more [] line h = go (is_built line)
     go false = refl
 all_more (x ∷ lines) line h = go (is_built x) h (all_more lines line)
   where
-    go : (b : Bool) → (b && list_all is_built lines) ≡ true → (list_all is_built lines ≡ true → list_all is_built (lines ++ line ∷ []) ≡ is_built line) → (b && list_all is_built (lines ++ line ∷ [])) ≡ is_built line
+    go : (b : Bool) → (b && list_all is_built lines) ≡ true
+        → (list_all is_built lines ≡ true → list_all is_built (lines ++ line ∷ []) ≡ is_built line)
+        → (b && list_all is_built (lines ++ line ∷ [])) ≡ is_built line
     go true h f = f h
     go false h f = absurd (false_true h)
       where
@@ -119,7 +126,9 @@ pub built_stop : (lines : List Line) (line : Line) → list_all is_built lines �
 built_stop [] line h no_part = ap (λ b. if b then line ∷ [] else []) no_part
 built_stop (x ∷ lines) line h no_part = go (is_built x) h (built_stop lines line)
   where
-    go : (b : Bool) → (b && list_all is_built lines) ≡ true → (list_all is_built lines ≡ true → is_built line ≡ false → built_lines (lines ++ line ∷ []) ≡ lines) → (if b then x ∷ built_lines (lines ++ line ∷ []) else []) ≡ x ∷ lines
+    go : (b : Bool) → (b && list_all is_built lines) ≡ true
+        → (list_all is_built lines ≡ true → is_built line ≡ false → built_lines (lines ++ line ∷ []) ≡ lines)
+        → (if b then x ∷ built_lines (lines ++ line ∷ []) else []) ≡ x ∷ lines
     go true h f = ap (λ ls. x ∷ ls) (f h no_part)
     go false h f = absurd (false_true h)
       where
@@ -127,21 +136,26 @@ built_stop (x ∷ lines) line h no_part = go (is_built x) h (built_stop lines li
         false_true e = cc
 
 -- nothing behind it matters
-pub built_stays : (lines more : List Line) → list_all is_built lines ≡ false → (list_all is_built (lines ++ more) ≡ false) × (built_lines (lines ++ more) ≡ built_lines lines)
+pub built_stays : (lines more : List Line) → list_all is_built lines ≡ false → (list_all is_built (lines ++ more) ≡ false)
+    × (built_lines (lines ++ more) ≡ built_lines lines)
 built_stays [] more h = absurd (true_false h)
   where
     true_false : true ≡ false → ⊥
     true_false e = cc
 built_stays (x ∷ lines) more h = go (is_built x) h (built_stays lines more)
   where
-    go : (b : Bool) → (b && list_all is_built lines) ≡ false → (list_all is_built lines ≡ false → (list_all is_built (lines ++ more) ≡ false) × (built_lines (lines ++ more) ≡ built_lines lines)) → ((b && list_all is_built (lines ++ more)) ≡ false) × ((if b then x ∷ built_lines (lines ++ more) else []) ≡ (if b then x ∷ built_lines lines else []))
+    go : (b : Bool) → (b && list_all is_built lines) ≡ false
+        → (list_all is_built lines ≡ false → (list_all is_built (lines ++ more) ≡ false) × (built_lines (lines ++ more) ≡ built_lines lines))
+        → ((b && list_all is_built (lines ++ more)) ≡ false)
+        × ((if b then x ∷ built_lines (lines ++ more) else []) ≡ (if b then x ∷ built_lines lines else []))
     go true h f = let g = f h in (g.0, ap (λ ls. x ∷ ls) g.1)
     go false h f = (refl, refl)
 
 -- ---- ticks and texts
 
 -- where all lines are taken, the ticks that bytes run are those of their lines
-pub ticks_at : (site : Site) (bytes : List ℕ) → list_all is_built (reading_of site bytes).lines ≡ true → ticks_run site bytes ≡ (progress_of site (reading_of site bytes).lines).run
+pub ticks_at : (site : Site) (bytes : List ℕ) → list_all is_built (reading_of site bytes).lines ≡ true
+    → ticks_run site bytes ≡ (progress_of site (reading_of site bytes).lines).run
 ticks_at site bytes all = ap (λ ls. (progress_of site ls).run) (built_all (reading_of site bytes).lines all)
 
 pub ordered_run : (panels : ℕ) (o : Option Block) (ticks : List TickBlock) → AreOrdered panels (closed_by o ticks) → AreOrdered panels ticks

@@ -19,7 +19,9 @@ ordered_behind : (panels : ℕ) (later earlier : List TickBlock) → AreOrdered 
 ordered_behind panels [] earlier h = h
 ordered_behind panels (tick ∷ later) earlier h = ordered_behind panels later earlier h.0
 
-caused_by : (site : Site) (earlier : List TickBlock) (zone : ℕ) → IsCausedAt site nothing_retained [] (moments earlier) zone (latest_turn 1 Hold (moments earlier)) → IsCausedAt site nothing_retained [] (moments earlier) zone (length earlier)
+caused_by : (site : Site) (earlier : List TickBlock) (zone : ℕ)
+    → IsCausedAt site nothing_retained [] (moments earlier) zone (latest_turn 1 Hold (moments earlier))
+    → IsCausedAt site nothing_retained [] (moments earlier) zone (length earlier)
 caused_by site earlier zone h =
     let past = h.past in
     let latest = latest_by 1 Hold (moments earlier) in
@@ -34,5 +36,7 @@ keeps site ticks valid ordered =
           due_shown site nothing_retained 1 (moments earlier) valid runs.0 zone plan is at (shown_after site (moments earlier)).alarm refl runs.1 due;
       caused = λ later earlier zone plan e is at shown.
           let runs = records_are_runs site.panels earlier (ordered_behind site.panels later earlier (subst (AreOrdered site.panels) e ordered)) in
-          caused_by site earlier zone (shown_caused site nothing_retained 1 (moments earlier) valid runs.0 zone plan is at (shown_after site (moments earlier)).alarm refl shown);
+          caused_by site earlier zone
+          (shown_caused site nothing_retained 1 (moments earlier) valid runs.0 zone plan is at (shown_after site (moments earlier)).alarm refl
+          shown);
     }

@@ -21,7 +21,8 @@ use Rattle.panel_program.proofs.Stood.{has_run}
 use Rattle.panel_program.proofs.Written.{stays, advances_more, breaks_more}
 
 -- a source that told what was left tells what is left
-told : (rest xs : List ℕ) (left new : Option (List ℕ)) → left ≡ Some rest → Consumes left new xs → (more : List ℕ) × (new ≡ Some more) × (rest ≡ xs ++ more)
+told : (rest xs : List ℕ) (left new : Option (List ℕ)) → left ≡ Some rest → Consumes left new xs → (more : List ℕ) × (new ≡ Some more)
+    × (rest ≡ xs ++ more)
 told rest xs left new e h = go new (subst (λ o. Consumes o new xs) e h)
   where
     go : (o : Option (List ℕ)) → Consumes (Some rest) o xs → (more : List ℕ) × (o ≡ Some more) × (rest ≡ xs ++ more)
@@ -39,18 +40,29 @@ pub begins_at : (site : Site) (reader : LineReader) (run : Run) → ReadsFor sit
 begins_at site reader run reads stands = record { reads = reads; going = record { going = refl; built = refl }; stands = stands }
 
 -- nothing was read yet
-pub so_far_none : (site : Site) (left out : Option (List ℕ)) (reader : LineReader) (run : Run) → IsAt site [] reader run → IfSome left (λ bytes. SoFar site bytes left out out reader run 0)
+pub so_far_none : (site : Site) (left out : Option (List ℕ)) (reader : LineReader) (run : Run) → IsAt site [] reader run
+    → IfSome left (λ bytes. SoFar site bytes left out out reader run 0)
 so_far_none site None out reader run h = tt
 so_far_none site (Some bytes) out reader run h =
     record { consumed = []; rest = bytes; whole = refl; left_is = refl; count = refl; is_at = h; wrote = stays out (text_at site []) }
 
-module _ (site : Site) (bytes : List ℕ) (left old mid : Option (List ℕ)) (reader : LineReader) (run : Run) (read : ℕ) (s : SoFar site bytes left old mid reader run read) where
+module _ (site : Site) (bytes : List ℕ) (left old mid : Option (List ℕ)) (reader : LineReader) (run : Run) (read : ℕ) (s :
+    SoFar site bytes left old mid reader run read) where
   -- a read failed
   pub fault_ends : ReadsTo site bytes old mid run ReadFault
-  fault_ends = record { consumed = s.consumed; rest = s.rest; whole = s.whole; ended = s.is_at.going; ran = ran_at site s.consumed reader run s.is_at; wrote = s.wrote }
+  fault_ends = record {
+    consumed = s.consumed;
+    rest = s.rest;
+    whole = s.whole;
+    ended = s.is_at.going;
+    ran =
+        ran_at site s.consumed reader run s.is_at;
+    wrote = s.wrote;
+  }
 
   -- the input ended
-  pub input_ends : (refusal : Refusal) (n : ℕ) → read < most_record_bytes → IfSome left (λ xs. (n ≡ 0) ↔ (xs ≡ [])) → n ≡ 0 → refusal ≡ record { line = (reading_of site s.consumed).number; why = Truncated } → ReadsTo site bytes old mid run (Refused refusal)
+  pub input_ends : (refusal : Refusal) (n : ℕ) → read < most_record_bytes → IfSome left (λ xs. (n ≡ 0) ↔ (xs ≡ [])) → n ≡ 0
+      → refusal ≡ record { line = (reading_of site s.consumed).number; why = Truncated } → ReadsTo site bytes old mid run (Refused refusal)
   input_ends refusal n few ends none is =
       let count = s.count in
       let empty : s.rest ≡ [] = (subst (λ o. IfSome o (λ xs. (n ≡ 0) ↔ (xs ≡ []))) s.left_is ends).0 none in
@@ -58,7 +70,10 @@ module _ (site : Site) (bytes : List ℕ) (left old mid : Option (List ℕ)) (re
         consumed = s.consumed;
         rest = s.rest;
         whole = s.whole;
-        ended = subst (λ r. EndsRun site bytes s.consumed (Refused r)) (sym is) (truncated_whole site bytes s.consumed s.rest (reading_of site s.consumed).number s.whole empty (omega (arith, few, count)) s.is_at.going refl);
+        ended =
+            subst (λ r. EndsRun site bytes s.consumed (Refused r)) (sym is)
+            (truncated_whole site bytes s.consumed s.rest (reading_of site s.consumed).number s.whole empty (omega (arith, few, count)) s.is_at.going
+            refl);
         ran = ran_at site s.consumed reader run s.is_at;
         wrote = s.wrote;
       }
@@ -76,7 +91,8 @@ module _ (site : Site) (bytes : List ℕ) (left old mid : Option (List ℕ)) (re
       }
 
   -- the run ended in a piece
-  pub piece_ends : (piece front behind : List ℕ) (left' new : Option (List ℕ)) (new_reader : LineReader) (new_run : Run) (end : RunEnd) → Consumes left left' piece → piece ≡ front ++ behind → read + length piece ≤ most_record_bytes →
+  pub piece_ends : (piece front behind : List ℕ) (left' new : Option (List ℕ)) (new_reader : LineReader) (new_run : Run) (end : RunEnd)
+      → Consumes left left' piece → piece ≡ front ++ behind → read + length piece ≤ most_record_bytes →
       GoesOn site s.consumed (s.consumed ++ front) mid new new_reader new_run (Some end) → ReadsTo site bytes old new new_run end
   piece_ends piece front behind left' new new_reader new_run end consumes is few g =
       let more = told s.rest piece left left' s.left_is consumes in
@@ -85,19 +101,23 @@ module _ (site : Site) (bytes : List ℕ) (left old mid : Option (List ℕ)) (re
       let piece_length = ap (λ (xs : List ℕ). length xs) is in
       let all_length = length-append s.consumed front in
       let whole : bytes ≡ (s.consumed ++ front) ++ (behind ++ more.0) =
-      s.whole ∙ ap (λ xs. s.consumed ++ xs) (more.2 ∙ ap (λ xs. xs ++ more.0) is ∙ append_assoc front behind more.0) ∙ sym (append_assoc s.consumed front (behind ++ more.0))
+      s.whole ∙ ap (λ xs. s.consumed ++ xs) (more.2 ∙ ap (λ xs. xs ++ more.0) is ∙ append_assoc front behind more.0) ∙ sym
+      (append_assoc s.consumed front (behind ++ more.0))
       in
       record {
         consumed = s.consumed ++ front;
         rest = behind ++ more.0;
         whole = whole;
-        ended = ends_whole site bytes (s.consumed ++ front) (behind ++ more.0) whole (omega (arith, few, count, front_length, piece_length, all_length)) end g.0;
+        ended =
+            ends_whole site bytes (s.consumed ++ front) (behind ++ more.0) whole (omega (arith, few, count, front_length, piece_length, all_length))
+            end g.0;
         ran = g.1;
         wrote = advances_more old mid new (text_at site []) (text_at site s.consumed) (text_at site (s.consumed ++ front)) s.wrote g.2;
       }
 
   -- a write failed in a piece
-  pub piece_breaks : (piece : List ℕ) (left' new : Option (List ℕ)) (new_run : Run) → Consumes left left' piece → read + length piece ≤ most_record_bytes → BreaksOff site s.consumed piece mid new new_run → ReadsUntil site bytes old new new_run
+  pub piece_breaks : (piece : List ℕ) (left' new : Option (List ℕ)) (new_run : Run) → Consumes left left' piece
+      → read + length piece ≤ most_record_bytes → BreaksOff site s.consumed piece mid new new_run → ReadsUntil site bytes old new new_run
   piece_breaks piece left' new new_run consumes few b =
       let more = told s.rest piece left left' s.left_is consumes in
       let count = s.count in
@@ -108,14 +128,17 @@ module _ (site : Site) (bytes : List ℕ) (left old mid : Option (List ℕ)) (re
         consumed = s.consumed ++ b.front;
         rest = b.rest ++ more.0;
         whole =
-            s.whole ∙ ap (λ xs. s.consumed ++ xs) (more.2 ∙ ap (λ xs. xs ++ more.0) b.is ∙ append_assoc b.front b.rest more.0) ∙ sym (append_assoc s.consumed b.front (b.rest ++ more.0));
+            s.whole ∙ ap (λ xs. s.consumed ++ xs) (more.2 ∙ ap (λ xs. xs ++ more.0) b.is ∙ append_assoc b.front b.rest more.0) ∙ sym
+            (append_assoc s.consumed b.front (b.rest ++ more.0));
         few = omega (arith, few, count, front_length, piece_length, all_length);
         ran = b.ran;
         broke = breaks_more old mid new (text_at site []) (text_at site s.consumed) (text_at site (s.consumed ++ b.front)) s.wrote b.broke;
       }
 
   -- a whole piece was taken
-  pub piece_more : (piece : List ℕ) (left' new : Option (List ℕ)) (new_reader : LineReader) (new_run : Run) (read' : ℕ) → Consumes left left' piece → read' ≡ read + length piece → GoesOn site s.consumed (s.consumed ++ piece) mid new new_reader new_run None → SoFar site bytes left' old new new_reader new_run read'
+  pub piece_more : (piece : List ℕ) (left' new : Option (List ℕ)) (new_reader : LineReader) (new_run : Run) (read' : ℕ) → Consumes left left' piece
+      → read' ≡ read + length piece → GoesOn site s.consumed (s.consumed ++ piece) mid new new_reader new_run None
+      → SoFar site bytes left' old new new_reader new_run read'
   piece_more piece left' new new_reader new_run read' consumes sum g =
       let more = told s.rest piece left left' s.left_is consumes in
       let count = s.count in

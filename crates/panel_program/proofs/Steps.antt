@@ -35,32 +35,41 @@ next_view (Order seats) n h = h
 next_view End n h = h
 
 -- before the end an answer tells what its bytes brought
-pub told_now : (site : Site) (before piece : List ℕ) (fed : Fed) (reader : LineReader) → Feeds site before piece fed reader → (reading_of site before).ending ≡ None →
+pub told_now : (site : Site) (before piece : List ℕ) (fed : Fed) (reader : LineReader) → Feeds site before piece fed reader
+    → (reading_of site before).ending ≡ None →
     Tells (reading_of site before) (reading_of site (before ++ take fed.used piece)) fed.step × Uses site before piece fed.used fed.step
 told_now site before piece fed reader feeds going = subst (Answers site before piece fed) going feeds.answers
 
-may_step_by : (site : Site) (before after : List ℕ) (step : Step) → Tells (reading_of site before) (reading_of site after) step → StepBelongs site step → MayStep site (progress_of site (reading_of site before).lines) step
+may_step_by : (site : Site) (before after : List ℕ) (step : Step) → Tells (reading_of site before) (reading_of site after) step
+    → StepBelongs site step → MayStep site (progress_of site (reading_of site before).lines) step
 may_step_by site before after Need tells belongs = tt
 may_step_by site before after (LineStep line) tells belongs =
     let lines = (reading_of site before).lines in
     record {
       belongs = belongs;
-      next = subst (IsNext line) (sym (progress_length site lines)) (next_view line _ (next_of lines (reading_of site after).lines (line_view line) tells.0 (counted site after).numbered));
+      next =
+          subst (IsNext line) (sym (progress_length site lines))
+          (next_view line _ (next_of lines (reading_of site after).lines (line_view line) tells.0 (counted site after).numbered));
     }
 may_step_by site before after (RefusedStep refusal) tells belongs = tt
 
-pub may_step : (site : Site) (before piece : List ℕ) (fed : Fed) (reader new_reader : LineReader) (run : Run) → IsAt site before reader run → Feeds site before piece fed new_reader → StepBelongs site fed.step →
+pub may_step : (site : Site) (before piece : List ℕ) (fed : Fed) (reader new_reader : LineReader) (run : Run) → IsAt site before reader run
+    → Feeds site before piece fed new_reader → StepBelongs site fed.step →
     MayStep site (progress_of site (reading_of site before).lines) fed.step
 may_step site before piece fed reader new_reader run is_at feeds belongs =
     may_step_by site before (before ++ take fed.used piece) fed.step (told_now site before piece fed new_reader feeds is_at.going.going).0 belongs
 
-used_by : (site : Site) (before piece : List ℕ) (used : ℕ) (step : Step) → 0 < length piece → Uses site before piece used step → (0 < used) × (used ≤ length piece)
+used_by : (site : Site) (before piece : List ℕ) (used : ℕ) (step : Step) → 0 < length piece → Uses site before piece used step
+    → (0 < used) × (used ≤ length piece)
 used_by site before piece used Need some uses = (omega (arith, uses, some), omega (arith, uses))
-used_by site before piece used (LineStep line) some uses = let last = uses.1.last in let within = uses.1.within in (omega (arith, last), omega (arith, last, within))
-used_by site before piece used (RefusedStep refusal) some uses = let last = uses.1.last in let within = uses.1.within in (omega (arith, last), omega (arith, last, within))
+used_by site before piece used (LineStep line) some uses = let last = uses.1.last in let within = uses.1.within in
+    (omega (arith, last), omega (arith, last, within))
+used_by site before piece used (RefusedStep refusal) some uses = let last = uses.1.last in let within = uses.1.within in
+    (omega (arith, last), omega (arith, last, within))
 
 -- something of a piece was used
-pub used_some : (site : Site) (before piece : List ℕ) (fed : Fed) (reader new_reader : LineReader) (run : Run) → IsAt site before reader run → Feeds site before piece fed new_reader → 0 < length piece → (0 < fed.used) × (fed.used ≤ length piece)
+pub used_some : (site : Site) (before piece : List ℕ) (fed : Fed) (reader new_reader : LineReader) (run : Run) → IsAt site before reader run
+    → Feeds site before piece fed new_reader → 0 < length piece → (0 < fed.used) × (fed.used ≤ length piece)
 used_some site before piece fed reader new_reader run is_at feeds some =
     used_by site before piece fed.used fed.step some (told_now site before piece fed new_reader feeds is_at.going.going).1
 
@@ -70,10 +79,14 @@ abbrev pub NextBy : Site → List ℕ → List ℕ → ℕ → Option (List ℕ)
 NextBy site before piece used old new reader run (Ok end) = GoesOn site before (before ++ take used piece) old new reader run end
 NextBy site before piece used old new reader run (Err failed) = BreaksOff site before piece old new run
 
-same_text : (site : Site) (before after : List ℕ) (old new : Option (List ℕ)) → new ≡ old → ticks_run site after ≡ ticks_run site before → Advances old new (text_at site before) (text_at site after)
-same_text site before after old new same ticks = ([], ap (text_of site) ticks ∙ sym (append-nil (text_at site before)), grows_same old old new [] same (grows_none old))
+same_text : (site : Site) (before after : List ℕ) (old new : Option (List ℕ)) → new ≡ old → ticks_run site after ≡ ticks_run site before
+    → Advances old new (text_at site before) (text_at site after)
+same_text site before after old new same ticks =
+    ([], ap (text_of site) ticks ∙ sym (append-nil (text_at site before)), grows_same old old new [] same (grows_none old))
 
-module _ (site : Site) (before piece : List ℕ) (used : ℕ) (number : ℕ) (old new : Option (List ℕ)) (reader new_reader : LineReader) (run new_run : Run) (h : IsAt site before reader run) (reads : ReadsFor site (before ++ take used piece) new_reader) (is_number : number ≡ (reading_of site before).number) where
+module _ (site : Site) (before piece : List ℕ) (used : ℕ) (number : ℕ) (old new : Option (List ℕ)) (reader new_reader : LineReader) (run new_run :
+    Run) (h : IsAt site before reader run) (reads : ReadsFor site (before ++ take used piece) new_reader) (is_number :
+    number ≡ (reading_of site before).number) where
   abbrev after : List ℕ
   after = before ++ take used piece
 
@@ -99,24 +112,31 @@ module _ (site : Site) (before piece : List ℕ) (used : ℕ) (number : ℕ) (ol
   progress_after : (line : Line) → more ≡ lines ++ line_view line ∷ [] → progress_of site more ≡ after_line site p (line_view line)
   progress_after line e = ap (progress_of site) e ∙ progress_more site lines (line_view line)
 
-  ticks_after : (line : Line) → more ≡ lines ++ line_view line ∷ [] → is_built line ≡ true → ticks_run site after ≡ (after_line site p (line_view line)).run
-  ticks_after line e built = ap (λ (ls : List Line). (progress_of site ls).run) (built_all more (built_after line e ∙ built)) ∙ ap (λ (q : Progress). q.run) (progress_after line e)
+  ticks_after : (line : Line) → more ≡ lines ++ line_view line ∷ [] → is_built line ≡ true
+      → ticks_run site after ≡ (after_line site p (line_view line)).run
+  ticks_after line e built =
+      ap (λ (ls : List Line). (progress_of site ls).run) (built_all more (built_after line e ∙ built)) ∙ ap (λ (q : Progress). q.run)
+      (progress_after line e)
 
-  next_line_by : (line : Line) (result : Result (Option RunEnd) Failed) → more ≡ lines ++ line_view line ∷ [] → (reading_of site after).ending ≡ ends_with line → Takes site p line number old new new_run result → NextBy site before piece used old new new_reader new_run result
+  next_line_by : (line : Line) (result : Result (Option RunEnd) Failed) → more ≡ lines ++ line_view line ∷ []
+      → (reading_of site after).ending ≡ ends_with line → Takes site p line number old new new_run result
+      → NextBy site before piece used old new new_reader new_run result
   next_line_by line (Ok None) e ending t = (
     record {
       reads = reads;
       going = record { going = ending ∙ t.1; built = built_after line e ∙ t.0 };
       stands = subst (λ q. Stands site q new_run) (sym (progress_after line e)) t.2;
     },
-    subst (λ ticks. Advances old new (text_of site ticks) (text_at site after)) (sym ticks_before) (subst (λ ticks. Advances old new (text_of site p.run) (text_of site ticks)) (sym (ticks_after line e t.0)) t.3),
+    subst (λ ticks. Advances old new (text_of site ticks) (text_at site after)) (sym ticks_before)
+        (subst (λ ticks. Advances old new (text_of site p.run) (text_of site ticks)) (sym (ticks_after line e t.0)) t.3),
   )
   next_line_by line (Ok (Some Ended)) e ending t =
       let built : is_built line ≡ true = ap is_built t.0 in
       let ticks : ticks_run site after ≡ closed p = ticks_after line e built ∙ ap (λ l. (after_line site p (line_view l)).run) t.0 in (
         (ending ∙ ap ends_with t.0, built_after line e ∙ built),
         subst (λ ts. HasRun site ts new_run) (sym ticks) t.1,
-        subst (λ ts. Advances old new (text_of site ts) (text_at site after)) (sym ticks_before) (subst (λ ts. Advances old new (text_of site p.run) (text_of site ts)) (sym ticks) t.2),
+        subst (λ ts. Advances old new (text_of site ts) (text_at site after)) (sym ticks_before)
+            (subst (λ ts. Advances old new (text_of site p.run) (text_of site ts)) (sym ticks) t.2),
       )
   next_line_by line (Ok (Some (NotBuilt told))) e ending t =
       let stop : built_lines more ≡ lines = ap built_lines e ∙ built_stop lines (line_view line) h.going.built (view_built line ∙ t.1) in
@@ -134,10 +154,13 @@ module _ (site : Site) (before piece : List ℕ) (used : ℕ) (number : ℕ) (ol
         rest = drop used piece;
         is = sym (take-append-drop used piece);
         ran = subst (λ ts. HasRun site ts new_run) (sym (ticks_after line e t.0)) t.1;
-        broke = subst (λ ts. Breaks old new (text_of site ts) (text_at site after)) (sym ticks_before) (subst (λ ts. Breaks old new (text_of site p.run) (text_of site ts)) (sym (ticks_after line e t.0)) t.2);
+        broke =
+            subst (λ ts. Breaks old new (text_of site ts) (text_at site after)) (sym ticks_before)
+            (subst (λ ts. Breaks old new (text_of site p.run) (text_of site ts)) (sym (ticks_after line e t.0)) t.2);
       }
 
-  next_by : (step : Step) (result : Result (Option RunEnd) Failed) → Tells (reading_of site before) (reading_of site after) step → TakesStep site p step number old new run new_run result → NextBy site before piece used old new new_reader new_run result
+  next_by : (step : Step) (result : Result (Option RunEnd) Failed) → Tells (reading_of site before) (reading_of site after) step
+      → TakesStep site p step number old new run new_run result → NextBy site before piece used old new new_reader new_run result
   next_by Need result tells t =
       subst (NextBy site before piece used old new new_reader new_run) (sym t.0) (
         record {
@@ -151,12 +174,17 @@ module _ (site : Site) (before piece : List ℕ) (used : ℕ) (number : ℕ) (ol
   next_by (RefusedStep refusal) result tells t =
       subst (NextBy site before piece used old new new_reader new_run) (sym t.0) (
         (tells.1, ap (list_all is_built) tells.0 ∙ h.going.built),
-        subst (λ ts. HasRun site ts new_run) (sym (same_ticks tells.0 ∙ ticks_before)) (subst (HasRun site p.run) (sym t.2) (has_run site p.run p.block run h.stands)),
+        subst (λ ts. HasRun site ts new_run) (sym (same_ticks tells.0 ∙ ticks_before))
+            (subst (HasRun site p.run) (sym t.2) (has_run site p.run p.block run h.stands)),
         same_text site before after old new t.1 (same_ticks tells.0),
       )
 
 -- the answer to a piece was taken
-pub next_taken : (site : Site) (before piece : List ℕ) (fed : Fed) (number : ℕ) (old new : Option (List ℕ)) (reader new_reader : LineReader) (run new_run : Run) (result : Result (Option RunEnd) Failed) → IsAt site before reader run → Feeds site before piece fed new_reader → number ≡ (reading_of site before).number →
-    TakesStep site (progress_of site (reading_of site before).lines) fed.step number old new run new_run result → NextBy site before piece fed.used old new new_reader new_run result
+pub next_taken : (site : Site) (before piece : List ℕ) (fed : Fed) (number : ℕ) (old new : Option (List ℕ)) (reader new_reader : LineReader)
+    (run new_run : Run) (result : Result (Option RunEnd) Failed) → IsAt site before reader run → Feeds site before piece fed new_reader
+    → number ≡ (reading_of site before).number →
+    TakesStep site (progress_of site (reading_of site before).lines) fed.step number old new run new_run result
+    → NextBy site before piece fed.used old new new_reader new_run result
 next_taken site before piece fed number old new reader new_reader run new_run result h feeds is_number t =
-    next_by site before piece fed.used number old new reader new_reader run new_run h feeds.stands is_number fed.step result (told_now site before piece fed new_reader feeds h.going.going).0 t
+    next_by site before piece fed.used number old new reader new_reader run new_run h feeds.stands is_number fed.step result
+    (told_now site before piece fed new_reader feeds h.going.going).0 t

@@ -5,6 +5,7 @@ use Rattle.tick_units.specs.declared.seat.Seat.{Seat}
 use Rattle.tick_units.specs.declared.task.Task.{Task}
 use Rattle.tick_units.specs.declared.task.Task.TheVariants.{Keep}
 use Rattle.tick_units.specs.Orders.{IsOrder, canonical_seats}
+use Rattle.tick_units.specs.Ticks.{last_tick}
 use Rattle.site_types.specs.declared.event.Event.{Event}
 use Rattle.site_types.specs.declared.retained.Retained.{Retained}
 use Rattle.site_types.specs.declared.site.Site.{Site}
@@ -28,7 +29,8 @@ turn_tick failed panel task before = refl
 
 turns_tick : (failed : Bool) (seats : List Seat) (before : List Moment) → tick_of (and_turns failed seats before) ≡ tick_of before
 turns_tick failed [] before = refl
-turns_tick failed (seat ∷ seats) before = turns_tick failed seats (turn_of failed seat.panel seat.task ∷ before) ∙ turn_tick failed seat.panel seat.task before
+turns_tick failed (seat ∷ seats) before =
+    turns_tick failed seats (turn_of failed seat.panel seat.task ∷ before) ∙ turn_tick failed seat.panel seat.task before
 
 events_tick : (events : List Event) (before : List Moment) → tick_of (and_events events before) ≡ tick_of before
 events_tick [] before = refl
@@ -47,7 +49,8 @@ tick_moments (tick ∷ ticks) =
 block_tick : (block : Block) (ticks : List TickBlock) → tick_of (and_events block.events (Began ∷ moments ticks)) ≡ length ticks + 1
 block_tick block ticks = let e = tick_moments ticks in let told = events_tick block.events (Began ∷ moments ticks) in omega (arith, e, told)
 
-events_more : (events : List Event) (event : Event) (before : List Moment) → and_events (events ++ event ∷ []) before ≡ Happened event ∷ and_events events before
+events_more : (events : List Event) (event : Event) (before : List Moment) → and_events (events ++ event ∷ []) before ≡ Happened event
+    ∷ and_events events before
 events_more [] event before = refl
 events_more (x ∷ events) event before = events_more events event (Happened x ∷ before)
 
@@ -55,7 +58,7 @@ events_more (x ∷ events) event before = events_more events event (Happened x �
 
 -- a tick begins
 pub begun : (site : Site) (ticks : List TickBlock) (old : Run) (system : System) → Stands site (record { run = ticks; block = None }) old →
-    SystemStands site nothing_retained (Began ∷ moments ticks) system → length ticks + 1 ≤ 1000000000 →
+    SystemStands site nothing_retained (Began ∷ moments ticks) system → length ticks + 1 ≤ last_tick →
     Stands site (record { run = ticks; block = Some (new_block site) }) (record old { system = system; is_open = true; order = None })
 begun site ticks old system h stands few =
     record {
@@ -77,8 +80,10 @@ not_open e = absurd (go e)
     go : true ≡ false → ⊥
     go e = cc
 
-told_by : (site : Site) (ticks : List TickBlock) (o : Option Block) (old : Run) (event : Event) (system : System) → Stands site (record { run = ticks; block = o }) old → old.is_open ≡ true →
-    SystemStands site nothing_retained (Happened event ∷ moments_by o ticks) system → Stands site (record { run = ticks; block = with_event event o }) (record old { system = system })
+told_by : (site : Site) (ticks : List TickBlock) (o : Option Block) (old : Run) (event : Event) (system : System)
+    → Stands site (record { run = ticks; block = o }) old → old.is_open ≡ true →
+    SystemStands site nothing_retained (Happened event ∷ moments_by o ticks) system
+    → Stands site (record { run = ticks; block = with_event event o }) (record old { system = system })
 told_by site ticks None old event system h open_is stands = not_open (sym open_is ∙ h.open_is)
 told_by site ticks (Some block) old event system h open_is stands =
     record {
@@ -96,15 +101,18 @@ told_by site ticks (Some block) old event system h open_is stands =
 
 -- an event comes in an open tick
 pub told : (site : Site) (p : Progress) (old : Run) (event : Event) (system : System) → Stands site p old → old.is_open ≡ true →
-    SystemStands site nothing_retained (Happened event ∷ moments_by p.block p.run) system → Stands site (record { run = p.run; block = with_event event p.block }) (record old { system = system })
+    SystemStands site nothing_retained (Happened event ∷ moments_by p.block p.run) system
+    → Stands site (record { run = p.run; block = with_event event p.block }) (record old { system = system })
 told site p old event system h open_is stands = told_by site p.run p.block old event system h open_is stands
 
-untold_by : (site : Site) (ticks : List TickBlock) (o : Option Block) (run : Run) (event : Event) → Stands site (record { run = ticks; block = o }) run → run.is_open ≡ false → Stands site (record { run = ticks; block = with_event event o }) run
+untold_by : (site : Site) (ticks : List TickBlock) (o : Option Block) (run : Run) (event : Event)
+    → Stands site (record { run = ticks; block = o }) run → run.is_open ≡ false → Stands site (record { run = ticks; block = with_event event o }) run
 untold_by site ticks None run event h shut = h
 untold_by site ticks (Some block) run event h shut = not_open (sym h.open_is ∙ shut)
 
 -- where no tick has begun it changes nothing
-pub untold : (site : Site) (p : Progress) (run : Run) (event : Event) → Stands site p run → run.is_open ≡ false → Stands site (record { run = p.run; block = with_event event p.block }) run
+pub untold : (site : Site) (p : Progress) (run : Run) (event : Event) → Stands site p run → run.is_open ≡ false
+    → Stands site (record { run = p.run; block = with_event event p.block }) run
 untold site p run event h shut = untold_by site p.run p.block run event h shut
 
 -- ---- the turns of a tick
@@ -114,7 +122,8 @@ module _ (site : Site) (ticks : List TickBlock) (block : Block) (run : Run) (h :
   before = and_events block.events (Began ∷ moments ticks)
 
   order_run : IsRun site.panels (and_turns false (order_by run.order run.canonical) before)
-  order_run = subst (λ order. IsRun site.panels (and_turns false order before)) h.order_is (records_are_runs site.panels (ticked block ∷ ticks) h.ordered).0
+  order_run =
+      subst (λ order. IsRun site.panels (and_turns false order before)) h.order_is (records_are_runs site.panels (ticked block ∷ ticks) h.ordered).0
 
   pub may_turn_block : MayTurnAll (order_by run.order run.canonical) run.system
   may_turn_block =
@@ -131,19 +140,35 @@ module _ (site : Site) (ticks : List TickBlock) (block : Block) (run : Run) (h :
       }
 
   -- after its turns the system stands for one tick more
-  pub turned_block : (system : System) → ((kept : Retained) (before : List Moment) → SystemStands site kept before run.system → IsRun site.panels (and_turns false (order_by run.order run.canonical) before) → SystemStands site kept (and_turns false (order_by run.order run.canonical) before) system) →
+  pub turned_block : (system : System)
+      → ((kept : Retained) (before : List Moment) → SystemStands site kept before run.system
+      → IsRun site.panels (and_turns false (order_by run.order run.canonical) before)
+      → SystemStands site kept (and_turns false (order_by run.order run.canonical) before) system) →
       SystemStands site nothing_retained (moments (ticked block ∷ ticks)) system
-  turned_block system turns = subst (λ order. SystemStands site nothing_retained (and_turns false order before) system) (sym h.order_is) (turns nothing_retained before h.system order_run)
+  turned_block system turns =
+      subst (λ order. SystemStands site nothing_retained (and_turns false order before) system) (sym h.order_is)
+      (turns nothing_retained before h.system order_run)
 
-pub shows_one : (site : Site) (ticks : List TickBlock) (system : System) → site.panels ≡ 1 → SystemStands site nothing_retained (moments ticks) system → HasPanel 1 system
-shows_one site ticks system one stands = record { site = site; kept = nothing_retained; before = moments ticks; stands = stands; member = (omega arith, omega (arith, one)) }
+pub shows_one : (site : Site) (ticks : List TickBlock) (system : System) → site.panels ≡ 1 → SystemStands site nothing_retained (moments ticks) system
+    → HasPanel 1 system
+shows_one site ticks system one stands = record {
+  site = site;
+  kept = nothing_retained;
+  before = moments ticks;
+  stands = stands;
+  member =
+      (omega arith, omega (arith, one));
+}
 
 -- turns in this order lead a system from any history to the longer one
 abbrev pub Turning : Site → Run → System → Type 0
 Turning site run system =
-    (kept : Retained) (before : List Moment) → SystemStands site kept before run.system → IsRun site.panels (and_turns false (order_by run.order run.canonical) before) → SystemStands site kept (and_turns false (order_by run.order run.canonical) before) system
+    (kept : Retained) (before : List Moment) → SystemStands site kept before run.system
+    → IsRun site.panels (and_turns false (order_by run.order run.canonical) before)
+    → SystemStands site kept (and_turns false (order_by run.order run.canonical) before) system
 
-may_turn_by : (site : Site) (ticks : List TickBlock) (o : Option Block) (run : Run) → Stands site (record { run = ticks; block = o }) run → run.is_open ≡ true → MayTurnAll (order_by run.order run.canonical) run.system
+may_turn_by : (site : Site) (ticks : List TickBlock) (o : Option Block) (run : Run) → Stands site (record { run = ticks; block = o }) run
+    → run.is_open ≡ true → MayTurnAll (order_by run.order run.canonical) run.system
 may_turn_by site ticks None run h open_is = not_open (sym open_is ∙ h.open_is)
 may_turn_by site ticks (Some block) run h open_is = may_turn_block site ticks block run h
 
@@ -151,15 +176,18 @@ may_turn_by site ticks (Some block) run h open_is = may_turn_block site ticks bl
 pub may_turn : (run : Run) (r : MayClose run) → MayTurnAll (order_by run.order run.canonical) run.system
 may_turn run r = may_turn_by r.site r.p.run r.p.block run r.stands r.open_is
 
-may_show_by : (site : Site) (ticks : List TickBlock) (o : Option Block) (run : Run) (system : System) → Stands site (record { run = ticks; block = o }) run → run.is_open ≡ true → Turning site run system → HasPanel 1 system
+may_show_by : (site : Site) (ticks : List TickBlock) (o : Option Block) (run : Run) (system : System)
+    → Stands site (record { run = ticks; block = o }) run → run.is_open ≡ true → Turning site run system → HasPanel 1 system
 may_show_by site ticks None run system h open_is turns = not_open (sym open_is ∙ h.open_is)
-may_show_by site ticks (Some block) run system h open_is turns = shows_one site (ticked block ∷ ticks) system h.one (turned_block site ticks block run h system turns)
+may_show_by site ticks (Some block) run system h open_is turns =
+    shows_one site (ticked block ∷ ticks) system h.one (turned_block site ticks block run h system turns)
 
 -- and then be asked what is shown
 pub may_show : (run : Run) (system : System) (r : MayClose run) → Turning r.site run system → HasPanel 1 system
 may_show run system r turns = may_show_by r.site r.p.run r.p.block run system r.stands r.open_is turns
 
-closes_by : (site : Site) (ticks : List TickBlock) (o : Option Block) (run : Run) (system : System) (shown : Shown) → Stands site (record { run = ticks; block = o }) run → Turning site run system →
+closes_by : (site : Site) (ticks : List TickBlock) (o : Option Block) (run : Run) (system : System) (shown : Shown)
+    → Stands site (record { run = ticks; block = o }) run → Turning site run system →
     ((before : List Moment) → SystemStands site nothing_retained before system → IsRun site.panels before → shown ≡ shown_after site before) →
     ClosesBy site (record { run = ticks; block = o }) o (record run { system = system; is_open = false; ticks = run.ticks + 1; shown = shown })
 closes_by site ticks None run system shown h turns shows = tt
@@ -190,10 +218,11 @@ run_few None ticks = omega arith
 run_few (Some block) ticks = omega arith
 
 -- the count of ticks stays far below its type's end
-pub ticks_few : (run : Run) (r : MayClose run) → run.ticks ≤ 1000000000
+pub ticks_few : (run : Run) (r : MayClose run) → run.ticks ≤ last_tick
 ticks_few run r = let few = r.stands.few in let count = r.stands.count in let le = run_few r.p.block r.p.run in omega (arith, few, count, le)
 
-shut_by : (site : Site) (ticks : List TickBlock) (o : Option Block) (run : Run) → Stands site (record { run = ticks; block = o }) run → run.is_open ≡ false → (o ≡ None) × Stands site (record { run = closed_by o ticks; block = None }) run
+shut_by : (site : Site) (ticks : List TickBlock) (o : Option Block) (run : Run) → Stands site (record { run = ticks; block = o }) run
+    → run.is_open ≡ false → (o ≡ None) × Stands site (record { run = closed_by o ticks; block = None }) run
 shut_by site ticks None run h shut = (refl, h)
 shut_by site ticks (Some block) run h shut = not_open (sym h.open_is ∙ shut)
 
@@ -202,7 +231,8 @@ pub shut : (site : Site) (p : Progress) (run : Run) → Stands site p run → ru
 shut site p run h is = shut_by site p.run p.block run h is
 
 -- what has been run
-pub has_run : (site : Site) (ticks : List TickBlock) (o : Option Block) (run : Run) → Stands site (record { run = ticks; block = o }) run → HasRun site ticks run
+pub has_run : (site : Site) (ticks : List TickBlock) (o : Option Block) (run : Run) → Stands site (record { run = ticks; block = o }) run
+    → HasRun site ticks run
 has_run site ticks o run h = record { count = h.count; ordered = ordered_by o h.ordered }
   where
     ordered_by : (o : Option Block) → AreOrdered site.panels (closed_by o ticks) → AreOrdered site.panels ticks

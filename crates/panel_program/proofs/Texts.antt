@@ -26,7 +26,12 @@ behind_more x y z g h = record { rest = g.rest ++ h.rest; is = h.is ∙ ap (λ x
 
 closed_behind : (site : Site) (o : Option Block) (ticks : List TickBlock) → Behind (text_of site ticks) (text_of site (closed_by o ticks))
 closed_behind site None ticks = behind_none (text_of site ticks)
-closed_behind site (Some block) ticks = record { rest = tick_text site (length ticks + 1) (shown_after site (moments ticks)) (shown_after site (moments (ticked block ∷ ticks))); is = refl }
+closed_behind site (Some block) ticks =
+    record {
+      rest = tick_text site (length ticks + 1) (shown_after site (moments ticks)) (shown_after site (moments (ticked block ∷ ticks)));
+      is =
+          refl;
+    }
 
 line_behind : (site : Site) (p : Progress) (line : Line) → Behind (text_of site p.run) (text_of site (after_line site p line).run)
 line_behind site p (Tick tick) = closed_behind site p.block p.run
@@ -37,7 +42,9 @@ line_behind site p End = closed_behind site p.block p.run
 lines_behind : (site : Site) (p : Progress) (lines : List Line) → Behind (text_of site p.run) (text_of site (fold (after_line site) p lines).run)
 lines_behind site p [] = behind_none (text_of site p.run)
 lines_behind site p (line ∷ lines) =
-    behind_more (text_of site p.run) (text_of site (after_line site p line).run) (text_of site (fold (after_line site) (after_line site p line) lines).run) (line_behind site p line) (lines_behind site (after_line site p line) lines)
+    behind_more (text_of site p.run) (text_of site (after_line site p line).run)
+    (text_of site (fold (after_line site) (after_line site p line) lines).run) (line_behind site p line)
+    (lines_behind site (after_line site p line) lines)
 
 pub record MoreLines (front whole : List Line) : Type 0 where
   pub rest : List Line
@@ -47,7 +54,8 @@ built_more : (lines more : List Line) → MoreLines (built_lines lines) (built_l
 built_more [] more = record { rest = built_lines more; is = refl }
 built_more (line ∷ lines) more = go (is_built line) (built_more lines more)
   where
-    go : (b : Bool) → MoreLines (built_lines lines) (built_lines (lines ++ more)) → MoreLines (if b then line ∷ built_lines lines else []) (if b then line ∷ built_lines (lines ++ more) else [])
+    go : (b : Bool) → MoreLines (built_lines lines) (built_lines (lines ++ more))
+        → MoreLines (if b then line ∷ built_lines lines else []) (if b then line ∷ built_lines (lines ++ more) else [])
     go true h = record { rest = h.rest; is = ap (λ ls. line ∷ ls) h.is }
     go false h = record { rest = []; is = refl }
 

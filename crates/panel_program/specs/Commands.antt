@@ -1,5 +1,6 @@
 -- What each command answers.
-use Rattle.std.specs.Prelude.{◌≡◌, ◌⊎◌, ℕ, List, [], ◌∷◌, Option, Result, Ok, Err}
+use Rattle.std.specs.Prelude.{◌≡◌, ◌⊎◌, ℕ, List, [], ◌∷◌, Option, IfSome, Result, Ok, Err}
+use Rattle.panel_edges.specs.Shelves.{file_of}
 use Rattle.site_types.specs.declared.site.Site.{Site}
 use Rattle.panel_program.specs.declared.command.Command.{Command}
 use Rattle.panel_program.specs.declared.command.Command.TheVariants.{Usage, Check, Run, Matrix}
@@ -32,14 +33,26 @@ abbrev pub Runs : List ℕ → Option (List ℕ) → Option (List ℕ) → Outco
 Runs bytes old new outcome (Ok site) = Ran site bytes old new outcome
 Runs bytes old new outcome (Err stop) = Tells (stop_status stop) (stop_text stop) old new outcome
 
--- the matrix tells which outputs each zone asks for, or why there is no site; where memory ran out it tells nothing
+-- The matrix tells which outputs each zone asks for, or why there is no site. Where memory ran out it ends
+-- with status 9 and has written nothing. When memory is ample no clause can say, so this alone allows an
+-- answer of 9 for every site: trials ask for it with ample memory.
 abbrev pub Draws : Option (List ℕ) → Option (List ℕ) → Outcome → Result Site Stop → Type 0
-Draws old new outcome (Ok site) = RanNothing old new outcome ⊎ ((text : List ℕ) × IsMatrix site text × Tells 0 text old new outcome)
+Draws old new outcome (Ok site) =
+    RanNothing old new outcome ⊎ ((text : List ℕ) × IsMatrix site text × Tells 0 text old new outcome)
 Draws old new outcome (Err stop) = Tells (stop_status stop) (stop_text stop) old new outcome
 
 -- what a command answers, by the file under the site's name and the bytes of the record
 abbrev pub Answers : Command → Option (List ℕ) → List ℕ → Option (List ℕ) → Option (List ℕ) → Outcome → Type 0
 Answers Usage file bytes old new outcome = Tells 2 usage_line old new outcome
-Answers Check file bytes old new outcome = (result : Result Site Stop) × Loads Check file result × Checks old new outcome result
-Answers Run file bytes old new outcome = (result : Result Site Stop) × Loads Run file result × Runs bytes old new outcome result
-Answers Matrix file bytes old new outcome = (result : Result Site Stop) × Loads Matrix file result × Draws old new outcome result
+Answers Check file bytes old new outcome = (result : Result Site Stop) × Loads Check file result
+    × Checks old new outcome result
+Answers Run file bytes old new outcome = (result : Result Site Stop) × Loads Run file result
+    × Runs bytes old new outcome result
+Answers Matrix file bytes old new outcome = (result : Result Site Stop) × Loads Matrix file result
+    × Draws old new outcome result
+
+-- the same where the shelf tells its files and the input its bytes
+abbrev pub AnswersTold : Command → List ℕ → Option (List (List ℕ × List ℕ)) → Option (List ℕ)
+    → Option (List ℕ) → Option (List ℕ) → Outcome → Type 0
+AnswersTold command name files left old new outcome =
+    IfSome files (λ held. IfSome left (λ bytes. Answers command (file_of name held) bytes old new outcome))

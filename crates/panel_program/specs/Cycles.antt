@@ -11,7 +11,8 @@ name_of_marker (Some marker) = codes " " ++ marker.name.bytes
 -- the names of markers, by their places
 abbrev pub names_of_markers : Site → List ℕ → List ℕ
 names_of_markers site [] = []
-names_of_markers site (marker ∷ rest) = name_of_marker (slice_get site.markers marker) ++ names_of_markers site rest
+names_of_markers site (marker ∷ rest) = name_of_marker (slice_get site.markers marker)
+    ++ names_of_markers site rest
 
 -- the line that names the markers of a cycle
 abbrev pub cycle_line : Site → List ℕ → List ℕ

@@ -1,10 +1,13 @@
 -- How a run ends, its status and its last line.
-use Rattle.std.specs.Prelude.{◌+◌, ◌-◌, ◌^◌, ℕ, nat_lt, min, List, ◌++◌, length, take, Option, Some, None, codes, decimal, if◌then◌else◌}
+use Rattle.std.specs.Prelude.{◌+◌, ◌-◌, ◌^◌, ℕ, nat_lt, min, List, ◌++◌, length, take, Option, Some, None, codes}
+use Rattle.std.specs.Prelude.{decimal, if◌then◌else◌}
 use Rattle.std.specs.List.{list_all}
 use Rattle.panel_edges.specs.Limits.{most_record_bytes}
 use Rattle.site_types.specs.declared.site.Site.{Site}
 use Rattle.record_lines.specs.declared.why.Why.{Why}
-use Rattle.record_lines.specs.declared.why.Why.TheVariants.{BadWord, BadNumber, NoSuch, BadTick, BadOrder, LineTooLong, NotAscii, BeforeFirstTick, Truncated, TickLimit}
+use Rattle.record_lines.specs.declared.why.Why.TheVariants.{BadWord, BadNumber, NoSuch, BadTick, BadOrder}
+use Rattle.record_lines.specs.declared.why.Why.TheVariants.{LineTooLong, NotAscii, BeforeFirstTick, Truncated}
+use Rattle.record_lines.specs.declared.why.Why.TheVariants.{TickLimit}
 use Rattle.record_lines.specs.declared.over.Over.{Over}
 use Rattle.record_lines.specs.declared.over.Over.TheVariants.{Ended as OverEnded, Refused as OverRefused}
 use Rattle.record_lines.specs.declared.line.Line.{Line}
@@ -21,7 +24,9 @@ number_behind lines = min (length lines + 1) (2 ^ 64 - 1)
 
 -- where the bytes are over without the end: they are as many as a record may have, or too few
 abbrev pub end_without : ℕ → ℕ → RunEnd
-end_without count number = if nat_lt count most_record_bytes then Refused (record { line = number; why = Truncated }) else TooManyBytes
+end_without count number =
+    if nat_lt count most_record_bytes then Refused (record { line = number; why = Truncated }) else
+    TooManyBytes
 
 abbrev pub end_by : ℕ → ℕ → Option Over → RunEnd
 end_by count number None = end_without count number
@@ -30,13 +35,15 @@ end_by count number (Some (OverRefused refusal)) = Refused refusal
 
 abbrev pub end_in : ℕ → Reading → RunEnd
 end_in count reading =
-    if list_all is_built reading.lines then end_by count reading.number reading.ending else NotBuilt (number_behind (built_lines reading.lines))
+    if list_all is_built reading.lines then end_by count reading.number reading.ending else NotBuilt
+    (number_behind (built_lines reading.lines))
 
 -- the bytes of a record that are read at most
 abbrev pub within_limit : List ℕ → List ℕ
 within_limit bytes = take most_record_bytes bytes
 
--- the end of a run over these bytes, where no read fails: the first line that no part takes, the line `end`, the first refusal, or the end of the bytes
+-- the end of a run over these bytes, where no read fails: the first line that no part takes, the line `end`,
+-- the first refusal, or the end of the bytes
 abbrev pub end_of : Site → List ℕ → RunEnd
 end_of site bytes = end_in (length (within_limit bytes)) (reading_of site (within_limit bytes))
 
@@ -69,7 +76,8 @@ abbrev pub why_text : ℕ → Why → List ℕ
 why_text line BadWord = refused_text line (codes " 1")
 why_text line BadNumber = refused_text line (codes " 2")
 why_text line NoSuch = refused_text line (codes " 3")
-why_text line (BadTick expected found) = refused_text line (codes " 4 expected " ++ decimal expected ++ codes " found " ++ decimal found)
+why_text line (BadTick expected found) =
+    refused_text line (codes " 4 expected " ++ decimal expected ++ codes " found " ++ decimal found)
 why_text line (BadOrder place) = refused_text line (codes " 5 " ++ decimal place)
 why_text line LineTooLong = refused_text line (codes " 6")
 why_text line NotAscii = refused_text line (codes " 7")

@@ -2,19 +2,13 @@
 use Rattle.std.specs.Prelude.{ℕ, List, ◌++◌, length, codes, decimal}
 use Rattle.site_types.specs.declared.site.Site.{Site}
 
--- the first line of a run
-abbrev pub opening_line : Site → List ℕ
-opening_line site = codes "site " ++ site.name.bytes ++ codes " panels " ++ decimal site.panels ++ codes "\n"
-
--- the line above what changed in a tick
-abbrev pub tick_line : ℕ → List ℕ
-tick_line tick = codes "tick " ++ decimal tick ++ codes "\n"
-
 -- the counts of an accepted site
 abbrev pub counts_line : Site → List ℕ
 counts_line site =
-    codes "ok panels " ++ decimal site.panels ++ codes " points " ++ decimal (length site.points) ++ codes " zones " ++ decimal (length site.zones)
-    ++ codes " outputs " ++ decimal (length site.outputs) ++ codes " markers " ++ decimal (length site.markers) ++ codes "\n"
+    codes "ok panels " ++ decimal site.panels ++ codes " points " ++ decimal (length site.points)
+    ++ codes " zones " ++ decimal (length site.zones)
+    ++ codes " outputs " ++ decimal (length site.outputs) ++ codes " markers "
+    ++ decimal (length site.markers) ++ codes "\n"
 
 -- the usage of the whole program
 unfoldable pub usage_line : List ℕ

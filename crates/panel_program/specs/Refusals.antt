@@ -1,5 +1,5 @@
 -- Why a command stops before its site is at hand, and what is told then.
-use Rattle.std.specs.Prelude.{ℕ, List, [], ◌++◌, codes, decimal}
+use Rattle.std.specs.Prelude.{ℕ, ℤ, List, [], ◌++◌, codes, decimal}
 use Rattle.std.specs.Fmt.{signed_decimal}
 use Rattle.site_document.specs.declared.refusal.SiteRefusal.{SiteRefusal}
 use Rattle.site_document.specs.declared.refusal.SiteRefusal.TheVariants as code
@@ -10,16 +10,23 @@ use Rattle.panel_program.specs.declared.stop.Stop.TheVariants.{Absent, Refused, 
 abbrev pub named_text : List ℕ → List ℕ → List ℕ → List ℕ
 named_text word name detail = word ++ name ++ detail
 
--- the line of a refused site: the number of the refusal and what is told besides; nothing is said of want of memory
+-- a refusal with a key and a number
+abbrev pub range_text : List ℕ → ℤ → List ℕ
+range_text key number =
+    named_text (codes "refused site 5 ") key (codes " " ++ signed_decimal number ++ codes "\n")
+
+-- the line of a refused site: the number of the refusal and what is told besides; nothing is said of want of
+-- memory
 abbrev pub refusal_text : SiteRefusal → List ℕ
 refusal_text code.NotToml = codes "refused site 1\n"
 refusal_text (code.Missing key) = named_text (codes "refused site 2 ") key (codes "\n")
 refusal_text (code.WrongKind key) = named_text (codes "refused site 3 ") key (codes "\n")
 refusal_text (code.Unknown key) = named_text (codes "refused site 4 ") key (codes "\n")
-refusal_text (code.OutOfRange key number) = named_text (codes "refused site 5 ") key (codes " " ++ signed_decimal number ++ codes "\n")
+refusal_text (code.OutOfRange key number) = range_text key number
 refusal_text (code.Twice name) = named_text (codes "refused site 6 ") name (codes "\n")
 refusal_text (code.NoSuch name) = named_text (codes "refused site 7 ") name (codes "\n")
-refusal_text (code.SectionCrossesZones panel line place) = codes "refused site 8 " ++ decimal panel ++ codes " " ++ decimal line ++ codes " " ++ decimal place ++ codes "\n"
+refusal_text (code.SectionCrossesZones panel line place) = codes "refused site 8 " ++ decimal panel
+    ++ codes " " ++ decimal line ++ codes " " ++ decimal place ++ codes "\n"
 refusal_text (code.PartnerNotMutual label) = named_text (codes "refused site 9 ") label.bytes (codes "\n")
 refusal_text code.TooLong = codes "refused site 10\n"
 refusal_text code.NoMemory = []

@@ -1,5 +1,6 @@
 -- What a run over the bytes of a record comes to.
-use Rattle.std.specs.Prelude.{◌≡◌, ◌⊎◌, ◌-◌, ◌≤◌, ℕ, true, List, [], ◌++◌, length, Option, Some, Result, Ok, Err, slice_get}
+use Rattle.std.specs.Prelude.{◌≡◌, ◌⊎◌, ◌-◌, ◌≤◌, ℕ, true, List, [], ◌++◌, length, Option, Some, Result, Ok, Err}
+use Rattle.std.specs.Prelude.{slice_get}
 use Rattle.panel_edges.specs.Contents.{GrowsByFront}
 use Rattle.panel_edges.specs.Limits.{most_record_bytes}
 use Rattle.panel_edges.specs.declared.failed.Failed.{Failed}
@@ -20,17 +21,22 @@ use Rattle.panel_program.specs.Stands.{HasRun, IsGoing, text_at}
 use Rattle.panel_program.specs.Writings.{Advances, Breaks, Says}
 use Rattle.panel_program.specs.Zones.{shown_after}
 
--- the end that the bytes of a record have, with the ticks that all its bytes run; a read failed before any end came
+-- the end that the bytes of a record have, with the ticks that all its bytes run; a read failed before any
+-- end came
 abbrev pub EndsRun : Site → List ℕ → List ℕ → RunEnd → Type 0
 EndsRun site bytes consumed ReadFault = IsGoing site consumed
-EndsRun site bytes consumed end = (end ≡ end_of site bytes) × (ticks_run site consumed ≡ ticks_run site (within_limit bytes))
+EndsRun site bytes consumed end =
+    (end ≡ end_of site bytes) × (ticks_run site consumed ≡ ticks_run site (within_limit bytes))
 
 -- what a run over these bytes writes where no read and no write fails
 abbrev pub run_text : Site → List ℕ → List ℕ
-run_text site bytes = text_at site (within_limit bytes) ++ last_line (length (ticks_run site (within_limit bytes))) (end_of site bytes)
+run_text site bytes =
+    text_at site (within_limit bytes) ++ last_line (length (ticks_run site (within_limit bytes)))
+    (end_of site bytes)
 
 -- these bytes were read, and ended so
-pub record ReadsTo (site : Site) (bytes : List ℕ) (old new : Option (List ℕ)) (run : Run) (end : RunEnd) : Type 0 where
+pub record ReadsTo (site : Site) (bytes : List ℕ) (old new : Option (List ℕ)) (run : Run) (end : RunEnd) :
+    Type 0 where
   pub consumed : List ℕ
   pub rest : List ℕ
   pub whole : bytes ≡ consumed ++ rest
@@ -47,29 +53,39 @@ pub record ReadsUntil (site : Site) (bytes : List ℕ) (old new : Option (List �
   pub ran : HasRun site (ticks_run site consumed) run
   pub broke : Breaks old new (text_at site []) (text_at site consumed)
 
-abbrev pub ReadsRecord : Site → List ℕ → Option (List ℕ) → Option (List ℕ) → Run → Result RunEnd Failed → Type 0
+abbrev pub ReadsRecord : Site → List ℕ → Option (List ℕ) → Option (List ℕ) → Run → Result RunEnd Failed
+    → Type 0
 ReadsRecord site bytes old new run (Ok end) = ReadsTo site bytes old new run end
 ReadsRecord site bytes old new run (Err failed) = ReadsUntil site bytes old new run
 
--- At the end of each of these ticks, the newest first, each zone of panel 1 that is due is shown in alarm, and none is shown that isn't caused.
+-- At the end of each of these ticks, the newest first, each zone of panel 1 that is due is shown in alarm,
+-- and none is shown that isn't caused.
 pub record KeepsPromises (site : Site) (ticks : List TickBlock) : Type 0 where
-  pub due : (later earlier : List TickBlock) (zone : ℕ) (plan : Zone) → ticks ≡ later ++ earlier → slice_get site.zones zone ≡ Some plan → plan.panel ≡ 1
-      → IsDue site nothing_retained [] (moments earlier) zone 1 → has_bit (shown_after site (moments earlier)).alarm (plan.number - 1) ≡ true
-  pub caused : (later earlier : List TickBlock) (zone : ℕ) (plan : Zone) → ticks ≡ later ++ earlier → slice_get site.zones zone ≡ Some plan → plan.panel ≡ 1
-      → has_bit (shown_after site (moments earlier)).alarm (plan.number - 1) ≡ true → IsCausedAt site nothing_retained [] (moments earlier) zone (length earlier)
+  pub due : (later earlier : List TickBlock) (zone : ℕ) (plan : Zone) → ticks ≡ later ++ earlier
+      → slice_get site.zones zone ≡ Some plan → plan.panel ≡ 1
+      → IsDue site nothing_retained [] (moments earlier) zone 1
+      → has_bit (shown_after site (moments earlier)).alarm (plan.number - 1) ≡ true
+  pub caused : (later earlier : List TickBlock) (zone : ℕ) (plan : Zone) → ticks ≡ later ++ earlier
+      → slice_get site.zones zone ≡ Some plan → plan.panel ≡ 1
+      → has_bit (shown_after site (moments earlier)).alarm (plan.number - 1) ≡ true
+      → IsCausedAt site nothing_retained [] (moments earlier) zone (length earlier)
 
--- the run read these bytes and ended so: it wrote the text of their ticks and the last line, or a front of that with a write fault
-pub record RanTo (site : Site) (bytes : List ℕ) (old new : Option (List ℕ)) (outcome : Outcome) (end : RunEnd) : Type 0 where
+-- the run read these bytes and ended so: it wrote the text of their ticks and the last line, or a front of
+-- that with a write fault
+pub record RanTo (site : Site) (bytes : List ℕ) (old new : Option (List ℕ)) (outcome : Outcome) (end : RunEnd)
+    : Type 0 where
   pub consumed : List ℕ
   pub rest : List ℕ
   pub whole : bytes ≡ consumed ++ rest
   pub ended : EndsRun site bytes consumed end
   pub ticks : outcome.ticks ≡ length (ticks_run site consumed)
   pub promises : KeepsPromises site (ticks_run site consumed)
-  pub says : Says (status_of end) (text_at site consumed ++ last_line outcome.ticks end) old new outcome.status
+  pub says : Says (status_of end) (text_at site consumed ++ last_line outcome.ticks end) old new
+      outcome.status
 
 -- the run had read these bytes when a write failed: it wrote a front of what it writes where nothing fails
-pub record RanUntil (site : Site) (bytes : List ℕ) (old new : Option (List ℕ)) (outcome : Outcome) : Type 0 where
+pub record RanUntil (site : Site) (bytes : List ℕ) (old new : Option (List ℕ)) (outcome : Outcome) :
+    Type 0 where
   pub consumed : List ℕ
   pub rest : List ℕ
   pub whole : bytes ≡ consumed ++ rest
@@ -86,4 +102,6 @@ pub record RanNothing (old new : Option (List ℕ)) (outcome : Outcome) : Type 0
 
 -- what a run of a site over the bytes of a record came to
 abbrev pub Ran : Site → List ℕ → Option (List ℕ) → Option (List ℕ) → Outcome → Type 0
-Ran site bytes old new outcome = RanNothing old new outcome ⊎ ((end : RunEnd) × RanTo site bytes old new outcome end) ⊎ RanUntil site bytes old new outcome
+Ran site bytes old new outcome =
+    RanNothing old new outcome ⊎ ((end : RunEnd) × RanTo site bytes old new outcome end)
+    ⊎ RanUntil site bytes old new outcome

@@ -11,7 +11,8 @@ use Rattle.panel_program.specs.declared.loaded.Loaded.{Loaded}
 use Rattle.panel_program.specs.declared.stop.Stop.{Stop}
 use Rattle.panel_program.specs.declared.stop.Stop.TheVariants.{Absent, Refused, Cycle, NotBuilt, ReadFault, NoMemory}
 
--- Whether the parts that a command needs for a site are built: for a run none for outputs and for more panels than one.
+-- Whether the parts that a command needs for a site are built: for a run none for outputs and for more panels
+-- than one.
 abbrev pub is_built_for : Command → Site → Bool
 is_built_for Run site = (length site.outputs == 0) && (site.panels == 1)
 is_built_for Check site = true
@@ -24,7 +25,8 @@ pub record IsAtHand (command : Command) (bytes : List ℕ) (site : Site) : Type 
   pub free : HasNoCycle site
   pub built : is_built_for command site ≡ true
 
--- markers of the site depend on themselves: this line names those of the cycle that a walk along the least terms finds
+-- markers of the site depend on themselves: this line names those of the cycle that a walk along the least
+-- terms finds
 pub record TellsCycle (bytes line : List ℕ) : Type 0 where
   pub site : Site
   pub markers : List ℕ
@@ -39,8 +41,8 @@ pub record IsNotBuilt (command : Command) (bytes : List ℕ) : Type 0 where
   pub free : HasNoCycle site
   pub missing : is_built_for command site ≡ false
 
--- The site that bytes spell, or why they are refused: by the site's own refusals, then by a cycle, then for a part that isn't built. Want of
--- memory is free.
+-- The site that bytes spell, or why they are refused: by the site's own refusals, then by a cycle, then for a
+-- part that isn't built. Want of memory is free.
 abbrev pub Reads : Command → List ℕ → Result Site Stop → Type 0
 Reads command bytes (Ok site) = IsAtHand command bytes site
 Reads command bytes (Err (Refused refusal)) = IsRefusedBy site_finding bytes refusal

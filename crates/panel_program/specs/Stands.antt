@@ -1,8 +1,10 @@
 -- What a run stands for, after some lines of its record.
-use Rattle.std.specs.Prelude.{◌≡◌, ◌+◌, ◌≤◌, ℕ, true, false, List, ◌++◌, length, take, Option, Some, None, Result, Ok, Err, is_some}
+use Rattle.std.specs.Prelude.{◌≡◌, ◌+◌, ◌≤◌, ℕ, true, false, List, ◌++◌, length, take, Option, Some, None, Result, Ok}
+use Rattle.std.specs.Prelude.{Err, is_some}
 use Rattle.std.specs.List.{list_all}
 use Rattle.tick_units.specs.declared.seat.Seat.{Seat}
 use Rattle.tick_units.specs.Orders.{canonical_seats}
+use Rattle.tick_units.specs.Ticks.{last_tick}
 use Rattle.site_types.specs.declared.event.Event.{Event}
 use Rattle.site_types.specs.declared.site.Site.{Site}
 use Rattle.site_types.specs.Changes.{nothing_retained}
@@ -25,7 +27,9 @@ use Rattle.panel_core.specs.Stands.{StandsFor as SystemStands}
 use Rattle.panel_program.specs.declared.run.Run.{Run}
 use Rattle.panel_program.specs.declared.run_end.RunEnd.{RunEnd}
 use Rattle.panel_program.specs.declared.run_end.RunEnd.TheVariants.{Ended, Refused, NotBuilt, TooManyBytes, ReadFault}
-use Rattle.panel_program.specs.Records.{Block, Progress, at_beginning, closed, after_line, progress_of, moments_in, is_built, is_built_event, built_lines, ticks_run}
+use Rattle.panel_program.specs.Records.{Block, Progress, at_beginning, closed, after_line, new_block, progress_of}
+use Rattle.panel_program.specs.Records.{moments_in}
+use Rattle.panel_program.specs.Records.{is_built, is_built_event, built_lines, ticks_run}
 use Rattle.panel_program.specs.declared.taken.Taken.{Taken}
 use Rattle.panel_program.specs.Endings.{number_behind}
 use Rattle.panel_program.specs.Ticks.{text_of}
@@ -52,7 +56,7 @@ pub record Stands (site : Site) (p : Progress) (run : Run) : Type 0 where
   pub ordered : AreOrdered site.panels (closed p)
   pub shown : run.shown ≡ shown_after site (moments p.run)
   pub count : run.ticks ≡ length p.run
-  pub few : length (closed p) ≤ 1000000000
+  pub few : length (closed p) ≤ last_tick
 
 abbrev pub StandsAtBeginning : Run → Type 0
 StandsAtBeginning run = (site : Site) × Stands site at_beginning run
@@ -61,6 +65,13 @@ pub record StandsSome (run : Run) : Type 0 where
   pub site : Site
   pub p : Progress
   pub stands : Stands site p run
+
+-- a tick began behind those that were run, of which none was open
+abbrev pub OpensTick : ℕ → Run → Run → Type 0
+OpensTick tick old new =
+    (site : Site) (ticks : List TickBlock) → Stands site (record { run = ticks; block = None }) old
+    → tick ≡ length ticks + 1 → tick ≤ last_tick
+    → Stands site (record { run = ticks; block = Some (new_block site) }) new
 
 -- a tick is the next one
 abbrev pub IsNext : Line → ℕ → Type 0
@@ -112,22 +123,30 @@ pub record HasRun (site : Site) (ticks : List TickBlock) (run : Run) : Type 0 wh
   pub count : run.ticks ≡ length ticks
   pub ordered : AreOrdered site.panels ticks
 
--- how a line was taken: it acts and its tick's text is written, it ends the run, no part takes it, or a write failed
-abbrev pub Takes : Site → Progress → Line → ℕ → Option (List ℕ) → Option (List ℕ) → Run → Result (Option RunEnd) Failed → Type 0
+-- how a line was taken: it acts and its tick's text is written, it ends the run, no part takes it, or a write
+-- failed
+abbrev pub Takes : Site → Progress → Line → ℕ → Option (List ℕ) → Option (List ℕ) → Run
+    → Result (Option RunEnd) Failed → Type 0
 Takes site p line number old new run (Ok None) =
-    (is_built line ≡ true) × (ends_with line ≡ None) × Stands site (after_line site p (line_view line)) run × Advances old new (text_of site p.run) (text_of site (after_line site p (line_view line)).run)
-Takes site p line number old new run (Ok (Some Ended)) = (line ≡ End) × HasRun site (closed p) run × Advances old new (text_of site p.run) (text_of site (closed p))
-Takes site p line number old new run (Ok (Some (NotBuilt told))) = (told ≡ number) × (is_built line ≡ false) × HasRun site p.run run × (new ≡ old)
+    (is_built line ≡ true) × (ends_with line ≡ None) × Stands site (after_line site p (line_view line)) run
+    × Advances old new (text_of site p.run) (text_of site (after_line site p (line_view line)).run)
+Takes site p line number old new run (Ok (Some Ended)) = (line ≡ End) × HasRun site (closed p) run
+    × Advances old new (text_of site p.run) (text_of site (closed p))
+Takes site p line number old new run (Ok (Some (NotBuilt told))) = (told ≡ number) × (is_built line ≡ false)
+    × HasRun site p.run run × (new ≡ old)
 Takes site p line number old new run (Ok (Some (Refused refusal))) = ⊥
 Takes site p line number old new run (Ok (Some TooManyBytes)) = ⊥
 Takes site p line number old new run (Ok (Some ReadFault)) = ⊥
 Takes site p line number old new run (Err failed) =
-    (is_built line ≡ true) × HasRun site (after_line site p (line_view line)).run run × Breaks old new (text_of site p.run) (text_of site (after_line site p (line_view line)).run)
+    (is_built line ≡ true) × HasRun site (after_line site p (line_view line)).run run
+    × Breaks old new (text_of site p.run) (text_of site (after_line site p (line_view line)).run)
 
 -- an event was told, or no part takes it
 abbrev pub TellsEvent : Site → Progress → Event → ℕ → Run → Option RunEnd → Type 0
-TellsEvent site p event number run None = (is_built_event event ≡ true) × Stands site (after_line site p (EventLine event)) run
-TellsEvent site p event number run (Some end) = (end ≡ NotBuilt number) × (is_built_event event ≡ false) × Stands site p run
+TellsEvent site p event number run None =
+    (is_built_event event ≡ true) × Stands site (after_line site p (EventLine event)) run
+TellsEvent site p event number run (Some end) = (end ≡ NotBuilt number) × (is_built_event event ≡ false)
+    × Stands site p run
 
 -- what a reader answered may come
 abbrev pub MayStep : Site → Progress → Step → Type 0
@@ -142,10 +161,13 @@ pub record MayStepSome (step : Step) (run : Run) : Type 0 where
   pub comes : MayStep site p step
 
 -- how it was taken
-abbrev pub TakesStep : Site → Progress → Step → ℕ → Option (List ℕ) → Option (List ℕ) → Run → Run → Result (Option RunEnd) Failed → Type 0
+abbrev pub TakesStep : Site → Progress → Step → ℕ → Option (List ℕ) → Option (List ℕ) → Run → Run
+    → Result (Option RunEnd) Failed → Type 0
 TakesStep site p Need number old new before run result = (result ≡ Ok None) × (new ≡ old) × (run ≡ before)
-TakesStep site p (LineStep line) number old new before run result = Takes site p line number old new run result
-TakesStep site p (RefusedStep refusal) number old new before run result = (result ≡ Ok (Some (Refused refusal))) × (new ≡ old) × (run ≡ before)
+TakesStep site p (LineStep line) number old new before run result =
+    Takes site p line number old new run result
+TakesStep site p (RefusedStep refusal) number old new before run result =
+    (result ≡ Ok (Some (Refused refusal))) × (new ≡ old) × (run ≡ before)
 
 -- ---- bytes
 
@@ -171,19 +193,27 @@ pub record IsAtSome (reader : LineReader) (run : Run) : Type 0 where
 
 -- these bytes end a run so
 abbrev pub EndsAt : Site → List ℕ → RunEnd → Type 0
-EndsAt site bytes Ended = ((reading_of site bytes).ending ≡ Some OverEnded) × (list_all is_built (reading_of site bytes).lines ≡ true)
-EndsAt site bytes (Refused refusal) = ((reading_of site bytes).ending ≡ Some (OverRefused refusal)) × (list_all is_built (reading_of site bytes).lines ≡ true)
-EndsAt site bytes (NotBuilt line) = (list_all is_built (reading_of site bytes).lines ≡ false) × (line ≡ number_behind (built_lines (reading_of site bytes).lines))
+EndsAt site bytes Ended = ((reading_of site bytes).ending ≡ Some OverEnded)
+    × (list_all is_built (reading_of site bytes).lines ≡ true)
+EndsAt site bytes (Refused refusal) = ((reading_of site bytes).ending ≡ Some (OverRefused refusal))
+    × (list_all is_built (reading_of site bytes).lines ≡ true)
+EndsAt site bytes (NotBuilt line) = (list_all is_built (reading_of site bytes).lines ≡ false)
+    × (line ≡ number_behind (built_lines (reading_of site bytes).lines))
 EndsAt site bytes TooManyBytes = ⊥
 EndsAt site bytes ReadFault = ⊥
 
 -- bytes more were taken: the run goes on, it has ended, or a write failed
-abbrev pub GoesOn : Site → List ℕ → List ℕ → Option (List ℕ) → Option (List ℕ) → LineReader → Run → Option RunEnd → Type 0
-GoesOn site before after old new reader run None = IsAt site after reader run × Advances old new (text_at site before) (text_at site after)
-GoesOn site before after old new reader run (Some end) = EndsAt site after end × HasRun site (ticks_run site after) run × Advances old new (text_at site before) (text_at site after)
+abbrev pub GoesOn : Site → List ℕ → List ℕ → Option (List ℕ) → Option (List ℕ) → LineReader → Run
+    → Option RunEnd → Type 0
+GoesOn site before after old new reader run None =
+    IsAt site after reader run × Advances old new (text_at site before) (text_at site after)
+GoesOn site before after old new reader run (Some end) =
+    EndsAt site after end × HasRun site (ticks_run site after) run
+    × Advances old new (text_at site before) (text_at site after)
 
 -- a write failed when so much of a piece was taken
-pub record BreaksOff (site : Site) (before piece : List ℕ) (old new : Option (List ℕ)) (run : Run) : Type 0 where
+pub record BreaksOff (site : Site) (before piece : List ℕ) (old new : Option (List ℕ)) (run : Run) :
+    Type 0 where
   pub front : List ℕ
   pub rest : List ℕ
   pub is : piece ≡ front ++ rest
@@ -191,13 +221,18 @@ pub record BreaksOff (site : Site) (before piece : List ℕ) (old new : Option (
   pub broke : Breaks old new (text_at site before) (text_at site (before ++ front))
 
 -- the next line of a piece was taken, or the whole of it where no line ends in it
-abbrev pub TakesNext : Site → List ℕ → List ℕ → Option (List ℕ) → Option (List ℕ) → LineReader → Run → Result Taken Failed → Type 0
-TakesNext site before piece old new reader run (Ok taken) = GoesOn site before (before ++ take taken.used piece) old new reader run taken.end
+abbrev pub TakesNext : Site → List ℕ → List ℕ → Option (List ℕ) → Option (List ℕ) → LineReader → Run
+    → Result Taken Failed → Type 0
+TakesNext site before piece old new reader run (Ok taken) =
+    GoesOn site before (before ++ take taken.used piece) old new reader run taken.end
 TakesNext site before piece old new reader run (Err failed) = BreaksOff site before piece old new run
 
 -- a whole piece was taken, or so much of it as the run needed to its end
-abbrev pub TakesPiece : Site → List ℕ → List ℕ → Option (List ℕ) → Option (List ℕ) → LineReader → Run → Result (Option RunEnd) Failed → Type 0
-TakesPiece site before piece old new reader run (Ok None) = GoesOn site before (before ++ piece) old new reader run None
+abbrev pub TakesPiece : Site → List ℕ → List ℕ → Option (List ℕ) → Option (List ℕ) → LineReader → Run
+    → Result (Option RunEnd) Failed → Type 0
+TakesPiece site before piece old new reader run (Ok None) =
+    GoesOn site before (before ++ piece) old new reader run None
 TakesPiece site before piece old new reader run (Ok (Some end)) =
-    (front : List ℕ) × (rest : List ℕ) × (piece ≡ front ++ rest) × GoesOn site before (before ++ front) old new reader run (Some end)
+    (front : List ℕ) × (rest : List ℕ) × (piece ≡ front ++ rest)
+    × GoesOn site before (before ++ front) old new reader run (Some end)
 TakesPiece site before piece old new reader run (Err failed) = BreaksOff site before piece old new run

@@ -2,9 +2,11 @@
 use Rattle.std.specs.Prelude.{◌≡◌, ◌⊎◌, ℕ, List, ◌++◌, Option}
 use Rattle.panel_edges.specs.Contents.{Grows, GrowsByFront}
 
--- a command that is to end with a status and this text did so; or it ended with a write fault and wrote a front of it
+-- a command that is to end with a status and this text did so; or it ended with a write fault and wrote a
+-- front of it
 abbrev pub Says : ℕ → List ℕ → Option (List ℕ) → Option (List ℕ) → ℕ → Type 0
-Says status text old new ended = (ended ≡ status) × Grows old new text ⊎ (ended ≡ 7) × GrowsByFront old new text
+Says status text old new ended = (ended ≡ status) × Grows old new text ⊎ (ended ≡ 7)
+    × GrowsByFront old new text
 
 -- a text that was written grew to this one: what it has more was written
 abbrev pub Advances : Option (List ℕ) → Option (List ℕ) → List ℕ → List ℕ → Type 0

@@ -10,7 +10,8 @@ use Rattle.panel_rules.specs.Moments.{Moment}
 use Rattle.panel_rules.specs.Zones.{holds_alarm, holds_first}
 use Rattle.panel_program.specs.declared.shown.Shown.{Shown}
 
--- after these moments panel 1 shows its zones in alarm and those in first state; nothing was retained, and no operation was done
+-- after these moments panel 1 shows its zones in alarm and those in first state; nothing was retained, and no
+-- operation was done
 abbrev pub shown_after : Site → List Moment → Shown
 shown_after site before =
     record {
@@ -27,7 +28,11 @@ is_same a b = (a.alarm == b.alarm) && (a.first == b.first)
 
 -- the face of panel 1 that shows these of its zones, and nothing else
 abbrev pub face_of : Shown → Face
-face_of shown = record (empty_face 1) { zones = shown.alarm ∷ replicate 7 0; firsts = shown.first ∷ replicate 7 0 }
+face_of shown = record (empty_face 1) {
+  zones = shown.alarm ∷ replicate 7 0;
+  firsts =
+      shown.first ∷ replicate 7 0;
+}
 
 -- the lines of what changed at panel 1
 unfoldable pub changes_text : Site → Shown → Shown → List ℕ

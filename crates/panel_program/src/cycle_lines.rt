@@ -22,7 +22,8 @@ pub fn cycle_line(alloc: Global, site: &Site, markers: &[u16]) -> Result<Items<u
 
 // Puts the name of a marker behind a line, with a space before it.
 fn push_name(line: &mut Vec<u8>, site: &Site, marker: u16) -> Result<(), NoMemory>
-    ensures { IfOk result (λ _. line.new.items ≡ line.old.items ++ name_of_marker (slice_get site.now.markers marker)) }
+    ensures { IfOk result (λ _. line.new.items ≡ line.old.items
+        ++ name_of_marker (slice_get site.now.markers marker)) }
 {
     if let Some(marker) = site.markers.get(marker as usize) {
         line.extend_from_slice(b" ")?;

@@ -73,14 +73,16 @@ fn refused_line(number: u64, detail: &str) -> ArrayString<128>
 }
 
 fn bad_tick_line(line: u64, expected: u64, found: u64) -> ArrayString<128>
-    ensures { result.bytes ≡ refused_text line (codes " 4 expected " ++ decimal expected ++ codes " found " ++ decimal found) }
+    ensures { result.bytes ≡ refused_text line (codes " 4 expected " ++ decimal expected
+        ++ codes " found " ++ decimal found) }
 {
     let detail = tick_detail(expected, found);
     refused_line(line, detail.as_str())
 }
 
 fn tick_detail(expected: u64, found: u64) -> ArrayString<80>
-    ensures text { result.bytes ≡ codes " 4 expected " ++ decimal expected ++ codes " found " ++ decimal found }
+    ensures text { result.bytes ≡ codes " 4 expected " ++ decimal expected ++ codes " found "
+        ++ decimal found }
     ensures short { length result.bytes ≤ 80 }
 {
     let mut digits = Buffer::new();

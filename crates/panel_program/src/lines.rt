@@ -1,7 +1,8 @@
 //! Single lines of the text.
 
 ghost use Rattle.std.specs.Prelude.{◌≡◌, ◌+◌, ◌≤◌, ◌++◌, codes, decimal, length};
-ghost use Rattle.panel_program.specs.Lines.{counts_line as counts_text, opening_line as opening_text, tick_line as tick_text};
+ghost use Rattle.panel_program.specs.Lines.{counts_line as counts_text};
+ghost use Rattle.face_text.specs.Timelines.{opening_line as opening_text, tick_line as tick_text};
 
 use arrayvec::ArrayString;
 use itoa::Buffer;

@@ -27,8 +27,10 @@ pub fn load<F: Shelf>(
     name: &str,
     shelf: &mut F,
 ) -> Result<Loaded, Stop>
-    ensures told { IfSome (F.files shelf.old) (λ held. Loads command (file_of name.now held) (site_of result)) }
-    ensures valid { IfOk result (λ loaded. IsValid loaded.site × (is_built_for command loaded.site ≡ true) × IsPlanOf loaded.site loaded.plan) }
+    ensures told { IfSome (F.files shelf.old)
+        (λ held. Loads command (file_of name.now held) (site_of result)) }
+    ensures valid { IfOk result (λ loaded. IsValid loaded.site
+        × (is_built_for command loaded.site ≡ true) × IsPlanOf loaded.site loaded.plan) }
     ensures read { result ≡ Err ReadFault → Rose (F.faults shelf.old) (F.faults shelf.new) }
 {
     let mut bytes = Vec::new(alloc);
@@ -44,7 +46,8 @@ pub fn load<F: Shelf>(
 // The site that the bytes spell, if the command can take it.
 fn read_for(alloc: Global, command: Command, bytes: &[u8]) -> Result<Loaded, Stop>
     ensures reads { Reads command bytes.now (site_of result) }
-    ensures valid { IfOk result (λ loaded. IsValid loaded.site × (is_built_for command loaded.site ≡ true) × IsPlanOf loaded.site loaded.plan) }
+    ensures valid { IfOk result (λ loaded. IsValid loaded.site
+        × (is_built_for command loaded.site ≡ true) × IsPlanOf loaded.site loaded.plan) }
     ensures no_fault { result ≡ Err ReadFault → ⊥ }
 {
     match read_site(alloc, bytes) {
@@ -57,7 +60,8 @@ fn read_for(alloc: Global, command: Command, bytes: &[u8]) -> Result<Loaded, Sto
 fn plan_for(alloc: Global, command: Command, site: Site) -> Result<Loaded, Stop>
     requires { IsValid site }
     ensures reads { (bytes : List ℕ) → IsSpelled bytes site → Reads command bytes (site_of result) }
-    ensures valid { IfOk result (λ loaded. IsValid loaded.site × (is_built_for command loaded.site ≡ true) × IsPlanOf loaded.site loaded.plan) }
+    ensures valid { IfOk result (λ loaded. IsValid loaded.site
+        × (is_built_for command loaded.site ≡ true) × IsPlanOf loaded.site loaded.plan) }
     ensures no_fault { result ≡ Err ReadFault → ⊥ }
 {
     match compile(alloc, &site) {

@@ -1,21 +1,21 @@
 //! The program `panel`: a site file and a record in, the text of when each zone is shown out.
 //!
-//! Begin with `panel` of src/program. Its contract speaks of bytes alone: `Answers` of specs/Commands says what each command
-//! writes and how it ends, by the words, the file under the site's name and the bytes of the record. For a run that is `Ran` of
-//! specs/Runs: the text of the ticks that site and record make (specs/Ticks and Records), the last line and the status of the end that the
-//! bytes have (specs/Endings), and the deadline and the cause of every zone shown (`KeepsPromises`). Which site a command has at hand, or why
-//! it has none, stands in specs/Sites, with the lines of refusals in specs/Refusals.
+//! Begin with `panel` of src/program. Its contract speaks of bytes alone: `Answers` of specs/Commands says
+//! what each command writes and how it ends, by the words, the file under the site's name and the bytes of
+//! the record. For a run that is `Ran` of specs/Runs: the text of the ticks that site and record make
+//! (specs/Ticks and Records), the last line and the status of the end that the bytes have (specs/Endings),
+//! and the deadline and the cause of every zone shown (`KeepsPromises`). Which site a command has at hand, or
+//! why it has none, stands in specs/Sites, with the lines of refusals in specs/Refusals.
 //!
-//! `run_site` of src/reading reads the record piece by piece; `Run` takes it line by line. A tick's turns are made when the line behind its
-//! block was read, and its text is written then, a short one in one call. All memory of a run is taken before its first line is written.
-//! Between two lines a tick costs the turns of the system; its text costs the lines that it has.
+//! `run_site` of src/reading reads the record piece by piece; `Run` takes it line by line. A tick's turns are
+//! made when the line behind its block was read, and its text is written then, a short one in one call. All
+//! memory of a run is taken before its first line is written. Between two lines a tick costs the turns of the
+//! system; its text costs the lines that it has.
 //!
-//! No part takes supplies, links and operations yet: a record's line of these ends the run. A site that has outputs or a second panel is refused
-//! for a run.
+//! No part takes supplies, links and operations yet: a record's line of these ends the run. A site that has
+//! outputs or a second panel is refused for a run.
 #![tactic(auto)]
 
-#[cfg(test)]
-mod cause_tests;
 mod command;
 mod cycle_lines;
 mod last_lines;
@@ -26,8 +26,6 @@ mod matrix;
 mod outcome;
 #[cfg(test)]
 mod outside_tests;
-#[cfg(test)]
-mod played;
 mod program;
 mod reading;
 mod run;
@@ -37,8 +35,6 @@ mod shown;
 mod site_lines;
 mod stop;
 mod taken;
-#[cfg(test)]
-mod tests;
 mod usage;
 mod writing;
 

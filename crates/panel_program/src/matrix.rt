@@ -30,7 +30,9 @@ fn push_zone(site: &Site, plan: &Plan, zone: &Zone, text: &mut Vec<u8>) -> Resul
     requires panel { (1 ≤ zone.now.panel) × (zone.now.panel ≤ 8) }
     requires number { (1 ≤ zone.now.number) × (zone.now.number ≤ 32) }
     requires plan { IsPlanOf site.now plan.now }
-    ensures { IfOk result (λ _. (values : ℕ → Bool) → IsSolution site.now (facts_of_zone zone.now) values → text.new.items ≡ text.old.items ++ line_of_zone site.now values (Some zone.now)) }
+    ensures { IfOk result (λ _. (values : ℕ → Bool)
+        → IsSolution site.now (facts_of_zone zone.now) values → text.new.items ≡ text.old.items
+        ++ line_of_zone site.now values (Some zone.now)) }
 {
     let mut values = Values::none();
     plan.solve(&released_alone(zone), &mut values);
@@ -57,7 +59,8 @@ fn released_alone(zone: &Zone) -> Facts
 
 // Puts the names of the outputs that are asked for behind a text.
 fn push_names(outputs: &[Output], values: &Values, text: &mut Vec<u8>) -> Result<(), NoMemory>
-    ensures { IfOk result (λ _. text.new.items ≡ text.old.items ++ names_asked (values_of values.now) outputs.now) }
+    ensures { IfOk result (λ _. text.new.items ≡ text.old.items
+        ++ names_asked (values_of values.now) outputs.now) }
 {
     for output in outputs {
         push_name(output, values.is_true(output.marker), text)?;
@@ -67,7 +70,8 @@ fn push_names(outputs: &[Output], values: &Values, text: &mut Vec<u8>) -> Result
 
 // Puts the name of an output behind a text, with a space before it, if it is asked for.
 fn push_name(output: &Output, asked: bool, text: &mut Vec<u8>) -> Result<(), NoMemory>
-    ensures { IfOk result (λ _. text.new.items ≡ text.old.items ++ (if asked then codes " " ++ output.now.name.bytes else [])) }
+    ensures { IfOk result (λ _. text.new.items ≡ text.old.items
+        ++ (if asked then codes " " ++ output.now.name.bytes else [])) }
 {
     if asked {
         text.extend_from_slice(b" ")?;

@@ -3,7 +3,8 @@ ghost use Rattle.std.specs.Prelude.{◌≡◌};
 /// How a command ended.
 #[derive(Clone, Copy, Debug, PartialEq, Eq)]
 pub struct Outcome {
-    /// What `main` ends with: 0 done, 2 usage, 3 site refused, 4 record refused, 6 read fault, 7 write fault, 9 want of memory, 11 limit.
+    /// What `main` ends with: 0 done, 2 usage, 3 site refused, 4 record refused, 6 read fault, 7 write fault,
+    /// 9 want of memory, 11 limit.
     pub status: u8,
     /// How many ticks were run.
     pub ticks: u64,

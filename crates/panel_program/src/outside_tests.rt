@@ -1,14 +1,14 @@
-//! `panel` over streams that give and take little at a time, and whose calls fail.
+//! `panel` over streams that give and take little at a time, and whose calls fail. What it answers over whole files is
+//! tried by the folders of cases/ at the top.
 
 ghost use Rattle.std.specs.Prelude.{◌≡◌, ◌<◌, ◌≤◌, Some, None};
 
 use crate::outcome::Outcome;
-use crate::played::{RUN, THIN, files_of, record_of, words_of};
 use crate::program::panel;
 use crate::shown::Shown;
 use crate::writing::{PAGE_BYTES, write_tick};
 use panel_edges::{
-    Failed, MemoryShelf, MemorySink, MemorySource, Sink, SoundMemorySink, Source, Stream,
+    Failed, MemoryShelf, MemorySink, MemorySource, ShelfFile, Sink, SoundMemorySink, Source, Stream,
 };
 use site_config::read_site;
 use std::alloc::{AllocError, Global};
@@ -73,45 +73,21 @@ struct Outside {
     failing_write: u64,
 }
 
-// The example's text over such an outside, the outcome and the number of reads and writes.
-fn tried(alloc: Global, record: &str, outside: Outside) -> Result<(String, Outcome, u64, u64), Fail>
-    requires { (0 < outside.read_bytes) × (0 < outside.write_bytes) }
-{
-    let words = words_of(alloc, &RUN)?;
-    let Ok(mut shelf) = MemoryShelf::new(alloc, files_of(alloc, MILL)?, Vec::new(alloc)) else {
-        return Err(Fail::from("memory"));
-    };
-    let bytes = Vec::from_slice(alloc, record.as_bytes())?;
-    let Ok(source) = MemorySource::new(alloc, bytes, vec![in alloc; outside.failing_read]?) else {
-        return Err(Fail::from("memory"));
-    };
-    let Ok(sink) = MemorySink::new(alloc, 65_536, vec![in alloc; outside.failing_write]?) else {
-        return Err(Fail::from("memory"));
-    };
-    let mut input = TrickleSource {
-        source,
-        most: outside.read_bytes,
-    };
-    let mut out = TrickleSink {
-        sink,
-        most: outside.write_bytes,
-    };
-    let outcome = panel(alloc, &words, &mut shelf, &mut input, &mut out);
-    let TrickleSource { source, .. } = input;
-    let TrickleSink { sink, .. } = out;
-    let (reads, writes) = (source.calls, sink.calls);
-    let Ok(text) = String::from_utf8(sink.bytes) else {
-        return Err(Fail::from("text"));
-    };
-    Ok((text, outcome, reads, writes))
-}
-
 const FINE: Outside = Outside {
     read_bytes: 4096,
     failing_read: 0,
     write_bytes: 65_536,
     failing_write: 0,
 };
+
+// What came of a run, and the number of its reads and writes.
+#[derive(Drop)]
+struct Tried {
+    text: String,
+    outcome: Outcome,
+    reads: u64,
+    writes: u64,
+}
 
 // The example's site, and what its record gives, piece by piece as it is written.
 const MILL: &str = r#"format = 1
@@ -139,17 +115,94 @@ const PIECES: [&str; 5] = [
     "end 72\n",
 ];
 
+// The ticks at whose end something is told.
+const TOLD: [u64; 3] = [37, 50, 62];
+
+// The example's record.
 fn morning(alloc: Global) -> Result<String, AllocError> {
-    let lines = [
-        (15, "point stairs-1 alarm"),
-        (20, "point stairs-1 quiet"),
-        (30, "point stairs-1 alarm"),
-        (40, "point store-1 alarm"),
-        (52, "point store-2 alarm"),
-    ];
-    record_of(alloc, 72, &lines, "")
+    let mut record = String::new(alloc);
+    for tick in 1..=72u64 {
+        record.push_str(format!(in alloc; "tick {tick}\n")?.as_str())?;
+        record.push_str(match tick {
+            15 | 30 => "point stairs-1 alarm\n",
+            20 => "point stairs-1 quiet\n",
+            40 => "point store-1 alarm\n",
+            52 => "point store-2 alarm\n",
+            _ => "",
+        })?;
+    }
+    record.push_str("end\n")?;
+    Ok(record)
 }
 
+fn words(alloc: Global) -> Result<Vec<String>, AllocError> {
+    let mut words = Vec::new(alloc);
+    for word in ["run", "site", "journal"] {
+        words.push(String::from_str(alloc, word)?)?;
+    }
+    Ok(words)
+}
+
+// The example's site as the file `site`, of which the calls with these numbers fail.
+fn shelf(alloc: Global, fails: Vec<u64>) -> Result<MemoryShelf, Fail> {
+    let mut files = Vec::new(alloc);
+    files.push(ShelfFile {
+        name: String::from_str(alloc, "site")?,
+        bytes: Vec::from_slice(alloc, MILL.as_bytes())?,
+    })?;
+    match MemoryShelf::new(alloc, files, fails) {
+        Ok(shelf) => Ok(shelf),
+        Err(_) => Err(Fail::from("memory")),
+    }
+}
+
+// A record of which the reads with these numbers fail.
+fn source(alloc: Global, record: &str, fails: Vec<u64>) -> Result<MemorySource, Fail> {
+    let bytes = Vec::from_slice(alloc, record.as_bytes())?;
+    match MemorySource::new(alloc, bytes, fails) {
+        Ok(source) => Ok(source),
+        Err(_) => Err(Fail::from("memory")),
+    }
+}
+
+// A sink of which the writes with these numbers fail.
+fn sink(alloc: Global, fails: Vec<u64>) -> Result<MemorySink, Fail> {
+    match MemorySink::new(alloc, 65_536, fails) {
+        Ok(sink) => Ok(sink),
+        Err(_) => Err(Fail::from("memory")),
+    }
+}
+
+// A run of a record at the example's site over such an outside.
+fn tried(alloc: Global, record: &str, outside: Outside) -> Result<Tried, Fail>
+    requires { (0 < outside.read_bytes) × (0 < outside.write_bytes) }
+{
+    let words = words(alloc)?;
+    let mut shelf = shelf(alloc, Vec::new(alloc))?;
+    let mut input = TrickleSource {
+        source: source(alloc, record, vec![in alloc; outside.failing_read]?)?,
+        most: outside.read_bytes,
+    };
+    let mut out = TrickleSink {
+        sink: sink(alloc, vec![in alloc; outside.failing_write]?)?,
+        most: outside.write_bytes,
+    };
+    let outcome = panel(alloc, &words, &mut shelf, &mut input, &mut out);
+    let TrickleSource { source, .. } = input;
+    let TrickleSink { sink, .. } = out;
+    let (reads, writes) = (source.calls, sink.calls);
+    match String::from_utf8(sink.bytes) {
+        Ok(text) => Ok(Tried {
+            text,
+            outcome,
+            reads,
+            writes,
+        }),
+        Err(_) => Err(Fail::from("text")),
+    }
+}
+
+// The text is the same, and that of a tick is written in one call where the outside takes so much.
 #[test]
 fn writes_the_same_however_the_outside_cuts(rt: HostRuntime) -> Result<(), Fail> {
     let alloc = rt.alloc();
@@ -166,11 +219,13 @@ fn writes_the_same_however_the_outside_cuts(rt: HostRuntime) -> Result<(), Fail>
             write_bytes,
             ..FINE
         };
-        let (text, outcome, _, writes) = tried(alloc, record.as_str(), outside)?;
-        assert_eq!(rt; text.as_str(), whole.as_str());
-        assert_eq!(rt; outcome, Outcome::after(0, 72));
-        // The text of a tick is written in one call.
-        assert!(rt; write_bytes == 1 || writes == 5);
+        let run = tried(alloc, record.as_str(), outside)?;
+        let is_same = run.text.as_str() == whole.as_str() && run.outcome == Outcome::after(0, 72);
+        if !is_same || (write_bytes > 1 && run.writes != 5) {
+            return Err(Fail::from(format!(in alloc;
+                "reads of {read_bytes}, writes of {write_bytes}"
+            )?));
+        }
     }
     Ok(())
 }
@@ -193,69 +248,55 @@ fn ticks_begun(bytes: &[u8], given: u64) -> u64 {
     ticks
 }
 
+// In reads of seven bytes: the text of each tick that was closed by then is written.
 #[test]
-fn ends_where_a_read_or_a_write_fails(rt: HostRuntime) -> Result<(), Fail> {
+fn ends_where_a_read_fails(rt: HostRuntime) -> Result<(), Fail> {
     let alloc = rt.alloc();
     let record = morning(alloc)?;
-    let whole = PIECES.concat(alloc)?;
-    // Reads of seven bytes: the text of each tick that was closed by then is written.
-    let (_, _, reads, _) = tried(
-        alloc,
-        record.as_str(),
-        Outside {
-            read_bytes: 7,
-            ..FINE
-        },
-    )?;
-    for failing_read in 1..=reads {
+    let record = record.as_str();
+    let sevens = Outside {
+        read_bytes: 7,
+        ..FINE
+    };
+    for before in 0..tried(alloc, record, sevens)?.reads {
         let outside = Outside {
-            read_bytes: 7,
-            failing_read,
+            failing_read: before + 1,
+            ..sevens
+        };
+        let run = tried(alloc, record, outside)?;
+        let ticks = ticks_begun(record.as_bytes(), before.saturating_mul(7)).saturating_sub(1);
+        let told = TOLD.iter().filter(|tick| **tick <= ticks).count();
+        let wanted = format!(in alloc; "{}fault read\n", PIECES[..told + 1].concat(alloc)?)?;
+        if run.outcome != Outcome::after(6, ticks) || run.text.as_str() != wanted.as_str() {
+            return Err(Fail::from(format!(in alloc; "behind {before} reads")?));
+        }
+    }
+    Ok(())
+}
+
+// A front of the text was written, in whole pieces or five bytes at a time.
+#[test]
+fn ends_where_a_write_fails(rt: HostRuntime) -> Result<(), Fail> {
+    let alloc = rt.alloc();
+    let record = morning(alloc)?;
+    let record = record.as_str();
+    let whole = PIECES.concat(alloc)?;
+    for write_bytes in [65_536usize, 5] {
+        let cut = Outside {
+            write_bytes,
             ..FINE
         };
-        let (text, outcome, _, _) = tried(alloc, record.as_str(), outside)?;
-        assert_eq!(rt; outcome.status, 6, "read {failing_read}");
-        let begun = ticks_begun(
-            record.as_str().as_bytes(),
-            (failing_read - 1).saturating_mul(7),
-        );
-        assert_eq!(rt;
-            outcome.ticks,
-            begun.saturating_sub(1),
-            "read {failing_read}"
-        );
-        let told = [37, 50, 62]
-            .iter()
-            .filter(|tick| **tick <= outcome.ticks)
-            .count();
-        let wanted = format!(in alloc; "{}fault read\n", PIECES[..told + 1].concat(alloc)?)?;
-        assert_eq!(rt; text.as_str(), wanted.as_str(), "read {failing_read}");
-    }
-    for write_bytes in [65_536usize, 5] {
-        let (_, _, _, writes) = tried(
-            alloc,
-            record.as_str(),
-            Outside {
-                write_bytes,
-                ..FINE
-            },
-        )?;
-        for failing_write in 1..=writes {
+        for before in 0..tried(alloc, record, cut)?.writes {
             let outside = Outside {
-                write_bytes,
-                failing_write,
-                ..FINE
+                failing_write: before + 1,
+                ..cut
             };
-            let (text, outcome, _, _) = tried(alloc, record.as_str(), outside)?;
-            assert_eq!(rt; outcome.status, 7, "write {failing_write}");
-            assert!(rt;
-                whole.as_str().starts_with(text.as_str()),
-                "write {failing_write}"
-            );
-            assert!(rt;
-                text.as_str().len() < whole.as_str().len(),
-                "write {failing_write}"
-            );
+            let run = tried(alloc, record, outside)?;
+            let text = run.text.as_str();
+            let is_front = whole.as_str().starts_with(text) && text.len() < whole.len();
+            if run.outcome.status != 7 || !is_front {
+                return Err(Fail::from(format!(in alloc; "behind {before} writes")?));
+            }
         }
     }
     Ok(())
@@ -265,54 +306,43 @@ fn ends_where_a_read_or_a_write_fails(rt: HostRuntime) -> Result<(), Fail> {
 fn refuses_the_record_cut_behind_any_line(rt: HostRuntime) -> Result<(), Fail> {
     let alloc = rt.alloc();
     let record = morning(alloc)?;
-    let bytes = record.as_str();
+    let mut front = String::new(alloc);
     let mut lines = 0u64;
-    for (place, byte) in bytes.as_bytes().iter().enumerate() {
-        if *byte != b'\n' {
-            continue;
-        }
+    for line in record.as_str().lines() {
         lines = lines.wrapping_add(1);
-        let Some(front) = bytes.get(..place + 1) else {
-            return Err(Fail::from("cut"));
-        };
-        let (text, outcome, _, _) = tried(alloc, front, FINE)?;
-        if front.ends_with("end\n") {
-            assert_eq!(rt; outcome.status, 0);
+        front.push_str(line)?;
+        front.push_str("\n")?;
+        let run = tried(alloc, front.as_str(), FINE)?;
+        let (status, last) = if line == "end" {
+            (0, String::from_str(alloc, "end 72\n")?)
         } else {
-            let last = format!(in alloc; "refused line {} 9\n", lines.wrapping_add(1))?;
-            assert_eq!(rt; outcome.status, 4, "line {lines}");
-            assert!(rt; text.as_str().ends_with(last.as_str()), "line {lines}");
+            (
+                4,
+                format!(in alloc; "refused line {} 9\n", lines.wrapping_add(1))?,
+            )
+        };
+        if run.outcome.status != status || !run.text.as_str().ends_with(last.as_str()) {
+            return Err(Fail::from(format!(in alloc; "cut behind line {lines}")?));
         }
     }
     Ok(())
 }
 
+// The first fetch fails; then the second read, and of the writes the third.
 #[test]
 fn ends_with_the_faults_of_shelf_and_first_calls(rt: HostRuntime) -> Result<(), Fail> {
     let alloc = rt.alloc();
-    let words = words_of(alloc, &RUN)?;
-    let Ok(mut shelf) = MemoryShelf::new(alloc, files_of(alloc, THIN)?, vec![in alloc; 1]?) else {
-        return Err(Fail::from("memory"));
-    };
-    let Ok(mut input) = MemorySource::new(
-        alloc,
-        Vec::from_slice(alloc, b"tick 1\n")?,
-        vec![in alloc; 2]?,
-    ) else {
-        return Err(Fail::from("memory"));
-    };
-    let Ok(mut out) = MemorySink::new(alloc, 4096, vec![in alloc; 3]?) else {
-        return Err(Fail::from("memory"));
-    };
-    // The first fetch fails.
+    let words = words(alloc)?;
+    let mut shelf = shelf(alloc, vec![in alloc; 1]?)?;
+    let mut input = source(alloc, "tick 1\n", vec![in alloc; 2]?)?;
+    let mut out = sink(alloc, vec![in alloc; 3]?)?;
     let outcome = panel(alloc, &words, &mut shelf, &mut input, &mut out);
     assert_eq!(rt; outcome, Outcome::after(6, 0));
     assert_eq!(rt; out.bytes.as_slice(), b"fault read\n".as_slice());
-    // Then the second read fails, and the third write.
     out.bytes.clear();
     let outcome = panel(alloc, &words, &mut shelf, &mut input, &mut out);
     assert_eq!(rt; outcome, Outcome::after(7, 0));
-    assert_eq!(rt; out.bytes.as_slice(), b"site one panels 1\n".as_slice());
+    assert_eq!(rt; out.bytes.as_slice(), PIECES[0].as_bytes());
     Ok(())
 }
 

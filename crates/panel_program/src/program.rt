@@ -2,10 +2,11 @@ ghost use Rattle.std.specs.Prelude.{◌≡◌, ◌≢◌, ◌⊎◌, [], IfSome,
 ghost use Rattle.cause_effect.specs.Stands.{IsPlanOf};
 ghost use Rattle.panel_edges.specs.Faults.{Rose};
 ghost use Rattle.panel_edges.specs.Shelves.{file_of};
-ghost use Rattle.panel_program.specs.Commands.{Answers, Draws, site_word};
-ghost use Rattle.panel_program.specs.Lines.{usage_line};
+ghost use Rattle.panel_program.specs.Commands.{Answers, AnswersTold, Draws, site_word};
 ghost use Rattle.panel_program.specs.Words.{command_of as command_by};
-ghost use Rattle.panel_program.specs.declared.command.Command.TheVariants.{Check as CheckCommand, Matrix as MatrixCommand, Run as RunCommand};
+ghost use Rattle.panel_program.specs.declared.command.Command.TheVariants.{Check as CheckCommand};
+ghost use Rattle.panel_program.specs.declared.command.Command.TheVariants.{Matrix as MatrixCommand};
+ghost use Rattle.panel_program.specs.declared.command.Command.TheVariants.{Run as RunCommand};
 ghost use Rattle.site_types.specs.Valid.{IsValid};
 
 use crate::command::{Command, command_of};
@@ -24,8 +25,9 @@ use std::alloc::Global;
 
 /// Does what the words ask for. All that is said goes to `out`, refusals too.
 ///
-/// The status of the outcome says how it ended: 2 where the words are no command's, 3 and 4 where site or record is refused, 11 where the
-/// record passes a limit; 6 and 7 where the outside failed, and 9, with nothing written, where memory ran out.
+/// The status of the outcome says how it ended: 2 where the words are no command's, 3 and 4 where site or
+/// record is refused, 11 where the record passes a limit; 6 and 7 where the outside failed, and 9, with
+/// nothing written, where memory ran out.
 pub fn panel<F: Shelf, S: Source, K: Sink>(
     alloc: Global,
     words: &[String],
@@ -33,8 +35,11 @@ pub fn panel<F: Shelf, S: Source, K: Sink>(
     input: &mut S,
     out: &mut K,
 ) -> Outcome
-    ensures answers { IfSome (F.files shelf.old) (λ held. IfSome (S.left input.old) (λ bytes. Answers (command_by (map string_bytes words.now)) (file_of (site_word (map string_bytes words.now)) held) bytes (K.written out.old) (K.written out.new) result)) }
-    ensures read { result.status ≡ 6 → Rose (F.faults shelf.old) (F.faults shelf.new) ⊎ Rose (S.read_faults input.old) (S.read_faults input.new) }
+    ensures answers { AnswersTold (command_by (map string_bytes words.now))
+        (site_word (map string_bytes words.now)) (F.files shelf.old) (S.left input.old)
+        (K.written out.old) (K.written out.new) result }
+    ensures read { result.status ≡ 6 → Rose (F.faults shelf.old) (F.faults shelf.new)
+        ⊎ Rose (S.read_faults input.old) (S.read_faults input.new) }
     ensures write { result.status ≡ 7 → Rose (K.write_faults out.old) (K.write_faults out.new) }
     ensures memory { result.status ≡ 9 → K.written out.new ≡ K.written out.old }
     ensures store { result.store_failures ≡ 0 }
@@ -49,7 +54,9 @@ pub fn panel<F: Shelf, S: Source, K: Sink>(
 
 // Tells the counts of a site.
 fn check<F: Shelf, K: Sink>(alloc: Global, name: &str, shelf: &mut F, out: &mut K) -> Outcome
-    ensures answers { IfSome (F.files shelf.old) (λ held. Answers CheckCommand (file_of name.now held) [] (K.written out.old) (K.written out.new) result) }
+    ensures answers { IfSome (F.files shelf.old)
+        (λ held. Answers CheckCommand (file_of name.now held) [] (K.written out.old)
+        (K.written out.new) result) }
     ensures read { result.status ≡ 6 → Rose (F.faults shelf.old) (F.faults shelf.new) }
     ensures write { result.status ≡ 7 → Rose (K.write_faults out.old) (K.write_faults out.new) }
     ensures memory { result.status ≡ 9 → K.written out.new ≡ K.written out.old }
@@ -66,7 +73,9 @@ fn check<F: Shelf, K: Sink>(alloc: Global, name: &str, shelf: &mut F, out: &mut 
 
 // Tells which outputs each zone asks for.
 fn matrix<F: Shelf, K: Sink>(alloc: Global, name: &str, shelf: &mut F, out: &mut K) -> Outcome
-    ensures answers { IfSome (F.files shelf.old) (λ held. Answers MatrixCommand (file_of name.now held) [] (K.written out.old) (K.written out.new) result) }
+    ensures answers { IfSome (F.files shelf.old)
+        (λ held. Answers MatrixCommand (file_of name.now held) [] (K.written out.old)
+        (K.written out.new) result) }
     ensures read { result.status ≡ 6 → Rose (F.faults shelf.old) (F.faults shelf.new) }
     ensures write { result.status ≡ 7 → Rose (K.write_faults out.old) (K.write_faults out.new) }
     ensures memory { result.status ≡ 9 → K.written out.new ≡ K.written out.old }
@@ -102,8 +111,10 @@ fn run<F: Shelf, S: Source, K: Sink>(
     input: &mut S,
     out: &mut K,
 ) -> Outcome
-    ensures answers { IfSome (F.files shelf.old) (λ held. IfSome (S.left input.old) (λ bytes. Answers RunCommand (file_of name.now held) bytes (K.written out.old) (K.written out.new) result)) }
-    ensures read { result.status ≡ 6 → Rose (F.faults shelf.old) (F.faults shelf.new) ⊎ Rose (S.read_faults input.old) (S.read_faults input.new) }
+    ensures answers { AnswersTold RunCommand name.now (F.files shelf.old) (S.left input.old)
+        (K.written out.old) (K.written out.new) result }
+    ensures read { result.status ≡ 6 → Rose (F.faults shelf.old) (F.faults shelf.new)
+        ⊎ Rose (S.read_faults input.old) (S.read_faults input.new) }
     ensures write { result.status ≡ 7 → Rose (K.write_faults out.old) (K.write_faults out.new) }
     ensures memory { result.status ≡ 9 → K.written out.new ≡ K.written out.old }
     ensures store { result.store_failures ≡ 0 }

@@ -6,7 +6,8 @@ ghost use Rattle.panel_edges.specs.Faults.{HasCause, Rose};
 ghost use Rattle.panel_program.specs.Endings.{last_line as last_text, status_of as status_of_end};
 ghost use Rattle.panel_program.specs.Records.{Progress, at_beginning};
 ghost use Rattle.panel_program.specs.Runs.{Ran, ReadsRecord};
-ghost use Rattle.panel_program.specs.Stands.{IsAt, IsAtSome, MayStep, MayStepSome, Stands, StandsAtBeginning, TakesNext, TakesPiece, TakesStep};
+ghost use Rattle.panel_program.specs.Stands.{IsAt, IsAtSome, MayStep, MayStepSome, Stands, StandsAtBeginning};
+ghost use Rattle.panel_program.specs.Stands.{TakesNext, TakesPiece, TakesStep};
 ghost use Rattle.panel_program.specs.Writings.{Says};
 ghost use Rattle.panel_program.specs.declared.run_end.RunEnd.TheVariants.{ReadFault as ReadFaultEnd};
 ghost use Rattle.site_types.specs.Valid.{IsValid};
@@ -35,7 +36,8 @@ pub fn run_site<S: Source, K: Sink>(
 ) -> Outcome
     requires valid { IsValid site }
     requires one { site.panels ≡ 1 }
-    ensures ran { IfSome (S.left input.old) (λ bytes. Ran site bytes (K.written out.old) (K.written out.new) result) }
+    ensures ran { IfSome (S.left input.old)
+        (λ bytes. Ran site bytes (K.written out.old) (K.written out.new) result) }
     ensures read { result.status ≡ 6 → Rose (S.read_faults input.old) (S.read_faults input.new) }
     ensures write { result.status ≡ 7 → Rose (K.write_faults out.old) (K.write_faults out.new) }
     ensures memory { result.status ≡ 9 → K.written out.new ≡ K.written out.old }
@@ -60,8 +62,11 @@ fn read_record<S: Source, K: Sink>(
     out: &mut K,
 ) -> Result<RunEnd, Failed>
     requires { StandsAtBeginning run.old }
-    ensures reads { (site : SiteOf) → Stands site at_beginning run.old → IfSome (S.left input.old) (λ bytes. ReadsRecord site bytes (K.written out.old) (K.written out.new) run.new result) }
-    ensures read { result ≡ Ok ReadFaultEnd → Rose (S.read_faults input.old) (S.read_faults input.new) }
+    ensures reads { (site : SiteOf) → Stands site at_beginning run.old
+        → IfSome (S.left input.old)
+        (λ bytes. ReadsRecord site bytes (K.written out.old) (K.written out.new) run.new result) }
+    ensures read { result ≡ Ok ReadFaultEnd
+        → Rose (S.read_faults input.old) (S.read_faults input.new) }
     ensures cause { HasCause (K.write_faults out.old) (K.write_faults out.new) result }
 {
     let mut reader = LineReader::new();
@@ -89,7 +94,8 @@ fn read_piece<S: Source>(input: &mut S, buffer: &mut [u8], most: usize) -> Resul
     ensures bound { IfOk result (λ n. n ≤ most) }
     ensures size { length buffer.new ≡ length buffer.old }
     ensures count { IfOk result (λ n. length (take n buffer.new) ≡ n) }
-    ensures bytes { IfOk result (λ n. Consumes (S.left input.old) (S.left input.new) (take n buffer.new)) }
+    ensures bytes { IfOk result
+        (λ n. Consumes (S.left input.old) (S.left input.new) (take n buffer.new)) }
     ensures ends { IfOk result (λ n. IfSome (S.left input.old) (λ bytes. (n ≡ 0) ↔ (bytes ≡ []))) }
     ensures err { OnErr result (S.left input.new ≡ S.left input.old) }
     ensures cause { HasCause (S.read_faults input.old) (S.read_faults input.new) result }
@@ -105,7 +111,9 @@ fn take_piece<K: Sink>(
     out: &mut K,
 ) -> Result<Option<RunEnd>, Failed>
     requires { IsAtSome reader.old run.old }
-    ensures takes { (site : SiteOf) (before : List ℕ) → IsAt site before reader.old run.old → TakesPiece site before piece.now (K.written out.old) (K.written out.new) reader.new run.new result }
+    ensures takes { (site : SiteOf) (before : List ℕ) → IsAt site before reader.old run.old
+        → TakesPiece site before piece.now (K.written out.old) (K.written out.new) reader.new
+        run.new result }
     ensures cause { HasCause (K.write_faults out.old) (K.write_faults out.new) result }
 {
     let mut rest = piece;
@@ -128,7 +136,9 @@ fn take_next<K: Sink>(
 ) -> Result<Taken, Failed>
     requires at { IsAtSome reader.old run.old }
     requires some { 0 < length piece.now }
-    ensures takes { (site : SiteOf) (before : List ℕ) → IsAt site before reader.old run.old → TakesNext site before piece.now (K.written out.old) (K.written out.new) reader.new run.new result }
+    ensures takes { (site : SiteOf) (before : List ℕ) → IsAt site before reader.old run.old
+        → TakesNext site before piece.now (K.written out.old) (K.written out.new) reader.new run.new
+        result }
     ensures used { IfOk result (λ taken. (0 < taken.used) × (taken.used ≤ length piece.now)) }
     ensures cause { HasCause (K.write_faults out.old) (K.write_faults out.new) result }
 {
@@ -147,7 +157,9 @@ fn take_step<K: Sink>(
     out: &mut K,
 ) -> Result<Option<RunEnd>, Failed>
     requires { MayStepSome step run.old }
-    ensures takes { (site : SiteOf) (p : Progress) → Stands site p run.old → MayStep site p step → TakesStep site p step number (K.written out.old) (K.written out.new) run.old run.new result }
+    ensures takes { (site : SiteOf) (p : Progress) → Stands site p run.old → MayStep site p step
+        → TakesStep site p step number (K.written out.old) (K.written out.new) run.old run.new
+        result }
     ensures cause { HasCause (K.write_faults out.old) (K.write_faults out.new) result }
 {
     match step {
@@ -159,7 +171,8 @@ fn take_step<K: Sink>(
 
 // Writes the last line of a run.
 fn finish<K: Sink>(end: RunEnd, ticks: u64, out: &mut K) -> Outcome
-    ensures says { Says (status_of_end end) (last_text ticks end) (K.written out.old) (K.written out.new) result.status }
+    ensures says { Says (status_of_end end) (last_text ticks end) (K.written out.old)
+        (K.written out.new) result.status }
     ensures ticks { (result.ticks ≡ ticks) × (result.store_failures ≡ 0) }
     ensures write { result.status ≡ 7 → Rose (K.write_faults out.old) (K.write_faults out.new) }
     ensures later { K.write_faults out.old ≤ K.write_faults out.new }

@@ -1,18 +1,19 @@
-ghost use Rattle.std.specs.Prelude.{◌≡◌, ◌+◌, ◌≤◌, [], List, ℕ, Option, IfOk, OnErr, OnOk, false, None, Some, length};
+ghost use Rattle.std.specs.Prelude.{◌≡◌, ◌+◌, [], List, Option, IfOk, OnErr, OnOk, false, None, Some};
 ghost use Rattle.panel_core.specs.Stands.{HasPanel, MayTurnAll, StandsFor as SystemStands};
 ghost use Rattle.panel_edges.specs.Contents.{Grows, GrowsByFront};
 ghost use Rattle.panel_edges.specs.Faults.{HasCause};
-ghost use Rattle.panel_program.specs.Records.{Progress, after_line, at_beginning, closed, is_built_event, new_block, with_order};
-ghost use Rattle.panel_program.specs.Stands.{MayClose, MayHappen as MayTell, MayTake, MayCome, Stands, StandsSome, Closes, Takes, TellsEvent, after_close, order_by};
+ghost use Rattle.panel_program.specs.Records.{Progress, at_beginning, closed, is_built_event};
+ghost use Rattle.panel_program.specs.Records.{with_order};
+ghost use Rattle.panel_program.specs.Stands.{MayClose, MayHappen as MayTell, MayTake, MayCome, Stands, StandsSome};
+ghost use Rattle.panel_program.specs.Stands.{Closes, OpensTick, Takes, TellsEvent, after_close, order_by};
+ghost use Rattle.panel_core.specs.Changes.{MakesTurns};
 ghost use Rattle.panel_program.specs.Ticks.{text_of};
 ghost use Rattle.panel_program.specs.Writings.{Advances, Breaks};
 ghost use Rattle.panel_program.specs.Zones.{shown_after};
-ghost use Rattle.panel_rules.specs.Moments.{Moment, TickBlock, IsRun, and_turns};
+ghost use Rattle.panel_rules.specs.Moments.{Moment, IsRun};
 ghost use Rattle.tick_units.specs.Orders.{IsOrder};
 ghost use Rattle.site_types.specs.Changes.{nothing_retained};
-ghost use Rattle.site_types.specs.Events.{has_event};
 ghost use Rattle.site_types.specs.Valid.{IsValid};
-ghost use Rattle.site_types.specs.declared.retained.Retained.{Retained as RetainedOf};
 ghost use Rattle.site_types.specs.declared.site.Site.{Site as SiteOf};
 
 use crate::run_end::RunEnd;
@@ -82,16 +83,19 @@ impl Run {
 
     /// Writes what is told before the first tick.
     pub fn write_opening<K: Sink>(&mut self, out: &mut K) -> Result<(), Failed>
-        ensures stands { (site : SiteOf) → Stands site at_beginning self.old → Stands site at_beginning self.new }
-        ensures ok { OnOk result ((site : SiteOf) → Stands site at_beginning self.old → Grows (K.written out.old) (K.written out.new) (text_of site [])) }
-        ensures err { OnErr result ((site : SiteOf) → Stands site at_beginning self.old → GrowsByFront (K.written out.old) (K.written out.new) (text_of site [])) }
+        ensures stands { (site : SiteOf) → Stands site at_beginning self.old
+            → Stands site at_beginning self.new }
+        ensures ok { OnOk result ((site : SiteOf) → Stands site at_beginning self.old
+            → Grows (K.written out.old) (K.written out.new) (text_of site [])) }
+        ensures err { OnErr result ((site : SiteOf) → Stands site at_beginning self.old
+            → GrowsByFront (K.written out.old) (K.written out.new) (text_of site [])) }
         ensures cause { HasCause (K.write_faults out.old) (K.write_faults out.new) result }
     {
         write_opening(&mut self.page, self.system.site(), self.shown, out)
     }
 
-    /// Takes a line of the record, which has this number. The turns of a tick are made when the line behind its block comes, and what
-    /// changed in it is written then.
+    /// Takes a line of the record, which has this number. The turns of a tick are made when the line behind
+    /// its block comes, and what changed in it is written then.
     pub fn take<K: Sink>(
         &mut self,
         line: Line,
@@ -99,7 +103,9 @@ impl Run {
         out: &mut K,
     ) -> Result<Option<RunEnd>, Failed>
         requires { MayTake line self.old }
-        ensures takes { (site : SiteOf) (p : Progress) → Stands site p self.old → MayCome site p line → Takes site p line number (K.written out.old) (K.written out.new) self.new result }
+        ensures takes { (site : SiteOf) (p : Progress) → Stands site p self.old
+            → MayCome site p line
+            → Takes site p line number (K.written out.old) (K.written out.new) self.new result }
         ensures cause { HasCause (K.write_faults out.old) (K.write_faults out.new) result }
     {
         match line {
@@ -121,7 +127,7 @@ impl Run {
     }
 
     fn begin(&mut self, tick: Tick)
-        ensures { (site : SiteOf) (ticks : List TickBlock) → Stands site (record { run = ticks; block = None }) self.old → tick.0 ≡ length ticks + 1 → tick.0 ≤ 1000000000 → Stands site (record { run = ticks; block = Some (new_block site) }) self.new }
+        ensures { OpensTick tick.0 self.old self.new }
     {
         self.system.begin(tick);
         self.is_open = true;
@@ -129,7 +135,9 @@ impl Run {
     }
 
     fn set_order(&mut self, order: Order)
-        ensures { (site : SiteOf) (p : Progress) → Stands site p self.old → IsOrder site.panels order → Stands site (record { run = p.run; block = with_order order p.block }) self.new }
+        ensures { (site : SiteOf) (p : Progress) → Stands site p self.old
+            → IsOrder site.panels order
+            → Stands site (record { run = p.run; block = with_order order p.block }) self.new }
     {
         self.order = Some(order);
     }
@@ -137,7 +145,8 @@ impl Run {
     // Tells an event to the site, if a tick has begun, or ends the run where no part takes it.
     fn tell(&mut self, event: Event, number: u64) -> Option<RunEnd>
         requires { MayTell event self.old }
-        ensures { (site : SiteOf) (p : Progress) → Stands site p self.old → TellsEvent site p event number self.new result }
+        ensures { (site : SiteOf) (p : Progress) → Stands site p self.old
+            → TellsEvent site p event number self.new result }
     {
         if !is_built(&event) {
             return Some(RunEnd::NotBuilt { line: number });
@@ -151,9 +160,14 @@ impl Run {
     // Makes the turns of the tick whose block was read, if there is one, and writes what changed.
     fn close<K: Sink>(&mut self, out: &mut K) -> Result<(), Failed>
         requires { StandsSome self.old }
-        ensures stands { (site : SiteOf) (p : Progress) → Stands site p self.old → Stands site (after_close p) self.new }
-        ensures ok { OnOk result ((site : SiteOf) (p : Progress) → Stands site p self.old → Advances (K.written out.old) (K.written out.new) (text_of site p.run) (text_of site (closed p))) }
-        ensures err { OnErr result ((site : SiteOf) (p : Progress) → Stands site p self.old → Breaks (K.written out.old) (K.written out.new) (text_of site p.run) (text_of site (closed p))) }
+        ensures stands { (site : SiteOf) (p : Progress) → Stands site p self.old
+            → Stands site (after_close p) self.new }
+        ensures ok { OnOk result ((site : SiteOf) (p : Progress) → Stands site p self.old
+            → Advances (K.written out.old) (K.written out.new) (text_of site p.run)
+            (text_of site (closed p))) }
+        ensures err { OnErr result ((site : SiteOf) (p : Progress) → Stands site p self.old
+            → Breaks (K.written out.old) (K.written out.new) (text_of site p.run)
+            (text_of site (closed p))) }
         ensures cause { HasCause (K.write_faults out.old) (K.write_faults out.new) result }
     {
         if !self.is_open {
@@ -196,7 +210,7 @@ fn is_built(event: &Event) -> bool
 // Each seat has its turn, in the order that was given, else in the canonical one.
 fn turn_all(system: &mut System, given: &Option<Order>, canonical: &Order)
     requires { MayTurnAll (order_by given.now canonical.now) system.old }
-    ensures { (site : SiteOf) (kept : RetainedOf) (before : List Moment) → SystemStands site kept before system.old → IsRun site.panels (and_turns false (order_by given.now canonical.now) before) → SystemStands site kept (and_turns false (order_by given.now canonical.now) before) system.new }
+    ensures { MakesTurns system.old (order_by given.now canonical.now) system.new }
 {
     match given {
         Some(order) => system.turns(order),
@@ -207,7 +221,9 @@ fn turn_all(system: &mut System, given: &Option<Order>, canonical: &Order)
 // What the panel shows.
 fn show(system: &System) -> Shown
     requires { HasPanel 1 system.now }
-    ensures { (site : SiteOf) (before : List Moment) → SystemStands site nothing_retained before system.now → IsRun site.panels before → result ≡ shown_after site before }
+    ensures { (site : SiteOf) (before : List Moment)
+        → SystemStands site nothing_retained before system.now → IsRun site.panels before
+        → result ≡ shown_after site before }
 {
     Shown {
         alarm: system.zones(PANEL),

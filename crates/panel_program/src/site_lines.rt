@@ -4,7 +4,8 @@ ghost use Rattle.std.specs.Prelude.{◌≡◌, ◌≤◌, ◌+◌, ◌++◌, OnO
 ghost use Rattle.std.specs.Fmt.{signed_decimal};
 ghost use Rattle.panel_edges.specs.Contents.{Grows, GrowsByFront};
 ghost use Rattle.panel_edges.specs.Faults.{HasCause, Rose};
-ghost use Rattle.panel_program.specs.Refusals.{named_text, refusal_status, refusal_text, stop_status, stop_text};
+ghost use Rattle.panel_program.specs.Refusals.{named_text, range_text, refusal_status, refusal_text, stop_status};
+ghost use Rattle.panel_program.specs.Refusals.{stop_text};
 ghost use Rattle.panel_program.specs.Writings.{Says};
 
 use crate::outcome::Outcome;
@@ -16,10 +17,12 @@ use site_config::SiteRefusal;
 
 /// Ends a command whose site isn't at hand, with the line that says why. Where memory ran out nothing is written.
 pub fn stop_with<K: Sink>(stop: &Stop, out: &mut K) -> Outcome
-    ensures says { Says (stop_status stop.now) (stop_text stop.now) (K.written out.old) (K.written out.new) result.status }
+    ensures says { Says (stop_status stop.now) (stop_text stop.now) (K.written out.old)
+        (K.written out.new) result.status }
     ensures ticks { (result.ticks ≡ 0) × (result.store_failures ≡ 0) }
     ensures write { result.status ≡ 7 → Rose (K.write_faults out.old) (K.write_faults out.new) }
-    ensures memory { stop_status stop.now ≡ 9 → (result.status ≡ 9) × (K.written out.new ≡ K.written out.old) }
+    ensures memory { stop_status stop.now ≡ 9
+        → (result.status ≡ 9) × (K.written out.new ≡ K.written out.old) }
 {
     let status = status_of_stop(stop);
     if status == 9 {
@@ -64,7 +67,8 @@ fn status_of_refusal(refusal: &SiteRefusal) -> u8
 
 fn write_stop<K: Sink>(stop: &Stop, out: &mut K) -> Result<(), Failed>
     ensures ok { OnOk result (Grows (K.written out.old) (K.written out.new) (stop_text stop.now)) }
-    ensures err { OnErr result (GrowsByFront (K.written out.old) (K.written out.new) (stop_text stop.now)) }
+    ensures err { OnErr result
+        (GrowsByFront (K.written out.old) (K.written out.new) (stop_text stop.now)) }
     ensures cause { HasCause (K.write_faults out.old) (K.write_faults out.new) result }
 {
     match stop {
@@ -78,8 +82,10 @@ fn write_stop<K: Sink>(stop: &Stop, out: &mut K) -> Result<(), Failed>
 }
 
 fn write_refusal<K: Sink>(refusal: &SiteRefusal, out: &mut K) -> Result<(), Failed>
-    ensures ok { OnOk result (Grows (K.written out.old) (K.written out.new) (refusal_text refusal.now)) }
-    ensures err { OnErr result (GrowsByFront (K.written out.old) (K.written out.new) (refusal_text refusal.now)) }
+    ensures ok { OnOk result
+        (Grows (K.written out.old) (K.written out.new) (refusal_text refusal.now)) }
+    ensures err { OnErr result
+        (GrowsByFront (K.written out.old) (K.written out.new) (refusal_text refusal.now)) }
     ensures cause { HasCause (K.write_faults out.old) (K.write_faults out.new) result }
 {
     match refusal {
@@ -105,8 +111,11 @@ fn write_refusal<K: Sink>(refusal: &SiteRefusal, out: &mut K) -> Result<(), Fail
 // A line with a key or a name of any length in it.
 #[tactic(auto, using(panel_edges::proofs::Growing::grows_more, panel_edges::proofs::Growing::front_more, panel_edges::proofs::Growing::front_longer))]
 fn write_named<K: Sink>(word: &str, name: &str, detail: &str, out: &mut K) -> Result<(), Failed>
-    ensures ok { OnOk result (Grows (K.written out.old) (K.written out.new) (named_text word.now name.now detail.now)) }
-    ensures err { OnErr result (GrowsByFront (K.written out.old) (K.written out.new) (named_text word.now name.now detail.now)) }
+    ensures ok { OnOk result
+        (Grows (K.written out.old) (K.written out.new) (named_text word.now name.now detail.now)) }
+    ensures err { OnErr result
+        (GrowsByFront (K.written out.old) (K.written out.new)
+        (named_text word.now name.now detail.now)) }
     ensures cause { HasCause (K.write_faults out.old) (K.write_faults out.new) result }
 {
     write_all(out, word.as_bytes())?;
@@ -116,8 +125,10 @@ fn write_named<K: Sink>(word: &str, name: &str, detail: &str, out: &mut K) -> Re
 
 // A line with a key and a number behind it.
 fn write_range<K: Sink>(key: &str, number: i64, out: &mut K) -> Result<(), Failed>
-    ensures ok { OnOk result (Grows (K.written out.old) (K.written out.new) (named_text (codes "refused site 5 ") key.now (codes " " ++ signed_decimal number ++ codes "\n"))) }
-    ensures err { OnErr result (GrowsByFront (K.written out.old) (K.written out.new) (named_text (codes "refused site 5 ") key.now (codes " " ++ signed_decimal number ++ codes "\n"))) }
+    ensures ok { OnOk result
+        (Grows (K.written out.old) (K.written out.new) (range_text key.now number)) }
+    ensures err { OnErr result
+        (GrowsByFront (K.written out.old) (K.written out.new) (range_text key.now number)) }
     ensures cause { HasCause (K.write_faults out.old) (K.write_faults out.new) result }
 {
     let detail = number_detail(number);
@@ -136,7 +147,8 @@ fn number_detail(number: i64) -> ArrayString<64>
 }
 
 fn crossing_line(panel: u8, line: u8, place: u8) -> ArrayString<64>
-    ensures { result.bytes ≡ codes "refused site 8 " ++ decimal panel ++ codes " " ++ decimal line ++ codes " " ++ decimal place ++ codes "\n" }
+    ensures { result.bytes ≡ codes "refused site 8 " ++ decimal panel ++ codes " " ++ decimal line
+        ++ codes " " ++ decimal place ++ codes "\n" }
 {
     let mut text = ArrayString::new();
     push_number(&mut text, "refused site 8 ", panel);

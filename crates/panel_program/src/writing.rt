@@ -4,7 +4,7 @@ ghost use Rattle.std.specs.Prelude.{◌≡◌, ◌≤◌, ◌++◌, length, OnEr
 ghost use Rattle.face_text.specs.Holding.{Puts};
 ghost use Rattle.panel_edges.specs.Contents.{Grows, GrowsByFront};
 ghost use Rattle.panel_edges.specs.Faults.{HasCause};
-ghost use Rattle.panel_program.specs.Lines.{opening_line as opening_words};
+ghost use Rattle.face_text.specs.Timelines.{opening_line as opening_words};
 ghost use Rattle.panel_program.specs.Ticks.{tick_text};
 ghost use Rattle.panel_program.specs.Zones.{changes_text, nothing_shown};
 
@@ -28,16 +28,19 @@ pub fn write_opening<K: Sink>(
     shown: Shown,
     out: &mut K,
 ) -> Result<(), Failed>
-    ensures ok { OnOk result (Grows (K.written out.old) (K.written out.new) (opening_words site.now ++ changes_text site.now nothing_shown shown)) }
-    ensures err { OnErr result (GrowsByFront (K.written out.old) (K.written out.new) (opening_words site.now ++ changes_text site.now nothing_shown shown)) }
+    ensures ok { OnOk result (Grows (K.written out.old) (K.written out.new) (opening_words site.now
+        ++ changes_text site.now nothing_shown shown)) }
+    ensures err { OnErr result
+        (GrowsByFront (K.written out.old) (K.written out.new) (opening_words site.now
+        ++ changes_text site.now nothing_shown shown)) }
     ensures cause { HasCause (K.write_faults out.old) (K.write_faults out.new) result }
 {
     let nothing = Shown { alarm: 0, first: 0 };
     write_under(page, &opening_line(site), site, nothing, shown, out)
 }
 
-/// Writes what the panel shows otherwise than before the tick, in one piece where it fits the page. Where it shows the same, nothing is
-/// written.
+/// Writes what the panel shows otherwise than before the tick, in one piece where it fits the page. Where it
+/// shows the same, nothing is written.
 pub fn write_tick<K: Sink>(
     page: &mut SoundMemorySink,
     site: &Site,
@@ -46,8 +49,11 @@ pub fn write_tick<K: Sink>(
     after: Shown,
     out: &mut K,
 ) -> Result<(), Failed>
-    ensures ok { OnOk result (Grows (K.written out.old) (K.written out.new) (tick_text site.now tick before after)) }
-    ensures err { OnErr result (GrowsByFront (K.written out.old) (K.written out.new) (tick_text site.now tick before after)) }
+    ensures ok { OnOk result
+        (Grows (K.written out.old) (K.written out.new) (tick_text site.now tick before after)) }
+    ensures err { OnErr result
+        (GrowsByFront (K.written out.old) (K.written out.new)
+        (tick_text site.now tick before after)) }
     ensures cause { HasCause (K.write_faults out.old) (K.write_faults out.new) result }
 {
     if before == after {
@@ -66,8 +72,11 @@ fn write_under<K: Sink>(
     out: &mut K,
 ) -> Result<(), Failed>
     requires { length line.now.bytes ≤ 64 }
-    ensures ok { OnOk result (Grows (K.written out.old) (K.written out.new) (line.now.bytes ++ changes_text site.now before after)) }
-    ensures err { OnErr result (GrowsByFront (K.written out.old) (K.written out.new) (line.now.bytes ++ changes_text site.now before after)) }
+    ensures ok { OnOk result
+        (Grows (K.written out.old) (K.written out.new) (line.now.bytes
+        ++ changes_text site.now before after)) }
+    ensures err { OnErr result (GrowsByFront (K.written out.old) (K.written out.new) (line.now.bytes
+        ++ changes_text site.now before after)) }
     ensures cause { HasCause (K.write_faults out.old) (K.write_faults out.new) result }
 {
     page.bytes.clear();
@@ -88,8 +97,11 @@ fn put_under<K: Sink>(
     out: &mut K,
 ) -> Result<(), Failed>
     requires { length line.now.bytes ≤ 64 }
-    ensures ok { OnOk result (Grows (K.written out.old) (K.written out.new) (line.now.bytes ++ changes_text site.now before after)) }
-    ensures err { OnErr result (GrowsByFront (K.written out.old) (K.written out.new) (line.now.bytes ++ changes_text site.now before after)) }
+    ensures ok { OnOk result
+        (Grows (K.written out.old) (K.written out.new) (line.now.bytes
+        ++ changes_text site.now before after)) }
+    ensures err { OnErr result (GrowsByFront (K.written out.old) (K.written out.new) (line.now.bytes
+        ++ changes_text site.now before after)) }
     ensures cause { HasCause (K.write_faults out.old) (K.write_faults out.new) result }
 {
     let mut held = Held::new();
@@ -106,7 +118,8 @@ fn put_changes<K: Sink>(
     held: &mut Held,
     out: &mut K,
 ) -> Result<(), Failed>
-    ensures text { Puts held.old held.new (K.written out.old) (K.written out.new) (changes_text site.now before after) result }
+    ensures text { Puts held.old held.new (K.written out.old) (K.written out.new)
+        (changes_text site.now before after) result }
     ensures cause { HasCause (K.write_faults out.old) (K.write_faults out.new) result }
 {
     push_changes(site, &before.face(), &after.face(), held, out)

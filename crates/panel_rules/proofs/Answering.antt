@@ -1,4 +1,5 @@
--- Each operation is answered once: those that are asked for, and not open any more, are the ones answered and those that wait.
+-- Each operation is answered once: those that are asked for, and not open any more, are the ones answered and
+-- those that wait.
 use Rattle.std.proofs.Common.{◌≡◌, ℕ, zero, suc, ◌+◌, ◌≤◌, List, [], ◌∷◌, Option, Some, None, slice_get, inl, inr, Bool, refl, ap, arith}
 use Rattle.std.specs.List.{AllByRecursion}
 use Rattle.site_types.specs.declared.event.Event.TheVariants.{Op, Point, Cable, Supply, Link, Confirmed}
@@ -14,18 +15,22 @@ abbrev pub times : (Request → Bool) → Operations → ℕ
 times test so_far = count (λ (a : Answered). test a.request) so_far.answers + count test so_far.waiting
 
 module _ (test : Request → Bool) where
-  times_reply : (request : Request) (so_far : Operations) (reply : Option Reply) → times test (after_reply request so_far reply) ≡ times test so_far + one (test request)
+  times_reply : (request : Request) (so_far : Operations) (reply : Option Reply)
+      → times test (after_reply request so_far reply) ≡ times test so_far + one (test request)
   times_reply request so_far None = let h = count-append test so_far.waiting (request ∷ []) in omega (arith, h)
   times_reply request so_far (Some reply) = omega arith
 
-  pub times_desk : (site : Site) (kept : Retained) (asked : List Request) (so_far : Operations) → times test (after_desk site kept asked so_far) ≡ times test so_far + count test asked
+  pub times_desk : (site : Site) (kept : Retained) (asked : List Request) (so_far : Operations)
+      → times test (after_desk site kept asked so_far) ≡ times test so_far + count test asked
   times_desk site kept [] so_far = omega arith
   times_desk site kept (request ∷ asked) so_far =
       let ih = times_desk site kept asked (after_request site kept so_far request) in
       let here = times_reply request so_far (desk_reply site kept request so_far) in
       omega (arith, ih, here)
 
-  times_all : (tick : ℕ) (failed : Bool) (waiting : List Request) (answers : List Answered) → count (λ (a : Answered). test a.request) (answer_all tick failed waiting answers) ≡ count (λ (a : Answered). test a.request) answers + count test waiting
+  times_all : (tick : ℕ) (failed : Bool) (waiting : List Request) (answers : List Answered)
+      → count (λ (a : Answered). test a.request) (answer_all tick failed waiting answers) ≡ count (λ (a : Answered). test a.request) answers + count
+      test waiting
   times_all tick failed [] answers = omega arith
   times_all tick failed (request ∷ waiting) answers =
       let ih = times_all tick failed waiting (record { request = request; tick = tick; reply = keep_reply failed } ∷ answers) in omega (arith, ih)
@@ -58,7 +63,8 @@ numbered_by_place site (Began ∷ before) k r is = numbered_by_place site before
 numbered_by_place site (Happened (Op panel code operation) ∷ before) k r is =
     elim (get_either (requests site before) _ k r is) [
       | inl g ↦ numbered_by_place site before k r g
-      | inr g ↦ (let only = only_item _ r g.place g.is in let same = ap (λ (x : Request). x.number) only.1 in let far = g.far in let here = only.0 in omega (arith, far, here, same))
+      | inr g ↦ (let only = only_item _ r g.place g.is in let same = ap (λ (x : Request). x.number) only.1 in let far = g.far in let here = only.0 in
+          omega (arith, far, here, same))
     ]
 numbered_by_place site (Happened (Point point state) ∷ before) k r is = numbered_by_place site before k r is
 numbered_by_place site (Happened (Cable panel line piece state) ∷ before) k r is = numbered_by_place site before k r is

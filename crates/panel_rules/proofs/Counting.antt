@@ -19,12 +19,14 @@ pub count-filter : {X : Type 0} (test among : X → Bool) (xs : List X) → coun
 count-filter test among [] = refl
 count-filter test among (x ∷ xs) = go (among x) (count-filter test among xs)
   where
-    go : (b : Bool) → count test (filter among xs) ≡ count (λ x. among x && test x) xs → count test (if b then x ∷ filter among xs else filter among xs) ≡ one (b && test x) + count (λ x. among x && test x) xs
+    go : (b : Bool) → count test (filter among xs) ≡ count (λ x. among x && test x) xs
+        → count test (if b then x ∷ filter among xs else filter among xs) ≡ one (b && test x) + count (λ x. among x && test x) xs
     go true ih = omega (arith, ih)
     go false ih = omega (arith, ih)
 
 -- two tests count together as a third one, item by item
-pub count-sum : {X : Type 0} (first second sum : X → Bool) (xs : List X) → ((x : X) → one (first x) + one (second x) ≡ one (sum x)) → count first xs + count second xs ≡ count sum xs
+pub count-sum : {X : Type 0} (first second sum : X → Bool) (xs : List X) → ((x : X) → one (first x) + one (second x) ≡ one (sum x))
+    → count first xs + count second xs ≡ count sum xs
 count-sum first second sum [] each = refl
 count-sum first second sum (x ∷ xs) each = let ih = count-sum first second sum xs each in let here = each x in omega (arith, ih, here)
 
@@ -50,10 +52,12 @@ counted test (x ∷ xs) l = go (test x) refl (counted test xs)
   where
     go : (b : Bool) → test x ≡ b → (1 ≤ count test xs → IsCounted test xs) → IsCounted test (x ∷ xs)
     go true e ih = record { place = 0; item = x; is = refl; passes = e }
-    go false e ih = let g = ih (let h = l in let z = ap one e in omega (arith, h, z)) in record { place = suc g.place; item = g.item; is = g.is; passes = g.passes }
+    go false e ih = let g = ih (let h = l in let z = ap one e in omega (arith, h, z)) in
+        record { place = suc g.place; item = g.item; is = g.is; passes = g.passes }
 
 -- where at most one item passes, two places that pass are one
-pub one_place : {X : Type 0} (test : X → Bool) (xs : List X) (i j : ℕ) (a b : X) → count test xs ≤ 1 → slice_get xs i ≡ Some a → slice_get xs j ≡ Some b → test a ≡ true → test b ≡ true → i ≡ j
+pub one_place : {X : Type 0} (test : X → Bool) (xs : List X) (i j : ℕ) (a b : X) → count test xs ≤ 1 → slice_get xs i ≡ Some a
+    → slice_get xs j ≡ Some b → test a ≡ true → test b ≡ true → i ≡ j
 one_place test [] i j a b few e f s t = cc
 one_place test (x ∷ xs) zero zero a b few e f s t = refl
 one_place test (x ∷ xs) zero (suc j) a b few e f s t =
@@ -90,7 +94,8 @@ each_more P [] x all here = (here, tt)
 each_more P (y ∷ xs) x all here = (all.0, each_more P xs x all.1 here)
 
 -- of the items that a filter lets through
-pub each_filtered : {X : Type 0} (P : X → Type 0) (among : X → Bool) (xs : List X) → ((k : ℕ) (x : X) → slice_get xs k ≡ Some x → among x ≡ true → P x) → AllByRecursion P (filter among xs)
+pub each_filtered : {X : Type 0} (P : X → Type 0) (among : X → Bool) (xs : List X)
+    → ((k : ℕ) (x : X) → slice_get xs k ≡ Some x → among x ≡ true → P x) → AllByRecursion P (filter among xs)
 each_filtered P among [] at = tt
 each_filtered P among (x ∷ xs) at = go (among x) refl (each_filtered P among xs (λ k y h t. at (suc k) y h t))
   where

@@ -54,10 +54,13 @@ pub record Lies (put taken now : ℕ) (giver taker : Bool) : Type 0 where
   pub few : now + owed giver ≤ 32
 
 -- the turn of a panel that has another name
-pub of_panel : (other panel : ℕ) (task : Task) (before : List Moment) → other ≡ panel → has_turned other task before ≡ false → has_turned panel task before ≡ false
+pub of_panel : (other panel : ℕ) (task : Task) (before : List Moment) → other ≡ panel → has_turned other task before ≡ false
+    → has_turned panel task before ≡ false
 of_panel other panel task before e h = subst (λ p. has_turned p task before ≡ false) e h
 
-pub answers_lie : (site : Site) (panels panel : ℕ) (before : List Moment) → IsPanel panels panel → IsRun panels before → Lies (answer_count site panel before) (taken_by_decide site panel before) (put_by_poll site panel before) (has_turned panel Poll before) (has_turned panel Decide before)
+pub answers_lie : (site : Site) (panels panel : ℕ) (before : List Moment) → IsPanel panels panel → IsRun panels before
+    → Lies (answer_count site panel before) (taken_by_decide site panel before) (put_by_poll site panel before) (has_turned panel Poll before)
+    (has_turned panel Decide before)
 answers_lie site panels panel [] p run = record { lies = omega arith; few = omega arith }
 answers_lie site panels panel (Began ∷ before) p run =
     let ih = answers_lie site panels panel before p run.0 in
@@ -86,7 +89,9 @@ answers_lie site panels panel (Turned other Decide ∷ before) p run =
 answers_lie site panels panel (Turned other task ∷ before) p run = answers_lie site panels panel before p run.0
 answers_lie site panels panel (Kept failed ∷ before) p run = answers_lie site panels panel before p run.0
 
-pub findings_lie : (site : Site) (panels panel : ℕ) (before : List Moment) → IsPanel panels panel → IsRun panels before → Lies (taken_by_decide site panel before) (taken_by_hold site panel before) (put_by_decide site panel before) (has_turned panel Decide before) (has_turned panel Hold before)
+pub findings_lie : (site : Site) (panels panel : ℕ) (before : List Moment) → IsPanel panels panel → IsRun panels before
+    → Lies (taken_by_decide site panel before) (taken_by_hold site panel before) (put_by_decide site panel before) (has_turned panel Decide before)
+    (has_turned panel Hold before)
 findings_lie site panels panel [] p run = record { lies = omega arith; few = omega arith }
 findings_lie site panels panel (Began ∷ before) p run =
     let ih = findings_lie site panels panel before p run.0 in
@@ -116,9 +121,11 @@ findings_lie site panels panel (Turned other task ∷ before) p run = findings_l
 findings_lie site panels panel (Kept failed ∷ before) p run = findings_lie site panels panel before p run.0
 
 -- at most 32 answers a tick
-pub answers_few : (site : Site) (panels panel : ℕ) (before : List Moment) → IsPanel panels panel → IsRun panels before → answer_count site panel before + owed (has_turned panel Poll before) ≤ 32 * tick_of before
+pub answers_few : (site : Site) (panels panel : ℕ) (before : List Moment) → IsPanel panels panel → IsRun panels before
+    → answer_count site panel before + owed (has_turned panel Poll before) ≤ 32 * tick_of before
 answers_few site panels panel [] p run = omega arith
-answers_few site panels panel (Began ∷ before) p run = let ih = rw (run.1.each panel Poll p tt) at (answers_few site panels panel before p run.0) in omega (arith, ih)
+answers_few site panels panel (Began ∷ before) p run = let ih = rw (run.1.each panel Poll p tt) at (answers_few site panels panel before p run.0) in
+    omega (arith, ih)
 answers_few site panels panel (Happened event ∷ before) p run = answers_few site panels panel before p run.0
 answers_few site panels panel (Turned other Poll ∷ before) p run =
     elim (eqb_tells other panel) [

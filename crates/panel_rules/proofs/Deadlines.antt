@@ -20,34 +20,43 @@ use Rattle.panel_rules.proofs.InAlarm.{signal_holds, hand_holds, out_holds}
 use Rattle.panel_rules.proofs.Causes.{alarm_caused, hand_caused, released_caused}
 
 -- what is due has settled the signal's ticks ago, however it is due
-pub settled_by : (site : Site) (kept : Retained) (done : List Done) (moments : List Moment) (zone panel settled : ℕ) → IsDueAfter site kept done moments zone panel settled → settled + signal_of site.format ≤ tick_of moments
+pub settled_by : (site : Site) (kept : Retained) (done : List Done) (moments : List Moment) (zone panel settled : ℕ)
+    → IsDueAfter site kept done moments zone panel settled → settled + signal_of site.format ≤ tick_of moments
 settled_by site kept done moments zone panel settled (own at l) = l
 settled_by site kept done moments zone panel settled (by_way first last from by ends joined) = omega (arith, from, by)
 
 -- after a tick Hold's latest turn is of that tick
-held_now : (site : Site) (moments : List Moment) (zone : ℕ) → IsAfterTick site moments zone → latest_turn (panel_of_zone site zone) Hold moments ≡ tick_of moments
+held_now : (site : Site) (moments : List Moment) (zone : ℕ) → IsAfterTick site moments zone
+    → latest_turn (panel_of_zone site zone) Hold moments ≡ tick_of moments
 held_now site moments zone after =
-    let lag = rw (after.ended.each (panel_of_zone site zone) Hold after.panel tt) at (turn_lag site.panels (panel_of_zone site zone) Hold moments after.panel tt after.run) in
+    let lag =
+    rw (after.ended.each (panel_of_zone site zone) Hold after.panel tt) at
+    (turn_lag site.panels (panel_of_zone site zone) Hold moments after.panel tt after.run) in
     omega (arith, lag)
 
-in_time : (site : Site) (kept : Retained) (done : List Done) (moments : List Moment) (zone settled : ℕ) → IsAfterTick site moments zone → IsDueAfter site kept done moments zone (panel_of_zone site zone) settled → settled + round_of site.format + 1 ≤ latest_turn (panel_of_zone site zone) Hold moments
+in_time : (site : Site) (kept : Retained) (done : List Done) (moments : List Moment) (zone settled : ℕ) → IsAfterTick site moments zone
+    → IsDueAfter site kept done moments zone (panel_of_zone site zone) settled
+    → settled + round_of site.format + 1 ≤ latest_turn (panel_of_zone site zone) Hold moments
 in_time site kept done moments zone settled after late =
     let format = after.valid.forms.format.0 in
     omega (arith, settled_by site kept done moments zone (panel_of_zone site zone) settled late, held_now site moments zone after, format)
 
 pub own_shown : OwnZoneIsShown
 own_shown site kept done moments zone after due =
-    signal_holds site kept done moments moments (panel_of_zone site zone) zone (laid_out site after.valid) after.run present after.panel refl due.settled due.signal
+    signal_holds site kept done moments moments (panel_of_zone site zone) zone (laid_out site after.valid) after.run present after.panel refl
+    due.settled due.signal
     (in_time site kept done moments zone due.settled after due.late)
 
 pub own_released : OwnZoneIsReleased
 own_released site kept done moments zone after due =
-    out_holds site kept done moments moments (panel_of_zone site zone) zone (laid_out site after.valid) after.run present after.panel refl due.settled due.signal
+    out_holds site kept done moments moments (panel_of_zone site zone) zone (laid_out site after.valid) after.run present after.panel refl due.settled
+    due.signal
     (in_time site kept done moments zone due.settled after due.late)
 
 pub own_by_hand : OwnZoneIsByHand
 own_by_hand site kept done moments zone after due =
-    hand_holds site kept done moments moments (panel_of_zone site zone) zone (laid_out site after.valid) after.run present after.panel refl due.settled due.signal
+    hand_holds site kept done moments moments (panel_of_zone site zone) zone (laid_out site after.valid) after.run present after.panel refl
+    due.settled due.signal
     (in_time site kept done moments zone due.settled after due.late)
 
 pub own_caused : OwnZoneIsCaused
@@ -62,7 +71,9 @@ own_release_caused site kept done moments zone run panel h = released_caused sit
 pub lone_shown : LoneSignalIsShown
 lone_shown site kept done moments zone after s = go (holds_alarm site kept done (panel_of_zone site zone) moments zone) refl
   where
-    go : (b : Bool) → holds_alarm site kept done (panel_of_zone site zone) moments zone ≡ b → (holds_alarm site kept done (panel_of_zone site zone) moments zone ≡ true) ⊎ (holds_first site kept done (panel_of_zone site zone) moments zone ≡ true)
+    go : (b : Bool) → holds_alarm site kept done (panel_of_zone site zone) moments zone ≡ b
+        → (holds_alarm site kept done (panel_of_zone site zone) moments zone ≡ true)
+        ⊎ (holds_first site kept done (panel_of_zone site zone) moments zone ≡ true)
     go true e = inl e
     go false e =
         let panel = panel_of_zone site zone in
@@ -71,7 +82,9 @@ lone_shown site kept done moments zone after s = go (holds_alarm site kept done 
         let now = held_now site moments zone after in
         let format = after.valid.forms.format.0 in
         let at = at_panel site zone panel s.point (laid_out site after.valid) s.of_zone refl in
-        let c = round_counts site kept done moments moments panel after.run present after.panel s.point s.first (laid_out site after.valid) at s.begins (omega (arith, s.late, now, format)) s.held in
+        let c =
+        round_counts site kept done moments moments panel after.run present after.panel s.point s.first (laid_out site after.valid) at s.begins
+        (omega (arith, s.late, now, format)) s.held in
         let floor = none_since (moves_floor site zone) s.first (tick_of moments) held done s.begins (omega (arith, now)) s.floor in
         let cancelling = none_since (cancels zone) s.first (tick_of moments) held done s.begins (omega (arith, now)) s.cancelling in
         let after_floor : floor_before site zone held done < c.answer.stamp.0 = omega (arith, floor, c.from) in
@@ -79,5 +92,8 @@ lone_shown site kept done moments zone after s = go (holds_alarm site kept done 
         let tells : tells_first site kept done s.within zone held c.answer ≡ true =
         both _ _
         (both _ _ (both _ _ (ap (λ q. is_of site zone q) c.point_is ∙ s.of_zone) (ap (λ q. is_detector site q) c.point_is ∙ s.detects)) c.counts)
-        (both _ _ (both _ _ (lt_to (floor_before site zone held done) c.answer.stamp.0 after_floor) (lt_to (cancelled_before zone held done) c.answer.stamp.0 after_cancelling)) (le_to held (c.answer.stamp.0 + s.within) (omega (arith, s.window, c.from, now)))) in
+        (both _ _
+        (both _ _ (lt_to (floor_before site zone held done) c.answer.stamp.0 after_floor)
+        (lt_to (cancelled_before zone held done) c.answer.stamp.0 after_cancelling))
+        (le_to held (c.answer.stamp.0 + s.within) (omega (arith, s.window, c.from, now)))) in
         inr (ap (λ r. is_first_by site kept done xs zone held r) s.rule ∙ both _ _ (not_true _ e) (any_at (tells_first site kept done s.within zone held) xs c.place c.answer c.is tells))

@@ -12,12 +12,14 @@ use Rattle.panel_rules.specs.Markers.{Facts, hand_facts}
 use Rattle.panel_rules.specs.Outputs.{is_true_over, panel_of_output, is_requested, is_requested_by_hand, asked_run, released_at_effect, released_at_drive, stays_within, silence_holds, goes_on, on_run}
 
 -- two ways to make something of a turn give the same where they do for all that came before
-made_same : {X : Type 0} (none : X) (panel : ℕ) (task : Task) (f g : List Moment → X) (m : List Moment) → ((b : List Moment) → length b < length m → f b ≡ g b) → made_latest none panel task f m ≡ made_latest none panel task g m
+made_same : {X : Type 0} (none : X) (panel : ℕ) (task : Task) (f g : List Moment → X) (m : List Moment)
+    → ((b : List Moment) → length b < length m → f b ≡ g b) → made_latest none panel task f m ≡ made_latest none panel task g m
 made_same none panel task f g [] h = refl
 made_same none panel task f g (Began ∷ before) h = made_same none panel task f g before (λ b l. h b (omega (arith, l)))
 made_same none panel task f g (Happened event ∷ before) h = made_same none panel task f g before (λ b l. h b (omega (arith, l)))
 made_same none panel task f g (Turned other_panel other ∷ before) h =
-    elim (is_turn panel task other_panel other) as (λ t. (if t then f before else made_latest none panel task f before) ≡ (if t then g before else made_latest none panel task g before)) [
+    elim (is_turn panel task other_panel other) as (λ t. (if t then f before else made_latest none panel task f before)
+    ≡ (if t then g before else made_latest none panel task g before)) [
       | true ↦ h before (omega arith)
       | false ↦ made_same none panel task f g before (λ b l. h b (omega (arith, l)))
     ]
@@ -31,37 +33,47 @@ up_to_short tick (moment ∷ before) =
       | false ↦ (let ih = up_to_short tick before in omega (arith, ih))
     ]
 
-module _ (site : Site) (one other : ℕ → List Moment → Facts) (n : ℕ) (agree : (panel : ℕ) (b : List Moment) → length b < n → one panel b ≡ other panel b) where
+module _ (site : Site) (one other : ℕ → List Moment → Facts) (n : ℕ) (agree : (panel : ℕ) (b : List Moment) → length b < n
+    → one panel b ≡ other panel b) where
   requested_same : (output : ℕ) (m : List Moment) → length m ≤ n → is_requested site one output m ≡ is_requested site other output m
   requested_same output m l =
-      made_same false (panel_of_output site output) Effect (λ before. is_true_over site output (one (panel_of_output site output) before)) (λ before. is_true_over site output (other (panel_of_output site output) before)) m
+      made_same false (panel_of_output site output) Effect (λ before. is_true_over site output (one (panel_of_output site output) before))
+      (λ before. is_true_over site output (other (panel_of_output site output) before)) m
       (λ b s. ap (is_true_over site output) (agree (panel_of_output site output) b (omega (arith, l, s))))
 
   hand_same : (output : ℕ) (m : List Moment) → length m ≤ n → is_requested_by_hand site one output m ≡ is_requested_by_hand site other output m
   hand_same output m l =
-      made_same false (panel_of_output site output) Effect (λ before. is_true_over site output (hand_facts (one (panel_of_output site output) before))) (λ before. is_true_over site output (hand_facts (other (panel_of_output site output) before))) m
+      made_same false (panel_of_output site output) Effect
+      (λ before. is_true_over site output (hand_facts (one (panel_of_output site output) before)))
+      (λ before. is_true_over site output (hand_facts (other (panel_of_output site output) before))) m
       (λ b s. ap (λ f. is_true_over site output (hand_facts f)) (agree (panel_of_output site output) b (omega (arith, l, s))))
 
   run_same : (output : ℕ) (m : List Moment) → length m ≤ n → asked_run site one output m ≡ asked_run site other output m
   run_same output [] l = refl
   run_same output (Began ∷ before) l = run_same output before (omega (arith, l))
   run_same output (Happened event ∷ before) l = run_same output before (omega (arith, l))
-  run_same output (Turned panel Drive ∷ before) l = rw (requested_same output before (omega (arith, l)), run_same output before (omega (arith, l))) refl
+  run_same output (Turned panel Drive ∷ before) l =
+      rw (requested_same output before (omega (arith, l)), run_same output before (omega (arith, l))) refl
   run_same output (Turned panel task ∷ before) l = run_same output before (omega (arith, l))
   run_same output (Kept failed ∷ before) l = run_same output before (omega (arith, l))
 
   released_same : (panel : ℕ) (m : List Moment) → length m ≤ n → released_at_effect site one panel m ≡ released_at_effect site other panel m
   released_same panel m l =
-      made_same (λ zone. false) panel Effect (λ before. (one panel before).released) (λ before. (other panel before).released) m (λ b s. ap (λ (f : Facts). f.released) (agree panel b (omega (arith, l, s))))
+      made_same (λ zone. false) panel Effect (λ before. (one panel before).released) (λ before. (other panel before).released) m
+      (λ b s. ap (λ (f : Facts). f.released) (agree panel b (omega (arith, l, s))))
 
   driven_same : (panel : ℕ) (m : List Moment) → length m ≤ n → released_at_drive site one panel m ≡ released_at_drive site other panel m
-  driven_same panel m l = made_same (λ zone. false) panel Drive (released_at_effect site one panel) (released_at_effect site other panel) m (λ b s. released_same panel b (omega (arith, l, s)))
+  driven_same panel m l =
+      made_same (λ zone. false) panel Drive (released_at_effect site one panel) (released_at_effect site other panel) m
+      (λ b s. released_same panel b (omega (arith, l, s)))
 
-  within_same : (panel since : ℕ) (zones : ℕ → Bool) (m : List Moment) → length m ≤ n → stays_within site one panel since zones m ≡ stays_within site other panel since zones m
+  within_same : (panel since : ℕ) (zones : ℕ → Bool) (m : List Moment) → length m ≤ n
+      → stays_within site one panel since zones m ≡ stays_within site other panel since zones m
   within_same panel since zones [] l = refl
   within_same panel since zones (Began ∷ before) l = within_same panel since zones before (omega (arith, l))
   within_same panel since zones (Happened event ∷ before) l = within_same panel since zones before (omega (arith, l))
-  within_same panel since zones (Turned who Drive ∷ before) l = rw (released_same panel before (omega (arith, l)), within_same panel since zones before (omega (arith, l))) refl
+  within_same panel since zones (Turned who Drive ∷ before) l =
+      rw (released_same panel before (omega (arith, l)), within_same panel since zones before (omega (arith, l))) refl
   within_same panel since zones (Turned who task ∷ before) l = within_same panel since zones before (omega (arith, l))
   within_same panel since zones (Kept failed ∷ before) l = within_same panel since zones before (omega (arith, l))
 
@@ -72,12 +84,15 @@ module _ (site : Site) (one other : ℕ → List Moment → Facts) (n : ℕ) (ag
       ∙ within_same panel tick (released_at_drive site other panel (up_to tick m)) m l
 
   module _ (kept : Retained) (done : List Done) where
-    goes_same : (output : ℕ) (before : List Moment) → length before < n → goes_on site one kept done output before ≡ goes_on site other kept done output before
+    goes_same : (output : ℕ) (before : List Moment) → length before < n
+        → goes_on site one kept done output before ≡ goes_on site other kept done output before
     goes_same output before l =
         let asked = requested_same output before (omega (arith, l)) in
         let hand = hand_same output before (omega (arith, l)) in
         let run = run_same output before (omega (arith, l)) in
-        let quiet = silence_same (panel_of_output site output) (Turned (panel_of_output site output) Drive ∷ before) (silence_before (panel_of_output site output) (tick_of before) done) (omega (arith, l)) in
+        let quiet =
+        silence_same (panel_of_output site output) (Turned (panel_of_output site output) Drive ∷ before)
+        (silence_before (panel_of_output site output) (tick_of before) done) (omega (arith, l)) in
         rw (asked, hand, run, quiet) refl
 
     pub on_same : (output : ℕ) (m : List Moment) → length m ≤ n → on_run site one kept done output m ≡ on_run site other kept done output m

@@ -28,10 +28,14 @@ le_from a b h = elim (leb_tells a b) [ inl t ↦ t.1 | inr t ↦ (let e = t.0 in
     differ false p q = cc
 
 -- one that was done before x lies before the span
-outside : (test : Done → Bool) (first last x : ℕ) (d : Done) → x ≤ last → not (test d && (nat_le first d.tick && nat_lt d.tick last)) ≡ true → test d ≡ true → d.tick < x → d.tick < first
+outside : (test : Done → Bool) (first last x : ℕ) (d : Done) → x ≤ last → not (test d && (nat_le first d.tick && nat_lt d.tick last)) ≡ true
+    → test d ≡ true → d.tick < x → d.tick < first
 outside test first last x d l h t b =
     elim (leb_tells first d.tick) [
-      | inl f ↦ absurd (never (test d && (nat_le first d.tick && nat_lt d.tick last)) (not_false _ h) (both _ _ t (both _ _ f.0 (lt_to d.tick last (omega (arith, b, l))))))
+      | inl f ↦
+          absurd
+          (never (test d && (nat_le first d.tick && nat_lt d.tick last)) (not_false _ h)
+          (both _ _ t (both _ _ f.0 (lt_to d.tick last (omega (arith, b, l))))))
       | inr f ↦ f.1
     ]
   where
@@ -39,12 +43,14 @@ outside test first last x d l h t b =
     never true p q = cc
     never false p q = cc
 
-pub none_since : (test : Done → Bool) (first last x : ℕ) (done : List Done) → 1 ≤ first → x ≤ last → none_in test first last done ≡ true → latest_before test x done < first
+pub none_since : (test : Done → Bool) (first last x : ℕ) (done : List Done) → 1 ≤ first → x ≤ last → none_in test first last done ≡ true
+    → latest_before test x done < first
 none_since test first last x [] one l h = omega arith
 none_since test first last x (d ∷ ds) one l h =
     let p = parts _ _ h in
     go (test d && nat_lt d.tick x) refl (outside test first last x d l p.0) (none_since test first last x ds one l p.1)
   where
-    go : (b : Bool) → (test d && nat_lt d.tick x) ≡ b → (test d ≡ true → d.tick < x → d.tick < first) → latest_before test x ds < first → (if b then max d.tick (latest_before test x ds) else latest_before test x ds) < first
+    go : (b : Bool) → (test d && nat_lt d.tick x) ≡ b → (test d ≡ true → d.tick < x → d.tick < first) → latest_before test x ds < first
+        → (if b then max d.tick (latest_before test x ds) else latest_before test x ds) < first
     go true e out ih = let q = parts _ _ e in let o = out q.0 (lt_from d.tick x q.1) in omega (arith, o, ih)
     go false e out ih = ih

@@ -25,7 +25,8 @@ pub any_front : {X : Type 0} (test : X → Bool) (n : ℕ) (xs : List X) → lis
 any_front test n xs h = let g = at_any test (take n xs) h in any_at test xs g.place g.item (take_get n xs g.place g.item g.is).1 g.passes
 
 -- a pair stays one for a test that follows from another
-pub pairs_follow : (site : Site) (zone point : ℕ) (test other : ℕ → Bool) → ((z : ℕ) → test z ≡ true → other z ≡ true) → pairs_up site zone point test ≡ true → pairs_up site zone point other ≡ true
+pub pairs_follow : (site : Site) (zone point : ℕ) (test other : ℕ → Bool) → ((z : ℕ) → test z ≡ true → other z ≡ true)
+    → pairs_up site zone point test ≡ true → pairs_up site zone point other ≡ true
 pairs_follow site zone point test other to h =
     let own = is_of site zone point in
     let partner = on_partner site zone (λ z. is_of site z point) in
@@ -43,9 +44,11 @@ pairs_follow site zone point test other to h =
           either_right (own && (other zone || on_partner site zone other)) (partner && other zone) (both partner (other zone) p.0 (to zone p.1)))
     ]
 
-module _ (site : Site) (kept : Retained) (done : List Done) (ys : List Answer) (order : AreInOrder ys) (n k : ℕ) (answer : Answer) (is : slice_get (take n ys) k ≡ Some answer) where
+module _ (site : Site) (kept : Retained) (done : List Done) (ys : List Answer) (order : AreInOrder ys) (n k : ℕ) (answer : Answer) (is :
+    slice_get (take n ys) k ≡ Some answer) where
   -- an answer behind the front is stamped later, or of another point
-  in_front : (first j : ℕ) (other : Answer) → slice_get ys j ≡ Some other → is_between answer.point first answer.stamp.0 other ≡ true → slice_get (take n ys) j ≡ Some other
+  in_front : (first j : ℕ) (other : Answer) → slice_get ys j ≡ Some other → is_between answer.point first answer.stamp.0 other ≡ true
+      → slice_get (take n ys) j ≡ Some other
   in_front first j other at between =
       let here = take_get n ys k answer is in
       let b = parts (other.point == answer.point) (nat_le first other.stamp.0 && nat_le other.stamp.0 answer.stamp.0) between in
@@ -60,25 +63,31 @@ module _ (site : Site) (kept : Retained) (done : List Done) (ys : List Answer) (
         | inr l ↦ get_take n ys j other l.1 at
       ]
 
-  throughout_grows : (first : ℕ) → counts_throughout site kept done (take n ys) answer.point first answer.stamp.0 ≡ true → counts_throughout site kept done ys answer.point first answer.stamp.0 ≡ true
+  throughout_grows : (first : ℕ) → counts_throughout site kept done (take n ys) answer.point first answer.stamp.0 ≡ true
+      → counts_throughout site kept done ys answer.point first answer.stamp.0 ≡ true
   throughout_grows first h = all_by _ ys each
     where
-      each : (j : ℕ) (other : Answer) → slice_get ys j ≡ Some other → (not (is_between answer.point first answer.stamp.0 other) || is_counted site kept done other) ≡ true
+      each : (j : ℕ) (other : Answer) → slice_get ys j ≡ Some other
+          → (not (is_between answer.point first answer.stamp.0 other) || is_counted site kept done other) ≡ true
       each j other at = go (is_between answer.point first answer.stamp.0 other) refl
         where
           go : (b : Bool) → is_between answer.point first answer.stamp.0 other ≡ b → (not b || is_counted site kept done other) ≡ true
           go false e = refl
           go true e =
-              let test : (not (is_between answer.point first answer.stamp.0 other) || is_counted site kept done other) ≡ true = all_at (λ o. not (is_between answer.point first answer.stamp.0 o) || is_counted site kept done o) (take n ys) j other h (in_front first j other at e) in
+              let test : (not (is_between answer.point first answer.stamp.0 other) || is_counted site kept done other) ≡ true =
+              all_at (λ o. not (is_between answer.point first answer.stamp.0 o) || is_counted site kept done o) (take n ys) j other h
+              (in_front first j other at e) in
               sym (ap (λ b. not b || is_counted site kept done other) e) ∙ test
 
-  verified_grows : (verify zone : ℕ) → is_verified site kept done (take n ys) verify zone answer ≡ true → is_verified site kept done ys verify zone answer ≡ true
+  verified_grows : (verify zone : ℕ) → is_verified site kept done (take n ys) verify zone answer ≡ true
+      → is_verified site kept done ys verify zone answer ≡ true
   verified_grows verify zone h =
       let g = at_any _ (take n ys) h in
       let p = parts _ _ g.passes in
       any_at _ ys g.place g.item (take_get n ys g.place g.item g.is).1 (both _ _ p.0 (throughout_grows g.item.stamp.0 p.1))
 
-  coincides_grows : (zone : ℕ) (rule : Option Rule) → coincides site kept done (take n ys) zone rule answer ≡ true → coincides site kept done ys zone rule answer ≡ true
+  coincides_grows : (zone : ℕ) (rule : Option Rule) → coincides site kept done (take n ys) zone rule answer ≡ true
+      → coincides site kept done ys zone rule answer ≡ true
   coincides_grows zone None h = h
   coincides_grows zone (Some Plain) h = h
   coincides_grows zone (Some (A verify within)) h =
@@ -93,7 +102,8 @@ module _ (site : Site) (kept : Retained) (done : List Done) (ys : List Answer) (
         | inr v ↦ either_right whole nears (any_front (is_near site kept done within zone answer) n ys v)
       ])
   coincides_grows zone (Some (B within)) h =
-      pairs_follow site zone answer.point (λ near. list_any (is_uncancelled site kept done within near answer) (take n ys)) (λ near. list_any (is_uncancelled site kept done within near answer) ys)
+      pairs_follow site zone answer.point (λ near. list_any (is_uncancelled site kept done within near answer) (take n ys))
+      (λ near. list_any (is_uncancelled site kept done within near answer) ys)
       (λ z t. any_front (is_uncancelled site kept done within z answer) n ys t) h
   coincides_grows zone (Some C) h = h
 
@@ -105,9 +115,11 @@ module _ (site : Site) (kept : Retained) (done : List Done) (ys : List Answer) (
       let rule = rule_of (slice_get site.zones zone) in
       let front = coincides site kept done (take n ys) zone rule answer in
       let whole = coincides site kept done ys zone rule answer in
-      and_to counts (call || (detects && front)) (call || (detects && whole)) (or_to call (detects && front) (detects && whole) (and_to detects front whole (coincides_grows zone rule))) h
+      and_to counts (call || (detects && front)) (call || (detects && whole))
+      (or_to call (detects && front) (detects && whole) (and_to detects front whole (coincides_grows zone rule))) h
 
-  releases_by_grows : (zone : ℕ) (rule : Option Rule) → releases_by site kept done (take n ys) zone rule answer ≡ true → releases_by site kept done ys zone rule answer ≡ true
+  releases_by_grows : (zone : ℕ) (rule : Option Rule) → releases_by site kept done (take n ys) zone rule answer ≡ true
+      → releases_by site kept done ys zone rule answer ≡ true
   releases_by_grows zone None h = confirms_grows zone h
   releases_by_grows zone (Some Plain) h = confirms_grows zone h
   releases_by_grows zone (Some (A verify within)) h = confirms_grows zone h
@@ -117,7 +129,8 @@ module _ (site : Site) (kept : Retained) (done : List Done) (ys : List Answer) (
       let whole = pairs_up site zone answer.point (λ z. list_any (is_second site kept done z answer) ys) in
       or_to (calls site kept done zone answer) (is_counted site kept done answer && front) (is_counted site kept done answer && whole)
       (and_to (is_counted site kept done answer) front whole
-      (pairs_follow site zone answer.point (λ z. list_any (is_second site kept done z answer) (take n ys)) (λ z. list_any (is_second site kept done z answer) ys)
+      (pairs_follow site zone answer.point (λ z. list_any (is_second site kept done z answer) (take n ys))
+      (λ z. list_any (is_second site kept done z answer) ys)
       (λ z t. any_front (is_second site kept done z answer) n ys t)))
       h
 

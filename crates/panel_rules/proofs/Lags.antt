@@ -15,7 +15,8 @@ use Rattle.panel_rules.proofs.Turns.{turn_lag}
 use Rattle.panel_rules.proofs.Counts.{decide_behind, hold_behind, answers_lie, findings_lie, of_panel}
 
 -- no answer is stamped later than now
-pub stamped_by : (site : Site) (panel : ℕ) (before : List Moment) (k : ℕ) (a : Answer) → slice_get (answers site panel before) k ≡ Some a → a.stamp.0 ≤ tick_of before
+pub stamped_by : (site : Site) (panel : ℕ) (before : List Moment) (k : ℕ) (a : Answer) → slice_get (answers site panel before) k ≡ Some a
+    → a.stamp.0 ≤ tick_of before
 stamped_by site panel [] k a h = cc
 stamped_by site panel (Began ∷ before) k a h = omega (arith, stamped_by site panel before k a h)
 stamped_by site panel (Happened event ∷ before) k a h = stamped_by site panel before k a h
@@ -33,7 +34,8 @@ stamped_by site panel (Turned other task ∷ before) k a h = stamped_by site pan
 stamped_by site panel (Kept failed ∷ before) k a h = stamped_by site panel before k a h
 
 -- what was asked before this tick lies in front of what was put in it
-pub old_answer : (site : Site) (panel : ℕ) (before : List Moment) (k : ℕ) (a : Answer) → slice_get (answers site panel before) k ≡ Some a → a.stamp.0 < tick_of before → k + put_by_poll site panel before < answer_count site panel before
+pub old_answer : (site : Site) (panel : ℕ) (before : List Moment) (k : ℕ) (a : Answer) → slice_get (answers site panel before) k ≡ Some a
+    → a.stamp.0 < tick_of before → k + put_by_poll site panel before < answer_count site panel before
 old_answer site panel [] k a h l = cc
 old_answer site panel (Began ∷ before) k a h l = omega (arith, slice_get_within (answers site panel before) k a h)
 old_answer site panel (Happened event ∷ before) k a h l = old_answer site panel before k a h l
@@ -42,7 +44,8 @@ old_answer site panel (Turned other Poll ∷ before) k a h l =
       | inl t ↦
           (let h' = rw t.0 at h in
           elim (get_either (answers site panel before) (asked site panel before) k a h') [
-            | inl g ↦ rw t.0 (omega (arith, old_answer site panel before k a g l, length-append (answers site panel before) (asked site panel before)))
+            | inl g ↦
+                rw t.0 (omega (arith, old_answer site panel before k a g l, length-append (answers site panel before) (asked site panel before)))
             | inr g ↦ absurd (omega (arith, l, asked_now site panel before g.place a g.is))
           ])
       | inr t ↦ (let h' = rw t.0 at h in rw t.0 (old_answer site panel before k a h' l))
@@ -51,7 +54,8 @@ old_answer site panel (Turned other task ∷ before) k a h l = old_answer site p
 old_answer site panel (Kept failed ∷ before) k a h l = old_answer site panel before k a h l
 
 -- an answer from before the tick of Decide's latest turn, Decide has taken
-pub decide_has : (site : Site) (panels panel : ℕ) (before : List Moment) (k : ℕ) (a : Answer) → IsPanel panels panel → IsRun panels before → slice_get (answers site panel before) k ≡ Some a → a.stamp.0 + 1 ≤ latest_turn panel Decide before → k < taken_by_decide site panel before
+pub decide_has : (site : Site) (panels panel : ℕ) (before : List Moment) (k : ℕ) (a : Answer) → IsPanel panels panel → IsRun panels before
+    → slice_get (answers site panel before) k ≡ Some a → a.stamp.0 + 1 ≤ latest_turn panel Decide before → k < taken_by_decide site panel before
 decide_has site panels panel [] k a p run h l = cc
 decide_has site panels panel (Began ∷ before) k a p run h l = decide_has site panels panel before k a p run.0 h l
 decide_has site panels panel (Happened event ∷ before) k a p run h l = decide_has site panels panel before k a p run.0 h l
@@ -66,7 +70,8 @@ decide_has site panels panel (Turned other Poll ∷ before) k a p run h l =
       | inr t ↦ (let h' = rw t.0 at h in decide_has site panels panel before k a p run.0 h' l)
     ]
   where
-    decided_by : (panels panel : ℕ) (before : List Moment) → IsPanel panels panel → IsRun panels before → latest_turn panel Decide before ≤ tick_of before
+    decided_by : (panels panel : ℕ) (before : List Moment) → IsPanel panels panel → IsRun panels before
+        → latest_turn panel Decide before ≤ tick_of before
     decided_by panels panel before p run = omega (arith, turn_lag panels panel Decide before p tt run)
 decide_has site panels panel (Turned other Decide ∷ before) k a p run h l =
     elim (eqb_tells other panel) [
@@ -82,7 +87,9 @@ decide_has site panels panel (Turned other task ∷ before) k a p run h l = deci
 decide_has site panels panel (Kept failed ∷ before) k a p run h l = decide_has site panels panel before k a p run.0 h l
 
 -- an answer of two ticks ago was found before this tick
-pub old_finding : (site : Site) (panels panel : ℕ) (before : List Moment) (k : ℕ) (a : Answer) → IsPanel panels panel → IsRun panels before → slice_get (answers site panel before) k ≡ Some a → a.stamp.0 + 2 ≤ tick_of before → k + put_by_decide site panel before < taken_by_decide site panel before
+pub old_finding : (site : Site) (panels panel : ℕ) (before : List Moment) (k : ℕ) (a : Answer) → IsPanel panels panel → IsRun panels before
+    → slice_get (answers site panel before) k ≡ Some a → a.stamp.0 + 2 ≤ tick_of before
+    → k + put_by_decide site panel before < taken_by_decide site panel before
 old_finding site panels panel [] k a p run h l = cc
 old_finding site panels panel (Began ∷ before) k a p run h l =
     let lag = rw (run.1.each panel Decide p tt) at (turn_lag panels panel Decide before p tt run.0) in
@@ -108,7 +115,8 @@ old_finding site panels panel (Turned other task ∷ before) k a p run h l = old
 old_finding site panels panel (Kept failed ∷ before) k a p run h l = old_finding site panels panel before k a p run.0 h l
 
 -- an answer of two ticks before Hold's latest turn, Hold has taken
-pub hold_has : (site : Site) (panels panel : ℕ) (before : List Moment) (k : ℕ) (a : Answer) → IsPanel panels panel → IsRun panels before → slice_get (answers site panel before) k ≡ Some a → a.stamp.0 + 2 ≤ latest_turn panel Hold before → k < taken_by_hold site panel before
+pub hold_has : (site : Site) (panels panel : ℕ) (before : List Moment) (k : ℕ) (a : Answer) → IsPanel panels panel → IsRun panels before
+    → slice_get (answers site panel before) k ≡ Some a → a.stamp.0 + 2 ≤ latest_turn panel Hold before → k < taken_by_hold site panel before
 hold_has site panels panel [] k a p run h l = cc
 hold_has site panels panel (Began ∷ before) k a p run h l = hold_has site panels panel before k a p run.0 h l
 hold_has site panels panel (Happened event ∷ before) k a p run h l = hold_has site panels panel before k a p run.0 h l
@@ -136,7 +144,8 @@ hold_has site panels panel (Turned other task ∷ before) k a p run h l = hold_h
 hold_has site panels panel (Kept failed ∷ before) k a p run h l = hold_has site panels panel before k a p run.0 h l
 
 -- what Hold has taken was asked by the tick of its latest turn
-pub held_past : (site : Site) (panel : ℕ) (before : List Moment) (k : ℕ) (a : Answer) → slice_get (answers site panel before) k ≡ Some a → k < taken_by_hold site panel before → a.stamp.0 ≤ latest_turn panel Hold before
+pub held_past : (site : Site) (panel : ℕ) (before : List Moment) (k : ℕ) (a : Answer) → slice_get (answers site panel before) k ≡ Some a
+    → k < taken_by_hold site panel before → a.stamp.0 ≤ latest_turn panel Hold before
 held_past site panel [] k a h l = cc
 held_past site panel (Began ∷ before) k a h l = held_past site panel before k a h l
 held_past site panel (Happened event ∷ before) k a h l = held_past site panel before k a h l

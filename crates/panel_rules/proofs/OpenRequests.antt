@@ -30,10 +30,13 @@ later_false false c t u l = refl
 -- when a tick begins, none is open
 none_open : (site : Site) (test : Request → Bool) (before : List Moment) → count (is_open test (Began ∷ before)) (requests site before) ≡ 0
 none_open site test before =
-    count-none (is_open test (Began ∷ before)) (requests site before) (each_to _ _ (requests site before) (λ r h. later_false (test r) (not (has_turned r.panel Desk (Began ∷ before))) r.tick (tick_of before) h) (requests_by site before))
+    count-none (is_open test (Began ∷ before)) (requests site before)
+    (each_to _ _ (requests site before) (λ r h. later_false (test r) (not (has_turned r.panel Desk (Began ∷ before))) r.tick (tick_of before) h)
+    (requests_by site before))
 
 -- a turn of Desk takes those of its panel
-takes : (b t turned same other : Bool) → other ≡ same → (same ≡ true → turned ≡ false) → one (b && (t && not (if same then true else turned))) + one ((other && t) && b) ≡ one (b && (t && not turned))
+takes : (b t turned same other : Bool) → other ≡ same → (same ≡ true → turned ≡ false)
+    → one (b && (t && not (if same then true else turned))) + one ((other && t) && b) ≡ one (b && (t && not turned))
 takes true true true true true e f = absurd (let x = f refl in cc)
 takes true true false true true e f = refl
 takes true false turned true true e f = refl
@@ -47,16 +50,21 @@ takes true false turned false false e f = refl
 takes false t turned false false e f = refl
 
 pub desk_takes : (site : Site) (test : Request → Bool) (panel : ℕ) (before : List Moment) → has_turned panel Desk before ≡ false
-    → count (is_open test (Turned panel Desk ∷ before)) (requests site before) + count test (requests_in panel (tick_of before) (requests site before)) ≡ count (is_open test before) (requests site before)
+    → count (is_open test (Turned panel Desk ∷ before)) (requests site before) + count test
+    (requests_in panel (tick_of before) (requests site before)) ≡ count (is_open test before) (requests site before)
 desk_takes site test panel before yet =
     let filtered = count-filter test (λ (r : Request). (r.panel == panel) && (r.tick == tick_of before)) (requests site before) in
-    let sum = count-sum (is_open test (Turned panel Desk ∷ before)) (λ (r : Request). ((r.panel == panel) && (r.tick == tick_of before)) && test r) (is_open test before) (requests site before) each in
+    let sum = count-sum (is_open test (Turned panel Desk ∷ before)) (λ (r : Request). ((r.panel == panel) && (r.tick == tick_of before)) && test r)
+    (is_open test before) (requests site before) each in
     omega (arith, filtered, sum)
   where
-    each : (r : Request) → one (is_open test (Turned panel Desk ∷ before) r) + one (((r.panel == panel) && (r.tick == tick_of before)) && test r) ≡ one (is_open test before r)
+    each : (r : Request) → one (is_open test (Turned panel Desk ∷ before) r) + one (((r.panel == panel) && (r.tick == tick_of before)) && test r)
+        ≡ one (is_open test before r)
     each r =
         takes (test r) (r.tick == tick_of before) (has_turned r.panel Desk before) (panel == r.panel) (r.panel == panel) (eq_swap r.panel panel)
-        (λ same. subst (λ p. has_turned p Desk before ≡ false) (elim (eqb_tells panel r.panel) [ inl h ↦ h.1 | inr h ↦ (let e = h.0 in absurd (let x = sym same ∙ e in cc)) ]) yet)
+        (λ same.
+        subst (λ p. has_turned p Desk before ≡ false)
+        (elim (eqb_tells panel r.panel) [ inl h ↦ h.1 | inr h ↦ (let e = h.0 in absurd (let x = sym same ∙ e in cc)) ]) yet)
 
 one_less : (b c : Bool) → one (b && c) ≤ one b
 one_less true true = omega arith
@@ -65,7 +73,8 @@ one_less false c = omega arith
 
 module _ (site : Site) (kept : Retained) (test : Request → Bool) where
   -- none is answered more often than it was asked for
-  pub answered_few : (moments : List Moment) → IsRun site.panels moments → times test (operations site kept moments) + count (is_open test moments) (requests site moments) ≤ count test (requests site moments)
+  pub answered_few : (moments : List Moment) → IsRun site.panels moments
+      → times test (operations site kept moments) + count (is_open test moments) (requests site moments) ≤ count test (requests site moments)
   answered_few [] run = omega arith
   answered_few (Began ∷ before) run = let ih = answered_few before run.0 in let z = none_open site test before in omega (arith, ih, z)
   answered_few (Happened (Op panel code operation) ∷ before) run =

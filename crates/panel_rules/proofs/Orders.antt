@@ -21,7 +21,9 @@ false_by true h = absurd (h refl)
 false_by false h = refl
 
 -- a turn of an order makes a seat that is looked for turn, or leaves it as it was
-turn_adds : (failed : Bool) (panel : ℕ) (task : Task) (other_panel : ℕ) (other : Task) (before : List Moment) → IsPanelTask task → has_turned panel task (turn_of failed other_panel other ∷ before) ≡ (is_same_seat (seat_of panel task) (seat_of other_panel other) || has_turned panel task before)
+turn_adds : (failed : Bool) (panel : ℕ) (task : Task) (other_panel : ℕ) (other : Task) (before : List Moment) → IsPanelTask task
+    → has_turned panel task (turn_of failed other_panel other ∷ before) ≡ (is_same_seat (seat_of panel task) (seat_of other_panel other)
+    || has_turned panel task before)
 turn_adds failed panel task other_panel Keep before t = ap (λ b. (b && (panel == other_panel)) || has_turned panel task before) (sym (apart task t))
   where
     apart : (task : Task) → IsPanelTask task → (task_number task == 8) ≡ false
@@ -40,7 +42,9 @@ turn_adds failed panel task other_panel other before t = turned panel task other
     by true c = refl
     by false c = refl
 
-    turned : (panel : ℕ) (task : Task) (other_panel : ℕ) (other : Task) (before : List Moment) → has_turned panel task (Turned other_panel other ∷ before) ≡ (is_same_seat (seat_of panel task) (seat_of other_panel other) || has_turned panel task before)
+    turned : (panel : ℕ) (task : Task) (other_panel : ℕ) (other : Task) (before : List Moment)
+        → has_turned panel task (Turned other_panel other ∷ before) ≡ (is_same_seat (seat_of panel task) (seat_of other_panel other)
+        || has_turned panel task before)
     turned panel task other_panel other before =
         by (is_turn panel task other_panel other) (has_turned panel task before)
         ∙ ap (λ b. (b && (other_panel == panel)) || has_turned panel task before) (eq_comm (task_number other) (task_number task))
@@ -53,7 +57,8 @@ or_on false true c = refl
 or_on false false c = refl
 
 -- after turns, a seat has turned exactly where it was among them, or had turned before
-pub turned_among : (failed : Bool) (panel : ℕ) (task : Task) (seats : List Seat) (before : List Moment) → IsPanelTask task → has_turned panel task (and_turns failed seats before) ≡ (is_among (seat_of panel task) seats || has_turned panel task before)
+pub turned_among : (failed : Bool) (panel : ℕ) (task : Task) (seats : List Seat) (before : List Moment) → IsPanelTask task
+    → has_turned panel task (and_turns failed seats before) ≡ (is_among (seat_of panel task) seats || has_turned panel task before)
 turned_among failed panel task [] before t = refl
 turned_among failed panel task (seat ∷ seats) before t =
     turned_among failed panel task seats (turn_of failed seat.panel seat.task ∷ before) t
@@ -71,11 +76,13 @@ pub keep_itself : is_keep keep_seat ≡ true
 unfolding is_keep
 keep_itself = refl
 
-keep_adds : (failed : Bool) (panel : ℕ) (task : Task) (before : List Moment) → has_kept (turn_of failed panel task ∷ before) ≡ ((task_number task == 8) || has_kept before)
+keep_adds : (failed : Bool) (panel : ℕ) (task : Task) (before : List Moment)
+    → has_kept (turn_of failed panel task ∷ before) ≡ ((task_number task == 8) || has_kept before)
 keep_adds failed panel Keep before = refl
 keep_adds failed panel task before = refl
 
-pub kept_among : (failed : Bool) (seats : List Seat) (before : List Moment) → has_kept (and_turns failed seats before) ≡ (list_any is_keep seats || has_kept before)
+pub kept_among : (failed : Bool) (seats : List Seat) (before : List Moment)
+    → has_kept (and_turns failed seats before) ≡ (list_any is_keep seats || has_kept before)
 unfolding is_keep
 kept_among failed [] before = refl
 kept_among failed (seat ∷ seats) before =

@@ -17,7 +17,8 @@ pub record IsBehind {X : Type 0} (count : ℕ) (ys : List X) (k : ℕ) (x : X) :
   pub far : k ≡ place + count
   pub is : slice_get ys place ≡ Some x
 
-pub get_either : {X : Type 0} (xs ys : List X) (k : ℕ) (x : X) → slice_get (xs ++ ys) k ≡ Some x → (slice_get xs k ≡ Some x) ⊎ IsBehind (length xs) ys k x
+pub get_either : {X : Type 0} (xs ys : List X) (k : ℕ) (x : X) → slice_get (xs ++ ys) k ≡ Some x
+    → (slice_get xs k ≡ Some x) ⊎ IsBehind (length xs) ys k x
 get_either [] ys k x h = inr (record { place = k; far = omega arith; is = h })
 get_either (y ∷ xs) ys zero x h = inl h
 get_either (y ∷ xs) ys (suc k) x h =
@@ -53,7 +54,8 @@ pub record ComesFrom {X Y : Type 0} (f : X → Option Y) (xs : List X) (y : Y) :
   pub is : slice_get xs place ≡ Some source
   pub gives : f source ≡ Some y
 
-cons_either : {X : Type 0} (o : Option X) (xs : List X) (k : ℕ) (x : X) → slice_get (cons_option o xs) k ≡ Some x → (o ≡ Some x) ⊎ ((j : ℕ) × (slice_get xs j ≡ Some x))
+cons_either : {X : Type 0} (o : Option X) (xs : List X) (k : ℕ) (x : X) → slice_get (cons_option o xs) k ≡ Some x
+    → (o ≡ Some x) ⊎ ((j : ℕ) × (slice_get xs j ≡ Some x))
 cons_either None xs k x h = inr (k, h)
 cons_either (Some y) xs zero x h = inl h
 cons_either (Some y) xs (suc k) x h = inr (k, h)
@@ -63,7 +65,14 @@ found_from f [] k y h = cc
 found_from f (x ∷ xs) k y h =
     elim (cons_either (f x) (filter_map f xs) k y h) [
       | inl e ↦ record { source = x; place = 0; is = refl; gives = e }
-      | inr e ↦ (let g = found_from f xs e.0 y e.1 in record { source = g.source; place = g.place + 1; is = rw (add-suc g.place 0, add-zero) g.is; gives = g.gives })
+      | inr e ↦
+          (let g = found_from f xs e.0 y e.1 in record {
+            source = g.source;
+            place = g.place + 1;
+            is = rw (add-suc g.place 0, add-zero) g.is;
+            gives =
+                g.gives;
+          })
     ]
 
 pub record IsFound {Y : Type 0} (ys : List Y) (y : Y) : Type 0 where
@@ -78,7 +87,8 @@ cons_later : {X : Type 0} (o : Option X) (xs : List X) (x : X) → IsFound xs x 
 cons_later None xs x h = h
 cons_later (Some y) xs x h = record { place = suc h.place; is = h.is }
 
-pub found_in : {X Y : Type 0} (f : X → Option Y) (xs : List X) (k : ℕ) (x : X) (y : Y) → slice_get xs k ≡ Some x → f x ≡ Some y → IsFound (filter_map f xs) y
+pub found_in : {X Y : Type 0} (f : X → Option Y) (xs : List X) (k : ℕ) (x : X) (y : Y) → slice_get xs k ≡ Some x → f x ≡ Some y
+    → IsFound (filter_map f xs) y
 found_in f [] k x y h e = cc
 found_in f (z ∷ xs) zero x y h e = cons_here (f z) (filter_map f xs) y (cc)
 found_in f (z ∷ xs) (suc k) x y h e = cons_later (f z) (filter_map f xs) y (found_in f xs k x y h e)

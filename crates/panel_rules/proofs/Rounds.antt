@@ -1,4 +1,5 @@
--- The facts on the numbers of ticks of a site's format that the rest rests on. The two formats are told apart here alone.
+-- The facts on the numbers of ticks of a site's format that the rest rests on. The two formats are told apart
+-- here alone.
 use Rattle.std.proofs.Common.{◌≡◌, ℕ, zero, suc, ◌+◌, ◌-◌, ◌*◌, ◌%◌, ◌≤◌, ◌<◌, ◌⊎◌, inl, inr, refl, sym, ◌∙◌, subst, arith, ◌/◌}
 use Rattle.std.specs.Prelude.{true, ◌==◌}
 use Rattle.std.proofs.lemmas.Bool.{eqb-true}
@@ -46,7 +47,8 @@ only_12 first one other a b c d e = omega arith
 only_24 : (first one other : ℕ) → first ≤ one → one < first + 24 → first ≤ other → other < first + 24 → other % 24 ≡ one % 24 → other ≡ one
 only_24 first one other a b c d e = omega arith
 
-only : (format first one other : ℕ) → IsFormat format → first ≤ one → one < first + round_of format → first ≤ other → other < first + round_of format → other % round_of format ≡ one % round_of format → other ≡ one
+only : (format first one other : ℕ) → IsFormat format → first ≤ one → one < first + round_of format → first ≤ other → other < first + round_of format
+    → other % round_of format ≡ one % round_of format → other ≡ one
 only format first one other h =
     elim (one_or_two format h) [
       | inl e ↦ rw e (only_12 first one other)
@@ -63,5 +65,7 @@ asked_once format address first low high one last =
       from = x.from;
       by = omega (arith, x.by);
       asked = eq_true (x.tick % round_of format) group x.asks;
-      only = λ other l u a. (let g = eqb-true (other % round_of format) group a in only format first x.tick other (low, high) x.from (omega (arith, x.by)) l u (g ∙ sym x.asks));
+      only =
+          λ other l u a. (let g = eqb-true (other % round_of format) group a in
+          only format first x.tick other (low, high) x.from (omega (arith, x.by)) l u (g ∙ sym x.asks));
     }

@@ -24,15 +24,18 @@ pub record Sure (xs : List Answer) (first : ℕ) (test : Answer → Bool) : Type
   pub passes : test answer ≡ true
 
 -- and the floor lies before that tick
-pub sure_since : (site : Site) (done : List Done) (xs : List Answer) (zone tick first : ℕ) (test : Answer → Bool) → floor_before site zone tick done < first → Sure xs first test → since_floor site done xs zone tick test ≡ true
+pub sure_since : (site : Site) (done : List Done) (xs : List Answer) (zone tick first : ℕ) (test : Answer → Bool)
+    → floor_before site zone tick done < first → Sure xs first test → since_floor site done xs zone tick test ≡ true
 sure_since site done xs zone tick first test l s =
     any_at _ xs s.place s.answer s.is (both _ _ (lt_to _ _ (omega (arith, l, s.from))) s.passes)
 
 module _ (site : Site) (kept : Retained) (done : List Done) (xs : List Answer) (zone : ℕ) where
-  pub by_call : (a : Answer) → is_counted site kept done a ≡ true → is_by_call_point site zone a.point ≡ true → confirms site kept done xs zone a ≡ true
+  pub by_call : (a : Answer) → is_counted site kept done a ≡ true → is_by_call_point site zone a.point ≡ true
+      → confirms site kept done xs zone a ≡ true
   by_call a c h = both _ _ c (either_left _ _ h)
 
-  pub by_rule : (a : Answer) (rule : Option Rule) → rule_of (slice_get site.zones zone) ≡ rule → is_counted site kept done a ≡ true → is_detector site a.point ≡ true → coincides site kept done xs zone rule a ≡ true → confirms site kept done xs zone a ≡ true
+  pub by_rule : (a : Answer) (rule : Option Rule) → rule_of (slice_get site.zones zone) ≡ rule → is_counted site kept done a ≡ true
+      → is_detector site a.point ≡ true → coincides site kept done xs zone rule a ≡ true → confirms site kept done xs zone a ≡ true
   by_rule a rule e c d h = both _ _ c (either_right _ _ (both _ _ d (ap (λ r. coincides site kept done xs zone r a) e ∙ h)))
 
   -- a manual call point releases for every type
@@ -44,7 +47,8 @@ module _ (site : Site) (kept : Retained) (done : List Done) (xs : List Answer) (
   hand_releases a (Some C) h = either_left _ _ h
 
   -- for the other types what confirms releases
-  pub alarm_releases : (a : Answer) (rule : Option Rule) → rule ≢ Some C → confirms site kept done xs zone a ≡ true → releases_by site kept done xs zone rule a ≡ true
+  pub alarm_releases : (a : Answer) (rule : Option Rule) → rule ≢ Some C → confirms site kept done xs zone a ≡ true
+      → releases_by site kept done xs zone rule a ≡ true
   alarm_releases a None n h = h
   alarm_releases a (Some Plain) n h = h
   alarm_releases a (Some (A verify within)) n h = h
@@ -57,10 +61,32 @@ pub record TwoCount (site : Site) (kept : Retained) (done : List Done) (xs : Lis
   pub earlier : Counts site kept done xs earlier_point first last
   pub in_order : earlier.answer.stamp.0 ≤ later.answer.stamp.0
 
-pub two_in_order : (site : Site) (kept : Retained) (done : List Done) (xs : List Answer) (one other first second last : ℕ) → first ≤ second → Counts site kept done xs one first (first + last) → Counts site kept done xs other second (second + last) → TwoCount site kept done xs other one first (second + last) ⊎ TwoCount site kept done xs one other first (second + last)
+pub two_in_order : (site : Site) (kept : Retained) (done : List Done) (xs : List Answer) (one other first second last : ℕ) → first ≤ second
+    → Counts site kept done xs one first (first + last) → Counts site kept done xs other second (second + last)
+    → TwoCount site kept done xs other one first (second + last) ⊎ TwoCount site kept done xs one other first (second + last)
 two_in_order site kept done xs one other first second last l f s =
-    let f' : Counts site kept done xs one first (second + last) = record { place = f.place; answer = f.answer; is = f.is; point_is = f.point_is; from = f.from; by = omega (arith, f.by, l); counts = f.counts } in
-    let s' : Counts site kept done xs other first (second + last) = record { place = s.place; answer = s.answer; is = s.is; point_is = s.point_is; from = omega (arith, s.from, l); by = s.by; counts = s.counts } in
+    let f' : Counts site kept done xs one first (second + last) =
+    record {
+      place = f.place;
+      answer = f.answer;
+      is = f.is;
+      point_is = f.point_is;
+      from = f.from;
+      by = omega (arith, f.by, l);
+      counts =
+          f.counts;
+    } in
+    let s' : Counts site kept done xs other first (second + last) =
+    record {
+      place = s.place;
+      answer = s.answer;
+      is = s.is;
+      point_is = s.point_is;
+      from = omega (arith, s.from, l);
+      by = s.by;
+      counts =
+          s.counts;
+    } in
     elim (leb_tells f.answer.stamp.0 s.answer.stamp.0) [
       | inl o ↦ inl (record { later = s'; earlier = f'; in_order = o.1 })
       | inr o ↦ inr (record { later = f'; earlier = s'; in_order = omega (arith, o.1) })

@@ -20,23 +20,28 @@ at_beginning (Happened event ∷ before) = at_beginning before
 at_beginning (Turned panel task ∷ before) = at_beginning before
 at_beginning (Kept failed ∷ before) = at_beginning before
 
-pub turn_keeps_beginning : (failed : _) (panel : ℕ) (task : Task) (before : List Moment) → at_beginning (turn_of failed panel task ∷ before) ≡ at_beginning before
+pub turn_keeps_beginning : (failed : _) (panel : ℕ) (task : Task) (before : List Moment)
+    → at_beginning (turn_of failed panel task ∷ before) ≡ at_beginning before
 turn_keeps_beginning failed panel Keep before = refl
 turn_keeps_beginning failed panel task before = refl
 
 turns_keep_beginning : (failed : _) (seats : List Seat) (before : List Moment) → at_beginning (and_turns failed seats before) ≡ at_beginning before
 turns_keep_beginning failed [] before = refl
-turns_keep_beginning failed (seat ∷ seats) before = turns_keep_beginning failed seats (turn_of failed seat.panel seat.task ∷ before) ∙ turn_keeps_beginning failed seat.panel seat.task before
+turns_keep_beginning failed (seat ∷ seats) before =
+    turns_keep_beginning failed seats (turn_of failed seat.panel seat.task ∷ before) ∙ turn_keeps_beginning failed seat.panel seat.task before
 
 events_keep_beginning : (events : List Event) (before : List Moment) → at_beginning (and_events events before) ≡ at_beginning before
 events_keep_beginning [] before = refl
 events_keep_beginning (event ∷ events) before = events_keep_beginning events (Happened event ∷ before)
 
 pub tick_begins : (tick : TickBlock) (ticks : List TickBlock) → at_beginning (moments (tick ∷ ticks)) ≡ moments ticks
-tick_begins tick ticks = turns_keep_beginning tick.failed tick.order (and_events tick.events (Began ∷ moments ticks)) ∙ events_keep_beginning tick.events (Began ∷ moments ticks)
+tick_begins tick ticks =
+    turns_keep_beginning tick.failed tick.order (and_events tick.events (Began ∷ moments ticks)) ∙ events_keep_beginning tick.events
+    (Began ∷ moments ticks)
 
 -- all answers are those of the ticks before and those of this one
-pub answers_since : (site : Site) (panel : ℕ) (before : List Moment) → answer_count site panel before ≡ answer_count site panel (at_beginning before) + put_by_poll site panel before
+pub answers_since : (site : Site) (panel : ℕ) (before : List Moment)
+    → answer_count site panel before ≡ answer_count site panel (at_beginning before) + put_by_poll site panel before
 answers_since site panel [] = refl
 answers_since site panel (Began ∷ before) = omega arith
 answers_since site panel (Happened event ∷ before) = answers_since site panel before
@@ -48,7 +53,8 @@ answers_since site panel (Turned other Poll ∷ before) =
 answers_since site panel (Turned other task ∷ before) = answers_since site panel before
 answers_since site panel (Kept failed ∷ before) = answers_since site panel before
 
-pub findings_since : (site : Site) (panel : ℕ) (before : List Moment) → taken_by_decide site panel before ≡ taken_by_decide site panel (at_beginning before) + put_by_decide site panel before
+pub findings_since : (site : Site) (panel : ℕ) (before : List Moment)
+    → taken_by_decide site panel before ≡ taken_by_decide site panel (at_beginning before) + put_by_decide site panel before
 findings_since site panel [] = refl
 findings_since site panel (Began ∷ before) = omega arith
 findings_since site panel (Happened event ∷ before) = findings_since site panel before

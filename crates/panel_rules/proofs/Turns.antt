@@ -8,7 +8,11 @@ use Rattle.panel_rules.specs.Moments.{Moment, Began, Happened, Turned, Kept, tic
 
 -- the task with a number
 task_numbered : ℕ → Task
-task_numbered n = if n == 0 then Poll else (if n == 1 then Decide else (if n == 2 then Supply else (if n == 3 then Desk else (if n == 4 then Hold else (if n == 5 then Link else (if n == 6 then Effect else (if n == 7 then Drive else Keep)))))))
+task_numbered n =
+    if n == 0 then Poll else
+    (if n == 1 then Decide else
+    (if n == 2 then Supply else
+    (if n == 3 then Desk else (if n == 4 then Hold else (if n == 5 then Link else (if n == 6 then Effect else (if n == 7 then Drive else Keep)))))))
 
 numbered_back : (task : Task) → task_numbered (task_number task) ≡ task
 unfolding task_numbered
@@ -31,7 +35,8 @@ pub record IsThat (panel : ℕ) (task : Task) (other_panel : ℕ) (other : Task)
   pub panel_is : other_panel ≡ panel
   pub task_is : other ≡ task
 
-pub turn_tells : (panel : ℕ) (task : Task) (other_panel : ℕ) (other : Task) → IsThat panel task other_panel other ⊎ (is_turn panel task other_panel other ≡ false)
+pub turn_tells : (panel : ℕ) (task : Task) (other_panel : ℕ) (other : Task) → IsThat panel task other_panel other
+    ⊎ (is_turn panel task other_panel other ≡ false)
 turn_tells panel task other_panel other =
     elim (eqb_tells (task_number other) (task_number task)) [
       | inl t ↦
@@ -79,7 +84,8 @@ abbrev pub owed_turn : Bool → ℕ
 owed_turn turned = if turned then 0 else 1
 
 -- the latest turn of a seat is of this tick, or of the one before
-pub turn_lag : (panels panel : ℕ) (task : Task) (moments : List Moment) → IsPanel panels panel → IsPanelTask task → IsRun panels moments → latest_turn panel task moments + owed_turn (has_turned panel task moments) ≡ tick_of moments
+pub turn_lag : (panels panel : ℕ) (task : Task) (moments : List Moment) → IsPanel panels panel → IsPanelTask task → IsRun panels moments
+    → latest_turn panel task moments + owed_turn (has_turned panel task moments) ≡ tick_of moments
 turn_lag panels panel task [] p t run = refl
 turn_lag panels panel task (Began ∷ before) p t run =
     let ih = turn_lag panels panel task before p t run.0 in
@@ -115,20 +121,26 @@ before_past panel task [] = present
 before_past panel task (Began ∷ before) = later Began before (before_past panel task before)
 before_past panel task (Happened event ∷ before) = later (Happened event) before (before_past panel task before)
 before_past panel task (Turned other_panel other ∷ before) =
-    elim (is_turn panel task other_panel other) as (λ b. IsPast (if b then before else before_turn panel task before) (Turned other_panel other ∷ before)) [
+    elim (is_turn panel task other_panel other) as
+    (λ b. IsPast (if b then before else before_turn panel task before) (Turned other_panel other ∷ before)) [
       | true ↦ later (Turned other_panel other) before present
       | false ↦ later (Turned other_panel other) before (before_past panel task before)
     ]
 before_past panel task (Kept failed ∷ before) = later (Kept failed) before (before_past panel task before)
 
 -- the latest turn of one seat before that of another is at most one tick earlier
-pub one_back : (panels panel other : ℕ) (task asked : Task) (moments : List Moment) → IsPanel panels other → IsPanelTask asked → IsRun panels moments → (latest_turn panel task moments ≤ latest_turn other asked (before_turn panel task moments) + 1) × (latest_turn other asked (before_turn panel task moments) ≤ latest_turn panel task moments)
+pub one_back : (panels panel other : ℕ) (task asked : Task) (moments : List Moment) → IsPanel panels other → IsPanelTask asked → IsRun panels moments
+    → (latest_turn panel task moments ≤ latest_turn other asked (before_turn panel task moments) + 1)
+    × (latest_turn other asked (before_turn panel task moments) ≤ latest_turn panel task moments)
 one_back panels panel other task asked moments p t run =
     let past = before_turn panel task moments in
     let h = turn_lag panels other asked past p t (run_tail panels past moments (before_past panel task moments) run) in
     let e = before_tick panel task moments in
     go (has_turned other asked past) h e
   where
-    go : (b : Bool) → latest_turn other asked (before_turn panel task moments) + owed_turn b ≡ tick_of (before_turn panel task moments) → tick_of (before_turn panel task moments) ≡ latest_turn panel task moments → (latest_turn panel task moments ≤ latest_turn other asked (before_turn panel task moments) + 1) × (latest_turn other asked (before_turn panel task moments) ≤ latest_turn panel task moments)
+    go : (b : Bool) → latest_turn other asked (before_turn panel task moments) + owed_turn b ≡ tick_of (before_turn panel task moments)
+        → tick_of (before_turn panel task moments) ≡ latest_turn panel task moments
+        → (latest_turn panel task moments ≤ latest_turn other asked (before_turn panel task moments) + 1)
+        × (latest_turn other asked (before_turn panel task moments) ≤ latest_turn panel task moments)
     go true h e = (omega (arith, h, e), omega (arith, h, e))
     go false h e = (omega (arith, h, e), omega (arith, h, e))

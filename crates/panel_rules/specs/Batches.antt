@@ -27,7 +27,8 @@ module _ (site : Site) (kept : Retained) (done : List Done) (panel : ℕ) where
   entries [] = []
   entries (Began ∷ before) = entries before
   entries (Happened event ∷ before) = entries before
-  entries (Turned other Hold ∷ before) = if (other == panel) && enters before then tick_of before ∷ entries before else entries before
+  entries (Turned other Hold ∷ before) = if (other == panel) && enters before then tick_of before
+      ∷ entries before else entries before
   entries (Turned other task ∷ before) = entries before
   entries (Kept failed ∷ before) = entries before
 
@@ -36,7 +37,8 @@ module _ (site : Site) (kept : Retained) (done : List Done) (panel : ℕ) where
   new_entries [] = []
   new_entries (Began ∷ before) = new_entries before
   new_entries (Happened event ∷ before) = new_entries before
-  new_entries (Turned other Hold ∷ before) = if (other == panel) && enters before then tick_of before ∷ new_entries before else new_entries before
+  new_entries (Turned other Hold ∷ before) = if (other == panel) && enters before then tick_of before
+      ∷ new_entries before else new_entries before
   new_entries (Turned other task ∷ before) = new_entries before
   new_entries (Kept failed ∷ before) = if failed then new_entries before else []
 
@@ -48,7 +50,9 @@ module _ (site : Site) (kept : Retained) (done : List Done) (panel : ℕ) where
 module _ (site : Site) (kept : Retained) (done : List Done) where
   -- the counts of all panels, by panel
   abbrev pub counts : List Moment → List Change
-  counts before = flat_map (λ panel. count_of site kept done panel (new_entries site kept done panel before)) (range_with_len 1 site.panels)
+  counts before =
+      flat_map (λ panel. count_of site kept done panel (new_entries site kept done panel before))
+      (range_with_len 1 site.panels)
 
 -- the changes that operations make
 abbrev pub changes_of : Site → List Request → List Change
@@ -56,7 +60,8 @@ changes_of site waiting = filter_map (λ (r : Request). operation_change site r.
 
 -- what a turn of Keep commits now: the counts, then what waits, in the order in which it was accepted
 abbrev pub batch : Site → Retained → List Moment → List Change
-batch site kept before = counts site kept (operations site kept before).done before ++ changes_of site (operations site kept before).waiting
+batch site kept before = counts site kept (operations site kept before).done before
+    ++ changes_of site (operations site kept before).waiting
 
 -- what is kept: the changes of each turn of Keep that did not fail
 abbrev pub kept_after : Site → Retained → List Moment → Retained
@@ -64,4 +69,6 @@ kept_after site kept [] = kept
 kept_after site kept (Began ∷ before) = kept_after site kept before
 kept_after site kept (Happened event ∷ before) = kept_after site kept before
 kept_after site kept (Turned panel task ∷ before) = kept_after site kept before
-kept_after site kept (Kept failed ∷ before) = if failed then kept_after site kept before else changed_by (batch site kept before) (kept_after site kept before)
+kept_after site kept (Kept failed ∷ before) =
+    if failed then kept_after site kept before else changed_by (batch site kept before)
+    (kept_after site kept before)

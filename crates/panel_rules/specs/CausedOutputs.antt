@@ -15,7 +15,9 @@ use Rattle.panel_rules.specs.Caused.{IsCausedAt, IsCausedByHand, IsCausedOut}
 
 -- the stamp at which a panel shows a zone: of its own zones the present tick, of others the one heard
 abbrev pub shown_at : Site → ℕ → ℕ → List Moment → ℕ
-shown_at site panel zone moments = if panel == panel_of_zone site zone then tick_of moments else heard site.panels panel (panel_of_zone site zone) moments
+shown_at site panel zone moments =
+    if panel == panel_of_zone site zone then tick_of moments else heard site.panels panel
+    (panel_of_zone site zone) moments
 
 module _ (site : Site) (kept : Retained) (done : List Done) (moments : List Moment) where
   -- a zone that a panel shows is caused
@@ -26,11 +28,19 @@ module _ (site : Site) (kept : Retained) (done : List Done) (moments : List Mome
   abbrev pub before_effect : ℕ → List Moment
   before_effect panel = before_turn panel Effect (before_turn panel Drive moments)
 
-  -- facts each true one of which is caused at the stamp that the panel had heard at that Effect turn: zones are released, call points in alarm by hand, and a panel that tells a fault had one
+  -- facts each true one of which is caused at the stamp that the panel had heard at that Effect turn: zones
+  -- are released, call points in alarm by hand, and a panel that tells a fault had one
   pub record AreCaused (panel : ℕ) (facts : Facts) : Type 0 where
-    pub released : (zone : ℕ) → facts.released zone ≡ true → IsCausedOut site kept done moments zone (heard site.panels panel (panel_of_zone site zone) (before_effect panel))
-    pub by_hand : (zone : ℕ) → facts.by_hand zone ≡ true → IsCausedByHand site kept done moments zone (heard site.panels panel (panel_of_zone site zone) (before_effect panel))
-    pub faults : (source : ℕ) → facts.faulty source ≡ true → has_fault (faults_with site kept done (tells_fault site kept done) source (kept_at site.panels panel source (before_effect panel))) ≡ true
+    pub released : (zone : ℕ) → facts.released zone ≡ true
+        → IsCausedOut site kept done moments zone
+        (heard site.panels panel (panel_of_zone site zone) (before_effect panel))
+    pub by_hand : (zone : ℕ) → facts.by_hand zone ≡ true
+        → IsCausedByHand site kept done moments zone
+        (heard site.panels panel (panel_of_zone site zone) (before_effect panel))
+    pub faults : (source : ℕ) → facts.faulty source ≡ true
+        → has_fault
+        (faults_with site kept done (tells_fault site kept done) source
+        (kept_at site.panels panel source (before_effect panel))) ≡ true
 
   -- an output is caused: such facts make its marker true
   pub record IsCausedOutput (output : ℕ) : Type 0 where

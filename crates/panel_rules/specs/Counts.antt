@@ -14,7 +14,9 @@ abbrev pub taken_by_decide : Site → ℕ → List Moment → ℕ
 taken_by_decide site panel [] = 0
 taken_by_decide site panel (Began ∷ before) = taken_by_decide site panel before
 taken_by_decide site panel (Happened event ∷ before) = taken_by_decide site panel before
-taken_by_decide site panel (Turned other Decide ∷ before) = if other == panel then min (taken_by_decide site panel before + 32) (answer_count site panel before) else taken_by_decide site panel before
+taken_by_decide site panel (Turned other Decide ∷ before) =
+    if other == panel then min (taken_by_decide site panel before + 32) (answer_count site panel before) else
+    taken_by_decide site panel before
 taken_by_decide site panel (Turned other task ∷ before) = taken_by_decide site panel before
 taken_by_decide site panel (Kept failed ∷ before) = taken_by_decide site panel before
 
@@ -23,6 +25,8 @@ abbrev pub taken_by_hold : Site → ℕ → List Moment → ℕ
 taken_by_hold site panel [] = 0
 taken_by_hold site panel (Began ∷ before) = taken_by_hold site panel before
 taken_by_hold site panel (Happened event ∷ before) = taken_by_hold site panel before
-taken_by_hold site panel (Turned other Hold ∷ before) = if other == panel then min (taken_by_hold site panel before + 32) (taken_by_decide site panel before) else taken_by_hold site panel before
+taken_by_hold site panel (Turned other Hold ∷ before) =
+    if other == panel then min (taken_by_hold site panel before + 32) (taken_by_decide site panel before) else
+    taken_by_hold site panel before
 taken_by_hold site panel (Turned other task ∷ before) = taken_by_hold site panel before
 taken_by_hold site panel (Kept failed ∷ before) = taken_by_hold site panel before

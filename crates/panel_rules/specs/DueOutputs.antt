@@ -10,7 +10,8 @@ use Rattle.panel_rules.specs.Run.{facts_of}
 use Rattle.panel_rules.specs.Due.{IsDueOut, IsDueByHand}
 
 module _ (site : Site) (kept : Retained) (done : List Done) where
-  -- facts in which only zones that are due at a panel are true: zones that are due for outputs, zones that are due by hand for manual call points, and no fault
+  -- facts in which only zones that are due at a panel are true: zones that are due for outputs, zones that
+  -- are due by hand for manual call points, and no fault
   pub record AreDue (moments : List Moment) (panel : ℕ) (facts : Facts) : Type 0 where
     pub released : (zone : ℕ) → facts.released zone ≡ true → IsDueOut site kept done moments zone panel
     pub by_hand : (zone : ℕ) → facts.by_hand zone ≡ true → IsDueByHand site kept done moments zone panel
@@ -34,13 +35,18 @@ module _ (site : Site) (kept : Retained) (done : List Done) where
     pub due : AreDueByHand moments (panel_of_output site output) facts
     pub asks : is_true_over site output facts ≡ true
 
-  -- at each tick of a span that ends now and is as long as the output's delay it is due to be asked; the span begins at tick 1 or later
+  -- at each tick of a span that ends now and is as long as the output's delay it is due to be asked; the span
+  -- begins at tick 1 or later
   pub record IsDueThrough (moments : List Moment) (output : ℕ) : Type 0 where
     pub begins : delay_of site output < tick_of moments
-    pub each : (tick : ℕ) → tick_of moments ≤ tick + delay_of site output → tick ≤ tick_of moments → IsDueAsked (up_to tick moments) output
+    pub each : (tick : ℕ) → tick_of moments ≤ tick + delay_of site output → tick ≤ tick_of moments
+        → IsDueAsked (up_to tick moments) output
 
-  -- an output is due to be on: it is not disabled and not a quiet sounder, and it is due to be asked by hand, or was due to be asked for as long as its delay
+  -- an output is due to be on: it is not disabled and not a quiet sounder, and it is due to be asked by hand,
+  -- or was due to be asked for as long as its delay
   pub record IsDueOn (moments : List Moment) (output : ℕ) : Type 0 where
     pub enabled : in_force site kept (OutputOff output) (tick_of moments) done ≡ false
-    pub heard : (is_sounder site output && is_quiet site (facts_of site kept done) kept done (panel_of_output site output) moments) ≡ false
+    pub heard :
+        (is_sounder site output
+        && is_quiet site (facts_of site kept done) kept done (panel_of_output site output) moments) ≡ false
     pub asked : IsDueAskedByHand moments output ⊎ IsDueThrough moments output

@@ -45,31 +45,39 @@ module _ (site : Site) (kept : Retained) (done : List Done) where
   -- the word of a panel that another one shows: of its own zones the latest, of others the one that it keeps
   abbrev pub shown_word : ℕ → List Moment → ℕ → Word
   shown_word panel moments source =
-      if source == panel then latest_word site kept done (tells_fault site kept done) panel moments else kept_word_of site kept done (tells_fault site kept done) panel source moments
+      if source == panel then latest_word site kept done (tells_fault site kept done) panel moments else
+      kept_word_of site kept done (tells_fault site kept done) panel source moments
 
   -- a turn of Hold made now shows a zone in alarm, a first state or a fault that the turn before it did not
   abbrev pub shows_news : ℕ → List Moment → Bool
   shows_news panel before =
-      is_news (latest_word site kept done (tells_fault site kept done) panel (Turned panel Hold ∷ before)) (faults_of site kept done panel (Turned panel Hold ∷ before))
-      (latest_word site kept done (tells_fault site kept done) panel before) (faults_of site kept done panel before)
+      is_news (latest_word site kept done (tells_fault site kept done) panel (Turned panel Hold ∷ before))
+      (faults_of site kept done panel (Turned panel Hold ∷ before))
+      (latest_word site kept done (tells_fault site kept done) panel before)
+      (faults_of site kept done panel before)
 
   -- the last tick in which something was newly shown, else 0
   abbrev pub last_news : ℕ → List Moment → ℕ
   last_news panel [] = 0
   last_news panel (Began ∷ before) = last_news panel before
   last_news panel (Happened event ∷ before) = last_news panel before
-  last_news panel (Turned other Hold ∷ before) = if (other == panel) && shows_news panel before then tick_of before else last_news panel before
+  last_news panel (Turned other Hold ∷ before) =
+      if (other == panel) && shows_news panel before then tick_of before else last_news panel before
   last_news panel (Turned other task ∷ before) = last_news panel before
   last_news panel (Kept failed ∷ before) = last_news panel before
 
-  -- the buzzer sounds where something of the panel's own is shown, and was newly shown after the last mute that was done before
+  -- the buzzer sounds where something of the panel's own is shown, and was newly shown after the last mute
+  -- that was done before
   abbrev pub buzzer_of : ℕ → List Moment → Buzzer
   buzzer_of panel moments =
-      sounds (latest_word site kept done (tells_fault site kept done) panel moments) (nat_lt (muted_before panel (latest_turn panel Hold moments) done) (last_news panel moments))
+      sounds (latest_word site kept done (tells_fault site kept done) panel moments)
+      (nat_lt (muted_before panel (latest_turn panel Hold moments) done) (last_news panel moments))
 
   -- the face of a panel, with what is kept
   abbrev pub face_with : Retained → ℕ → List Moment → Face
   face_with stored panel moments =
-      with_settings panel (tick_of moments) (shown_word panel moments) (faults_of site kept done panel moments)
-      (λ output. is_on site (facts_of site kept done) kept done output moments) (λ output. is_confirmed_out site (facts_of site kept done) kept done output moments)
+      with_settings panel (tick_of moments) (shown_word panel moments)
+      (faults_of site kept done panel moments)
+      (λ output. is_on site (facts_of site kept done) kept done output moments)
+      (λ output. is_confirmed_out site (facts_of site kept done) kept done output moments)
       (buzzer_of panel moments) (counter_in panel stored)

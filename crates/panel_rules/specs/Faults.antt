@@ -1,4 +1,5 @@
--- Which faults stand at a turn of Hold. The stamps heard of panels, the links that are down and the facts of Effect turns are arguments.
+-- Which faults stand at a turn of Hold. The stamps heard of panels, the links that are down and the facts of
+-- Effect turns are arguments.
 use Rattle.std.specs.Prelude.{ℕ, ◌+◌, ◌==◌, ◌&&◌, not, nat_lt, Bool, List, [], ◌∷◌, slice_get, if◌then◌else◌}
 use Rattle.tick_units.specs.declared.task.Task.TheVariants.{Supply as SupplyTask}
 use Rattle.site_types.specs.declared.event.Event.{Event}
@@ -11,7 +12,8 @@ use Rattle.site_types.specs.Done.{Done}
 use Rattle.site_types.specs.Events.{is_confirming}
 use Rattle.site_types.specs.Limits.{most_loops, most_panels}
 use Rattle.site_types.specs.Profile.{routing_of, silent_of}
-use Rattle.loop_poller.specs.Asked.{loop_at, status_on}
+use Rattle.loop_poller.specs.Asked.{status_on}
+use Rattle.site_types.specs.Things.{loop_of}
 use Rattle.supply_monitor.specs.Supply.{Call, Reported, Turned as TurnMade, shown_mask}
 use Rattle.panel_links.specs.Stands.{is_link_of}
 use Rattle.panel_conditions.specs.declared.outside.Outside.{Outside}
@@ -31,20 +33,26 @@ abbrev pub supply_calls : ℕ → List Moment → List Call
 supply_calls panel [] = []
 supply_calls panel (Began ∷ before) = supply_calls panel before
 supply_calls panel (Happened event ∷ before) = and_supply panel event (supply_calls panel before)
-supply_calls panel (Turned other SupplyTask ∷ before) = if other == panel then TurnMade (tick_of before) ∷ supply_calls panel before else supply_calls panel before
+supply_calls panel (Turned other SupplyTask ∷ before) = if other == panel then TurnMade (tick_of before)
+    ∷ supply_calls panel before else supply_calls panel before
 supply_calls panel (Turned other task ∷ before) = supply_calls panel before
 supply_calls panel (Kept failed ∷ before) = supply_calls panel before
 
 -- the loops of a panel with an open piece, and those with a short one
 abbrev pub broken_loops : Site → ℕ → List Moment → ℕ
-broken_loops site panel moments = mask_of most_loops (λ k. (status_on (loop_at site panel (k + 1)) (λ piece. piece_of panel (k + 1) piece moments)).broken)
+broken_loops site panel moments =
+    mask_of most_loops
+    (λ k. (status_on (loop_of site panel (k + 1)) (λ piece. piece_of panel (k + 1) piece moments)).broken)
 
 abbrev pub shorted_loops : Site → ℕ → List Moment → ℕ
-shorted_loops site panel moments = mask_of most_loops (λ k. (status_on (loop_at site panel (k + 1)) (λ piece. piece_of panel (k + 1) piece moments)).shorted)
+shorted_loops site panel moments =
+    mask_of most_loops
+    (λ k. (status_on (loop_of site panel (k + 1)) (λ piece. piece_of panel (k + 1) piece moments)).shorted)
 
 -- the panels of which nothing newer was heard for too long
 abbrev pub silent_panels : Site → (ℕ → ℕ) → ℕ → ℕ
-silent_panels site stamps tick = mask_of most_panels (λ k. nat_lt k site.panels && nat_lt (stamps (k + 1) + silent_of site.format) tick)
+silent_panels site stamps tick =
+    mask_of most_panels (λ k. nat_lt k site.panels && nat_lt (stamps (k + 1) + silent_of site.format) tick)
 
 -- the links of a panel that are down
 abbrev pub links_down : Site → ℕ → (ℕ → Bool) → ℕ
@@ -55,7 +63,8 @@ module _ (site : Site) (facts : ℕ → List Moment → Facts) (kept : Retained)
   abbrev pub is_unconfirmed : ℕ → List Moment → Bool
   is_unconfirmed output moments =
       on_output (λ o. is_confirming o.kind) (slice_get site.outputs output)
-      && (has_lasted (routing_of site.format) (on_run site facts kept done output moments) && not (is_confirmed_out site facts kept done output moments))
+      && (has_lasted (routing_of site.format) (on_run site facts kept done output moments)
+      && not (is_confirmed_out site facts kept done output moments))
 
   module _ (stamps : ℕ → ℕ) (up : ℕ → Bool) where
     -- what stands besides missing points
@@ -72,4 +81,6 @@ module _ (site : Site) (facts : ℕ → List Moment → Facts) (kept : Retained)
 
     -- the faults that stand at a turn of Hold, with what had befallen up to that turn
     abbrev pub faults_by : ℕ → List Moment → FaultSet
-    faults_by panel moments = answered_faults site kept panel done (held_answers site panel moments) (tick_of moments) (outside_at panel moments)
+    faults_by panel moments =
+        answered_faults site kept panel done (held_answers site panel moments) (tick_of moments)
+        (outside_at panel moments)

@@ -1,30 +1,19 @@
--- The words that panels keep of one another. A word is given by what had befallen when it was made: by the moments up to that turn of its panel's Hold, and by none
+-- The words that panels keep of one another. A word is given by what had befallen when it was made: by the
+-- moments up to that turn of its panel's Hold, and by none
 -- for the empty word of the start.
-use Rattle.std.specs.Prelude.{ℕ, ◌+◌, ◌-◌, ◌%◌, ◌==◌, ◌||◌, ◌&&◌, not, nat_le, nat_lt, Bool, List, [], ◌∷◌, if◌then◌else◌}
+use Rattle.std.specs.Prelude.{ℕ, ◌==◌, ◌&&◌, nat_lt, Bool, List, [], ◌∷◌, if◌then◌else◌}
 use Rattle.tick_units.specs.declared.task.Task.TheVariants.{Hold, Link}
+use Rattle.panel_links.specs.Words.{carries, left_of, right_of}
 use Rattle.panel_rules.specs.Moments.{Moment, Began, Happened, Turned, Kept, tick_of}
 use Rattle.panel_rules.specs.States.{is_up}
-
-abbrev pub is_odd : ℕ → Bool
-is_odd tick = (tick % 2) == 1
-
--- whether a tick carries a panel's word: up to four panels each tick carries all, with more an odd tick those of panels 1 to 4 and an even one the others
-abbrev pub carries : ℕ → ℕ → ℕ → Bool
-carries panels tick panel = nat_le panels 4 || (if nat_le panel 4 then is_odd tick else not (is_odd tick))
-
--- the neighbours of a panel in the ring; the link to the one above has the panel's own number, the one to the one below has that panel's
-abbrev pub above : ℕ → ℕ → ℕ
-above panels panel = panel % panels + 1
-
-abbrev pub below : ℕ → ℕ → ℕ
-below panels panel = (panel + panels - 2) % panels + 1
 
 -- the latest word that a panel made
 abbrev pub made_at : ℕ → List Moment → List Moment
 made_at panel [] = []
 made_at panel (Began ∷ before) = made_at panel before
 made_at panel (Happened event ∷ before) = made_at panel before
-made_at panel (Turned other Hold ∷ before) = if other == panel then Turned other Hold ∷ before else made_at panel before
+made_at panel (Turned other Hold ∷ before) = if other == panel then Turned other Hold
+    ∷ before else made_at panel before
 made_at panel (Turned other task ∷ before) = made_at panel before
 made_at panel (Kept failed ∷ before) = made_at panel before
 
@@ -36,15 +25,18 @@ newer kept other = if nat_lt (tick_of kept) (tick_of other) then other else kept
 abbrev pub taken_over : Bool → Bool → List Moment → List Moment → List Moment
 taken_over up carried kept other = if up && carried then newer kept other else kept
 
--- the word of a panel that another one keeps; its own word is the latest that it made before its latest turn of Link. What the panel below has is taken first
+-- the word of a panel that another one keeps; its own word is the latest that it made before its latest turn
+-- of Link. What the panel on its left has is taken first
 abbrev pub kept_at : ℕ → ℕ → ℕ → List Moment → List Moment
 kept_at panels panel source [] = []
 kept_at panels panel source (Began ∷ before) = kept_at panels panel source before
 kept_at panels panel source (Happened event ∷ before) = kept_at panels panel source before
 kept_at panels panel source (Turned other Link ∷ before) =
     if other == panel then taken_over (is_up panel before) (carries panels (tick_of before) source)
-    (taken_over (is_up (below panels panel) before) (carries panels (tick_of before) source) (if panel == source then made_at panel before else kept_at panels panel source before) (kept_at panels (below panels panel) source before))
-    (kept_at panels (above panels panel) source before) else kept_at panels panel source before
+    (taken_over (is_up (left_of panels panel) before) (carries panels (tick_of before) source)
+    (if panel == source then made_at panel before else kept_at panels panel source before)
+    (kept_at panels (left_of panels panel) source before))
+    (kept_at panels (right_of panels panel) source before) else kept_at panels panel source before
 kept_at panels panel source (Turned other task ∷ before) = kept_at panels panel source before
 kept_at panels panel source (Kept failed ∷ before) = kept_at panels panel source before
 

@@ -6,7 +6,8 @@ use Rattle.site_types.specs.declared.term.Term.{Term}
 use Rattle.site_types.specs.declared.term.Term.TheVariants.{Zone, Manual, Fault, Marker}
 use Rattle.marker_table.specs.Equations.{is_met}
 
--- what markers are solved over: which zones are released, which are in alarm by hand, which panels tell a fault
+-- what markers are solved over: which zones are released, which are in alarm by hand, which panels tell a
+-- fault
 pub record Facts : Type 0 where
   pub released : ℕ → Bool
   pub by_hand : ℕ → Bool
@@ -29,12 +30,14 @@ equation facts values (Some marker) = is_met marker.combine (holds facts values)
 
 -- values of markers that satisfy the equation of each; a place without a marker is false
 abbrev pub IsSolution : Site → Facts → (ℕ → Bool) → Type 0
-IsSolution site facts values = (marker : ℕ) → values marker ≡ equation facts values (slice_get site.markers marker)
+IsSolution site facts values = (marker : ℕ)
+    → values marker ≡ equation facts values (slice_get site.markers marker)
 
 -- the value of a marker with markers below it to a depth
 abbrev pub solved : Site → Facts → ℕ → ℕ → Bool
 solved site facts zero marker = false
-solved site facts (suc depth) marker = equation facts (solved site facts depth) (slice_get site.markers marker)
+solved site facts (suc depth) marker =
+    equation facts (solved site facts depth) (slice_get site.markers marker)
 
 -- the solution: where no marker depends on itself, no way down passes more markers than there are
 abbrev pub solution : Site → Facts → ℕ → Bool

@@ -1,5 +1,5 @@
 -- What befalls a site, one thing after another. In a list of moments the newest stands first.
-use Rattle.std.specs.Prelude.{◌≡◌, ℕ, ◌+◌, ◌-◌, ◌≤◌, ◌==◌, ◌&&◌, nat_le, Bool, true, false, List, [], ◌∷◌, drop, length, if◌then◌else◌}
+use Rattle.std.specs.Prelude.{◌≡◌, ℕ, ◌+◌, ◌≤◌, ◌==◌, ◌&&◌, nat_le, Bool, true, false, List, [], ◌∷◌, if◌then◌else◌}
 use Rattle.tick_units.specs.declared.seat.Seat.{Seat}
 use Rattle.tick_units.specs.declared.task.Task.{Task}
 use Rattle.tick_units.specs.declared.task.Task.TheVariants.{Keep}
@@ -24,12 +24,14 @@ tick_of (Kept failed ∷ before) = tick_of before
 abbrev pub is_turn : ℕ → Task → ℕ → Task → Bool
 is_turn panel task other_panel other = (task_number other == task_number task) && (other_panel == panel)
 
--- whether a task of a panel has had its turn in the tick that began last; before the first tick nothing is owed
+-- whether a task of a panel has had its turn in the tick that began last; before the first tick nothing is
+-- owed
 abbrev pub has_turned : ℕ → Task → List Moment → Bool
 has_turned panel task [] = true
 has_turned panel task (Began ∷ before) = false
 has_turned panel task (Happened event ∷ before) = has_turned panel task before
-has_turned panel task (Turned other_panel other ∷ before) = if is_turn panel task other_panel other then true else has_turned panel task before
+has_turned panel task (Turned other_panel other ∷ before) =
+    if is_turn panel task other_panel other then true else has_turned panel task before
 has_turned panel task (Kept failed ∷ before) = has_turned panel task before
 
 -- the same for Keep, which has one turn for the whole site
@@ -58,10 +60,12 @@ IsPanel panels panel = (1 ≤ panel) × (panel ≤ panels)
 
 -- each seat of a site of so many panels has had its turn in the tick that began last
 pub record HaveAllTurned (panels : ℕ) (moments : List Moment) : Type 0 where
-  pub each : (panel : ℕ) (task : Task) → IsPanel panels panel → IsPanelTask task → has_turned panel task moments ≡ true
+  pub each : (panel : ℕ) (task : Task) → IsPanel panels panel → IsPanelTask task
+      → has_turned panel task moments ≡ true
   pub keep : has_kept moments ≡ true
 
--- A run: a tick begins when each seat has had its turn in the one before, its events come before all turns, and no seat has two turns in it.
+-- A run: a tick begins when each seat has had its turn in the one before, its events come before all turns,
+-- and no seat has two turns in it.
 abbrev pub IsRun : ℕ → List Moment → Type 0
 IsRun panels [] = Unit {0}
 IsRun panels (Began ∷ before) = IsRun panels before × HaveAllTurned panels before
@@ -69,7 +73,8 @@ IsRun panels (Happened event ∷ before) = IsRun panels before × (is_fresh befo
 IsRun panels (Turned panel task ∷ before) = IsRun panels before × (has_turned panel task before ≡ false)
 IsRun panels (Kept failed ∷ before) = IsRun panels before × (has_kept before ≡ false)
 
--- a tick of a record: the events that come in it, the order of its turns, and whether the disk made Keep's turn fail
+-- a tick of a record: the events that come in it, the order of its turns, and whether the disk made Keep's
+-- turn fail
 pub record TickBlock : Type 0 where
   pub events : List Event
   pub order : List Seat
@@ -93,14 +98,11 @@ abbrev pub moments : List TickBlock → List Moment
 moments [] = []
 moments (tick ∷ ticks) = and_turns tick.failed tick.order (and_events tick.events (Began ∷ moments ticks))
 
--- a record up to a tick
-abbrev pub until : ℕ → List TickBlock → List TickBlock
-until tick ticks = drop (length ticks - tick) ticks
-
 -- a history up to the end of a tick
 abbrev pub up_to : ℕ → List Moment → List Moment
 up_to tick [] = []
-up_to tick (moment ∷ before) = if nat_le (tick_of (moment ∷ before)) tick then moment ∷ before else up_to tick before
+up_to tick (moment ∷ before) = if nat_le (tick_of (moment ∷ before)) tick then moment
+    ∷ before else up_to tick before
 
 -- an earlier moment of a history, or its last one
 pub data IsPast (past : List Moment) : List Moment → Type 0 where
@@ -112,7 +114,8 @@ abbrev pub latest_turn : ℕ → Task → List Moment → ℕ
 latest_turn panel task [] = 0
 latest_turn panel task (Began ∷ before) = latest_turn panel task before
 latest_turn panel task (Happened event ∷ before) = latest_turn panel task before
-latest_turn panel task (Turned other_panel other ∷ before) = if is_turn panel task other_panel other then tick_of before else latest_turn panel task before
+latest_turn panel task (Turned other_panel other ∷ before) =
+    if is_turn panel task other_panel other then tick_of before else latest_turn panel task before
 latest_turn panel task (Kept failed ∷ before) = latest_turn panel task before
 
 -- what had befallen before the latest turn of a panel's task, else nothing
@@ -120,5 +123,6 @@ abbrev pub before_turn : ℕ → Task → List Moment → List Moment
 before_turn panel task [] = []
 before_turn panel task (Began ∷ before) = before_turn panel task before
 before_turn panel task (Happened event ∷ before) = before_turn panel task before
-before_turn panel task (Turned other_panel other ∷ before) = if is_turn panel task other_panel other then before else before_turn panel task before
+before_turn panel task (Turned other_panel other ∷ before) =
+    if is_turn panel task other_panel other then before else before_turn panel task before
 before_turn panel task (Kept failed ∷ before) = before_turn panel task before

@@ -1,5 +1,7 @@
--- Operations that are asked for, the one answer of each, what waits for Keep, and what is done. What is done in a tick is in force from the next tick on.
-use Rattle.std.specs.Prelude.{ℕ, ◌+◌, ◌==◌, ◌&&◌, ◌||◌, not, nat_le, nat_lt, Bool, true, false, List, [], ◌∷◌, ◌++◌, length, filter, Option, Some, None, option_map, if◌then◌else◌}
+-- Operations that are asked for, the one answer of each, what waits for Keep, and what is done. What is done
+-- in a tick is in force from the next tick on.
+use Rattle.std.specs.Prelude.{ℕ, ◌+◌, ◌==◌, ◌&&◌, ◌||◌, nat_le, nat_lt, Bool, false, List, [], ◌∷◌, ◌++◌, length}
+use Rattle.std.specs.Prelude.{filter, Option, Some, None, option_map, if◌then◌else◌}
 use Rattle.std.specs.List.{list_any, fold}
 use Rattle.tick_units.specs.declared.task.Task.TheVariants.{Desk}
 use Rattle.site_types.specs.declared.event.Event.{Event}
@@ -10,9 +12,11 @@ use Rattle.site_types.specs.declared.site.Site.{Site}
 use Rattle.site_types.specs.Done.{Done, Setting, Counter, in_force, is_on, is_setting, operation_setting, value_set}
 use Rattle.site_types.specs.Limits.{most_operations}
 use Rattle.access_levels.specs.Levels.{level_of, needed_by}
+use Rattle.face_text.specs.Faces.{same_truth}
 use Rattle.panel_rules.specs.Moments.{Moment, Began, Happened, Turned, Kept, tick_of}
 
--- an operation that is asked for: its number over the run, its tick and panel, how many operations of the panel came earlier in the tick, the level of its code
+-- an operation that is asked for: its number over the run, its tick and panel, how many operations of the
+-- panel came earlier in the tick, the level of its code
 pub record Request : Type 0 where
   pub number : ℕ
   pub tick : ℕ
@@ -32,11 +36,21 @@ requests_in panel tick requests = filter (λ (r : Request). (r.panel == panel) &
 -- an operation that is asked for now, after those that came before it
 abbrev pub request_of : ℕ → ℕ → ℕ → Operation → List Request → Request
 request_of tick panel level operation before =
-    record { number = length before + 1; tick = tick; panel = panel; earlier = length (requests_in panel tick before); level = level; operation = operation }
+    record {
+      number = length before + 1;
+      tick = tick;
+      panel = panel;
+      earlier =
+          length (requests_in panel tick before);
+      level = level;
+      operation = operation;
+    }
 
 -- the operation of an event, behind those that came before it
 abbrev pub and_request : Site → ℕ → Event → List Request → List Request
-and_request site tick (Op panel code operation) before = before ++ request_of tick panel (level_of site (option_map (λ label. label.bytes) code)) operation before ∷ []
+and_request site tick (Op panel code operation) before =
+    before ++ request_of tick panel (level_of site (option_map (λ label. label.bytes) code)) operation before
+    ∷ []
 and_request site tick _ before = before
 
 -- all operations asked for so far, of all panels, in order of their lines
@@ -62,7 +76,8 @@ pub record Answered : Type 0 where
   pub tick : ℕ
   pub reply : Reply
 
--- what became of operations: those that wait for Keep, in the order in which they were accepted; the answers given and the operations done, the newest first
+-- what became of operations: those that wait for Keep, in the order in which they were accepted; the answers
+-- given and the operations done, the newest first
 pub record Operations : Type 0 where
   pub waiting : List Request
   pub answers : List Answered
@@ -71,27 +86,29 @@ pub record Operations : Type 0 where
 abbrev pub no_operations : Operations
 no_operations = record { waiting = []; answers = []; done = [] }
 
--- an earlier operation on the setting was accepted, did not fail to be stored, and is not yet in force: it waits for Keep, or was done in this very tick
+-- an earlier operation on the setting was accepted, did not fail to be stored, and is not yet in force: it
+-- waits for Keep, or was done in this very tick
 abbrev pub is_unsettled : Setting → ℕ → Operations → Bool
-is_unsettled setting tick so_far = list_any (λ (r : Request). is_setting setting (setting_asked r)) so_far.waiting || list_any (λ (d : Done). is_on setting d && nat_le tick d.tick) so_far.done
-
-abbrev pub same_truth : Bool → Bool → Bool
-same_truth true value = value
-same_truth false value = not value
+is_unsettled setting tick so_far =
+    list_any (λ (r : Request). is_setting setting (setting_asked r)) so_far.waiting
+    || list_any (λ (d : Done). is_on setting d && nat_le tick d.tick) so_far.done
 
 -- the setting has the value already; of a counter this is never said
 abbrev pub stands_so : Site → Retained → Setting → ℕ → Bool → List Done → Bool
 stands_so site kept (Counter panel) tick value done = false
 stands_so site kept setting tick value done = same_truth (in_force site kept setting tick done) value
 
--- the rows on settings: an operation that is on none is done at once; else it waits behind an earlier one, or finds its setting so, or goes to Keep
+-- the rows on settings: an operation that is on none is done at once; else it waits behind an earlier one, or
+-- finds its setting so, or goes to Keep
 abbrev pub setting_reply : Site → Retained → Request → Operations → Option Setting → Option Reply
 setting_reply site kept request so_far None = Some WasDone
 setting_reply site kept request so_far (Some setting) =
     if is_unsettled setting request.tick so_far then Some Waiting
-    else (if stands_so site kept setting request.tick (value_set request.operation) so_far.done then Some Already else None)
+    else (if stands_so site kept setting request.tick (value_set request.operation) so_far.done then Some
+    Already else None)
 
--- the answer at Desk's turn by the first row that applies: busy, denied, then the rows on settings; none where the operation is accepted for Keep
+-- the answer at Desk's turn by the first row that applies: busy, denied, then the rows on settings; none
+-- where the operation is accepted for Keep
 abbrev pub desk_reply : Site → Retained → Request → Operations → Option Reply
 desk_reply site kept request so_far =
     if nat_le most_operations request.earlier then Some Busy
@@ -128,10 +145,17 @@ abbrev pub keep_reply : Bool → Reply
 keep_reply failed = if failed then Store else WasDone
 
 abbrev pub answer_all : ℕ → Bool → List Request → List Answered → List Answered
-answer_all tick failed waiting answers = fold (λ (before : List Answered) (request : Request). record { request = request; tick = tick; reply = keep_reply failed } ∷ before) answers waiting
+answer_all tick failed waiting answers =
+    fold (λ (before : List Answered) (request : Request). record {
+      request = request;
+      tick = tick;
+      reply =
+          keep_reply failed;
+    } ∷ before) answers waiting
 
 abbrev pub do_all : ℕ → List Request → List Done → List Done
-do_all tick waiting done = fold (λ (before : List Done) (request : Request). done_in tick request ∷ before) done waiting
+do_all tick waiting done =
+    fold (λ (before : List Done) (request : Request). done_in tick request ∷ before) done waiting
 
 -- a turn of Keep answers each operation that waits: it is done, or could not be stored
 abbrev pub after_keep : ℕ → Bool → Operations → Operations
@@ -147,6 +171,8 @@ abbrev pub operations : Site → Retained → List Moment → Operations
 operations site kept [] = no_operations
 operations site kept (Began ∷ before) = operations site kept before
 operations site kept (Happened event ∷ before) = operations site kept before
-operations site kept (Turned panel Desk ∷ before) = after_desk site kept (requests_in panel (tick_of before) (requests site before)) (operations site kept before)
+operations site kept (Turned panel Desk ∷ before) =
+    after_desk site kept (requests_in panel (tick_of before) (requests site before))
+    (operations site kept before)
 operations site kept (Turned panel task ∷ before) = operations site kept before
 operations site kept (Kept failed ∷ before) = after_keep (tick_of before) failed (operations site kept before)

@@ -16,17 +16,20 @@ use Rattle.panel_rules.specs.DueOutputs.{IsDueOn}
 -- an output that nobody asks is off
 abbrev pub UnaskedIsOff : Type 0
 UnaskedIsOff =
-    (site : Site) (facts : ℕ → List Moment → Facts) (kept : Retained) (done : List Done) (output : ℕ) (moments : List Moment)
+    (site : Site) (facts : ℕ → List Moment → Facts) (kept : Retained) (done : List Done) (output :
+    ℕ) (moments : List Moment)
     → is_asked site facts output moments ≡ false → is_on site facts kept done output moments ≡ false
 
 -- a word tells a fault exactly where some fault stood at the turn of Hold that made it
 abbrev pub FaultsAreTold : Type 0
 FaultsAreTold =
     (site : Site) (kept : Retained) (done : List Done) (panel : ℕ) (moment : Moment) (before : List Moment)
-    → tells_fault site kept done panel (moment ∷ before) ≡ has_fault (faults_with site kept done (tells_fault site kept done) panel (moment ∷ before))
+    → tells_fault site kept done panel (moment ∷ before)
+    ≡ has_fault (faults_with site kept done (tells_fault site kept done) panel (moment ∷ before))
 
 -- a point of a zone, or of its partner, was in alarm, reached and not blocked in some tick by now
-pub record HasSignalled (site : Site) (kept : Retained) (done : List Done) (moments : List Moment) (zone : ℕ) : Type 0 where
+pub record HasSignalled (site : Site) (kept : Retained) (done : List Done) (moments : List Moment) (zone :
+    ℕ) : Type 0 where
   pub point : ℕ
   pub tick : ℕ
   pub begins : 1 ≤ tick
@@ -37,9 +40,11 @@ pub record HasSignalled (site : Site) (kept : Retained) (done : List Done) (mome
 -- a zone is due only by a signal
 abbrev pub DueNeedsASignal : Type 0
 DueNeedsASignal =
-    (site : Site) (kept : Retained) (done : List Done) (moments : List Moment) (zone panel : ℕ) → 1 ≤ site.format → IsDue site kept done moments zone panel → HasSignalled site kept done moments zone
+    (site : Site) (kept : Retained) (done : List Done) (moments : List Moment) (zone panel : ℕ)
+    → 1 ≤ site.format → IsDue site kept done moments zone panel → HasSignalled site kept done moments zone
 
 -- an output is due only by a signal of some zone
 abbrev pub DueOutputNeedsASignal : Type 0
 DueOutputNeedsASignal =
-    (site : Site) (kept : Retained) (done : List Done) (moments : List Moment) (output : ℕ) → IsValid site → IsDueOn site kept done moments output → (zone : ℕ) × HasSignalled site kept done moments zone
+    (site : Site) (kept : Retained) (done : List Done) (moments : List Moment) (output : ℕ) → IsValid site
+    → IsDueOn site kept done moments output → (zone : ℕ) × HasSignalled site kept done moments zone

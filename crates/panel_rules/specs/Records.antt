@@ -11,7 +11,8 @@ AreOrdered panels (tick ∷ ticks) = AreOrdered panels ticks × IsOrder panels t
 
 -- such a record is a run, and each seat has had its turn in its last tick
 abbrev pub RecordsAreRuns : Type 0
-RecordsAreRuns = (panels : ℕ) (ticks : List TickBlock) → AreOrdered panels ticks → IsRun panels (moments ticks) × HaveAllTurned panels (moments ticks)
+RecordsAreRuns = (panels : ℕ) (ticks : List TickBlock) → AreOrdered panels ticks
+    → IsRun panels (moments ticks) × HaveAllTurned panels (moments ticks)
 
 -- in a round there is one tick, and no other, in which an address is asked
 pub record IsAskedOnce (format address first : ℕ) : Type 0 where
@@ -19,7 +20,9 @@ pub record IsAskedOnce (format address first : ℕ) : Type 0 where
   pub from : first ≤ tick
   pub by : tick < first + round_of format
   pub asked : is_asked format address tick ≡ true
-  pub only : (other : ℕ) → first ≤ other → other < first + round_of format → is_asked format address other ≡ true → other ≡ tick
+  pub only : (other : ℕ) → first ≤ other → other < first + round_of format
+      → is_asked format address other ≡ true → other ≡ tick
 
 abbrev pub AskedOnceInARound : Type 0
-AskedOnceInARound = (format address first : ℕ) → 1 ≤ format → format ≤ 2 → 1 ≤ address → address ≤ last_address_of format → IsAskedOnce format address first
+AskedOnceInARound = (format address first : ℕ) → 1 ≤ format → format ≤ 2 → 1 ≤ address
+    → address ≤ last_address_of format → IsAskedOnce format address first

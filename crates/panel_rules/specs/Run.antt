@@ -14,24 +14,34 @@ use Rattle.panel_rules.specs.Faults.{faults_by}
 
 module _ (site : Site) (kept : Retained) (done : List Done) where
   module _ (told : ℕ → List Moment → Bool) where
-    -- the facts of an Effect turn of a panel made now: what the words that it keeps say of zones, and whether they tell a fault
+    -- the facts of an Effect turn of a panel made now: what the words that it keeps say of zones, and whether
+    -- they tell a fault
     abbrev pub facts_with : ℕ → List Moment → Facts
     facts_with panel before =
         record {
-          released = λ zone. holds_released site kept done (panel_of_zone site zone) (kept_at site.panels panel (panel_of_zone site zone) before) zone;
-          by_hand = λ zone. holds_by_hand site kept done (panel_of_zone site zone) (kept_at site.panels panel (panel_of_zone site zone) before) zone;
+          released =
+              λ zone. holds_released site kept done (panel_of_zone site zone)
+              (kept_at site.panels panel (panel_of_zone site zone) before) zone;
+          by_hand =
+              λ zone. holds_by_hand site kept done (panel_of_zone site zone)
+              (kept_at site.panels panel (panel_of_zone site zone) before) zone;
           faulty = λ source. told source (kept_at site.panels panel source before);
         }
 
     -- the faults of a panel at a turn of Hold, with what had befallen up to that turn
     abbrev pub faults_with : ℕ → List Moment → FaultSet
-    faults_with panel moments = faults_by site facts_with kept done (λ source. heard site.panels panel source moments) (λ link. is_up link moments) panel moments
+    faults_with panel moments =
+        faults_by site facts_with kept done (λ source. heard site.panels panel source moments)
+        (λ link. is_up link moments) panel moments
 
-  -- whether the word of a panel tells a fault: some fault stood at the turn that made it; the empty word tells none. Outputs without confirmation are faults, so this looks back to words made before; a bound on how far is given
+  -- whether the word of a panel tells a fault: some fault stood at the turn that made it; the empty word
+  -- tells none. Outputs without confirmation are faults, so this looks back to words made before; a bound on
+  -- how far is given
   unfoldable pub tells_to : ℕ → ℕ → List Moment → Bool
   tells_to bound panel [] = false
   tells_to zero panel (moment ∷ before) = false
-  tells_to (suc bound) panel (moment ∷ before) = has_fault (faults_with (tells_to bound) panel (moment ∷ before))
+  tells_to (suc bound) panel (moment ∷ before) =
+      has_fault (faults_with (tells_to bound) panel (moment ∷ before))
 
   -- no word has more words before it than moments
   abbrev pub tells_fault : ℕ → List Moment → Bool

@@ -17,7 +17,8 @@ told_point point _ was = was
 
 -- of a piece of cable, by panel, loop and piece
 abbrev pub told_piece : ℕ → ℕ → ℕ → Event → PieceState → PieceState
-told_piece panel line piece (Cable other_panel other_line other state) was = if (other_panel == panel) && ((other_line == line) && (other == piece)) then state else was
+told_piece panel line piece (Cable other_panel other_line other state) was =
+    if (other_panel == panel) && ((other_line == line) && (other == piece)) then state else was
 told_piece panel line piece _ was = was
 
 abbrev pub supply_number : SupplyKind → ℕ
@@ -28,7 +29,8 @@ supply_number Charger = 3
 
 -- whether a supply of a panel is bad
 abbrev pub told_supply : ℕ → SupplyKind → Event → Bool → Bool
-told_supply panel kind (Supply other_panel other bad) was = if (other_panel == panel) && (supply_number other == supply_number kind) then bad else was
+told_supply panel kind (Supply other_panel other bad) was =
+    if (other_panel == panel) && (supply_number other == supply_number kind) then bad else was
 told_supply panel kind _ was = was
 
 -- whether a link is up
@@ -48,7 +50,8 @@ state_of point (Kept failed ∷ before) = state_of point before
 abbrev pub piece_of : ℕ → ℕ → ℕ → List Moment → PieceState
 piece_of panel line piece [] = Sound
 piece_of panel line piece (Began ∷ before) = piece_of panel line piece before
-piece_of panel line piece (Happened event ∷ before) = told_piece panel line piece event (piece_of panel line piece before)
+piece_of panel line piece (Happened event ∷ before) =
+    told_piece panel line piece event (piece_of panel line piece before)
 piece_of panel line piece (Turned other task ∷ before) = piece_of panel line piece before
 piece_of panel line piece (Kept failed ∷ before) = piece_of panel line piece before
 

@@ -11,11 +11,16 @@ use Rattle.panel_rules.specs.Words.{kept_word_of, ring_calls}
 -- the word that a panel keeps of another is the one that the ring keeps, turn by turn
 abbrev pub KeptByTheRing : Type 0
 KeptByTheRing =
-    (site : Site) (kept : Retained) (done : List Done) (told : ℕ → List Moment → Bool) (moments : List Moment) (panel source : ℕ) → site.panels ≤ 8 → IsPanel site.panels panel → IsPanel site.panels source
-    → kept_word site.panels source panel (ring_calls site kept done told moments) ≡ kept_word_of site kept done told panel source moments
+    (site : Site) (kept : Retained) (done : List Done) (told : ℕ → List Moment → Bool) (moments : List Moment)
+    (panel source : ℕ) → site.panels ≤ 8 → IsPanel site.panels panel → IsPanel site.panels source
+    → kept_word site.panels source panel (ring_calls site kept done told moments) ≡ kept_word_of site kept
+    done told panel source moments
 
--- it is the word of the greatest stamp over all chains of turns of Link from the other panel, over links that were up, in ticks that carried it
+-- it is the word of the greatest stamp over all chains of turns of Link from the other panel, over links that
+-- were up, in ticks that carried it
 abbrev pub NewestOverChains : Type 0
 NewestOverChains =
-    (site : Site) (kept : Retained) (done : List Done) (told : ℕ → List Moment → Bool) (moments : List Moment) (panel source : ℕ) → site.panels ≤ 8 → IsPanel site.panels panel → IsPanel site.panels source
-    → IsNewest site.panels source panel (ring_calls site kept done told moments) (kept_word_of site kept done told panel source moments)
+    (site : Site) (kept : Retained) (done : List Done) (told : ℕ → List Moment → Bool) (moments : List Moment)
+    (panel source : ℕ) → site.panels ≤ 8 → IsPanel site.panels panel → IsPanel site.panels source
+    → IsNewest site.panels source panel (ring_calls site kept done told moments)
+    (kept_word_of site kept done told panel source moments)

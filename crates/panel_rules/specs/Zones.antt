@@ -16,18 +16,23 @@ use Rattle.panel_rules.specs.Counts.{taken_by_hold}
 abbrev pub held_answers : Site → ℕ → List Moment → List Answer
 held_answers site panel before = take (taken_by_hold site panel before) (answers site panel before)
 
--- after Hold's latest turn: a zone is in alarm, in alarm by hand, released, in first state, by what Hold has taken and the operations done before the tick of that turn
+-- after Hold's latest turn: a zone is in alarm, in alarm by hand, released, in first state, by what Hold has
+-- taken and the operations done before the tick of that turn
 abbrev pub holds_alarm : Site → Retained → List Done → ℕ → List Moment → ℕ → Bool
-holds_alarm site kept done panel before zone = is_in_alarm site kept done (held_answers site panel before) zone (latest_turn panel Hold before)
+holds_alarm site kept done panel before zone =
+    is_in_alarm site kept done (held_answers site panel before) zone (latest_turn panel Hold before)
 
 abbrev pub holds_by_hand : Site → Retained → List Done → ℕ → List Moment → ℕ → Bool
-holds_by_hand site kept done panel before zone = is_by_hand site kept done (held_answers site panel before) zone (latest_turn panel Hold before)
+holds_by_hand site kept done panel before zone =
+    is_by_hand site kept done (held_answers site panel before) zone (latest_turn panel Hold before)
 
 abbrev pub holds_released : Site → Retained → List Done → ℕ → List Moment → ℕ → Bool
-holds_released site kept done panel before zone = is_released site kept done (held_answers site panel before) zone (latest_turn panel Hold before)
+holds_released site kept done panel before zone =
+    is_released site kept done (held_answers site panel before) zone (latest_turn panel Hold before)
 
 abbrev pub holds_first : Site → Retained → List Done → ℕ → List Moment → ℕ → Bool
-holds_first site kept done panel before zone = is_first site kept done (held_answers site panel before) zone (latest_turn panel Hold before)
+holds_first site kept done panel before zone =
+    is_first site kept done (held_answers site panel before) zone (latest_turn panel Hold before)
 
 abbrev pub panel_of : Option Zone → ℕ
 panel_of None = 0

@@ -1,65 +1,19 @@
-//! The rules of the whole: what befalls a site tick by tick, what each panel has taken of it, and what follows from that.
+//! The rules of the whole, as definitions: what befalls a site tick by tick, and what each panel makes of it.
 //!
-//! A history is a list of moments, the newest first: a tick begins, its events happen, and each seat has its turn, in any order. The
-//! definitions in specs/ are functions of such a list, of the site, of what was retained at opening and of the operations done: what
-//! became of each operation, what Keep commits, which words panels keep of one another, which outputs are on, which faults stand, what
-//! a face shows, and what is due and caused. Where an auditor or a node has another source for operations, words or links, it hands in
-//! its own.
+//! A history is a list of moments, the newest first: a tick begins, its events happen, and each seat has its turn,
+//! in any order. The definitions in specs/ are functions of such a list, of the site, of what was retained at opening
+//! and of the operations done: what became of each operation, what Keep commits, which words panels keep of one
+//! another, which outputs are on, which faults stand, what a face shows, and what is due and caused. Where an auditor
+//! or a node has another source for operations, words or links, it hands in its own.
 //!
-//! Each function here is a law over them: its contract says it, and its body does nothing. Begin with [`due_zone_is_shown`] and
-//! [`due_output_is_shown`], the deadlines of zones and outputs, [`shown_zone_is_caused`] and [`shown_output_is_caused`], which say that
-//! nothing is shown or on without a cause, and [`answered_by_the_next_tick`], the one answer of each operation.
+//! Begin with specs/Moments, and go on with Operations, Zones, Words, Outputs, Faults and Faces; Due and
+//! Caused say what the panel owes. What follows from the definitions stands in `panel_laws`. Here are only
+//! the laws that the code of the system rests on: how lanes fill ([`lanes_hold_few`]) and that records are
+//! runs ([`records_are_runs`]), with the lemmas in proofs/ that the crates above cite.
 #![tactic(auto)]
 
-mod examples;
-mod faces;
-mod forms;
 mod lanes;
-mod markers;
-mod operations;
-mod other_deadlines;
-mod outputs;
 mod records;
-mod timelines;
-mod words;
-mod zones;
 
-pub use examples::{
-    alarms_of_small_cases, one_run_in_both_orders, operations_of_small_cases,
-    outputs_of_small_cases, words_of_a_long_ring, words_of_small_rings,
-};
-pub use faces::{
-    due_output_is_shown, due_zone_is_shown, fire_is_counted, lone_zone_is_shown,
-    shown_output_is_caused, shown_zone_is_caused,
-};
-pub use forms::{
-    answers_rise, counters_have_an_end, faces_are_by_panel, faces_are_of_site, timeline_is_in_form,
-    told_ticks_tell,
-};
 pub use lanes::{lanes_hold_few, lanes_keep_their_tick, taken_by_the_next_tick};
-pub use markers::{one_solution, solution_solves};
-pub use operations::{
-    answered_by_the_next_tick, answered_once, answers_are_to_requests, answers_stay,
-    kept_is_in_force, operations_are_of_site, settings_change_once,
-};
-pub use other_deadlines::{
-    accepted_is_in_force, away_is_missing, bad_supply_is_shown, cut_off_is_silent, link_is_shown,
-    piece_is_shown, stands_again,
-};
-pub use outputs::{
-    due_needs_a_signal, due_output_is_on, due_output_needs_a_signal, faults_are_told,
-    indicated_output_is_on, on_output_is_caused, unasked_is_off,
-};
 pub use records::{asked_once_in_a_round, records_are_runs};
-pub use timelines::{
-    counters_add_up, entries_are_counted_once, steps_rise, told_ticks_are_steps,
-    untold_ticks_change_nothing,
-};
-pub use words::{
-    due_hand_is_kept, due_release_is_kept, due_zone_is_kept, kept_by_the_ring, kept_hand_is_caused,
-    kept_release_is_caused, kept_zone_is_caused, newest_over_chains,
-};
-pub use zones::{
-    lone_signal_is_shown, own_hand_is_caused, own_release_is_caused, own_zone_is_by_hand,
-    own_zone_is_caused, own_zone_is_released, own_zone_is_shown,
-};

@@ -1,6 +1,7 @@
 ghost use Rattle.panel_rules.specs.Records.{RecordsAreRuns, AskedOnceInARound};
 
-/// A record whose ticks have an order of the site's seats each is a run, and each seat has had its turn in its last tick.
+/// A record whose ticks have an order of the site's seats each is a run, and each seat has had its turn in
+/// its last tick.
 pub fn records_are_runs()
     ensures { RecordsAreRuns }
 {}

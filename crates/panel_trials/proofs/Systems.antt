@@ -13,9 +13,19 @@ use Rattle.panel_core.specs.Stands.{StandsFor, HasPanel, MayHappen, MayTurnAll}
 use Rattle.panel_trials.specs.SystemTicks.{IsBetween, HasBegun}
 
 pub opens : (site : Site) (kept : Retained) (system : System) → StandsFor site kept [] system → IsBetween site.panels system
-opens site kept system stands = record { site = site; kept = kept; before = []; stands = stands; same = refl; run = tt; all = record { each = λ panel task p t. refl; keep = refl } }
+opens site kept system stands = record {
+  site = site;
+  kept = kept;
+  before = [];
+  stands = stands;
+  same = refl;
+  run = tt;
+  all =
+      record { each = λ panel task p t. refl; keep = refl };
+}
 
-pub begins : (panels : ℕ) (system after : System) (h : IsBetween panels system) → tick_of h.before < 1000000 → StandsFor h.site h.kept (Began ∷ h.before) after → HasBegun panels after
+pub begins : (panels : ℕ) (system after : System) (h : IsBetween panels system) → tick_of h.before < 1000000
+    → StandsFor h.site h.kept (Began ∷ h.before) after → HasBegun panels after
 begins panels system after h few stands =
     record {
       site = h.site;
@@ -33,7 +43,8 @@ begins panels system after h few stands =
 pub may_happen : (panels : ℕ) (system : System) (event : Event) (h : HasBegun panels system) → has_event h.site event ≡ true → MayHappen event system
 may_happen panels system event h has = record { site = h.site; kept = h.kept; before = h.before; stands = h.stands; has = has }
 
-pub happens : (panels : ℕ) (system after : System) (event : Event) (h : HasBegun panels system) → StandsFor h.site h.kept (Happened event ∷ h.before) after → HasBegun panels after
+pub happens : (panels : ℕ) (system after : System) (event : Event) (h : HasBegun panels system)
+    → StandsFor h.site h.kept (Happened event ∷ h.before) after → HasBegun panels after
 happens panels system after event h stands =
     record {
       site = h.site;
@@ -54,8 +65,10 @@ fresh panels system h = record { run = h.run; fresh = h.fresh; unturned = h.untu
 order_of : (panels : ℕ) (system : System) (order : List Seat) (h : HasBegun panels system) → IsOrder panels order → IsOrder h.site.panels order
 order_of panels system order h ordered = subst (λ n. IsOrder n order) (sym h.same) ordered
 
-pub turns_run : (panels : ℕ) (system : System) (order : List Seat) (h : HasBegun panels system) → IsOrder panels order → IsRun h.site.panels (and_turns false order h.before)
-turns_run panels system order h ordered = order_run h.site.panels false h.before (fresh panels system h) order (order_of panels system order h ordered)
+pub turns_run : (panels : ℕ) (system : System) (order : List Seat) (h : HasBegun panels system) → IsOrder panels order
+    → IsRun h.site.panels (and_turns false order h.before)
+turns_run panels system order h ordered =
+    order_run h.site.panels false h.before (fresh panels system h) order (order_of panels system order h ordered)
 
 pub may_turn : (panels : ℕ) (system : System) (order : List Seat) → HasBegun panels system → IsOrder panels order → MayTurnAll order system
 may_turn panels system order h ordered =
@@ -69,7 +82,8 @@ may_turn panels system order h ordered =
       few = (let few = h.few in omega (arith, few));
     }
 
-pub ends : (panels : ℕ) (system after : System) (order : List Seat) (h : HasBegun panels system) → IsOrder panels order → StandsFor h.site h.kept (and_turns false order h.before) after → IsBetween panels after
+pub ends : (panels : ℕ) (system after : System) (order : List Seat) (h : HasBegun panels system) → IsOrder panels order
+    → StandsFor h.site h.kept (and_turns false order h.before) after → IsBetween panels after
 ends panels system after order h ordered stands =
     record {
       site = h.site;
@@ -82,4 +96,5 @@ ends panels system after order h ordered stands =
     }
 
 pub has_first : (panels : ℕ) (system : System) → IsBetween panels system → HasPanel 1 system
-has_first panels system h = record { site = h.site; kept = h.kept; before = h.before; stands = h.stands; member = (omega arith, h.stands.valid.forms.panels.0) }
+has_first panels system h =
+    record { site = h.site; kept = h.kept; before = h.before; stands = h.stands; member = (omega arith, h.stands.valid.forms.panels.0) }

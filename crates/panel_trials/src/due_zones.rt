@@ -1,5 +1,5 @@
-//! Drawn records of points without operations: each zone that is due by a plain program is shown, whatever the orders of turns, and a zone
-//! that is shown has an answer that confirms it.
+//! Drawn records of points without operations: each zone that is due by a plain program is shown, whatever
+//! the orders of turns, and a zone that is shown has an answer that confirms it.
 
 ghost use Rattle.site_types.specs.Valid.{IsValid};
 
@@ -30,7 +30,8 @@ struct Held {
     first: u64,
 }
 
-/// From which tick on a zone is due, and from which on an answer confirms it; a tick that never comes, where there is none.
+/// From which tick on a zone is due, and from which on an answer confirms it; a tick that never comes, where
+/// there is none.
 #[derive(Clone, Copy)]
 struct Bounds {
     number: u8,
@@ -132,8 +133,8 @@ fn all_answers(alloc: Global, site: &Site, reports: &[Report]) -> Result<Vec<Ans
     Ok(answers)
 }
 
-// The least tick from which on a second detector is held after a first one, so that the second's round ends within the window: both of the
-// zone, or one of it and one of its partner.
+// The least tick from which on a second detector is held after a first one, so that the second's round ends
+// within the window: both of the zone, or one of it and one of its partner.
 fn settled_by_two(
     alloc: Global,
     place: u16,
@@ -253,7 +254,8 @@ fn due_zones(bounds: &[Bounds], zones: u32, tick: u64) -> Option<u32> {
     Some(due)
 }
 
-/// A drawn record, each tick in a drawn order: how many zones were due at its end, if each that was due was shown and none without a cause.
+/// A drawn record, each tick in a drawn order: how many zones were due at its end, if each that was due
+/// was shown and none without a cause.
 pub(crate) fn due_at_end(alloc: Global, site: Site, draws: &mut Pcg32) -> Result<Option<u32>>
     requires { IsValid site }
 {

@@ -31,7 +31,7 @@ fn full_panel(alloc: Global) -> Result<String> {
         let address = place % 96 + 1;
         let zone = place / 12 + 1;
         let row = format!(in alloc;
-            "  {{ name = \"p1-l{line}-a{address}\", panel = 1, loop = {line}, address = {address}, zone = \"z1-{zone}\" }},\n"
+            "  {{ name = \"p{line}-{address}\", panel = 1, loop = {line}, address = {address}, zone = \"z1-{zone}\" }},\n"
         )?;
         text.push_str(row.as_str())?;
     }

@@ -10,7 +10,8 @@ use site_types::{Event, Site};
 use std::alloc::Global;
 use trial_cases::{History, changes_of, event_of};
 
-/// Each tick in which panel 1 shows its zones otherwise than before, each tick having its turns in the canonical or in the reversed order.
+/// Each tick in which panel 1 shows its zones otherwise than before, each tick having its turns in the
+/// canonical or in the reversed order.
 pub(crate) fn zones_shown(alloc: Global, site: Site, line: &str, reversed: bool) -> Result<String>
     requires { IsValid site }
 {

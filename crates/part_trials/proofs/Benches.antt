@@ -1,5 +1,7 @@
 -- What each call of a bench leaves it with.
-use Rattle.std.proofs.Common.{◌≡◌, ◌⊎◌, inl, inr, ℕ, zero, suc, ◌+◌, ◌<◌, ◌≤◌, List, [], ◌∷◌, ◌++◌, length, drop, Some, slice_get, refl, sym, ◌∙◌, ap, subst, arith, append_assoc, take-append-drop, length-drop}
+use Rattle.std.proofs.Common.{◌≡◌, ◌⊎◌, inl, inr, ℕ, zero, suc, ◌+◌, ◌<◌, ◌≤◌, List, [], ◌∷◌, ◌++◌, length, drop}
+use Rattle.std.proofs.Common.{Some, slice_get, refl, sym, ◌∙◌, ap, subst, arith, append_assoc, take-append-drop}
+use Rattle.std.proofs.Common.{length-drop}
 use Rattle.std.proofs.lemmas.List.{take_all}
 use Rattle.std.proofs.lemmas.Option.{same_Some, slice_get_within}
 use Rattle.tick_units.specs.Lane.{LaneState, with_put, after_turn, turn_count}
@@ -14,11 +16,13 @@ use Rattle.coincidence_rules.specs.InOrder.{AreInOrder}
 use Rattle.coincidence_rules.specs.declared.finding.Finding.{Finding}
 use Rattle.coincidence_rules.proofs.Lists.{get_left}
 use Rattle.coincidence.specs.declared.decide.Decide.{Decide}
-use Rattle.coincidence.specs.Premises.{IsOwn, MayTake, MayApply, NoneIn}
+use Rattle.coincidence.specs.Premises.{IsOwn, MayTake, MayApply}
+use Rattle.coincidence_rules.specs.Applied.{NoneIn}
 use Rattle.coincidence.specs.Stands.{DecidesFor, CanTake, CanApply, taken_by}
 use Rattle.part_trials.specs.Bench.{IsUpTo, IsReady, MayPut, MayDo}
 
-get_push : {X : Type 0} (xs : List X) (x : X) (k : ℕ) (y : X) → slice_get (xs ++ x ∷ []) k ≡ Some y → (slice_get xs k ≡ Some y) ⊎ ((k ≡ length xs) × (x ≡ y))
+get_push : {X : Type 0} (xs : List X) (x : X) (k : ℕ) (y : X) → slice_get (xs ++ x ∷ []) k ≡ Some y
+    → (slice_get xs k ≡ Some y) ⊎ ((k ≡ length xs) × (x ≡ y))
 get_push [] x zero y h = inr (refl, same_Some x y h)
 get_push [] x (suc k) y h = absurd (cc)
 get_push (z ∷ xs) x zero y h = inl h
@@ -46,17 +50,24 @@ up_to_later stamp point b a (inl x) (inr y) = inl (omega (arith, x, y.0))
 up_to_later stamp point b a (inr x) (inl y) = inl (omega (arith, x.0, y))
 up_to_later stamp point b a (inr x) (inr y) = inr (omega (arith, x.0, y.0), omega (arith, x.1, y.1))
 
-module _ (xs : List Answer) (a : Answer) (stamp point : ℕ) (last : (k : ℕ) (b : Answer) → slice_get xs k ≡ Some b → IsUpTo stamp point b) (later : IsLater stamp point a) where
-  rising : AreInOrder xs → (i j : ℕ) (b c : Answer) → i ≤ j → (slice_get xs i ≡ Some b) ⊎ ((i ≡ length xs) × (a ≡ b)) → (slice_get xs j ≡ Some c) ⊎ ((j ≡ length xs) × (a ≡ c)) → b.stamp.0 ≤ c.stamp.0
+module _ (xs : List Answer) (a : Answer) (stamp point : ℕ) (last : (k : ℕ) (b : Answer) → slice_get xs k ≡ Some b → IsUpTo stamp point b) (later :
+    IsLater stamp point a) where
+  rising : AreInOrder xs → (i j : ℕ) (b c : Answer) → i ≤ j → (slice_get xs i ≡ Some b) ⊎ ((i ≡ length xs) × (a ≡ b))
+      → (slice_get xs j ≡ Some c) ⊎ ((j ≡ length xs) × (a ≡ c)) → b.stamp.0 ≤ c.stamp.0
   rising o i j b c le (inl f) (inl g) = o.rising i j b c le f g
   rising o i j b c le (inl f) (inr g) = subst (λ (x : Answer). b.stamp.0 ≤ x.stamp.0) g.1 (not_before stamp point b a (last i b f) later)
   rising o i j b c le (inr f) (inl g) = absurd (omega (arith, le, f.0, slice_get_within xs j c g))
   rising o i j b c le (inr f) (inr g) = (let same : b ≡ c = sym f.1 ∙ g.1 in subst (λ (x : Answer). b.stamp.0 ≤ x.stamp.0) same (omega arith))
 
-  once : AreInOrder xs → (i j : ℕ) (b c : Answer) → (slice_get xs i ≡ Some b) ⊎ ((i ≡ length xs) × (a ≡ b)) → (slice_get xs j ≡ Some c) ⊎ ((j ≡ length xs) × (a ≡ c)) → b.point ≡ c.point → b.stamp.0 ≡ c.stamp.0 → i ≡ j
+  once : AreInOrder xs → (i j : ℕ) (b c : Answer) → (slice_get xs i ≡ Some b) ⊎ ((i ≡ length xs) × (a ≡ b))
+      → (slice_get xs j ≡ Some c) ⊎ ((j ≡ length xs) × (a ≡ c)) → b.point ≡ c.point → b.stamp.0 ≡ c.stamp.0 → i ≡ j
   once o i j b c (inl f) (inl g) p s = o.once i j b c f g p s
-  once o i j b c (inl f) (inr g) p s = absurd (not_again stamp point b a (last i b f) later (p ∙ sym (ap (λ (x : Answer). x.point) g.1)) (s ∙ sym (ap (λ (x : Answer). x.stamp.0) g.1)))
-  once o i j b c (inr f) (inl g) p s = absurd (not_again stamp point c a (last j c g) later (sym p ∙ sym (ap (λ (x : Answer). x.point) f.1)) (sym s ∙ sym (ap (λ (x : Answer). x.stamp.0) f.1)))
+  once o i j b c (inl f) (inr g) p s =
+      absurd (not_again stamp point b a (last i b f) later (p ∙ sym (ap (λ (x : Answer). x.point) g.1))
+      (s ∙ sym (ap (λ (x : Answer). x.stamp.0) g.1)))
+  once o i j b c (inr f) (inl g) p s =
+      absurd (not_again stamp point c a (last j c g) later (sym p ∙ sym (ap (λ (x : Answer). x.point) f.1))
+      (sym s ∙ sym (ap (λ (x : Answer). x.stamp.0) f.1)))
   once o i j b c (inr f) (inr g) p s = f.0 ∙ sym g.0
 
   in_order_more : AreInOrder xs → AreInOrder (xs ++ a ∷ [])
@@ -72,7 +83,9 @@ module _ (xs : List Answer) (a : Answer) (stamp point : ℕ) (last : (k : ℕ) (
   ]
 
 -- after an answer was put
-pub put_more : (site : Site) (panel : ℕ) (decide : Decide) (answers : LaneState Answer) (findings : LaneState Finding) (stamp point at : ℕ) (a : Answer) → IsReady site panel decide answers findings stamp point at → MayPut site panel answers stamp point at a → IsReady site panel decide (with_put answers (a ∷ [])) findings a.stamp.0 a.point at
+pub put_more : (site : Site) (panel : ℕ) (decide : Decide) (answers : LaneState Answer) (findings : LaneState Finding) (stamp point at : ℕ) (a :
+    Answer) → IsReady site panel decide answers findings stamp point at → MayPut site panel answers stamp point at a
+    → IsReady site panel decide (with_put answers (a ∷ [])) findings a.stamp.0 a.point at
 put_more site panel decide answers findings stamp point at a h may =
     let joined : (h.taken ++ answers.items) ++ a ∷ [] ≡ h.taken ++ (answers.items ++ a ∷ []) = rw append_assoc refl in
     record {
@@ -87,7 +100,8 @@ put_more site panel decide answers findings stamp point at a h may =
             order = subst AreInOrder joined (in_order_more (h.taken ++ answers.items) a stamp point h.last may.later h.may.order);
             since = λ k b is. since k b (get_push answers.items a k b is);
           };
-      last = λ k b is. last_more (h.taken ++ answers.items) a stamp point h.last may.later k b (subst (λ xs. slice_get xs k ≡ Some b) (sym joined) is);
+      last =
+          λ k b is. last_more (h.taken ++ answers.items) a stamp point h.last may.later k b (subst (λ xs. slice_get xs k ≡ Some b) (sym joined) is);
       by = h.by;
       lanes = h.lanes;
       few = grown answers.items may.few;
@@ -109,13 +123,18 @@ put_more site panel decide answers findings stamp point at a h may =
     grown xs l = (let e = longer xs in omega (arith, e, l))
 
 -- what lies before Decide may be taken, and all of it is taken
-taken_all : (site : Site) (panel : ℕ) (decide : Decide) (answers : LaneState Answer) (findings : LaneState Finding) (stamp point at : ℕ) → IsReady site panel decide answers findings stamp point at → taken_by answers ≡ answers.items
-taken_all site panel decide answers findings stamp point at h = (let few = h.few in let quota = h.lanes.0 in take_all (turn_count answers) answers.items (omega (arith, few, quota)))
+taken_all : (site : Site) (panel : ℕ) (decide : Decide) (answers : LaneState Answer) (findings : LaneState Finding) (stamp point at : ℕ)
+    → IsReady site panel decide answers findings stamp point at → taken_by answers ≡ answers.items
+taken_all site panel decide answers findings stamp point at h =
+    (let few = h.few in let quota = h.lanes.0 in take_all (turn_count answers) answers.items (omega (arith, few, quota)))
 
-pub may_take : (site : Site) (panel : ℕ) (decide : Decide) (answers : LaneState Answer) (findings : LaneState Finding) (stamp point at : ℕ) (h : IsReady site panel decide answers findings stamp point at) → MayTake site panel h.done h.taken (taken_by answers)
-may_take site panel decide answers findings stamp point at h = subst (MayTake site panel h.done h.taken) (sym (taken_all site panel decide answers findings stamp point at h)) h.may
+pub may_take : (site : Site) (panel : ℕ) (decide : Decide) (answers : LaneState Answer) (findings : LaneState Finding) (stamp point at : ℕ) (h :
+    IsReady site panel decide answers findings stamp point at) → MayTake site panel h.done h.taken (taken_by answers)
+may_take site panel decide answers findings stamp point at h =
+    subst (MayTake site panel h.done h.taken) (sym (taken_all site panel decide answers findings stamp point at h)) h.may
 
-pub can_take : (site : Site) (panel : ℕ) (decide : Decide) (answers : LaneState Answer) (findings : LaneState Finding) (stamp point at : ℕ) → IsReady site panel decide answers findings stamp point at → CanTake decide (taken_by answers)
+pub can_take : (site : Site) (panel : ℕ) (decide : Decide) (answers : LaneState Answer) (findings : LaneState Finding) (stamp point at : ℕ)
+    → IsReady site panel decide answers findings stamp point at → CanTake decide (taken_by answers)
 can_take site panel decide answers findings stamp point at h =
     record {
       site = site;
@@ -128,7 +147,10 @@ can_take site panel decide answers findings stamp point at h =
     }
 
 -- after a turn
-pub turned : (site : Site) (panel : ℕ) (decide after : Decide) (answers answers' : LaneState Answer) (findings findings' : LaneState Finding) (stamp point at : ℕ) (h : IsReady site panel decide answers findings stamp point at) → answers' ≡ after_turn answers → (findings'.quota ≡ findings.quota) × (findings'.capacity ≡ findings.capacity) → DecidesFor site h.kept panel h.done (h.taken ++ taken_by answers) after → IsReady site panel after answers' findings' stamp point at
+pub turned : (site : Site) (panel : ℕ) (decide after : Decide) (answers answers' : LaneState Answer) (findings findings' : LaneState Finding)
+    (stamp point at : ℕ) (h : IsReady site panel decide answers findings stamp point at) → answers' ≡ after_turn answers
+    → (findings'.quota ≡ findings.quota) × (findings'.capacity ≡ findings.capacity)
+    → DecidesFor site h.kept panel h.done (h.taken ++ taken_by answers) after → IsReady site panel after answers' findings' stamp point at
 turned site panel decide after answers answers' findings findings' stamp point at h a f stands =
     subst (λ (l : LaneState Answer). IsReady site panel after l findings' stamp point at) (sym a)
     (record {
@@ -163,21 +185,27 @@ none_in tick at setting [] by later = tt
 none_in tick at setting (d ∷ ds) by later = (λ on same. omega (arith, by.0, later, same), none_in tick at setting ds by.1 later)
 
 -- an operation may be applied
-pub may_apply : (site : Site) (panel : ℕ) (decide : Decide) (answers : LaneState Answer) (findings : LaneState Finding) (stamp point at : ℕ) (operation : Operation) (tick : ℕ) (h : IsReady site panel decide answers findings stamp point at) → MayDo site panel answers stamp at operation tick → MayApply site panel h.done h.taken operation tick
+pub may_apply : (site : Site) (panel : ℕ) (decide : Decide) (answers : LaneState Answer) (findings : LaneState Finding) (stamp point at :
+    ℕ) (operation : Operation) (tick : ℕ) (h : IsReady site panel decide answers findings stamp point at)
+    → MayDo site panel answers stamp at operation tick → MayApply site panel h.done h.taken operation tick
 may_apply site panel decide answers findings stamp point at operation tick h may =
     record {
       own = may.own;
-      from_one = (let later = may.later in omega (arith, later));
-      since = by_later at tick h.done (let later = may.later in omega (arith, later)) h.by;
+      next = record {
+        from_one = (let later = may.later in omega (arith, later));
+        since = by_later at tick h.done (let later = may.later in omega (arith, later)) h.by;
+        once = λ setting on. none_in tick at setting h.done h.by may.later;
+      };
       late = λ k b is. late b (h.last k b (get_left h.taken answers.items k b is));
-      once = λ setting on. none_in tick at setting h.done h.by may.later;
     }
   where
     late : (b : Answer) → IsUpTo stamp point b → b.stamp.0 ≤ tick
     late b (inl x) = (let since = may.since in omega (arith, x, since))
     late b (inr x) = (let since = may.since in omega (arith, x.0, since))
 
-pub can_apply : (site : Site) (panel : ℕ) (decide : Decide) (answers : LaneState Answer) (findings : LaneState Finding) (stamp point at : ℕ) (operation : Operation) (tick : ℕ) → IsReady site panel decide answers findings stamp point at → MayDo site panel answers stamp at operation tick → CanApply decide operation tick
+pub can_apply : (site : Site) (panel : ℕ) (decide : Decide) (answers : LaneState Answer) (findings : LaneState Finding) (stamp point at :
+    ℕ) (operation : Operation) (tick : ℕ) → IsReady site panel decide answers findings stamp point at
+    → MayDo site panel answers stamp at operation tick → CanApply decide operation tick
 can_apply site panel decide answers findings stamp point at operation tick h may =
     record {
       site = site;
@@ -190,7 +218,11 @@ can_apply site panel decide answers findings stamp point at operation tick h may
     }
 
 -- after an operation
-pub applied : (site : Site) (panel : ℕ) (decide after : Decide) (answers : LaneState Answer) (findings : LaneState Finding) (stamp point at : ℕ) (operation : Operation) (tick : ℕ) (h : IsReady site panel decide answers findings stamp point at) → MayDo site panel answers stamp at operation tick → DecidesFor site h.kept panel (record { tick = tick; panel = panel; operation = operation } ∷ h.done) h.taken after → IsReady site panel after answers findings stamp point tick
+pub applied : (site : Site) (panel : ℕ) (decide after : Decide) (answers : LaneState Answer) (findings : LaneState Finding) (stamp point at :
+    ℕ) (operation : Operation) (tick : ℕ) (h : IsReady site panel decide answers findings stamp point at)
+    → MayDo site panel answers stamp at operation tick
+    → DecidesFor site h.kept panel (record { tick = tick; panel = panel; operation = operation } ∷ h.done) h.taken after
+    → IsReady site panel after answers findings stamp point tick
 applied site panel decide after answers findings stamp point at operation tick h may stands =
     record {
       valid = h.valid;
@@ -214,7 +246,9 @@ applied site panel decide after answers findings stamp point at operation tick h
     nothing k b is = (let within = slice_get_within answers.items k b is in let none = may.none in absurd (omega (arith, within, none)))
 
 -- before the first answer
-pub begun : (site : Site) (kept : Retained) (panel : ℕ) (decide : Decide) (answers : LaneState Answer) (findings : LaneState Finding) → IsValid site → DecidesFor site kept panel [] [] decide → answers ≡ record { items = []; put = 0; taken = 0; quota = 32; capacity = 64 } → findings ≡ record { items = []; put = 0; taken = 0; quota = 32; capacity = 64 } → IsReady site panel decide answers findings 0 0 0
+pub begun : (site : Site) (kept : Retained) (panel : ℕ) (decide : Decide) (answers : LaneState Answer) (findings : LaneState Finding) → IsValid site
+    → DecidesFor site kept panel [] [] decide → answers ≡ record { items = []; put = 0; taken = 0; quota = 32; capacity = 64 }
+    → findings ≡ record { items = []; put = 0; taken = 0; quota = 32; capacity = 64 } → IsReady site panel decide answers findings 0 0 0
 begun site kept panel decide answers findings valid stands a f =
     subst (λ (l : LaneState Answer). IsReady site panel decide l findings 0 0 0) (sym a)
     (record {

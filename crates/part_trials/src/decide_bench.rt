@@ -78,7 +78,8 @@ impl DecideBench {
         &self.site
     }
 
-    /// Puts an answer before Decide, later than those before it: of a later tick, or of a point that stands later in the site's list.
+    /// Puts an answer before Decide, later than those before it: of a later tick, or of a point that stands
+    /// later in the site's list.
     pub(crate) fn put(&mut self, answer: &Answer) -> Result<()>
         requires { MayGoOn self.old }
         ensures { MayGoOn self.new }
@@ -93,7 +94,9 @@ impl DecideBench {
     }
 
     fn may_put(&self, answer: &Answer) -> bool
-        ensures { result ≡ true → MayPut self.now.site self.now.panel self.now.answers self.now.stamp.0 self.now.point self.now.at.0 answer.now }
+        ensures { result ≡ true
+            → MayPut self.now.site self.now.panel self.now.answers self.now.stamp.0 self.now.point
+            self.now.at.0 answer.now }
     {
         let later = answer.stamp.0 > self.stamp.0
             || answer.stamp.0 == self.stamp.0 && answer.point > self.point;
@@ -124,7 +127,8 @@ impl DecideBench {
         Ok(found)
     }
 
-    /// An operation was done in a tick, later than the last one and not earlier than the last answer, of which none may lie before Decide.
+    /// An operation was done in a tick, later than the last one and not earlier than the last answer, of
+    /// which none may lie before Decide.
     pub(crate) fn apply(&mut self, operation: &Operation, at: Tick) -> Result<()>
         requires { MayGoOn self.old }
         ensures { MayGoOn self.new }
@@ -138,7 +142,9 @@ impl DecideBench {
     }
 
     fn may_apply(&self, operation: &Operation, at: Tick) -> bool
-        ensures { result ≡ true → MayDo self.now.site self.now.panel self.now.answers self.now.stamp.0 self.now.at.0 operation.now at.0 }
+        ensures { result ≡ true
+            → MayDo self.now.site self.now.panel self.now.answers self.now.stamp.0 self.now.at.0
+            operation.now at.0 }
     {
         let event = Event::Op {
             panel: self.panel,

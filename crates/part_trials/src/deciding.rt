@@ -14,7 +14,8 @@ use tick_units::Tick;
 use trial_base::{DoneAt, PlainRules};
 use trial_cases::{History, zone_names};
 
-/// What each answer that counts confirms and releases. In a tick the answers of its points are taken in one turn, then its operations are done.
+/// What each answer that counts confirms and releases. In a tick the answers of its points are taken in one
+/// turn, then its operations are done.
 pub(crate) fn decide(alloc: Global, site: Site, line: &str) -> Result<String>
     requires { IsValid site }
 {

@@ -123,7 +123,8 @@ fn drawn_operation(draws: &mut Pcg32) -> Operation {
     }
 }
 
-// The answers up to the next operation, taken in turns of a few, and then the operation, done in the tick of the last answer or the next one.
+// The answers up to the next operation, taken in turns of a few, and then the operation, done in the tick of
+// the last answer or the next one.
 fn draw_stretch(bench: &mut DecideBench, history: &mut History, draws: &mut Pcg32) -> Result<()>
     requires { MayGoOn bench.old }
     ensures { MayGoOn bench.new }

@@ -7,8 +7,8 @@ use anyhow::{Result, bail};
 use site_config::read_site;
 use std::alloc::Global;
 
-/// In each tick of two rounds those points answer of whose address less 1 the eighth part is the tick within its round, in order of loop, then
-/// address.
+/// In each tick of two rounds those points answer of whose address less 1 the eighth part is the tick within
+/// its round, in order of loop, then address.
 pub(crate) fn ask_full_loops(alloc: Global, last: &str) -> Result<String> {
     match last {
         "96" => ask_rounds(alloc, 1, 96, 12),

@@ -17,7 +17,8 @@ pub(crate) enum HoldStep {
 }
 
 impl HoldStep {
-    /// The step that words spell: `found d9 confirms hall`, `loop 1 shorted`, or the line of a record for a supply or an operation.
+    /// The step that words spell: `found d9 confirms hall`, `loop 1 shorted`, or the line of a record for a
+    /// supply or an operation.
     pub(crate) fn read(
         alloc: Global,
         site: &Site,
@@ -48,7 +49,8 @@ impl HoldStep {
     }
 }
 
-// What an answer of a point in a tick means: that it counts for its zone, that it confirms zones, that it is one by hand, or that the point is missing.
+// What an answer of a point in a tick means: that it counts for its zone, that it confirms zones, that it is
+// one by hand, or that the point is missing.
 fn finding_of(site: &Site, tick: u64, words: &str) -> Option<Finding>
     requires { IsValid site.now }
 {

@@ -12,8 +12,8 @@ use std::alloc::Global;
 use tick_units::{Lane, Tick};
 use trial_cases::{History, changes_of, zone_names};
 
-/// What is shown otherwise in each tick that is named. Such a tick has a turn, and no other; its operations are done behind the turn. What is told
-/// from outside stays so until told otherwise.
+/// What is shown otherwise in each tick that is named. Such a tick has a turn, and no other; its operations
+/// are done behind the turn. What is told from outside stays so until told otherwise.
 pub(crate) fn hold(alloc: Global, site: &Site, line: &str) -> Result<String>
     requires { IsValid site.now }
 {

@@ -15,7 +15,8 @@ use std::alloc::Global;
 use tick_units::{Lane, Tick};
 use trial_cases::History;
 
-/// The answers of each tick in which some point answers. What befalls points and cables in a tick comes before its answers.
+/// The answers of each tick in which some point answers. What befalls points and cables in a tick comes
+/// before its answers.
 pub(crate) fn poll(alloc: Global, site: &Site, line: &str) -> Result<String>
     requires { IsValid site.now }
 {

@@ -36,7 +36,8 @@ or_false : (a : Bool) → (a || false) ≡ a
 or_false true = refl
 or_false false = refl
 
-least_any : (wait latest tick : ℕ) (ticks : List ℕ) → nat_le wait (latest - least_of tick (run_of ticks)) ≡ list_any (λ t. nat_le wait (latest - t)) (tick ∷ ticks)
+least_any : (wait latest tick : ℕ) (ticks : List ℕ)
+    → nat_le wait (latest - least_of tick (run_of ticks)) ≡ list_any (λ t. nat_le wait (latest - t)) (tick ∷ ticks)
 least_any wait latest tick [] = sym (or_false (nat_le wait (latest - tick)))
 least_any wait latest tick (next ∷ ticks) =
     lesser wait latest tick (least_of next (run_of ticks))

@@ -18,7 +18,8 @@ use Rattle.plain_panel.specs.Histories.{moment_of}
 
 module _ (plan : LoopPlan) (panel line : ℕ) (before : List MomentOf) (cable : LoopLine) where
   -- a moment is what it is
-  pub moment_is : (m n : Moment) → m ≡ n → StandsFor plan (λ piece. piece_of panel line piece (moment_of n ∷ before)) cable → StandsFor plan (λ piece. piece_of panel line piece (moment_of m ∷ before)) cable
+  pub moment_is : (m n : Moment) → m ≡ n → StandsFor plan (λ piece. piece_of panel line piece (moment_of n ∷ before)) cable
+      → StandsFor plan (λ piece. piece_of panel line piece (moment_of m ∷ before)) cable
   moment_is m n e h = subst (λ x. StandsFor plan (λ piece. piece_of panel line piece (moment_of x ∷ before)) cable) (sym e) h
 
   here : (was : ℕ → PieceState) (of_panel of_line piece : ℕ) (state : PieceState) → of_panel ≡ panel → of_line ≡ line
@@ -26,9 +27,11 @@ module _ (plan : LoopPlan) (panel line : ℕ) (before : List MomentOf) (cable : 
   here was of_panel of_line piece state p l = fun_ext (λ other. rw (eq_true of_panel panel p, eq_true of_line line l, eq_swap piece other) refl)
 
   -- a report on the loop
-  pub told_here : (of_panel of_line piece : ℕ) (state : PieceState) → of_panel ≡ panel → of_line ≡ line → StandsFor plan (with_piece (λ k. piece_of panel line k before) piece state) cable
+  pub told_here : (of_panel of_line piece : ℕ) (state : PieceState) → of_panel ≡ panel → of_line ≡ line
+      → StandsFor plan (with_piece (λ k. piece_of panel line k before) piece state) cable
       → StandsFor plan (λ k. piece_of panel line k (moment_of (Happened (CableTold of_panel of_line piece state)) ∷ before)) cable
-  told_here of_panel of_line piece state p l h = subst (λ c. StandsFor plan c cable) (here (λ k. piece_of panel line k before) of_panel of_line piece state p l) h
+  told_here of_panel of_line piece state p l h =
+      subst (λ c. StandsFor plan c cable) (here (λ k. piece_of panel line k before) of_panel of_line piece state p l) h
 
   elsewhere : (was : ℕ → PieceState) (of_panel of_line piece : ℕ) (state : PieceState) → ((of_panel == panel) && (of_line == line)) ≡ false
       → was ≡ (λ other. if (of_panel == panel) && ((of_line == line) && (piece == other)) then state else was other)
@@ -40,9 +43,11 @@ module _ (plan : LoopPlan) (panel line : ℕ) (before : List MomentOf) (cable : 
       go false b c x e = refl
 
   -- a report on another one
-  pub told_elsewhere : (of_panel of_line piece : ℕ) (state : PieceState) → ((of_panel == panel) && (of_line == line)) ≡ false → StandsFor plan (λ k. piece_of panel line k before) cable
+  pub told_elsewhere : (of_panel of_line piece : ℕ) (state : PieceState) → ((of_panel == panel) && (of_line == line)) ≡ false
+      → StandsFor plan (λ k. piece_of panel line k before) cable
       → StandsFor plan (λ k. piece_of panel line k (moment_of (Happened (CableTold of_panel of_line piece state)) ∷ before)) cable
-  told_elsewhere of_panel of_line piece state n h = subst (λ c. StandsFor plan c cable) (elsewhere (λ k. piece_of panel line k before) of_panel of_line piece state n) h
+  told_elsewhere of_panel of_line piece state n h =
+      subst (λ c. StandsFor plan c cable) (elsewhere (λ k. piece_of panel line k before) of_panel of_line piece state n) h
 
 pub line_not : (a b c d : ℕ) → b ≢ d → ((a == c) && (b == d)) ≡ false
 line_not a b c d n = elim (eqb_tells b d) [ inl e ↦ absurd (n e.1) | inr e ↦ rw e.0 (and_false (a == c)) ]

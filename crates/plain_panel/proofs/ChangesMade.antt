@@ -1,5 +1,7 @@
 -- What operations change of what is retained.
-use Rattle.std.proofs.Common.{◌≡◌, ℕ, ◌+◌, ◌-◌, ◌*◌, ◌%◌, ◌^◌, ◌<◌, ◌≤◌, List, ◌∷◌, length, drop, get_or, slice_get, Option, Some, None, Bool, true, false, bit_and, bit_or, refl, ◌∙◌, ap, subst, arith, add-one, drop-cons}
+use Rattle.std.proofs.Common.{◌≡◌, ℕ, ◌+◌, ◌-◌, ◌*◌, ◌%◌, ◌^◌, ◌<◌, ◌≤◌, List, ◌∷◌, length, drop, get_or, slice_get}
+use Rattle.std.proofs.Common.{Option, Some, None, Bool, true, false, bit_and, bit_or, refl, ◌∙◌, ap, subst, arith}
+use Rattle.std.proofs.Common.{add-one, drop-cons}
 use Rattle.std.specs.Int.{w8}
 use Rattle.std.specs.Int.Bits.{or_zero_r}
 use Rattle.std.specs.List.{cons_option}
@@ -25,19 +27,23 @@ use Rattle.plain_panel.specs.Storing.{HasPlace}
 some_is : (a b : Change) → Some a ≡ Some b → a ≡ b
 some_is a b e = cc
 
-place_point : (o : Option Point) (off : Bool) (change : Change) → ((p : Point) → o ≡ Some p → IsPanelNumber p.panel × IsPlace p.line p.address) → point_change o off ≡ Some change → HasPlace change
+place_point : (o : Option Point) (off : Bool) (change : Change) → ((p : Point) → o ≡ Some p → IsPanelNumber p.panel × IsPlace p.line p.address)
+    → point_change o off ≡ Some change → HasPlace change
 place_point None off change h e = absurd cc
 place_point (Some p) off change h e = subst HasPlace (some_is _ change e) (h p refl)
 
-place_zone : (o : Option Zone) (off : Bool) (change : Change) → ((z : Zone) → o ≡ Some z → IsPanelNumber z.panel × IsNumber z.number) → zone_change o off ≡ Some change → HasPlace change
+place_zone : (o : Option Zone) (off : Bool) (change : Change) → ((z : Zone) → o ≡ Some z → IsPanelNumber z.panel × IsNumber z.number)
+    → zone_change o off ≡ Some change → HasPlace change
 place_zone None off change h e = absurd cc
 place_zone (Some z) off change h e = subst HasPlace (some_is _ change e) (h z refl)
 
-place_output : (o : Option Output) (off : Bool) (change : Change) → ((z : Output) → o ≡ Some z → IsPanelNumber z.panel × IsNumber z.number) → output_change o off ≡ Some change → HasPlace change
+place_output : (o : Option Output) (off : Bool) (change : Change) → ((z : Output) → o ≡ Some z → IsPanelNumber z.panel × IsNumber z.number)
+    → output_change o off ≡ Some change → HasPlace change
 place_output None off change h e = absurd cc
 place_output (Some z) off change h e = subst HasPlace (some_is _ change e) (h z refl)
 
-place_test : (o : Option Zone) (on : Bool) (change : Change) → ((z : Zone) → o ≡ Some z → IsPanelNumber z.panel × IsNumber z.number) → test_change o on ≡ Some change → HasPlace change
+place_test : (o : Option Zone) (on : Bool) (change : Change) → ((z : Zone) → o ≡ Some z → IsPanelNumber z.panel × IsNumber z.number)
+    → test_change o on ≡ Some change → HasPlace change
 place_test None on change h e = absurd cc
 place_test (Some z) on change h e = subst HasPlace (some_is _ change e) (h z refl)
 
@@ -63,7 +69,8 @@ module _ (site : Site) (valid : IsValid site) (panel : ℕ) where
 
 -- one operation more
 pub next_made : (site : Site) (waiting : List Request) (k : ℕ) (d : Request) (was now : Retained) → k < length waiting
-    → ((rest : List Change) → changed_by (cons_option (operation_change site (get_or waiting k d).panel (get_or waiting k d).operation) rest) was ≡ changed_by rest now)
+    → ((rest : List Change) → changed_by (cons_option (operation_change site (get_or waiting k d).panel (get_or waiting k d).operation) rest) was
+    ≡ changed_by rest now)
     → changed_by (changes_of site (all_requests (drop k waiting))) was ≡ changed_by (changes_of site (all_requests (drop (k + 1) waiting))) now
 next_made site waiting k d was now l made =
     ap (λ (xs : List Request). changed_by (changes_of site (all_requests xs)) was) here ∙ made (changes_of site (all_requests (drop (k + 1) waiting)))

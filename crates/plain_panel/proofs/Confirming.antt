@@ -39,9 +39,11 @@ pub no_run_lasts : (limit : ℕ) (run : List ℕ) → newest run ≡ None → fa
 no_run_lasts limit [] none = refl
 no_run_lasts limit (latest ∷ run) none = cc
 
-pub run_lasts : (limit latest : ℕ) (run : List ℕ) → newest run ≡ Some latest → list_any (λ first. nat_le (first + limit) latest) run ≡ has_lasted limit run
+pub run_lasts : (limit latest : ℕ) (run : List ℕ) → newest run ≡ Some latest
+    → list_any (λ first. nat_le (first + limit) latest) run ≡ has_lasted limit run
 run_lasts limit latest [] is = cc
-run_lasts limit latest (newer ∷ run) is = let same : latest ≡ newer = cc in ap (λ (tick : ℕ). list_any (λ first. nat_le (first + limit) tick) (newer ∷ run)) same
+run_lasts limit latest (newer ∷ run) is = let same : latest ≡ newer =
+    cc in ap (λ (tick : ℕ). list_any (λ first. nat_le (first + limit) tick) (newer ∷ run)) same
 
 none_before : (run : List ℕ) (last : ℕ) → last ≤ 0 → list_any (λ first. nat_le (first + 1) last) run ≡ false
 none_before [] last least = refl

@@ -5,7 +5,8 @@ use Rattle.std.proofs.lemmas.Grind.{get_or-set_at}
 use Rattle.std.proofs.lemmas.List.{get_or-set_other}
 
 -- one flag more
-pub told_next : (flags : List Bool) (test : ℕ → Bool) (place : ℕ) (flag : Bool) → place < length flags → flag ≡ test place → ((k : ℕ) → k < place → slice_index_or flags k false ≡ test k)
+pub told_next : (flags : List Bool) (test : ℕ → Bool) (place : ℕ) (flag : Bool) → place < length flags → flag ≡ test place
+    → ((k : ℕ) → k < place → slice_index_or flags k false ≡ test k)
     → (k : ℕ) → k < place + 1 → slice_index_or (slice_set flags place flag) k false ≡ test k
 told_next flags test place flag room is told k small =
     elim (eqb_tells k place) [

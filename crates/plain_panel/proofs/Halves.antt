@@ -40,7 +40,8 @@ fails_at q (x ∷ xs) zero d l none = or_first (q x) (list_any q xs) none
 fails_at q (x ∷ xs) (suc i) d l none = fails_at q xs i d (omega arith) (or_rest (q x) (list_any q xs) none)
 
 -- where nothing passes a test, nothing is found by a narrower one
-none_found : {X : Type 0} (p q : X → Bool) → ((x : X) → p x ≡ true → q x ≡ true) → (xs : List X) → list_any q xs ≡ false → (o : Option ℕ) → position p xs ≡ o → o ≡ None
+none_found : {X : Type 0} (p q : X → Bool) → ((x : X) → p x ≡ true → q x ≡ true) → (xs : List X) → list_any q xs ≡ false → (o : Option ℕ)
+    → position p xs ≡ o → o ≡ None
 none_found p q wider xs none None e = refl
 none_found p q wider [] none (Some i) e = let n : None ≡ Some i = e in cc
 none_found p q wider (x ∷ xs) none (Some i) e =
@@ -67,7 +68,8 @@ among panel line past k small p h =
     )
     refl
 
-pub none_among : (site : Site) (kept : Retained) (panel : ℕ) (done : List Done) (answers : List Answer) (tick line past : ℕ) → list_any (lies_among panel line past) site.points ≡ false
+pub none_among : (site : Site) (kept : Retained) (panel : ℕ) (done : List Done) (answers : List Answer) (tick line past : ℕ)
+    → list_any (lies_among panel line past) site.points ≡ false
     → 0 ≡ mask_of 96 (point_test site kept panel done answers tick line past)
 none_among site kept panel done answers tick line past none =
     let test = point_test site kept panel done answers tick line past in
@@ -75,4 +77,5 @@ none_among site kept panel done answers tick line past none =
     (mask_empty 96 (mask_of 96 test) (mask_below 96 test)
     (λ k small. has_bit-mask 96 test k small
     ∙ ap (on_point (λ place. is_missing answers place && not (is_off site kept done place tick)))
-    (none_found (is_addressed panel line (past + k + 1)) (lies_among panel line past) (among panel line past k small) site.points none (addressed site panel line (past + k + 1)) refl)))
+    (none_found (is_addressed panel line (past + k + 1)) (lies_among panel line past) (among panel line past k small) site.points none
+    (addressed site panel line (past + k + 1)) refl)))

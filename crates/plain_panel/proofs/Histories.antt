@@ -8,7 +8,8 @@ use Rattle.plain_panel.specs.declared.done.Done.{Done}
 use Rattle.plain_panel.specs.declared.moment.Moment.{Moment}
 use Rattle.plain_panel.specs.Histories.{all_done, and_done, and_moments, done_of, history, moment_of}
 
-pub and_moments-append : (front back : List Moment) (before : List MomentOf) → and_moments (front ++ back) before ≡ and_moments back (and_moments front before)
+pub and_moments-append : (front back : List Moment) (before : List MomentOf)
+    → and_moments (front ++ back) before ≡ and_moments back (and_moments front before)
 and_moments-append [] back before = refl
 and_moments-append (moment ∷ moments) back before = and_moments-append moments back (moment_of moment ∷ before)
 
@@ -23,7 +24,8 @@ pub all_done_more : (done : List Done) (last : Done) → all_done (done ++ last 
 all_done_more done last = and_done-append done (last ∷ []) []
 
 -- the operations done up to one place more
-pub all_done_upto : (done : List Done) (place : ℕ) (d : Done) → place < length done → all_done (take (place + 1) done) ≡ done_of (get_or done place d) ∷ all_done (take place done)
+pub all_done_upto : (done : List Done) (place : ℕ) (d : Done) → place < length done → all_done (take (place + 1) done) ≡ done_of (get_or done place d)
+    ∷ all_done (take place done)
 all_done_upto done place d within = rw (add-one, take-suc done place d within) (all_done_more (take place done) (get_or done place d))
 
 pub all_done_all : (done : List Done) → all_done (take (length done) done) ≡ all_done done

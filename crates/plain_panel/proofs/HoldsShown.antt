@@ -1,5 +1,7 @@
 -- What a turn of Hold leaves of what panels show.
-use Rattle.std.proofs.Common.{◌≡◌, ◌≢◌, ℕ, zero, suc, ◌-◌, ◌≤◌, ◌<◌, ◌==◌, ◌&&◌, List, [], ◌∷◌, length, slice_index_or, slice_set, inl, inr, Bool, true, false, if◌then◌else◌, refl, sym, ◌∙◌, ap, subst, arith}
+use Rattle.std.proofs.Common.{◌≡◌, ◌≢◌, ℕ, zero, suc, ◌-◌, ◌≤◌, ◌<◌, ◌==◌, ◌&&◌, List, [], ◌∷◌, length}
+use Rattle.std.proofs.Common.{slice_index_or, slice_set, inl, inr, Bool, true, false, if◌then◌else◌, refl, sym, ◌∙◌}
+use Rattle.std.proofs.Common.{ap, subst, arith}
 use Rattle.std.specs.Prelude.{nat_lt, replicate}
 use Rattle.std.proofs.lemmas.Bool.Decides.{eqb_tells}
 use Rattle.std.proofs.lemmas.Grind.{get_or-set_at}
@@ -31,7 +33,8 @@ pub record AreShown (site : Site) (kept : Retained) (done : List Done) (before :
   pub faults : (panel : ℕ) → IsPanel site.panels panel → (own_at own panel).faults ≡ faults_of site kept done panel before
   pub news : (panel : ℕ) → IsPanel site.panels panel → (own_at own panel).news.0 ≡ last_news site kept done panel before
 
-module _ (site : Site) (kept : Retained) (done : List Done) (before : List Moment) (own : List Own) (shown : AreShown site kept done before own) (wide : length own ≡ 8) (few : site.panels ≤ 8) (panel : ℕ) (p : IsPanel site.panels panel)
+module _ (site : Site) (kept : Retained) (done : List Done) (before : List Moment) (own : List Own) (shown : AreShown site kept done before own)
+    (wide : length own ≡ 8) (few : site.panels ≤ 8) (panel : ℕ) (p : IsPanel site.panels panel)
     (now : Tick) (word : Word) (faults : FaultSet) (tick_is : now.0 ≡ tick_of before)
     (faults_is : faults ≡ faults_with site kept done (tells_fault site kept done) panel (Turned panel Hold ∷ before))
     (word_is : word ≡ word_made site kept done (tells_fault site kept done) panel (Turned panel Hold ∷ before)) where
@@ -51,17 +54,25 @@ module _ (site : Site) (kept : Retained) (done : List Done) (before : List Momen
   other_is q iq apart = get_or-set_other own (panel - 1) (q - 1) own_now no_own (λ e. apart (omega (arith, e, p.0, iq.0)))
 
   word_here : word ≡ latest_word site kept done (tells_fault site kept done) panel (Turned panel Hold ∷ before)
-  word_here = word_is ∙ sym (ap (λ b. word_made site kept done (tells_fault site kept done) panel (if b then Turned panel Hold ∷ before else made_at panel before)) same)
+  word_here =
+      word_is ∙ sym
+      (ap (λ b. word_made site kept done (tells_fault site kept done) panel (if b then Turned panel Hold ∷ before else made_at panel before)) same)
 
   faults_here : faults ≡ faults_of site kept done panel (Turned panel Hold ∷ before)
-  faults_here = faults_is ∙ sym (ap (λ b. faults_with site kept done (tells_fault site kept done) panel (if b then Turned panel Hold ∷ before else made_at panel before)) same)
+  faults_here =
+      faults_is ∙ sym
+      (ap (λ b. faults_with site kept done (tells_fault site kept done) panel (if b then Turned panel Hold ∷ before else made_at panel before)) same)
 
   is_new : is_news word faults (own_at own panel).word (own_at own panel).faults ≡ ((panel == panel) && shows_news site kept done panel before)
   is_new =
       ap (λ w. is_news w faults (own_at own panel).word (own_at own panel).faults) word_here
-      ∙ ap (λ f. is_news (latest_word site kept done (tells_fault site kept done) panel (Turned panel Hold ∷ before)) f (own_at own panel).word (own_at own panel).faults) faults_here
-      ∙ ap (λ w. is_news (latest_word site kept done (tells_fault site kept done) panel (Turned panel Hold ∷ before)) (faults_of site kept done panel (Turned panel Hold ∷ before)) w (own_at own panel).faults) (shown.words panel p)
-      ∙ ap (λ f. is_news (latest_word site kept done (tells_fault site kept done) panel (Turned panel Hold ∷ before)) (faults_of site kept done panel (Turned panel Hold ∷ before)) (latest_word site kept done (tells_fault site kept done) panel before) f) (shown.faults panel p)
+      ∙ ap (λ f. is_news (latest_word site kept done (tells_fault site kept done) panel (Turned panel Hold ∷ before)) f (own_at own panel).word
+      (own_at own panel).faults) faults_here
+      ∙ ap (λ w. is_news (latest_word site kept done (tells_fault site kept done) panel (Turned panel Hold ∷ before))
+      (faults_of site kept done panel (Turned panel Hold ∷ before)) w (own_at own panel).faults) (shown.words panel p)
+      ∙ ap (λ f. is_news (latest_word site kept done (tells_fault site kept done) panel (Turned panel Hold ∷ before))
+      (faults_of site kept done panel (Turned panel Hold ∷ before)) (latest_word site kept done (tells_fault site kept done) panel before) f)
+      (shown.faults panel p)
       ∙ sym (ap (λ b. b && shows_news site kept done panel before) same)
 
   news_here : own_now.news.0 ≡ last_news site kept done panel (Turned panel Hold ∷ before)
@@ -77,21 +88,26 @@ module _ (site : Site) (kept : Retained) (done : List Done) (before : List Momen
   shown_now = record {
     words = λ q iq.
         elim (eqb_tells panel q) [
-          | inl e ↦ subst (λ k. (own_at all_now k).word ≡ latest_word site kept done (tells_fault site kept done) k (Turned panel Hold ∷ before)) e.1 (ap (λ (o : Own). o.word) here ∙ word_here)
+          | inl e ↦ subst (λ k. (own_at all_now k).word ≡ latest_word site kept done (tells_fault site kept done) k (Turned panel Hold ∷ before)) e.1
+              (ap (λ (o : Own). o.word) here ∙ word_here)
           | inr e ↦
               ap (λ (o : Own). o.word) (other_is q iq e.1) ∙ shown.words q iq
-              ∙ sym (ap (λ b. word_made site kept done (tells_fault site kept done) q (if b then Turned panel Hold ∷ before else made_at q before)) e.0)
+              ∙ sym (ap (λ b. word_made site kept done (tells_fault site kept done) q (if b then Turned panel Hold ∷ before else made_at q before))
+              e.0)
         ];
     faults = λ q iq.
         elim (eqb_tells panel q) [
-          | inl e ↦ subst (λ k. (own_at all_now k).faults ≡ faults_of site kept done k (Turned panel Hold ∷ before)) e.1 (ap (λ (o : Own). o.faults) here ∙ faults_here)
+          | inl e ↦ subst (λ k. (own_at all_now k).faults ≡ faults_of site kept done k (Turned panel Hold ∷ before)) e.1
+              (ap (λ (o : Own). o.faults) here ∙ faults_here)
           | inr e ↦
               ap (λ (o : Own). o.faults) (other_is q iq e.1) ∙ shown.faults q iq
-              ∙ sym (ap (λ b. faults_with site kept done (tells_fault site kept done) q (if b then Turned panel Hold ∷ before else made_at q before)) e.0)
+              ∙ sym (ap (λ b. faults_with site kept done (tells_fault site kept done) q (if b then Turned panel Hold ∷ before else made_at q before))
+              e.0)
         ];
     news = λ q iq.
         elim (eqb_tells panel q) [
-          | inl e ↦ subst (λ k. (own_at all_now k).news.0 ≡ last_news site kept done k (Turned panel Hold ∷ before)) e.1 (ap (λ (o : Own). o.news.0) here ∙ news_here)
+          | inl e ↦ subst (λ k. (own_at all_now k).news.0 ≡ last_news site kept done k (Turned panel Hold ∷ before)) e.1
+              (ap (λ (o : Own). o.news.0) here ∙ news_here)
           | inr e ↦
               ap (λ (o : Own). o.news.0) (other_is q iq e.1) ∙ shown.news q iq
               ∙ sym (ap (λ b. if b && shows_news site kept done q before then tick_of before else last_news site kept done q before) e.0)

@@ -11,7 +11,8 @@ all_pass true false true may p q r = cc
 all_pass true true quiet may p q r = cc
 all_pass false off quiet may p q r = cc
 
-pub goes_if : (asked off quiet may : Bool) (asked_is off_is quiet_is may_is : Bool) → asked ≡ asked_is → off ≡ off_is → quiet ≡ quiet_is → may ≡ may_is → asked ≡ true → off ≡ false → quiet ≡ false →
+pub goes_if : (asked off quiet may : Bool) (asked_is off_is quiet_is may_is : Bool) → asked ≡ asked_is → off ≡ off_is → quiet ≡ quiet_is
+    → may ≡ may_is → asked ≡ true → off ≡ false → quiet ≡ false →
     may ≡ ((asked_is && not off_is) && (not quiet_is && may_is))
 goes_if asked off quiet may asked_is off_is quiet_is may_is a o q m yes_asked not_off not_quiet =
     m ∙ all_pass asked_is off_is quiet_is may_is (sym a ∙ yes_asked) (sym o ∙ not_off) (sym q ∙ not_quiet)
@@ -22,7 +23,8 @@ is_quiet_then true false false may p q r = cc
 is_quiet_then true true quiet may p q r = cc
 is_quiet_then false off quiet may p q r = cc
 
-pub stays_if : (asked off quiet : Bool) (asked_is off_is quiet_is may_is : Bool) → asked ≡ asked_is → off ≡ off_is → quiet ≡ quiet_is → asked ≡ true → off ≡ false → quiet ≡ true →
+pub stays_if : (asked off quiet : Bool) (asked_is off_is quiet_is may_is : Bool) → asked ≡ asked_is → off ≡ off_is → quiet ≡ quiet_is → asked ≡ true
+    → off ≡ false → quiet ≡ true →
     not quiet ≡ ((asked_is && not off_is) && (not quiet_is && may_is))
 stays_if asked off quiet asked_is off_is quiet_is may_is a o q yes_asked not_off is_quiet =
     ap not is_quiet ∙ is_quiet_then asked_is off_is quiet_is may_is (sym a ∙ yes_asked) (sym o ∙ not_off) (sym q ∙ is_quiet)

@@ -22,14 +22,17 @@ use Rattle.plain_panel.specs.Keepings.{AllPlaced, StandsForKeeping, all_counted,
 use Rattle.plain_panel.specs.Standings.{StandsForStanding}
 
 -- the entries of one panel more are counted
-pub counted_more : (panels : List Entering) (k : ℕ) (one d : Entering) (stored before after : Retained) → k < length panels → one ≡ get_or panels k d →
-    before ≡ changed_by (all_counted (take k panels)) stored → after ≡ changed_by (counted one) before → after ≡ changed_by (all_counted (take (k + 1) panels)) stored
+pub counted_more : (panels : List Entering) (k : ℕ) (one d : Entering) (stored before after : Retained) → k < length panels
+    → one ≡ get_or panels k d →
+    before ≡ changed_by (all_counted (take k panels)) stored → after ≡ changed_by (counted one) before
+    → after ≡ changed_by (all_counted (take (k + 1) panels)) stored
 counted_more panels k one d stored before after small is was then_is =
     then_is ∙ ap (λ e. changed_by (counted e) before) is ∙ ap (λ s. changed_by (counted (get_or panels k d)) s) was
     ∙ sym (changed_by-append (all_counted (take k panels)) (counted (get_or panels k d)) stored)
     ∙ sym (ap (λ changes. changed_by changes stored) (items_more counted panels k d small))
 
-pub all_placed : (site : Site) (kept : Retained) (done : List Done) (history : List Moment) (first : ℕ) (panels : List Entering) → AllEnter site kept done history first panels → 1 ≤ first → first + length panels ≤ 9 → AllPlaced panels
+pub all_placed : (site : Site) (kept : Retained) (done : List Done) (history : List Moment) (first : ℕ) (panels : List Entering)
+    → AllEnter site kept done history first panels → 1 ≤ first → first + length panels ≤ 9 → AllPlaced panels
 all_placed site kept done history first [] all above below = tt
 all_placed site kept done history first (x ∷ xs) all above below =
     let own : x.panel ≡ first = (all.0).own in
@@ -51,17 +54,23 @@ count_is site kept done panel number entries (tick ∷ ticks) same many =
     ∙ ap (λ (p : ℕ). Count p (length (tick ∷ ticks)) ∷ []) same
 
 -- what is counted are the counts of the definitions
-pub counted_all : (site : Site) (kept : Retained) (done : List Done) (history : List Moment) (first : ℕ) (panels : List Entering) → AllEnter site kept done history first panels →
-    all_counted panels ≡ flat_map (λ panel. count_of site kept done panel (new_entries site kept done panel history)) (range_with_len first (length panels))
+pub counted_all : (site : Site) (kept : Retained) (done : List Done) (history : List Moment) (first : ℕ) (panels : List Entering)
+    → AllEnter site kept done history first panels →
+    all_counted panels ≡ flat_map (λ panel. count_of site kept done panel (new_entries site kept done panel history))
+    (range_with_len first (length panels))
 counted_all site kept done history first [] all = refl
 counted_all site kept done history first (x ∷ xs) all =
-    ap (λ changes. changes ++ all_counted xs) (count_is site kept done x.panel first x.entries (new_entries site kept done first history) ((all.0).own) ((all.0).count))
-    ∙ ap (λ changes. count_of site kept done first (new_entries site kept done first history) ++ changes) (counted_all site kept done history (first + 1) xs (all.1))
+    ap (λ changes. changes ++ all_counted xs) (count_is site kept done x.panel first x.entries (new_entries site kept done first history)
+    ((all.0).own) ((all.0).count))
+    ∙ ap (λ changes. count_of site kept done first (new_entries site kept done first history) ++ changes)
+    (counted_all site kept done history (first + 1) xs (all.1))
 
 module _ (site : Site) (kept : Retained) (history : List Moment) where
   kept_then : (moment : Moment) (before after : Retained) (waiting : List Request) (changes : List Change) →
-      after ≡ (if is_storing moment then changed_by (changes_of site waiting) (changed_by changes before) else before) → before ≡ kept_after site kept history →
-      waiting ≡ (operations site kept history).waiting → changes ≡ counts site kept (operations site kept history).done history → after ≡ kept_after site kept (moment ∷ history)
+      after ≡ (if is_storing moment then changed_by (changes_of site waiting) (changed_by changes before) else before)
+      → before ≡ kept_after site kept history →
+      waiting ≡ (operations site kept history).waiting → changes ≡ counts site kept (operations site kept history).done history
+      → after ≡ kept_after site kept (moment ∷ history)
   kept_then Began before after waiting changes is was same_waiting same_changes = is ∙ was
   kept_then (Happened event) before after waiting changes is was same_waiting same_changes = is ∙ was
   kept_then (Turned panel task) before after waiting changes is was same_waiting same_changes = is ∙ was
@@ -70,20 +79,31 @@ module _ (site : Site) (kept : Retained) (history : List Moment) where
       is ∙ ap (λ w. changed_by (changes_of site w) (changed_by changes before)) same_waiting
       ∙ ap (λ cs. changed_by (changes_of site (operations site kept history).waiting) (changed_by cs before)) same_changes
       ∙ ap (λ s. changed_by (changes_of site (operations site kept history).waiting) (changed_by (counts site kept (operations site kept history).done history) s)) was
-      ∙ sym (changed_by-append (counts site kept (operations site kept history).done history) (changes_of site (operations site kept history).waiting) (kept_after site kept history))
+      ∙ sym (changed_by-append (counts site kept (operations site kept history).done history) (changes_of site (operations site kept history).waiting)
+      (kept_after site kept history))
 
   -- the desk and what stands have gone on, and what is to be kept is stored
   pub kept_ok : {T E : Type 0} (result : Result T E) (moment : Moment) (before between after : Keeping) → StandsForKeeping site kept history before →
-      between.stored ≡ (if is_storing moment then changed_by (changes_of site (all_requests before.desk.outcomes.waiting.items)) (changed_by (all_counted before.standing.panels.items) before.stored) else before.stored) →
+      between.stored
+      ≡ (if is_storing moment then changed_by (changes_of site (all_requests before.desk.outcomes.waiting.items))
+      (changed_by (all_counted before.standing.panels.items) before.stored) else before.stored) →
       after.stored ≡ between.stored → OnOk result (StandsForDesk site kept (moment ∷ history) after.desk) →
-      OnOk result (StandsForStanding site kept (operations site kept (moment ∷ history)).done (moment ∷ history) after.standing) → OnOk result (StandsForKeeping site kept (moment ∷ history) after)
+      OnOk result (StandsForStanding site kept (operations site kept (moment ∷ history)).done (moment ∷ history) after.standing)
+      → OnOk result (StandsForKeeping site kept (moment ∷ history) after)
   kept_ok (Ok value) moment before between after stands stored same desk standing =
-      let many : ℕ → List Change = λ n. flat_map (λ panel. count_of site kept (operations site kept history).done panel (new_entries site kept (operations site kept history).done panel history)) (range_with_len 1 n) in
+      let many : ℕ → List Change =
+      λ n.
+      flat_map
+      (λ panel. count_of site kept (operations site kept history).done panel
+      (new_entries site kept (operations site kept history).done panel history)) (range_with_len 1 n) in
       record {
         desk = desk;
         standing = standing;
-        stored = same ∙ kept_then moment before.stored between.stored (all_requests before.desk.outcomes.waiting.items) (all_counted before.standing.panels.items) stored stands.stored
+        stored =
+            same ∙ kept_then moment before.stored between.stored (all_requests before.desk.outcomes.waiting.items)
+            (all_counted before.standing.panels.items) stored stands.stored
             (ap (λ (o : Operations). o.waiting) stands.desk.became)
-            (counted_all site kept (operations site kept history).done history 1 before.standing.panels.items stands.standing.panels.all ∙ ap many stands.standing.panels.count);
+            (counted_all site kept (operations site kept history).done history 1 before.standing.panels.items stands.standing.panels.all ∙ ap many
+            stands.standing.panels.count);
       }
   kept_ok (Err error) moment before between after stands stored same desk standing = tt

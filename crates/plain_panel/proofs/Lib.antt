@@ -21,7 +21,6 @@ pub mod Masked
 pub mod NoFaults
 pub mod Outputs
 pub mod Reported
-pub mod Reports
 pub mod Requesting
 pub mod RingsTold
 pub mod Silencing

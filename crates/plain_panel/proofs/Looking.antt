@@ -1,5 +1,7 @@
 -- What was seen of a history of one moment more.
-use Rattle.std.proofs.Common.{◌≡◌, ◌<◌, ◌≤◌, ◌+◌, ◌-◌, ℕ, zero, suc, Bool, true, false, List, [], ◌∷◌, ◌++◌, length, get_or, take, reverse, Option, Some, None, if◌then◌else◌, inl, inr, refl, sym, ◌∙◌, ap, subst, arith}
+use Rattle.std.proofs.Common.{◌≡◌, ◌<◌, ◌≤◌, ◌+◌, ◌-◌, ℕ, zero, suc, Bool, true, false, List, [], ◌∷◌, ◌++◌, length}
+use Rattle.std.proofs.Common.{get_or, take, reverse, Option, Some, None, if◌then◌else◌, inl, inr, refl, sym, ◌∙◌, ap}
+use Rattle.std.proofs.Common.{subst, arith}
 use Rattle.std.specs.Prelude.{slice_get, IfSome}
 use Rattle.std.proofs.Math.Seq.{take-append_seam}
 use Rattle.std.proofs.lemmas.List.{length-reverse, reverse-append, take-append-le}
@@ -17,7 +19,8 @@ split_at : (xs : List Seen) (n : ℕ) (last : Seen) → length xs ≡ suc n → 
 split_at [] n last long is = absurd (omega (arith, long))
 split_at (x ∷ []) zero last long is = ap (λ (y : Seen). y ∷ []) (sym is)
 split_at (x ∷ y ∷ xs) zero last long is = absurd (omega (arith, long))
-split_at (x ∷ xs) (suc n) last long is = let shorter : length xs ≡ suc n = omega arith in ap (λ (ys : List Seen). x ∷ ys) (split_at xs n last shorter is)
+split_at (x ∷ xs) (suc n) last long is = let shorter : length xs ≡ suc n = omega arith in
+    ap (λ (ys : List Seen). x ∷ ys) (split_at xs n last shorter is)
 
 -- a list ends with its last element
 pub ends_with : (xs : List Seen) (last : Seen) → 1 ≤ length xs → last ≡ get_or xs (length xs - 1) last → xs ≡ take (length xs - 1) xs ++ last ∷ []
@@ -41,30 +44,42 @@ made_more none panel task makes (HappenedOf event) past = refl
 made_more none panel task makes (TurnedOf other_panel other) past = refl
 made_more none panel task makes (KeptOf failed) past = refl
 
-pub made_now : {X : Type 0} (none : X) (panel : ℕ) (task : Task) (makes : List MomentOf → X) (moment : MomentOf) (past : List MomentOf) → is_turn_of panel task moment ≡ true →
+pub made_now : {X : Type 0} (none : X) (panel : ℕ) (task : Task) (makes : List MomentOf → X) (moment : MomentOf) (past : List MomentOf)
+    → is_turn_of panel task moment ≡ true →
     made_latest none panel task makes (moment ∷ past) ≡ makes past
-made_now none panel task makes moment past h = made_more none panel task makes moment past ∙ ap (λ b. if b then makes past else made_latest none panel task makes past) h
+made_now none panel task makes moment past h =
+    made_more none panel task makes moment past ∙ ap (λ b. if b then makes past else made_latest none panel task makes past) h
 
-pub made_before : {X : Type 0} (none : X) (panel : ℕ) (task : Task) (makes : List MomentOf → X) (moment : MomentOf) (past : List MomentOf) → is_turn_of panel task moment ≡ false →
+pub made_before : {X : Type 0} (none : X) (panel : ℕ) (task : Task) (makes : List MomentOf → X) (moment : MomentOf) (past : List MomentOf)
+    → is_turn_of panel task moment ≡ false →
     made_latest none panel task makes (moment ∷ past) ≡ made_latest none panel task makes past
-made_before none panel task makes moment past h = made_more none panel task makes moment past ∙ ap (λ b. if b then makes past else made_latest none panel task makes past) h
+made_before none panel task makes moment past h =
+    made_more none panel task makes moment past ∙ ap (λ b. if b then makes past else made_latest none panel task makes past) h
 
 -- what a turn made, from what had befallen before it
-pub made_none : {X : Type 0} (none : X) (panel : ℕ) (task : Task) (makes : List MomentOf → X) (history : List MomentOf) → before_latest panel task history ≡ None → made_latest none panel task makes history ≡ none
+pub made_none : {X : Type 0} (none : X) (panel : ℕ) (task : Task) (makes : List MomentOf → X) (history : List MomentOf)
+    → before_latest panel task history ≡ None → made_latest none panel task makes history ≡ none
 made_none none panel task makes [] h = refl
 made_none none panel task makes (moment ∷ past) h = go (is_turn_of panel task moment) refl (made_none none panel task makes past)
   where
-    go : (b : Bool) → is_turn_of panel task moment ≡ b → (before_latest panel task past ≡ None → made_latest none panel task makes past ≡ none) → made_latest none panel task makes (moment ∷ past) ≡ none
+    go : (b : Bool) → is_turn_of panel task moment ≡ b → (before_latest panel task past ≡ None → made_latest none panel task makes past ≡ none)
+        → made_latest none panel task makes (moment ∷ past) ≡ none
     go true e more = let now = made_now None panel task (λ before. Some before) moment past e in cc
-    go false e more = made_before none panel task makes moment past e ∙ more (sym (made_before None panel task (λ before. Some before) moment past e) ∙ h)
+    go false e more =
+        made_before none panel task makes moment past e ∙ more (sym (made_before None panel task (λ before. Some before) moment past e) ∙ h)
 
-pub made_some : {X : Type 0} (none : X) (panel : ℕ) (task : Task) (makes : List MomentOf → X) (history before : List MomentOf) → before_latest panel task history ≡ Some before → made_latest none panel task makes history ≡ makes before
+pub made_some : {X : Type 0} (none : X) (panel : ℕ) (task : Task) (makes : List MomentOf → X) (history before : List MomentOf)
+    → before_latest panel task history ≡ Some before → made_latest none panel task makes history ≡ makes before
 made_some none panel task makes [] before h = cc
 made_some none panel task makes (moment ∷ past) before h = go (is_turn_of panel task moment) refl (made_some none panel task makes past before)
   where
-    go : (b : Bool) → is_turn_of panel task moment ≡ b → (before_latest panel task past ≡ Some before → made_latest none panel task makes past ≡ makes before) → made_latest none panel task makes (moment ∷ past) ≡ makes before
-    go true e more = let now = made_now None panel task (λ before. Some before) moment past e in let same : past ≡ before = cc in made_now none panel task makes moment past e ∙ ap makes same
-    go false e more = made_before none panel task makes moment past e ∙ more (sym (made_before None panel task (λ before. Some before) moment past e) ∙ h)
+    go : (b : Bool) → is_turn_of panel task moment ≡ b
+        → (before_latest panel task past ≡ Some before → made_latest none panel task makes past ≡ makes before)
+        → made_latest none panel task makes (moment ∷ past) ≡ makes before
+    go true e more = let now = made_now None panel task (λ before. Some before) moment past e in let same : past ≡ before =
+        cc in made_now none panel task makes moment past e ∙ ap makes same
+    go false e more =
+        made_before none panel task makes moment past e ∙ more (sym (made_before None panel task (λ before. Some before) moment past e) ∙ h)
 
 module _ (site : Site) (facts : ℕ → List MomentOf → Facts) where
   -- the newest moment, and what had befallen before it
@@ -75,21 +90,32 @@ module _ (site : Site) (facts : ℕ → List MomentOf → Facts) where
     pub seen : IsSeen site facts moment past last
     pub before : AreSeen site facts earlier past
 
-  last_back : (earlier back : List Seen) (last : Seen) (history : List MomentOf) → reverse earlier ≡ back → AreSeenBack site facts (last ∷ back) history → HasLast earlier last history
+  last_back : (earlier back : List Seen) (last : Seen) (history : List MomentOf) → reverse earlier ≡ back
+      → AreSeenBack site facts (last ∷ back) history → HasLast earlier last history
   last_back earlier back last [] same are = absurd are
   last_back earlier back last (moment ∷ past) same are =
-      record { moment = moment; past = past; is = refl; seen = are.0; before = subst (λ (seen : List Seen). AreSeenBack site facts seen past) (sym same) are.1 }
+      record {
+        moment = moment;
+        past = past;
+        is = refl;
+        seen = are.0;
+        before =
+            subst (λ (seen : List Seen). AreSeenBack site facts seen past) (sym same) are.1;
+      }
 
-  pub last_of : (xs earlier : List Seen) (last : Seen) → xs ≡ earlier ++ last ∷ [] → (history : List MomentOf) → AreSeen site facts xs history → HasLast earlier last history
+  pub last_of : (xs earlier : List Seen) (last : Seen) → xs ≡ earlier ++ last ∷ [] → (history : List MomentOf) → AreSeen site facts xs history
+      → HasLast earlier last history
   last_of xs earlier last is history are =
       last_back earlier (reverse earlier) last history refl
       (subst (λ (seen : List Seen). AreSeenBack site facts seen history) (ap reverse is ∙ reverse-append earlier (last ∷ [])) are)
 
-  pub seen_more : (earlier : List Seen) (last : Seen) (moment : MomentOf) (past : List MomentOf) → IsSeen site facts moment past last → AreSeen site facts earlier past → AreSeen site facts (earlier ++ last ∷ []) (moment ∷ past)
+  pub seen_more : (earlier : List Seen) (last : Seen) (moment : MomentOf) (past : List MomentOf) → IsSeen site facts moment past last
+      → AreSeen site facts earlier past → AreSeen site facts (earlier ++ last ∷ []) (moment ∷ past)
   seen_more earlier last moment past seen before =
       subst (λ (xs : List Seen). AreSeenBack site facts xs (moment ∷ past)) (sym (reverse-append earlier (last ∷ []))) (seen, before)
 
-  pub turn_now : (panel : ℕ) (task : Task) (xs earlier : List Seen) (last : Seen) → xs ≡ earlier ++ last ∷ [] → is_turn_of panel task (moment_of last.moment) ≡ true →
+  pub turn_now : (panel : ℕ) (task : Task) (xs earlier : List Seen) (last : Seen) → xs ≡ earlier ++ last ∷ []
+      → is_turn_of panel task (moment_of last.moment) ≡ true →
       (history : List MomentOf) → AreSeen site facts xs history → IsLatestAt site facts panel task xs history (length earlier)
   turn_now panel task xs earlier last is turns history are =
       let h = last_of xs earlier last is history are in
@@ -97,7 +123,9 @@ module _ (site : Site) (facts : ℕ → List MomentOf → Facts) where
       record {
         before = h.past;
         latest = ap (before_latest panel task) h.is ∙ made_now None panel task (λ before. Some before) h.moment h.past that;
-        earlier = subst (λ (seen : List Seen). AreSeen site facts seen h.past) (sym (ap (take (length earlier)) is ∙ take-append_seam earlier (last ∷ []))) h.before;
+        earlier =
+            subst (λ (seen : List Seen). AreSeen site facts seen h.past) (sym (ap (take (length earlier)) is ∙ take-append_seam earlier (last ∷ [])))
+            h.before;
         turn = last;
         found = ap (λ (seen : List Seen). slice_get seen (length earlier)) is ∙ get_end earlier last;
         is_seen = subst (λ (moment : MomentOf). IsSeen site facts moment h.past last) (turn_is panel task h.moment that) h.seen;
@@ -107,13 +135,16 @@ module _ (site : Site) (facts : ℕ → List MomentOf → Facts) where
       get_end [] x = refl
       get_end (y ∷ front) x = get_end front x
 
-  pub turn_before : (panel : ℕ) (task : Task) (xs earlier : List Seen) (last : Seen) → xs ≡ earlier ++ last ∷ [] → is_turn_of panel task (moment_of last.moment) ≡ false →
-      (result : Option ℕ) → IfSome result (λ place. place < length earlier) → ((past : List MomentOf) → AreSeen site facts earlier past → IsLatest site facts panel task earlier past result) →
+  pub turn_before : (panel : ℕ) (task : Task) (xs earlier : List Seen) (last : Seen) → xs ≡ earlier ++ last ∷ []
+      → is_turn_of panel task (moment_of last.moment) ≡ false →
+      (result : Option ℕ) → IfSome result (λ place. place < length earlier)
+      → ((past : List MomentOf) → AreSeen site facts earlier past → IsLatest site facts panel task earlier past result) →
       (history : List MomentOf) → AreSeen site facts xs history → IsLatest site facts panel task xs history result
   turn_before panel task xs earlier last is turns result within more history are =
       let h = last_of xs earlier last is history are in
       let other : is_turn_of panel task h.moment ≡ false = ap (is_turn_of panel task) (sym h.seen.is) ∙ turns in
-      let same : before_latest panel task history ≡ before_latest panel task h.past = ap (before_latest panel task) h.is ∙ made_before None panel task (λ before. Some before) h.moment h.past other in
+      let same : before_latest panel task history ≡ before_latest panel task h.past =
+      ap (before_latest panel task) h.is ∙ made_before None panel task (λ before. Some before) h.moment h.past other in
       go result within h.past same (more h.past h.before)
     where
       get_front : (front back : List Seen) (place : ℕ) (x : Seen) → slice_get front place ≡ Some x → slice_get (front ++ back) place ≡ Some x
@@ -124,14 +155,17 @@ module _ (site : Site) (facts : ℕ → List MomentOf → Facts) where
       take_within : (front back : List Seen) (n : ℕ) → n < length front → take n (front ++ back) ≡ take n front
       take_within front back n h = take-append-le n front back (omega arith)
 
-      go : (found : Option ℕ) → IfSome found (λ place. place < length earlier) → (past : List MomentOf) → before_latest panel task history ≡ before_latest panel task past →
+      go : (found : Option ℕ) → IfSome found (λ place. place < length earlier) → (past : List MomentOf)
+          → before_latest panel task history ≡ before_latest panel task past →
           IsLatest site facts panel task earlier past found → IsLatest site facts panel task xs history found
       go None within past same was = same ∙ was
       go (Some place) within past same was =
           record {
             before = was.before;
             latest = same ∙ was.latest;
-            earlier = subst (λ (seen : List Seen). AreSeen site facts seen was.before) (sym (ap (take place) is ∙ take_within earlier (last ∷ []) place within)) was.earlier;
+            earlier =
+                subst (λ (seen : List Seen). AreSeen site facts seen was.before)
+                (sym (ap (take place) is ∙ take_within earlier (last ∷ []) place within)) was.earlier;
             turn = was.turn;
             found = ap (λ (seen : List Seen). slice_get seen place) is ∙ get_front earlier (last ∷ []) place was.turn was.found;
             is_seen = was.is_seen;
@@ -163,12 +197,14 @@ module _ (site : Site) (facts : ℕ → List MomentOf → Facts) where
   not_begun (KeptOf failed) past h = refl
 
   -- the tick after a newest moment that begins one, and after another
-  pub tick_begun : (xs earlier : List Seen) (last : Seen) → xs ≡ earlier ++ last ∷ [] → is_beginning (moment_of last.moment) ≡ true → (history : List MomentOf) → AreSeen site facts xs history → last.tick.0 + 1 ≡ tick_of history
+  pub tick_begun : (xs earlier : List Seen) (last : Seen) → xs ≡ earlier ++ last ∷ [] → is_beginning (moment_of last.moment) ≡ true
+      → (history : List MomentOf) → AreSeen site facts xs history → last.tick.0 + 1 ≡ tick_of history
   tick_begun xs earlier last is begins history are =
       let h = last_of xs earlier last is history are in
       ap (λ (tick : ℕ). tick + 1) h.seen.tick ∙ sym (ap tick_of h.is ∙ begun h.moment h.past (ap is_beginning (sym h.seen.is) ∙ begins))
 
-  pub tick_same : (xs earlier : List Seen) (last : Seen) → xs ≡ earlier ++ last ∷ [] → is_beginning (moment_of last.moment) ≡ false → (history : List MomentOf) → AreSeen site facts xs history → last.tick.0 ≡ tick_of history
+  pub tick_same : (xs earlier : List Seen) (last : Seen) → xs ≡ earlier ++ last ∷ [] → is_beginning (moment_of last.moment) ≡ false
+      → (history : List MomentOf) → AreSeen site facts xs history → last.tick.0 ≡ tick_of history
   tick_same xs earlier last is begins history are =
       let h = last_of xs earlier last is history are in
       h.seen.tick ∙ sym (ap tick_of h.is ∙ not_begun h.moment h.past (ap is_beginning (sym h.seen.is) ∙ begins))

@@ -16,12 +16,13 @@ use Rattle.site_types.specs.Profile.{silent_of}
 use Rattle.site_types.proofs.Done.{lt_false}
 use Rattle.site_types.proofs.Masks.{has_bit-mask, mask_below, mask_empty}
 use Rattle.isolators.specs.Reach.{is_open, is_short}
-use Rattle.loop_poller.specs.Asked.{loop_at, status_on}
+use Rattle.loop_poller.specs.Asked.{status_on}
+use Rattle.site_types.specs.Things.{loop_of}
 use Rattle.supply_monitor.specs.Supply.{is_shown, kind_at, shown_mask}
 use Rattle.coincidence_rules.specs.Missing.{is_missing}
 use Rattle.panel_conditions.specs.Missing.{is_off}
 use Rattle.panel_conditions.specs.Points.{addressed, addresses_where, on_point, points_where}
-use Rattle.panel_conditions.specs.Words.{no_faults}
+use Rattle.site_types.specs.Words.{no_faults}
 use Rattle.panel_links.specs.Stands.{is_link_of}
 use Rattle.panel_rules.specs.Kept.{heard}
 use Rattle.panel_rules.specs.States.{is_up}
@@ -55,11 +56,14 @@ module _ (site : Site) (kept : Retained) (done : List Done) (panel : ℕ) where
       rw (none_at 1 0, none_at 1 96, none_at 2 0, none_at 2 96, none_at 3 0, none_at 3 96, none_at 4 0, none_at 4 96) refl
     where
       none_at : (line past : ℕ) → mask_of 96 (λ k. on_point test (addressed site panel line (past + k + 1))) ≡ 0
-      none_at line past = mask_none 96 (λ k. on_point test (addressed site panel line (past + k + 1))) (λ k. none_on (addressed site panel line (past + k + 1)) test h)
+      none_at line past =
+          mask_none 96 (λ k. on_point test (addressed site panel line (past + k + 1)))
+          (λ k. none_on (addressed site panel line (past + k + 1)) test h)
 
   no_outputs : (test : ℕ → Bool) → ((k : ℕ) → test k ≡ false) → outputs_where site panel test ≡ 0
   unfolding outputs_where
-  no_outputs test h = mask_none 32 (λ k. on_place test (output_numbered site panel (k + 1))) (λ k. none_placed (output_numbered site panel (k + 1)) test h)
+  no_outputs test h =
+      mask_none 32 (λ k. on_place test (output_numbered site panel (k + 1))) (λ k. none_placed (output_numbered site panel (k + 1)) test h)
 
   not_broken : (plan : Option LoopPlan) → (status_on plan (λ piece. Sound)).broken ≡ false
   not_broken None = refl
@@ -70,10 +74,10 @@ module _ (site : Site) (kept : Retained) (done : List Done) (panel : ℕ) where
   not_shorted (Some plan) = none_any (λ piece. is_short Sound) (range_with_len 0 (plan.last + 1)) (λ x. refl)
 
   none_broken : broken_loops site panel [] ≡ 0
-  none_broken = mask_none 4 (λ k. (status_on (loop_at site panel (k + 1)) (λ piece. Sound)).broken) (λ k. not_broken (loop_at site panel (k + 1)))
+  none_broken = mask_none 4 (λ k. (status_on (loop_of site panel (k + 1)) (λ piece. Sound)).broken) (λ k. not_broken (loop_of site panel (k + 1)))
 
   none_shorted : shorted_loops site panel [] ≡ 0
-  none_shorted = mask_none 4 (λ k. (status_on (loop_at site panel (k + 1)) (λ piece. Sound)).shorted) (λ k. not_shorted (loop_at site panel (k + 1)))
+  none_shorted = mask_none 4 (λ k. (status_on (loop_of site panel (k + 1)) (λ piece. Sound)).shorted) (λ k. not_shorted (loop_of site panel (k + 1)))
 
   none_supplied : shown_mask site.waits [] ≡ 0
   none_supplied = mask_none 4 (λ k. is_shown site.waits (kind_at k) []) (λ k. refl)
@@ -86,7 +90,8 @@ module _ (site : Site) (kept : Retained) (done : List Done) (panel : ℕ) where
   none_down : links_down site panel (λ link. is_up link []) ≡ 0
   none_down = mask_none 8 (λ k. is_link_of site.panels panel (k + 1) && false) (λ k. and_none (is_link_of site.panels panel (k + 1)) false refl)
 
-  none_unconfirmed : outputs_where site panel (λ output. is_unconfirmed site (facts_with site kept done (tells_fault site kept done)) kept done output []) ≡ 0
+  none_unconfirmed :
+      outputs_where site panel (λ output. is_unconfirmed site (facts_with site kept done (tells_fault site kept done)) kept done output []) ≡ 0
   none_unconfirmed =
       no_outputs (λ output. is_unconfirmed site (facts_with site kept done (tells_fault site kept done)) kept done output [])
       (λ output. and_none (on_output (λ (o : Output). is_confirming o.kind) (slice_get site.outputs output)) false refl)
@@ -96,11 +101,22 @@ module _ (site : Site) (kept : Retained) (done : List Done) (panel : ℕ) where
 
   pub no_faults_yet : no_faults ≡ faults_of site kept done panel []
   no_faults_yet =
-      sym (all_none (points_where site panel (λ place. is_missing [] place && not (is_off site kept done place 0))) (broken_loops site panel []) (shorted_loops site panel []) (shown_mask site.waits [])
+      sym (all_none (points_where site panel (λ place. is_missing [] place && not (is_off site kept done place 0))) (broken_loops site panel [])
+      (shorted_loops site panel []) (shown_mask site.waits [])
       (silent_panels site (λ source. heard site.panels panel source []) 0) (links_down site panel (λ link. is_up link []))
       (outputs_where site panel (λ output. is_unconfirmed site (facts_with site kept done (tells_fault site kept done)) kept done output []))
       none_missing none_broken none_shorted none_supplied none_silent none_down none_unconfirmed)
     where
-      all_none : (missing : PointSet) (broken shorted supply silent links unconfirmed : ℕ) → missing ≡ no_faults.missing → broken ≡ 0 → shorted ≡ 0 → supply ≡ 0 → silent ≡ 0 → links ≡ 0 → unconfirmed ≡ 0
-          → (let set : FaultSet = record { missing = missing; broken = broken; shorted = shorted; supply = supply; silent = silent; links = links; unconfirmed = unconfirmed } in set ≡ no_faults)
+      all_none : (missing : PointSet) (broken shorted supply silent links unconfirmed : ℕ) → missing ≡ no_faults.missing → broken ≡ 0 → shorted ≡ 0
+          → supply ≡ 0 → silent ≡ 0 → links ≡ 0 → unconfirmed ≡ 0
+          → (let set : FaultSet = record {
+            missing = missing;
+            broken = broken;
+            shorted = shorted;
+            supply = supply;
+            silent = silent;
+            links =
+                links;
+            unconfirmed = unconfirmed;
+          } in set ≡ no_faults)
       all_none missing broken shorted supply silent links unconfirmed a b c d e f g = rw (a, b, c, d, e, f, g) refl

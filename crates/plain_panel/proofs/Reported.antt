@@ -30,7 +30,8 @@ told_calm true false was none calm = refl
 told_calm false told was none calm = calm
 
 module _ (kind : SupplyKind) (calls : List Call) (calm : Calm kind calls) where
-  reported : (other : SupplyKind) (bad here : Bool) → (bad && (here && is_same_kind kind other)) ≡ false → Calm kind (if here then Reported other bad ∷ calls else calls)
+  reported : (other : SupplyKind) (bad here : Bool) → (bad && (here && is_same_kind kind other)) ≡ false
+      → Calm kind (if here then Reported other bad ∷ calls else calls)
   reported other bad true none = record { bad = told_calm (is_same_kind kind other) bad (is_bad kind calls) none calm.bad; turns = calm.turns }
   reported other bad false none = calm
 
@@ -39,7 +40,8 @@ module _ (kind : SupplyKind) (calls : List Call) (calm : Calm kind calls) where
   turned tick false = calm
 
 module _ (panel : ℕ) (kind : SupplyKind) where
-  calm_next : (moment : MomentOf) (before : List MomentOf) → tells_bad panel kind moment ≡ false → Calm kind (supply_calls panel before) → Calm kind (supply_calls panel (moment ∷ before))
+  calm_next : (moment : MomentOf) (before : List MomentOf) → tells_bad panel kind moment ≡ false → Calm kind (supply_calls panel before)
+      → Calm kind (supply_calls panel (moment ∷ before))
   calm_next Began before none calm = calm
   calm_next (Happened (Supply other told bad)) before none calm = reported kind (supply_calls panel before) calm told bad (other == panel) none
   calm_next (Happened (Point a b)) before none calm = calm
@@ -58,17 +60,22 @@ module _ (panel : ℕ) (kind : SupplyKind) where
   calm_next (Turned other Keep) before none calm = calm
   calm_next (Kept failed) before none calm = calm
 
-  calm_all : (moments : List Moment) (before : List MomentOf) → list_any (λ m. tells_bad panel kind (moment_of m)) moments ≡ false → Calm kind (supply_calls panel before) →
+  calm_all : (moments : List Moment) (before : List MomentOf) → list_any (λ m. tells_bad panel kind (moment_of m)) moments ≡ false
+      → Calm kind (supply_calls panel before) →
       Calm kind (supply_calls panel (and_moments moments before))
   calm_all [] before none calm = calm
   calm_all (m ∷ ms) before none calm =
       let later = or_rest (tells_bad panel kind (moment_of m)) (list_any (λ m. tells_bad panel kind (moment_of m)) ms) none in
-      calm_all ms (moment_of m ∷ before) later (calm_next (moment_of m) before (or_first (tells_bad panel kind (moment_of m)) (list_any (λ m. tells_bad panel kind (moment_of m)) ms) none) calm)
+      calm_all ms (moment_of m ∷ before) later
+      (calm_next (moment_of m) before (or_first (tells_bad panel kind (moment_of m)) (list_any (λ m. tells_bad panel kind (moment_of m)) ms) none)
+      calm)
 
-  pub never_bad : (wait : ℕ) (moments : List Moment) → list_any (λ m. tells_bad panel kind (moment_of m)) moments ≡ false → false ≡ lasts wait (bad_turns kind (supply_calls panel (history moments)))
+  pub never_bad : (wait : ℕ) (moments : List Moment) → list_any (λ m. tells_bad panel kind (moment_of m)) moments ≡ false
+      → false ≡ lasts wait (bad_turns kind (supply_calls panel (history moments)))
   never_bad wait moments none = let calm = calm_all moments [] none (record { bad = refl; turns = refl }) in sym (ap (lasts wait) calm.turns)
 
-told_sound : (here there same : Bool) (state was : PieceState) → (here && there) ≡ false → was ≡ Sound → (if here && (there && same) then state else was) ≡ Sound
+told_sound : (here there same : Bool) (state was : PieceState) → (here && there) ≡ false → was ≡ Sound
+    → (if here && (there && same) then state else was) ≡ Sound
 told_sound true true same state was none sound = absurd (let t : true ≡ false = none in cc)
 told_sound true false same state was none sound = sound
 told_sound false there same state was none sound = sound
@@ -77,18 +84,22 @@ none_any : (test : ℕ → Bool) (xs : List ℕ) → ((x : ℕ) → test x ≡ f
 none_any test [] h = refl
 none_any test (x ∷ xs) h = rw (h x, none_any test xs h) refl
 
-pub neither : (broken shorted : Bool) → broken ≡ false → shorted ≡ false → (let status : LineStatus = record { broken = broken; shorted = shorted } in status ≡ record { broken = false; shorted = false })
+pub neither : (broken shorted : Bool) → broken ≡ false → shorted ≡ false
+    → (let status : LineStatus = record { broken = broken; shorted = shorted } in status ≡ record { broken = false; shorted = false })
 neither broken shorted a b = rw (a, b) refl
 
 sound_status : (plan : LoopPlan) → status_of plan (λ piece. Sound) ≡ record { broken = false; shorted = false }
 sound_status plan =
-    neither (list_any (λ piece. is_open Sound) (pieces_of plan)) (list_any (λ piece. is_short Sound) (pieces_of plan)) (none_any (λ piece. is_open Sound) (pieces_of plan) (λ x. refl))
+    neither (list_any (λ piece. is_open Sound) (pieces_of plan)) (list_any (λ piece. is_short Sound) (pieces_of plan))
+    (none_any (λ piece. is_open Sound) (pieces_of plan) (λ x. refl))
     (none_any (λ piece. is_short Sound) (pieces_of plan) (λ x. refl))
 
 module _ (panel line : ℕ) where
-  sound_next : (piece : ℕ) (moment : MomentOf) (before : List MomentOf) → tells_cable panel line moment ≡ false → piece_of panel line piece before ≡ Sound → piece_of panel line piece (moment ∷ before) ≡ Sound
+  sound_next : (piece : ℕ) (moment : MomentOf) (before : List MomentOf) → tells_cable panel line moment ≡ false
+      → piece_of panel line piece before ≡ Sound → piece_of panel line piece (moment ∷ before) ≡ Sound
   sound_next piece Began before none sound = sound
-  sound_next piece (Happened (Cable of_panel of_line other state)) before none sound = told_sound (of_panel == panel) (of_line == line) (other == piece) state (piece_of panel line piece before) none sound
+  sound_next piece (Happened (Cable of_panel of_line other state)) before none sound =
+      told_sound (of_panel == panel) (of_line == line) (other == piece) state (piece_of panel line piece before) none sound
   sound_next piece (Happened (Point a b)) before none sound = sound
   sound_next piece (Happened (Supply a b c)) before none sound = sound
   sound_next piece (Happened (Link a b)) before none sound = sound
@@ -97,13 +108,15 @@ module _ (panel line : ℕ) where
   sound_next piece (Turned other task) before none sound = sound
   sound_next piece (Kept failed) before none sound = sound
 
-  sound_all : (piece : ℕ) (moments : List Moment) (before : List MomentOf) → list_any (λ m. tells_cable panel line (moment_of m)) moments ≡ false → piece_of panel line piece before ≡ Sound →
+  sound_all : (piece : ℕ) (moments : List Moment) (before : List MomentOf) → list_any (λ m. tells_cable panel line (moment_of m)) moments ≡ false
+      → piece_of panel line piece before ≡ Sound →
       piece_of panel line piece (and_moments moments before) ≡ Sound
   sound_all piece [] before none sound = sound
   sound_all piece (m ∷ ms) before none sound =
       let later = or_rest (tells_cable panel line (moment_of m)) (list_any (λ m. tells_cable panel line (moment_of m)) ms) none in
       sound_all piece ms (moment_of m ∷ before) later
-      (sound_next piece (moment_of m) before (or_first (tells_cable panel line (moment_of m)) (list_any (λ m. tells_cable panel line (moment_of m)) ms) none) sound)
+      (sound_next piece (moment_of m) before
+      (or_first (tells_cable panel line (moment_of m)) (list_any (λ m. tells_cable panel line (moment_of m)) ms) none) sound)
 
   pub never_told : (plan : LoopPlan) (moments : List Moment) → list_any (λ m. tells_cable panel line (moment_of m)) moments ≡ false →
       record { broken = false; shorted = false } ≡ status_of plan (λ piece. piece_of panel line piece (history moments))

@@ -14,7 +14,8 @@ use Rattle.plain_panel.specs.Histories.{moment_of}
 use Rattle.plain_panel.proofs.Looking.{last_of}
 
 -- tests that agree on the numbers from one on find the same
-any_range : (f g : ℕ → Bool) (from count : ℕ) → ((k : ℕ) → from ≤ k → k < from + count → f k ≡ g k) → list_any f (range_with_len from count) ≡ list_any g (range_with_len from count)
+any_range : (f g : ℕ → Bool) (from count : ℕ) → ((k : ℕ) → from ≤ k → k < from + count → f k ≡ g k)
+    → list_any f (range_with_len from count) ≡ list_any g (range_with_len from count)
 any_range f g from zero same = refl
 any_range f g from (suc count) same =
     let first : f from ≡ g from = same from (omega arith) (omega arith) in
@@ -25,10 +26,13 @@ any_zone : (site : Site) (f g : ℕ → Bool) → ((zone : ℕ) → zone < lengt
 any_zone site f g same = any_range f g 0 (length site.zones) (λ k low high. same k (omega (arith, high)))
 
 pub within_same : (site : Site) (zones others : List ℕ) (test other : ℕ → Bool) → AreZones site test zones → AreZones site other others →
-    is_within site (λ zone. zone_bit zones (slice_get site.zones zone)) (λ zone. zone_bit others (slice_get site.zones zone)) ≡ is_within site test other
+    is_within site (λ zone. zone_bit zones (slice_get site.zones zone)) (λ zone. zone_bit others (slice_get site.zones zone))
+    ≡ is_within site test other
 within_same site zones others test other are are_others =
     let some = any_zone site (λ zone. zone_bit zones (slice_get site.zones zone)) test are in
-    let without = any_zone site (λ zone. zone_bit zones (slice_get site.zones zone) && not (zone_bit others (slice_get site.zones zone))) (λ zone. test zone && not (other zone))
+    let without =
+    any_zone site (λ zone. zone_bit zones (slice_get site.zones zone) && not (zone_bit others (slice_get site.zones zone))) (λ zone. test zone
+    && not (other zone))
     (λ zone h. let a = are zone h in let b = are_others zone h in rw (a, b) refl) in
     rw (some, without) refl
 
@@ -42,10 +46,14 @@ both_else x false b p h = p
 
 module _ (site : Site) (facts : ℕ → List MomentOf → Facts) where
   -- the whole, where its newest moment came by the tick
-  pub whole_by : (tick : ℕ) (xs earlier : List Seen) (last : Seen) → xs ≡ earlier ++ last ∷ [] → ((past : List MomentOf) → last.tick.0 ≡ tick_of past → true ≡ nat_le (tick_of (moment_of last.moment ∷ past)) tick) →
+  pub whole_by : (tick : ℕ) (xs earlier : List Seen) (last : Seen) → xs ≡ earlier ++ last ∷ []
+      → ((past : List MomentOf) → last.tick.0 ≡ tick_of past → true ≡ nat_le (tick_of (moment_of last.moment ∷ past)) tick) →
       (history : List MomentOf) → AreSeen site facts xs history → AreSeen site facts (take (length xs) xs) (up_to tick history)
   whole_by tick xs earlier last is by history are =
       let h = last_of site facts xs earlier last is history are in
-      let came : true ≡ nat_le (tick_of (h.moment ∷ h.past)) tick = by h.past h.seen.tick ∙ ap (λ (m : MomentOf). nat_le (tick_of (m ∷ h.past)) tick) h.seen.is in
-      let ends : up_to tick history ≡ history = ap (up_to tick) h.is ∙ ap (λ (b : Bool). if b then h.moment ∷ h.past else up_to tick h.past) (sym came) ∙ sym h.is in
-      subst (λ (seen : List Seen). AreSeen site facts seen (up_to tick history)) (sym (take-length xs)) (subst (λ (m : List MomentOf). AreSeen site facts xs m) (sym ends) are)
+      let came : true ≡ nat_le (tick_of (h.moment ∷ h.past)) tick =
+      by h.past h.seen.tick ∙ ap (λ (m : MomentOf). nat_le (tick_of (m ∷ h.past)) tick) h.seen.is in
+      let ends : up_to tick history ≡ history =
+      ap (up_to tick) h.is ∙ ap (λ (b : Bool). if b then h.moment ∷ h.past else up_to tick h.past) (sym came) ∙ sym h.is in
+      subst (λ (seen : List Seen). AreSeen site facts seen (up_to tick history)) (sym (take-length xs))
+      (subst (λ (m : List MomentOf). AreSeen site facts xs m) (sym ends) are)

@@ -7,10 +7,14 @@ use Rattle.plain_panel.specs.Histories.{history, moment_of}
 use Rattle.plain_panel.proofs.Histories.{history_more}
 
 -- one moment more
-pub history_next : (P : List MomentOf → Type 0) (moments : List Moment) (k : ℕ) (moment : Moment) → k < length moments → moment ≡ get_or moments k moment → P (moment_of moment ∷ history (take k moments)) → P (history (take (k + 1) moments))
+pub history_next : (P : List MomentOf → Type 0) (moments : List Moment) (k : ℕ) (moment : Moment) → k < length moments
+    → moment ≡ get_or moments k moment → P (moment_of moment ∷ history (take k moments)) → P (history (take (k + 1) moments))
 history_next P moments k moment l e p =
-    subst P (ap (λ m. moment_of m ∷ history (take k moments)) e ∙ sym (ap history (take_more moments k moment l) ∙ history_more (take k moments) (get_or moments k moment))) p
+    subst P
+    (ap (λ m. moment_of m ∷ history (take k moments)) e ∙ sym
+    (ap history (take_more moments k moment l) ∙ history_more (take k moments) (get_or moments k moment))) p
 
 -- all of them
-pub history_all : (P : List MomentOf → Type 0) (moments : List Moment) (k : ℕ) → length moments ≤ k → P (history (take k moments)) → P (history moments)
+pub history_all : (P : List MomentOf → Type 0) (moments : List Moment) (k : ℕ) → length moments ≤ k → P (history (take k moments))
+    → P (history moments)
 history_all P moments k l p = subst (λ ms. P (history ms)) (take_all k moments l) p

@@ -21,11 +21,17 @@ use Rattle.plain_panel.proofs.Histories.{history_more}
 use Rattle.plain_panel.proofs.Timelines.{failed_began, faces_next, faces_stay, steps_next, steps_stay}
 
 module _ (site : Site) (kept : Retained) where
-  then_told : {A E : Type 0} (moments : List MomentOf) (after : Telling) (result : Result A E) → OnOk result (StandsForKeeping site kept moments after.keeping) → OnOk result (tick_of moments ≡ after.tick.0) → (StandsForKeeping site kept moments after.keeping → tick_of moments ≡ after.tick.0 → StandsForTelling site kept moments after) → OnOk result (StandsForTelling site kept moments after)
+  then_told : {A E : Type 0} (moments : List MomentOf) (after : Telling) (result : Result A E)
+      → OnOk result (StandsForKeeping site kept moments after.keeping) → OnOk result (tick_of moments ≡ after.tick.0)
+      → (StandsForKeeping site kept moments after.keeping → tick_of moments ≡ after.tick.0 → StandsForTelling site kept moments after)
+      → OnOk result (StandsForTelling site kept moments after)
   then_told moments after (Ok x) keeping tick make = make keeping tick
   then_told moments after (Err e) keeping tick make = tt
 
-  pub began_told : {A E : Type 0} (moment : MomentOf) (before : List MomentOf) (after : Telling) (result : Result A E) → moment ≡ Began → OnOk result (StandsForKeeping site kept (moment ∷ before) after.keeping) → OnOk result (tick_of (moment ∷ before) ≡ after.tick.0) → after.failed ≡ false → after.steps.items ≡ steps_upto site kept before (tick_of before) → after.faces.items ≡ faces_of site kept before → OnOk result (StandsForTelling site kept (moment ∷ before) after)
+  pub began_told : {A E : Type 0} (moment : MomentOf) (before : List MomentOf) (after : Telling) (result : Result A E) → moment ≡ Began
+      → OnOk result (StandsForKeeping site kept (moment ∷ before) after.keeping) → OnOk result (tick_of (moment ∷ before) ≡ after.tick.0)
+      → after.failed ≡ false → after.steps.items ≡ steps_upto site kept before (tick_of before) → after.faces.items ≡ faces_of site kept before
+      → OnOk result (StandsForTelling site kept (moment ∷ before) after)
   began_told moment before after result is keeping tick failed steps faces =
       then_told (moment ∷ before) after result keeping tick
       (λ k t. record {
@@ -33,10 +39,15 @@ module _ (site : Site) (kept : Retained) where
         tick = t;
         failed = failed ∙ sym (failed_began site kept before) ∙ ap (λ m. failed_now site kept (m ∷ before)) (sym is);
         steps = steps ∙ sym (steps_next site kept before) ∙ ap (λ m. steps_upto site kept (m ∷ before) (tick_of (m ∷ before) - 1)) (sym is);
-        faces = λ begun. faces ∙ sym (faces_next site kept before) ∙ ap (λ m. faces_of site kept (up_to (tick_of (m ∷ before) - 1) (m ∷ before))) (sym is);
+        faces = λ begun. faces ∙ sym (faces_next site kept before) ∙ ap (λ m. faces_of site kept (up_to (tick_of (m ∷ before) - 1) (m ∷ before)))
+            (sym is);
       })
 
-  pub other_told : {A E : Type 0} (moment : MomentOf) (before : List MomentOf) (old after : Telling) (result : Result A E) → StandsForTelling site kept before old → tick_of (moment ∷ before) ≡ tick_of before → OnOk result (StandsForKeeping site kept (moment ∷ before) after.keeping) → OnOk result (tick_of (moment ∷ before) ≡ after.tick.0) → after.failed ≡ failed_now site kept (moment ∷ before) → after.steps.items ≡ old.steps.items → after.faces.items ≡ old.faces.items → OnOk result (StandsForTelling site kept (moment ∷ before) after)
+  pub other_told : {A E : Type 0} (moment : MomentOf) (before : List MomentOf) (old after : Telling) (result : Result A E)
+      → StandsForTelling site kept before old → tick_of (moment ∷ before) ≡ tick_of before
+      → OnOk result (StandsForKeeping site kept (moment ∷ before) after.keeping) → OnOk result (tick_of (moment ∷ before) ≡ after.tick.0)
+      → after.failed ≡ failed_now site kept (moment ∷ before) → after.steps.items ≡ old.steps.items → after.faces.items ≡ old.faces.items
+      → OnOk result (StandsForTelling site kept (moment ∷ before) after)
   other_told moment before old after result s same keeping tick failed steps faces =
       then_told (moment ∷ before) after result keeping tick
       (λ k t. record {
@@ -57,7 +68,9 @@ module _ (site : Site) (kept : Retained) where
   told_so_far moments = (operations site kept moments).answers
 
   -- the answers of the tick that began last, by the desk
-  pub answers_are : (moments : List MomentOf) (desk : Desk) (tick : ℕ) (requests : List Request) (answers : List Answered) (now : List AnsweredOf) → StandsForDesk site kept moments desk → tick_of moments ≡ tick → requests ≡ desk.requests.items → answers ≡ desk.outcomes.answers.items → now ≡ filter_map (answer_in site kept tick (all_answered answers)) (all_requests requests) → now ≡ answers_now site kept moments
+  pub answers_are : (moments : List MomentOf) (desk : Desk) (tick : ℕ) (requests : List Request) (answers : List Answered) (now : List AnsweredOf)
+      → StandsForDesk site kept moments desk → tick_of moments ≡ tick → requests ≡ desk.requests.items → answers ≡ desk.outcomes.answers.items
+      → now ≡ filter_map (answer_in site kept tick (all_answered answers)) (all_requests requests) → now ≡ answers_now site kept moments
   answers_are moments desk tick requests answers now s at asked given is =
       is
       ∙ ap (λ xs. filter_map (answer_in site kept tick (all_answered answers)) (all_requests xs)) asked
@@ -66,7 +79,9 @@ module _ (site : Site) (kept : Retained) where
       ∙ ap (λ xs. filter_map (answer_in site kept tick xs) (asked_for moments)) (ap (λ (o : Operations). o.answers) s.became)
       ∙ ap (λ t. filter_map (answer_in site kept t (told_so_far moments)) (asked_for moments)) (sym at)
 
-  pub next_told : (moments : List Moment) (place : ℕ) (moment : Moment) (after : Telling) → place < length moments → moment ≡ get_or moments place moment → StandsForTelling site kept (moment_of moment ∷ history (take place moments)) after → StandsForTelling site kept (history (take (place + 1) moments)) after
+  pub next_told : (moments : List Moment) (place : ℕ) (moment : Moment) (after : Telling) → place < length moments
+      → moment ≡ get_or moments place moment → StandsForTelling site kept (moment_of moment ∷ history (take place moments)) after
+      → StandsForTelling site kept (history (take (place + 1) moments)) after
   next_told moments place moment after within is s =
       let upto : history (take (place + 1) moments) ≡ moment_of (get_or moments place moment) ∷ history (take place moments) =
       rw (add-one, take-suc moments place moment within) (history_more (take place moments) (get_or moments place moment)) in

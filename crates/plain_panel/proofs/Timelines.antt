@@ -1,5 +1,7 @@
 -- The steps of a timeline, tick by tick.
-use Rattle.std.proofs.Common.{◌≡◌, ◌∙◌, ◌+◌, ◌-◌, ◌<◌, ◌≤◌, ◌==◌, ◌&&◌, ◌||◌, ◌⊎◌, Some, None, length, ℕ, zero, suc, Bool, true, false, List, [], ◌∷◌, ◌++◌, add-one, ap, arith, filter, inl, inr, if◌then◌else◌, map, nat_le, refl, sym}
+use Rattle.std.proofs.Common.{◌≡◌, ◌∙◌, ◌+◌, ◌-◌, ◌<◌, ◌≤◌, ◌==◌, ◌&&◌, ◌||◌, ◌⊎◌, Some, None, length, ℕ, zero, suc}
+use Rattle.std.proofs.Common.{Bool, true, false, List, [], ◌∷◌, ◌++◌, add-one, ap, arith, filter, inl, inr}
+use Rattle.std.proofs.Common.{if◌then◌else◌, map, nat_le, refl, sym}
 use Rattle.std.specs.Prelude.{not}
 use Rattle.std.specs.List.{cons_option, list_any, range_with_len}
 use Rattle.tick_units.specs.declared.tick.Tick.{Tick}
@@ -14,25 +16,29 @@ use Rattle.face_text.specs.declared.step.Step.{Step}
 use Rattle.face_text.specs.Faces.{same_faces}
 use Rattle.loop_poller.proofs.Windows.{range-more}
 use Rattle.panel_rules.specs.Moments.{Moment, Began, Happened, Turned, Kept, tick_of, up_to}
-use Rattle.panel_rules.specs.Timeline.{answers_now, faces_of, failed_now, failed_ticks, has_answer, is_told, step_of, told}
+use Rattle.panel_rules.specs.Timeline.{answers_now, faces_of, failed_now, failed_ticks, has_answer, is_told, step_of}
 use Rattle.panel_rules.proofs.Stays.{up_to_here}
-use Rattle.plain_panel.specs.Timelines.{step_closed, steps_upto}
+use Rattle.plain_panel.specs.Timelines.{step_closed, step_with, steps_upto}
 
 -- what goes by numbers of a range that pass a test
-filtered_same : {X : Type 0} (f g : ℕ → X) (p q : ℕ → Bool) (first n : ℕ) → ((k : ℕ) → k < first + n → p k ≡ q k) → ((k : ℕ) → k < first + n → f k ≡ g k) → map f (filter p (range_with_len first n)) ≡ map g (filter q (range_with_len first n))
+filtered_same : {X : Type 0} (f g : ℕ → X) (p q : ℕ → Bool) (first n : ℕ) → ((k : ℕ) → k < first + n → p k ≡ q k)
+    → ((k : ℕ) → k < first + n → f k ≡ g k) → map f (filter p (range_with_len first n)) ≡ map g (filter q (range_with_len first n))
 filtered_same f g p q first zero test same = refl
 filtered_same f g p q first (suc n) test same =
     let rest = filtered_same f g p q (first + 1) n (λ k within. test k (omega arith)) (λ k within. same k (omega arith)) in
     first_of (p first) (q first) (test first (omega arith)) rest
   where
-    first_of : (a b : Bool) → a ≡ b → map f (filter p (range_with_len (first + 1) n)) ≡ map g (filter q (range_with_len (first + 1) n)) → map f (if a then first ∷ filter p (range_with_len (first + 1) n) else filter p (range_with_len (first + 1) n)) ≡ map g (if b then first ∷ filter q (range_with_len (first + 1) n) else filter q (range_with_len (first + 1) n))
+    first_of : (a b : Bool) → a ≡ b → map f (filter p (range_with_len (first + 1) n)) ≡ map g (filter q (range_with_len (first + 1) n))
+        → map f (if a then first ∷ filter p (range_with_len (first + 1) n) else filter p (range_with_len (first + 1) n))
+        ≡ map g (if b then first ∷ filter q (range_with_len (first + 1) n) else filter q (range_with_len (first + 1) n))
     first_of true true e rest = rw (same first (omega arith)) (ap (λ xs. g first ∷ xs) rest)
     first_of true false e rest = cc
     first_of false true e rest = cc
     first_of false false e rest = rest
 
 -- one number more
-filtered_more : {X : Type 0} (f : ℕ → X) (p : ℕ → Bool) (n : ℕ) → map f (filter p (range_with_len 1 (n + 1))) ≡ map f (filter p (range_with_len 1 n)) ++ (if p (1 + n) then f (1 + n) ∷ [] else [])
+filtered_more : {X : Type 0} (f : ℕ → X) (p : ℕ → Bool) (n : ℕ) → map f (filter p (range_with_len 1 (n + 1))) ≡ map f (filter p (range_with_len 1 n))
+    ++ (if p (1 + n) then f (1 + n) ∷ [] else [])
 filtered_more f p n =
     ap (λ xs. map f (filter p xs)) (range-more 1 n)
     ∙ ap (map f) (filter-append p (range_with_len 1 n) ((1 + n) ∷ []))
@@ -47,33 +53,35 @@ after : (a b : ℕ) → b < a → nat_le a b ≡ false
 after a b less = grind (arith, nat_tests)
 
 -- before the tick of its newest moment a history is as it was without it
-pub up_to_later : (moment : Moment) (before : List Moment) (tick : ℕ) → tick < tick_of (moment ∷ before) → up_to tick (moment ∷ before) ≡ up_to tick before
+pub up_to_later : (moment : Moment) (before : List Moment) (tick : ℕ) → tick < tick_of (moment ∷ before)
+    → up_to tick (moment ∷ before) ≡ up_to tick before
 up_to_later moment before tick less = rw (after (tick_of (moment ∷ before)) tick less) refl
 
 abbrev the_tick : ℕ → Tick
 the_tick n = record { 0 = n }
 
-abbrev the_step : Tick → List Face → List Answered → Bool → Step
-the_step tick faces now failed = record { tick = tick; faces = faces; answers = told now failed }
-
 module _ (site : Site) (kept : Retained) where
   abbrev told_by : List Moment → List Moment → Bool
   told_by now earlier = not (same_faces (faces_of site kept now) (faces_of site kept earlier)) || has_answer site kept now
 
-  told_later : (moment : Moment) (before : List Moment) (tick : ℕ) → tick < tick_of (moment ∷ before) → is_told site kept (moment ∷ before) tick ≡ is_told site kept before tick
+  told_later : (moment : Moment) (before : List Moment) (tick : ℕ) → tick < tick_of (moment ∷ before)
+      → is_told site kept (moment ∷ before) tick ≡ is_told site kept before tick
   told_later moment before tick less =
       ap (λ now. told_by now (up_to (tick - 1) (moment ∷ before))) (up_to_later moment before tick less)
       ∙ ap (λ earlier. told_by (up_to tick before) earlier) (up_to_later moment before (tick - 1) (omega arith))
 
   -- steps of earlier ticks are as they were
-  pub steps_later : (moment : Moment) (before : List Moment) (last : ℕ) → last < tick_of (moment ∷ before) → steps_upto site kept (moment ∷ before) last ≡ steps_upto site kept before last
+  pub steps_later : (moment : Moment) (before : List Moment) (last : ℕ) → last < tick_of (moment ∷ before)
+      → steps_upto site kept (moment ∷ before) last ≡ steps_upto site kept before last
   steps_later moment before last less =
-      filtered_same (λ tick. step_of site kept (up_to tick (moment ∷ before))) (λ tick. step_of site kept (up_to tick before)) (is_told site kept (moment ∷ before)) (is_told site kept before) 1 last
+      filtered_same (λ tick. step_of site kept (up_to tick (moment ∷ before))) (λ tick. step_of site kept (up_to tick before))
+      (is_told site kept (moment ∷ before)) (is_told site kept before) 1 last
       (λ k within. told_later moment before k (omega arith))
       (λ k within. ap (step_of site kept) (up_to_later moment before k (omega arith)))
 
   -- a tick of the history, or none
-  steps_before : (moment : Moment) (before : List Moment) (last : ℕ) → (last ≡ 0) ⊎ (last < tick_of (moment ∷ before)) → steps_upto site kept (moment ∷ before) last ≡ steps_upto site kept before last
+  steps_before : (moment : Moment) (before : List Moment) (last : ℕ) → (last ≡ 0) ⊎ (last < tick_of (moment ∷ before))
+      → steps_upto site kept (moment ∷ before) last ≡ steps_upto site kept before last
   steps_before moment before last (inl none) = rw none refl
   steps_before moment before last (inr less) = steps_later moment before last less
 
@@ -82,18 +90,21 @@ module _ (site : Site) (kept : Retained) where
   none_or_less (suc tick) = inr (omega arith)
 
   -- a moment that begins no tick tells nothing new
-  pub steps_stay : (moment : Moment) (before : List Moment) → tick_of (moment ∷ before) ≡ tick_of before → steps_upto site kept (moment ∷ before) (tick_of (moment ∷ before) - 1) ≡ steps_upto site kept before (tick_of before - 1)
+  pub steps_stay : (moment : Moment) (before : List Moment) → tick_of (moment ∷ before) ≡ tick_of before
+      → steps_upto site kept (moment ∷ before) (tick_of (moment ∷ before) - 1) ≡ steps_upto site kept before (tick_of before - 1)
   steps_stay moment before same =
       steps_before moment before (tick_of (moment ∷ before) - 1) (none_or_less (tick_of (moment ∷ before)))
       ∙ ap (λ tick. steps_upto site kept before (tick - 1)) same
 
-  pub faces_stay : (moment : Moment) (before : List Moment) → tick_of (moment ∷ before) ≡ tick_of before → 1 ≤ tick_of (moment ∷ before) → faces_of site kept (up_to (tick_of (moment ∷ before) - 1) (moment ∷ before)) ≡ faces_of site kept (up_to (tick_of before - 1) before)
+  pub faces_stay : (moment : Moment) (before : List Moment) → tick_of (moment ∷ before) ≡ tick_of before → 1 ≤ tick_of (moment ∷ before)
+      → faces_of site kept (up_to (tick_of (moment ∷ before) - 1) (moment ∷ before)) ≡ faces_of site kept (up_to (tick_of before - 1) before)
   faces_stay moment before same begun =
       ap (faces_of site kept) (up_to_later moment before (tick_of (moment ∷ before) - 1) (omega arith))
       ∙ ap (λ tick. faces_of site kept (up_to (tick - 1) before)) same
 
   -- the next tick begins
-  pub steps_next : (before : List Moment) → steps_upto site kept (Began ∷ before) (tick_of (Began ∷ before) - 1) ≡ steps_upto site kept before (tick_of before)
+  pub steps_next : (before : List Moment)
+      → steps_upto site kept (Began ∷ before) (tick_of (Began ∷ before) - 1) ≡ steps_upto site kept before (tick_of before)
   steps_next before =
       let last : tick_of before + 1 - 1 ≡ tick_of before = omega arith in
       ap (steps_upto site kept (Began ∷ before)) last ∙ steps_later Began before (tick_of before) (omega arith)
@@ -105,14 +116,16 @@ module _ (site : Site) (kept : Retained) where
       ∙ ap (faces_of site kept) (up_to_later Began before (tick_of before) (omega arith) ∙ up_to_here before)
 
   -- with the step of the tick that began last
-  pub steps_closed : (moments : List Moment) → steps_upto site kept moments (tick_of moments) ≡ steps_upto site kept moments (tick_of moments - 1) ++ cons_option (step_closed site kept moments) []
+  pub steps_closed : (moments : List Moment) → steps_upto site kept moments (tick_of moments) ≡ steps_upto site kept moments (tick_of moments - 1)
+      ++ cons_option (step_closed site kept moments) []
   steps_closed moments = closed (tick_of moments) refl
     where
       chosen : (b : Bool) (step : Step) → (if b then step ∷ [] else []) ≡ cons_option (if b then Some step else None) []
       chosen true step = refl
       chosen false step = refl
 
-      closed : (tick : ℕ) → tick_of moments ≡ tick → steps_upto site kept moments tick ≡ steps_upto site kept moments (tick - 1) ++ cons_option (if nat_le 1 tick && is_told site kept moments tick then Some (step_of site kept moments) else None) []
+      closed : (tick : ℕ) → tick_of moments ≡ tick → steps_upto site kept moments tick ≡ steps_upto site kept moments (tick - 1)
+          ++ cons_option (if nat_le 1 tick && is_told site kept moments tick then Some (step_of site kept moments) else None) []
       closed zero at = refl
       closed (suc last) at =
           let back : suc last - 1 ≡ last = omega arith in
@@ -121,35 +134,48 @@ module _ (site : Site) (kept : Retained) where
           let here : up_to (suc last) moments ≡ moments = ap (λ tick. up_to tick moments) (sym at) ∙ up_to_here moments in
           ap (steps_upto site kept moments) (sym (add-one last))
           ∙ filtered_more (λ tick. step_of site kept (up_to tick moments)) (is_told site kept moments) last
-          ∙ ap (λ tick. steps_upto site kept moments last ++ (if is_told site kept moments tick then step_of site kept (up_to tick moments) ∷ [] else [])) next
+          ∙ ap (λ tick. steps_upto site kept moments last
+          ++ (if is_told site kept moments tick then step_of site kept (up_to tick moments) ∷ [] else [])) next
           ∙ ap (λ now. steps_upto site kept moments last ++ (if is_told site kept moments (suc last) then step_of site kept now ∷ [] else [])) here
           ∙ ap (λ xs. steps_upto site kept moments last ++ xs) (chosen (is_told site kept moments (suc last)) (step_of site kept moments))
           ∙ rw (back, begun) refl
 
   -- whether the tick that began last is told, by what is known of it
-  pub told_is : (moments : List Moment) (tick : ℕ) (faces last : List Face) (count : ℕ) (failed : Bool) → tick_of moments ≡ tick → faces ≡ faces_of site kept moments → (1 ≤ tick_of moments → last ≡ faces_of site kept (up_to (tick_of moments - 1) moments)) → count ≡ length (answers_now site kept moments) → failed ≡ failed_now site kept moments → (nat_le 1 tick && (not (same_faces faces last) || (not (count == 0) || failed))) ≡ (nat_le 1 (tick_of moments) && is_told site kept moments (tick_of moments))
+  pub told_is : (moments : List Moment) (tick : ℕ) (faces last : List Face) (count : ℕ) (failed : Bool) → tick_of moments ≡ tick
+      → faces ≡ faces_of site kept moments → (1 ≤ tick_of moments → last ≡ faces_of site kept (up_to (tick_of moments - 1) moments))
+      → count ≡ length (answers_now site kept moments) → failed ≡ failed_now site kept moments
+      → (nat_le 1 tick && (not (same_faces faces last) || (not (count == 0) || failed)))
+      ≡ (nat_le 1 (tick_of moments) && is_told site kept moments (tick_of moments))
   told_is moments tick faces last count failed at faces_is last_is count_is failed_is = by (tick_of moments) refl
     where
-      by : (t : ℕ) → tick_of moments ≡ t → (nat_le 1 tick && (not (same_faces faces last) || (not (count == 0) || failed))) ≡ (nat_le 1 (tick_of moments) && is_told site kept moments (tick_of moments))
+      by : (t : ℕ) → tick_of moments ≡ t → (nat_le 1 tick && (not (same_faces faces last) || (not (count == 0) || failed)))
+          ≡ (nat_le 1 (tick_of moments) && is_told site kept moments (tick_of moments))
       by zero none = rw (← at, none) refl
       by (suc t) some =
           let begun : 1 ≤ tick_of moments = omega arith in
           ap (λ n. nat_le 1 n && (not (same_faces faces last) || (not (count == 0) || failed))) (sym at)
           ∙ ap (λ xs. nat_le 1 (tick_of moments) && (not (same_faces xs last) || (not (count == 0) || failed))) faces_is
-          ∙ ap (λ xs. nat_le 1 (tick_of moments) && (not (same_faces (faces_of site kept moments) xs) || (not (count == 0) || failed))) (last_is begun)
-          ∙ ap (λ n. nat_le 1 (tick_of moments) && (not (same_faces (faces_of site kept moments) (faces_of site kept (up_to (tick_of moments - 1) moments))) || (not (n == 0) || failed))) count_is
-          ∙ ap (λ b. nat_le 1 (tick_of moments) && (not (same_faces (faces_of site kept moments) (faces_of site kept (up_to (tick_of moments - 1) moments))) || (not (length (answers_now site kept moments) == 0) || b))) failed_is
+          ∙ ap (λ xs. nat_le 1 (tick_of moments) && (not (same_faces (faces_of site kept moments) xs) || (not (count == 0) || failed)))
+          (last_is begun)
+          ∙ ap (λ n. nat_le 1 (tick_of moments)
+          && (not (same_faces (faces_of site kept moments) (faces_of site kept (up_to (tick_of moments - 1) moments)))
+          || (not (n == 0) || failed))) count_is
+          ∙ ap (λ b. nat_le 1 (tick_of moments)
+          && (not (same_faces (faces_of site kept moments) (faces_of site kept (up_to (tick_of moments - 1) moments)))
+          || (not (length (answers_now site kept moments) == 0) || b))) failed_is
           ∙ ap (λ now. nat_le 1 (tick_of moments) && told_by now (up_to (tick_of moments - 1) moments)) (sym (up_to_here moments))
 
   -- the step, by what is known of it
-  pub step_is : (moments : List Moment) (tick : Tick) (faces : List Face) (now : List Answered) (failed : Bool) → tick_of moments ≡ tick.0 → faces ≡ faces_of site kept moments → now ≡ answers_now site kept moments → failed ≡ failed_now site kept moments → the_step tick faces now failed ≡ step_of site kept moments
+  pub step_is : (moments : List Moment) (tick : Tick) (faces : List Face) (now : List Answered) (failed : Bool) → tick_of moments ≡ tick.0 → faces ≡ faces_of site kept moments
+      → now ≡ answers_now site kept moments → failed ≡ failed_now site kept moments → step_with tick faces now failed ≡ step_of site kept moments
   step_is moments tick faces now failed at faces_is now_is failed_is =
-      ap (λ t. the_step t faces now failed) (ap (λ n. the_tick n) (sym at))
-      ∙ ap (λ xs. the_step (the_tick (tick_of moments)) xs now failed) faces_is
-      ∙ ap (λ xs. the_step (the_tick (tick_of moments)) (faces_of site kept moments) xs failed) now_is
-      ∙ ap (λ b. the_step (the_tick (tick_of moments)) (faces_of site kept moments) (answers_now site kept moments) b) failed_is
+      ap (λ t. step_with t faces now failed) (ap (λ n. the_tick n) (sym at))
+      ∙ ap (λ xs. step_with (the_tick (tick_of moments)) xs now failed) faces_is
+      ∙ ap (λ xs. step_with (the_tick (tick_of moments)) (faces_of site kept moments) xs failed) now_is
+      ∙ ap (λ b. step_with (the_tick (tick_of moments)) (faces_of site kept moments) (answers_now site kept moments) b) failed_is
 
-  pub closed_is : (moments : List Moment) (b : Bool) (value : Bool) → b ≡ (nat_le 1 (tick_of moments) && is_told site kept moments (tick_of moments)) → b ≡ value → (if value then Some (step_of site kept moments) else None) ≡ step_closed site kept moments
+  pub closed_is : (moments : List Moment) (b : Bool) (value : Bool) → b ≡ (nat_le 1 (tick_of moments) && is_told site kept moments (tick_of moments))
+      → b ≡ value → (if value then Some (step_of site kept moments) else None) ≡ step_closed site kept moments
   closed_is moments b value is so = ap (λ (told : Bool). if told then Some (step_of site kept moments) else None) (sym so ∙ is)
 
   none_later : (moments : List Moment) (tick : ℕ) → tick_of moments < tick → list_any (λ other. other == tick) (failed_ticks moments) ≡ false

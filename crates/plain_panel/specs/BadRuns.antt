@@ -1,5 +1,6 @@
 -- What is kept of a supply of a panel.
-use Rattle.std.specs.Prelude.{◌≡◌, ℕ, ◌-◌, nat_le, nat_lt, Bool, false, List, [], ◌∷◌, Option, Some, None, if◌then◌else◌}
+use Rattle.std.specs.Prelude.{◌≡◌, ℕ, ◌-◌, nat_le, nat_lt, Bool, false, List, [], ◌∷◌, Option, Some, None}
+use Rattle.std.specs.Prelude.{if◌then◌else◌}
 use Rattle.site_types.specs.declared.supply_kind.SupplyKind.{SupplyKind}
 use Rattle.supply_monitor.specs.Supply.{bad_turns, is_bad}
 use Rattle.panel_rules.specs.Moments.{Moment, tick_of}
@@ -27,3 +28,7 @@ pub record Watches (panel : ℕ) (kind : SupplyKind) (before : List Moment) (wat
   pub tick : watched.tick ≡ tick_of before
   pub bad : watched.bad ≡ is_bad kind (supply_calls panel before)
   pub run : watched.run ≡ run_of (bad_turns kind (supply_calls panel before))
+
+-- the run after a turn of Supply in a tick, at which the supply is bad or isn't
+abbrev pub run_with : ℕ → Bool → Option BadRun → Option BadRun
+run_with tick bad run = if bad then Some (record { latest = tick; least = least_of tick run }) else None

@@ -1,9 +1,13 @@
--- Operations that are asked for and what becomes of them: what the program keeps of them stands for what the definitions say.
+-- Operations that are asked for and what becomes of them: what the program keeps of them stands for what the
+-- definitions say.
 use Rattle.std.specs.Prelude.{◌≡◌, List, [], ◌∷◌, map}
 use Rattle.site_types.specs.declared.retained.Retained.{Retained}
 use Rattle.site_types.specs.declared.site.Site.{Site}
 use Rattle.panel_rules.specs.Moments.{Moment as MomentOf}
-use Rattle.panel_rules.specs.Operations.{Request as RequestOf, Answered as AnsweredOf, Operations, Reply as ReplyOf, Busy as BusyOf, Denied as DeniedOf, Waiting as WaitingOf, Already as AlreadyOf, Store as StoreOf, WasDone as WasDoneOf, operations, requests}
+use Rattle.panel_rules.specs.Operations.{Request as RequestOf, Answered as AnsweredOf, Operations, Reply as ReplyOf}
+use Rattle.panel_rules.specs.Operations.{Busy as BusyOf, Denied as DeniedOf, Waiting as WaitingOf}
+use Rattle.panel_rules.specs.Operations.{Already as AlreadyOf, Store as StoreOf, WasDone as WasDoneOf, operations}
+use Rattle.panel_rules.specs.Operations.{requests}
 use Rattle.plain_panel.specs.declared.request.Request.{Request}
 use Rattle.plain_panel.specs.declared.op_answered.OpAnswered.{OpAnswered as Answered}
 use Rattle.plain_panel.specs.declared.reply.Reply.{Reply}
@@ -13,7 +17,15 @@ use Rattle.plain_panel.specs.declared.desk.Desk.{Desk}
 use Rattle.plain_panel.specs.Histories.{all_done}
 
 abbrev pub request_of : Request → RequestOf
-request_of r = record { number = r.number; tick = r.tick.0; panel = r.panel; earlier = r.earlier; level = r.level; operation = r.operation }
+request_of r = record {
+  number = r.number;
+  tick = r.tick.0;
+  panel = r.panel;
+  earlier = r.earlier;
+  level =
+      r.level;
+  operation = r.operation;
+}
 
 abbrev pub reply_of : Reply → ReplyOf
 reply_of Busy = BusyOf
@@ -39,9 +51,16 @@ all_answered answers = and_answered answers []
 
 -- what became of operations, as the definitions have it
 abbrev pub outcomes_of : Outcomes → Operations
-outcomes_of o = record { waiting = all_requests o.waiting.items; answers = all_answered o.answers.items; done = all_done o.done.items }
+outcomes_of o =
+    record {
+      waiting = all_requests o.waiting.items;
+      answers = all_answered o.answers.items;
+      done =
+          all_done o.done.items;
+    }
 
 -- a desk that stands for a history
-pub record StandsForDesk (site : Site) (kept : Retained) (history : List MomentOf) (desk : Desk) : Type 0 where
+pub record StandsForDesk (site : Site) (kept : Retained) (history : List MomentOf) (desk : Desk) :
+    Type 0 where
   pub requested : all_requests desk.requests.items ≡ requests site history
   pub became : outcomes_of desk.outcomes ≡ operations site kept history

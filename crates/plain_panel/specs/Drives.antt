@@ -1,5 +1,6 @@
 -- What is kept of moments to tell what drives outputs, for a history of them.
-use Rattle.std.specs.Prelude.{◌≡◌, ℕ, ◌-◌, ◌<◌, ◌==◌, max, Bool, true, false, List, [], ◌∷◌, length, take, reverse, slice_get, Option, Some, None}
+use Rattle.std.specs.Prelude.{◌≡◌, ℕ, ◌-◌, ◌<◌, ◌==◌, max, Bool, true, false, List, [], ◌∷◌, length, take, reverse}
+use Rattle.std.specs.Prelude.{slice_get, Option, Some, None}
 use Rattle.tick_units.specs.declared.task.Task.{Task}
 use Rattle.tick_units.specs.declared.task.Task.TheVariants.{Effect}
 use Rattle.site_types.specs.declared.event.Event.{Event}
@@ -10,7 +11,8 @@ use Rattle.site_types.specs.Valid.{IsPanel}
 use Rattle.marker_table.specs.declared.facts.Facts.{Facts as Masks}
 use Rattle.marker_table.specs.Equations.{values_of, zone_bit}
 use Rattle.panel_rules.specs.Latest.{made_latest}
-use Rattle.panel_rules.specs.Moments.{Moment as MomentOf, Began as BeganOf, Happened as HappenedOf, Turned as TurnedOf, Kept as KeptOf, is_turn, tick_of}
+use Rattle.panel_rules.specs.Moments.{Moment as MomentOf, Began as BeganOf, Happened as HappenedOf}
+use Rattle.panel_rules.specs.Moments.{Turned as TurnedOf, Kept as KeptOf, is_turn, tick_of}
 use Rattle.panel_rules.specs.Markers.{Facts, hand_facts, solution}
 use Rattle.plain_panel.specs.declared.driving.Driving.{Driving}
 use Rattle.plain_panel.specs.declared.seen.Seen.{Seen}
@@ -67,7 +69,8 @@ greatest (tick ∷ ticks) = max tick (greatest ticks)
 
 -- masks by panel have the zones of the site that pass a test
 abbrev pub AreZones : Site → (ℕ → Bool) → List ℕ → Type 0
-AreZones site test masks = (zone : ℕ) → zone < length site.zones → zone_bit masks (slice_get site.zones zone) ≡ test zone
+AreZones site test masks = (zone : ℕ) → zone < length site.zones
+    → zone_bit masks (slice_get site.zones zone) ≡ test zone
 
 -- masks are the facts, for the zones and panels of the site
 pub record AreFacts (site : Site) (facts : Facts) (masks : Masks) : Type 0 where
@@ -76,9 +79,11 @@ pub record AreFacts (site : Site) (facts : Facts) (masks : Masks) : Type 0 where
   pub faulty : (panel : ℕ) → IsPanel site panel → has_bit masks.faults (panel - 1) ≡ facts.faulty panel
 
 module _ (site : Site) (facts : ℕ → List MomentOf → Facts) where
-  -- where a moment after a history is a turn of Effect of a panel of the site, masks are the facts of that turn
+  -- where a moment after a history is a turn of Effect of a panel of the site, masks are the facts of that
+  -- turn
   abbrev pub AreFactsOfTurn : List MomentOf → MomentOf → Masks → Type 0
-  AreFactsOfTurn before moment masks = (panel : ℕ) → IsPanel site panel → moment ≡ TurnedOf panel Effect → AreFacts site (facts panel before) masks
+  AreFactsOfTurn before moment masks = (panel : ℕ) → IsPanel site panel → moment ≡ TurnedOf panel Effect
+      → AreFacts site (facts panel before) masks
 
   -- what an Effect turn solved, from its facts
   pub record IsSolved (facts_then : Facts) (seen : Seen) : Type 0 where
@@ -86,11 +91,13 @@ module _ (site : Site) (facts : ℕ → List MomentOf → Facts) where
     pub values : (marker : ℕ) → values_of seen.values marker ≡ solution site facts_then marker
     pub by_hand : (marker : ℕ) → values_of seen.by_hand marker ≡ solution site (hand_facts facts_then) marker
 
-  -- what is kept of a moment: itself, the tick that had begun before it, and of an Effect turn of a panel of the site what it solved
+  -- what is kept of a moment: itself, the tick that had begun before it, and of an Effect turn of a panel of
+  -- the site what it solved
   pub record IsSeen (moment : MomentOf) (before : List MomentOf) (seen : Seen) : Type 0 where
     pub is : moment_of seen.moment ≡ moment
     pub tick : seen.tick.0 ≡ tick_of before
-    pub solved : (panel : ℕ) → IsPanel site panel → moment ≡ TurnedOf panel Effect → IsSolved (facts panel before) seen
+    pub solved : (panel : ℕ) → IsPanel site panel → moment ≡ TurnedOf panel Effect
+        → IsSolved (facts panel before) seen
 
   -- what is kept of each moment of a history, the newest first
   abbrev pub AreSeenBack : List Seen → List MomentOf → Type 0
@@ -104,7 +111,8 @@ module _ (site : Site) (facts : ℕ → List MomentOf → Facts) where
   AreSeen seen history = AreSeenBack (reverse seen) history
 
   -- the latest turn of a panel's task was seen at a place
-  pub record IsLatestAt (panel : ℕ) (task : Task) (seen : List Seen) (history : List MomentOf) (place : ℕ) : Type 0 where
+  pub record IsLatestAt (panel : ℕ) (task : Task) (seen : List Seen) (history : List MomentOf) (place : ℕ) :
+      Type 0 where
     pub before : List MomentOf
     pub latest : before_latest panel task history ≡ Some before
     pub earlier : AreSeen (take place seen) before

@@ -1,7 +1,8 @@
 -- Lists that the program keeps with the oldest first, as the definitions have them: with the newest first.
 use Rattle.std.specs.Prelude.{List, [], ◌∷◌}
 use Rattle.site_types.specs.Done.{Done as DoneOf}
-use Rattle.panel_rules.specs.Moments.{Moment as MomentOf, Began as BeganOf, Happened as HappenedOf, Turned as TurnedOf, Kept as KeptOf}
+use Rattle.panel_rules.specs.Moments.{Moment as MomentOf, Began as BeganOf, Happened as HappenedOf}
+use Rattle.panel_rules.specs.Moments.{Turned as TurnedOf, Kept as KeptOf}
 use Rattle.plain_panel.specs.declared.done.Done.{Done}
 use Rattle.plain_panel.specs.declared.moment.Moment.{Moment}
 use Rattle.plain_panel.specs.declared.moment.Moment.TheVariants.{Began, Happened, Turned, Kept}

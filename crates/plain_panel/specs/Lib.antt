@@ -7,10 +7,11 @@ pub mod Halves
 pub mod Histories
 pub mod Keepings
 pub mod Network
+pub mod Outputs
 pub mod Reported
 pub mod Settings
-pub mod Signs
 pub mod Standings
 pub mod Storing
 pub mod Tellings
 pub mod Timelines
+pub mod ZoneStates

@@ -1,26 +1,39 @@
 -- The timeline of a run as it is told tick by tick.
-use Rattle.std.specs.Prelude.{◌≡◌, ◌≤◌, ◌-◌, ◌&&◌, ℕ, List, Option, Some, None, filter, if◌then◌else◌, map, nat_le}
+use Rattle.std.specs.Prelude.{◌≡◌, ◌≤◌, ◌-◌, ◌&&◌, ℕ, Bool, List, Option, Some, None, filter, if◌then◌else◌, map}
+use Rattle.std.specs.Prelude.{nat_le}
 use Rattle.std.specs.List.{range_with_len}
+use Rattle.tick_units.specs.declared.tick.Tick.{Tick}
 use Rattle.site_types.specs.declared.retained.Retained.{Retained}
 use Rattle.site_types.specs.declared.site.Site.{Site}
+use Rattle.face_text.specs.declared.face.Face.{Face}
 use Rattle.face_text.specs.declared.step.Step.{Step}
 use Rattle.panel_rules.specs.Moments.{Moment, tick_of, up_to}
-use Rattle.panel_rules.specs.Timeline.{faces_of, failed_now, is_told, step_of}
+use Rattle.panel_rules.specs.Timeline.{faces_of, failed_now, is_told, step_of, told}
+use Rattle.panel_rules.specs.Operations.{Answered}
 use Rattle.plain_panel.specs.declared.telling.Telling.{Telling}
 use Rattle.plain_panel.specs.Keepings.{StandsForKeeping}
 
 -- the steps of the ticks up to one
 abbrev pub steps_upto : Site → Retained → List Moment → ℕ → List Step
-steps_upto site kept moments last = map (λ tick. step_of site kept (up_to tick moments)) (filter (is_told site kept moments) (range_with_len 1 last))
+steps_upto site kept moments last =
+    map (λ tick. step_of site kept (up_to tick moments))
+    (filter (is_told site kept moments) (range_with_len 1 last))
 
 -- the step of the tick that began last, if one began and it is told
 abbrev pub step_closed : Site → Retained → List Moment → Option Step
-step_closed site kept moments = if nat_le 1 (tick_of moments) && is_told site kept moments (tick_of moments) then Some (step_of site kept moments) else None
+step_closed site kept moments =
+    if nat_le 1 (tick_of moments) && is_told site kept moments (tick_of moments) then Some
+    (step_of site kept moments) else None
 
 -- what was told of all ticks but the one that began last, and what is needed to tell of that one
-pub record StandsForTelling (site : Site) (kept : Retained) (moments : List Moment) (telling : Telling) : Type 0 where
+pub record StandsForTelling (site : Site) (kept : Retained) (moments : List Moment) (telling : Telling) :
+    Type 0 where
   pub keeping : StandsForKeeping site kept moments telling.keeping
   pub tick : tick_of moments ≡ telling.tick.0
   pub failed : telling.failed ≡ failed_now site kept moments
   pub steps : telling.steps.items ≡ steps_upto site kept moments (tick_of moments - 1)
   pub faces : 1 ≤ tick_of moments → telling.faces.items ≡ faces_of site kept (up_to (tick_of moments - 1) moments)
+
+-- the step of a tick, with the faces after it and the answers given in it
+abbrev pub step_with : Tick → List Face → List Answered → Bool → Step
+step_with tick faces answers failed = record { tick = tick; faces = faces; answers = told answers failed }

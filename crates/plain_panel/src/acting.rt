@@ -1,16 +1,13 @@
 //! Which outputs a turn of Drive switches on.
 
-ghost use Rattle.std.specs.Prelude.{◌≡◌, ◌+◌, ◌||◌, ℕ, List, ◌∷◌, nat_le, slice_get};
+ghost use Rattle.std.specs.Prelude.{◌≡◌, ◌+◌, nat_le};
 ghost use Rattle.std.specs.List.{list_any};
-ghost use Rattle.tick_units.specs.declared.task.Task.TheVariants.{Drive};
-ghost use Rattle.site_types.specs.Done.{override_done_in as override_in};
 ghost use Rattle.site_types.specs.Valid.{IsValid};
-ghost use Rattle.site_types.specs.declared.retained.Retained.{Retained as RetainedOf};
-ghost use Rattle.panel_rules.specs.Markers.{Facts as FactsOf};
-ghost use Rattle.panel_rules.specs.Moments.{Moment as MomentOf, Turned as TurnedOf, tick_of};
-ghost use Rattle.panel_rules.specs.Outputs.{asked_run, delay_of as delay_in, goes_on as goes_on_in, is_silenced as is_silenced_in, is_sounder as is_sounder_in, may_act as may_act_in, panel_of_output as panel_in};
-ghost use Rattle.plain_panel.specs.Drives.{AreSeen};
+ghost use Rattle.panel_rules.specs.Outputs.{asked_run, delay_of as delay_in, goes_on as goes_on_in};
+ghost use Rattle.panel_rules.specs.Outputs.{is_sounder as is_sounder_in, may_act as may_act_in};
+ghost use Rattle.panel_rules.specs.Outputs.{panel_of_output as panel_in};
 ghost use Rattle.plain_panel.specs.Histories.{all_done};
+ghost use Rattle.plain_panel.specs.Outputs.{TellsAtDrive, TellsOf, TellsSilenced, ends_delay};
 
 use crate::done::Done;
 use crate::latest::override_done_in;
@@ -22,7 +19,8 @@ use crate::turns::is_turn;
 use site_types::{OutputKind, Retained, Site};
 use tick_units::{Task, Tick};
 
-/// Whether an output is on after a turn of Drive of its panel in a tick, from what was seen before that turn, and that turn too.
+/// Whether an output is on after a turn of Drive of its panel in a tick, from what was seen before that turn,
+/// and that turn too.
 pub(crate) fn goes_on(
     site: &Site,
     kept: &Retained,
@@ -33,7 +31,8 @@ pub(crate) fn goes_on(
     turn: &[Seen],
 ) -> bool
     requires { IsValid site.now }
-    ensures { (facts : ℕ → List MomentOf → FactsOf) (history : List MomentOf) → AreSeen site.now facts before.now history → AreSeen site.now facts turn.now (TurnedOf (panel_in site.now output) Drive ∷ history) → tick.0 ≡ tick_of history → result ≡ goes_on_in site.now facts kept.now (all_done done.now) output history }
+    ensures { TellsAtDrive site.now output tick.0 before.now turn.now
+        (λ facts. goes_on_in site.now facts kept.now (all_done done.now) output) result }
 {
     let is_off = in_force(site, kept, Setting::OutputOff(output as usize), tick, done);
     let is_silenced = is_silenced(site, done, output, tick, turn);
@@ -44,7 +43,7 @@ pub(crate) fn goes_on(
 // Whether a silence keeps an output quiet at a turn of Drive.
 fn is_silenced(site: &Site, done: &[Done], output: u16, tick: Tick, turn: &[Seen]) -> bool
     requires { IsValid site.now }
-    ensures { (facts : ℕ → List MomentOf → FactsOf) (kept : RetainedOf) (history : List MomentOf) → AreSeen site.now facts turn.now (TurnedOf (panel_in site.now output) Drive ∷ history) → tick.0 ≡ tick_of history → result ≡ is_silenced_in site.now facts kept (all_done done.now) output history }
+    ensures { TellsSilenced site.now output tick.0 (all_done done.now) turn.now result }
 {
     is_sounder(site, output) && is_quiet(site, done, panel_of_output(site, output), tick, turn)
 }
@@ -60,7 +59,8 @@ fn may_act(
     turn: &[Seen],
 ) -> bool
     requires { IsValid site.now }
-    ensures { (facts : ℕ → List MomentOf → FactsOf) (history : List MomentOf) → AreSeen site.now facts before.now history → AreSeen site.now facts turn.now (TurnedOf (panel_in site.now output) Drive ∷ history) → tick.0 ≡ tick_of history → result ≡ may_act_in site.now facts kept.now (all_done done.now) output history }
+    ensures { TellsAtDrive site.now output tick.0 before.now turn.now
+        (λ facts. may_act_in site.now facts kept.now (all_done done.now) output) result }
 {
     let panel = panel_of_output(site, output);
     (is_requested_by_hand(site, output, before) || delay_of(site, output) == 0)
@@ -71,7 +71,9 @@ fn may_act(
 // Whether from some tick of the run of turns that asked for an output its delay has passed, or an override was done.
 fn is_over(site: &Site, done: &[Done], output: u16, tick: Tick, seen: &[Seen]) -> bool
     requires { IsValid site.now }
-    ensures { (facts : ℕ → List MomentOf → FactsOf) (history : List MomentOf) → AreSeen site.now facts seen.now history → result ≡ list_any (λ first. nat_le (first + delay_in site.now output) tick.0 || override_in (panel_in site.now output) first tick.0 (all_done done.now)) (asked_run site.now facts output history) }
+    ensures { TellsOf site.now seen.now (λ facts history.
+        list_any (ends_delay site.now output tick.0 (all_done done.now))
+        (asked_run site.now facts output history)) result }
 {
     match seen {
         [] => false,

@@ -1,7 +1,9 @@
-//! Which zones are in alarm, in alarm by hand, released and in first state, and which points are missing, by the answers, the oldest first.
+//! Which zones are in alarm, in alarm by hand, released and in first state, and which points are missing, by
+//! the answers, the oldest first.
 
 ghost use Rattle.std.specs.Prelude.{◌≡◌};
-ghost use Rattle.coincidence_rules.specs.Alarm.{is_by_hand as is_by_hand_by, is_in_alarm as is_in_alarm_by, is_released as is_released_by};
+ghost use Rattle.coincidence_rules.specs.Alarm.{is_by_hand as is_by_hand_by, is_in_alarm as is_in_alarm_by};
+ghost use Rattle.coincidence_rules.specs.Alarm.{is_released as is_released_by};
 ghost use Rattle.coincidence_rules.specs.First.{is_first as is_first_state_by, tells_first as tells_first_by};
 ghost use Rattle.plain_panel.specs.Histories.{all_done};
 
@@ -22,7 +24,8 @@ pub fn is_in_alarm(
     zone: usize,
     tick: Tick,
 ) -> bool
-    ensures { result ≡ is_in_alarm_by site.now kept.now (all_done done.now) answers.now zone tick.0 }
+    ensures { result
+        ≡ is_in_alarm_by site.now kept.now (all_done done.now) answers.now zone tick.0 }
 {
     let floor = floor_before(site, zone, tick, done);
     answers.iter().any(|answer| {
@@ -54,7 +57,8 @@ pub fn is_released(
     zone: usize,
     tick: Tick,
 ) -> bool
-    ensures { result ≡ is_released_by site.now kept.now (all_done done.now) answers.now zone tick.0 }
+    ensures { result
+        ≡ is_released_by site.now kept.now (all_done done.now) answers.now zone tick.0 }
 {
     let floor = floor_before(site, zone, tick, done);
     answers.iter().any(|answer| {
@@ -71,7 +75,8 @@ pub fn is_first(
     zone: usize,
     tick: Tick,
 ) -> bool
-    ensures { result ≡ is_first_state_by site.now kept.now (all_done done.now) answers.now zone tick.0 }
+    ensures { result ≡ is_first_state_by site.now kept.now (all_done done.now) answers.now zone
+        tick.0 }
 {
     match rule_at(site, zone) {
         Some(Rule::B { within }) => {
@@ -94,7 +99,9 @@ fn has_told(
     zone: usize,
     tick: Tick,
 ) -> bool
-    ensures { result ≡ list_any (tells_first_by site.now kept.now (all_done done.now) within zone tick.0) answers.now }
+    ensures { result
+        ≡ list_any (tells_first_by site.now kept.now (all_done done.now) within zone tick.0)
+        answers.now }
 {
     answers.iter().any(|answer| tells_first(site, kept, done, within, zone, tick, answer))
 }
@@ -108,7 +115,8 @@ fn tells_first(
     tick: Tick,
     answer: &Answer,
 ) -> bool
-    ensures { result ≡ tells_first_by site.now kept.now (all_done done.now) within zone tick.0 answer.now }
+    ensures { result ≡ tells_first_by site.now kept.now (all_done done.now) within zone tick.0
+        answer.now }
 {
     is_of(site, zone, answer.point)
         && is_detector(site, answer.point)

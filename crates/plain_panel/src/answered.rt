@@ -1,13 +1,14 @@
 //! A panel's word and faults by its answers.
 
 ghost use Rattle.std.specs.Prelude.{◌≡◌};
-ghost use Rattle.panel_conditions.specs.Answered.{answered_faults as answered_faults_by, answered_word as answered_word_by};
+ghost use Rattle.panel_conditions.specs.Answered.{answered_faults as answered_faults_by};
+ghost use Rattle.panel_conditions.specs.Answered.{answered_word as answered_word_by};
 ghost use Rattle.plain_panel.specs.Histories.{all_done};
 
 use crate::done::Done;
 use crate::missing::is_missing;
 use crate::setting::{Setting, in_force};
-use crate::sign::{Sign, shows};
+use crate::zone_state::{ZoneState, zone_in_state};
 use panel_conditions::Outside;
 use site_types::{Answer, FaultSet, Point, PointSet, Retained, Site, Word};
 use tick_units::Tick;
@@ -22,15 +23,16 @@ pub fn answered_word(
     tick: Tick,
     fault: bool,
 ) -> Word
-    ensures { result ≡ answered_word_by site.now kept.now panel (all_done done.now) answers.now tick.0 fault }
+    ensures { result ≡ answered_word_by site.now kept.now panel (all_done done.now) answers.now
+        tick.0 fault }
 {
-    let mask = |sign| zones_that_show(sign, site, kept, panel, done, answers, tick);
+    let mask = |state| zones_in_state(state, site, kept, panel, done, answers, tick);
     Word {
         stamp: tick,
-        alarm: mask(Sign::Alarm),
-        manual: mask(Sign::Manual),
-        released: mask(Sign::Released),
-        first: mask(Sign::First),
+        alarm: mask(ZoneState::Alarm),
+        manual: mask(ZoneState::Manual),
+        released: mask(ZoneState::Released),
+        first: mask(ZoneState::First),
         fault,
     }
 }
@@ -45,7 +47,8 @@ pub fn answered_faults(
     tick: Tick,
     outside: &Outside,
 ) -> FaultSet
-    ensures { result ≡ answered_faults_by site.now kept.now panel (all_done done.now) answers.now tick.0 outside.now }
+    ensures { result ≡ answered_faults_by site.now kept.now panel (all_done done.now) answers.now
+        tick.0 outside.now }
 {
     FaultSet {
         missing: missing_points(site, kept, panel, done, answers, tick),
@@ -65,11 +68,11 @@ ghost use Rattle.coincidence_rules.specs.Places.{numbered, on_zone, zones_where}
 ghost use Rattle.panel_conditions.specs.Missing.{is_off as is_off_at, zone_is_off as zone_is_off_at};
 ghost use Rattle.panel_conditions.specs.Points.{addressed, addresses_where, on_point, points_where};
 ghost use Rattle.plain_panel.specs.Halves.{lies_among};
-ghost use Rattle.plain_panel.specs.Signs.{shows as is_shown};
+ghost use Rattle.plain_panel.specs.ZoneStates.{zone_in_state as zone_in_state_by};
 
-/// The mask of the panel's zones that show a sign.
-pub(crate) fn zones_that_show(
-    sign: Sign,
+/// The mask of the panel's zones that are in a state.
+pub(crate) fn zones_in_state(
+    state: ZoneState,
     site: &Site,
     kept: &Retained,
     panel: u8,
@@ -77,12 +80,14 @@ pub(crate) fn zones_that_show(
     answers: &[Answer],
     tick: Tick,
 ) -> u32
-    ensures { result ≡ zones_where site.now panel (λ (zone : ℕ). is_shown sign site.now kept.now (all_done done.now) answers.now zone tick.0) }
+    ensures { result ≡ zones_where site.now panel
+        (λ (zone : ℕ).
+        zone_in_state_by state site.now kept.now (all_done done.now) answers.now zone tick.0) }
 {
     let mut mask = 0;
     for bit in 0..32u8 {
         let zone = zone_at(site, panel, bit + 1);
-        if zone_shows(sign, site, kept, done, answers, zone, tick) {
+        if found_in_state(state, site, kept, done, answers, zone, tick) {
             mask += 1 << bit;
         }
     }
@@ -99,9 +104,9 @@ pub(crate) fn zone_at(site: &Site, panel: u8, number: u8) -> Option<usize>
         .position(|zone| zone.panel == panel && zone.number == number)
 }
 
-// Whether there is a zone, and it shows a sign.
-fn zone_shows(
-    sign: Sign,
+// Whether there is a zone, and it is in a state.
+fn found_in_state(
+    state: ZoneState,
     site: &Site,
     kept: &Retained,
     done: &[Done],
@@ -109,11 +114,13 @@ fn zone_shows(
     zone: Option<usize>,
     tick: Tick,
 ) -> bool
-    ensures { result ≡ on_zone (λ (zone : ℕ). is_shown sign site.now kept.now (all_done done.now) answers.now zone tick.0) zone }
+    ensures { result
+        ≡ on_zone (λ (zone : ℕ). zone_in_state_by state site.now kept.now (all_done done.now)
+        answers.now zone tick.0) zone }
 {
     match zone {
         None => false,
-        Some(zone) => shows(sign, site, kept, done, answers, zone, tick),
+        Some(zone) => zone_in_state(state, site, kept, done, answers, zone, tick),
     }
 }
 
@@ -127,7 +134,8 @@ fn missing_points(
     answers: &[Answer],
     tick: Tick,
 ) -> PointSet
-    ensures { result ≡ points_where site.now panel (λ (place : ℕ). is_missing_by answers.now place && not (is_off_at site.now kept.now (all_done done.now) place tick.0)) }
+    ensures { result ≡ points_where site.now panel (λ (place : ℕ). is_missing_by answers.now place
+        && not (is_off_at site.now kept.now (all_done done.now) place tick.0)) }
 {
     let half = |line, past| missing_on(site, kept, panel, done, answers, tick, line, past);
     PointSet {
@@ -152,7 +160,9 @@ fn missing_on(
     past: u8,
 ) -> u128
     requires { past ≤ 96 }
-    ensures { result ≡ addresses_where site.now panel (λ (place : ℕ). is_missing_by answers.now place && not (is_off_at site.now kept.now (all_done done.now) place tick.0)) line past }
+    ensures { result ≡ addresses_where site.now panel
+        (λ (place : ℕ). is_missing_by answers.now place
+        && not (is_off_at site.now kept.now (all_done done.now) place tick.0)) line past }
 {
     if !has_points(site, panel, line, past) {
         return 0;
@@ -197,7 +207,8 @@ fn point_is_missing(
     point: Option<usize>,
     tick: Tick,
 ) -> bool
-    ensures { result ≡ on_point (λ (place : ℕ). is_missing_by answers.now place && not (is_off_at site.now kept.now (all_done done.now) place tick.0)) point }
+    ensures { result ≡ on_point (λ (place : ℕ). is_missing_by answers.now place
+        && not (is_off_at site.now kept.now (all_done done.now) place tick.0)) point }
 {
     match point {
         None => false,
@@ -220,7 +231,8 @@ fn zone_is_off(
     point: Option<&Point>,
     tick: Tick,
 ) -> bool
-    ensures { result ≡ zone_is_off_at site.now kept.now (all_done done.now) (option_copied point.entry) tick.0 }
+    ensures { result ≡ zone_is_off_at site.now kept.now (all_done done.now)
+        (option_copied point.entry) tick.0 }
 {
     match point {
         None => false,

@@ -1,11 +1,8 @@
 //! The answers of a tick as a step of the timeline tells them.
 
 ghost use Rattle.std.specs.Prelude.{◌≡◌, map, IfOk};
-ghost use Rattle.std.specs.List.{filter_map};
-ghost use Rattle.site_types.specs.declared.retained.Retained.{Retained as RetainedOf};
-ghost use Rattle.site_types.specs.declared.site.Site.{Site as SiteOf};
-ghost use Rattle.panel_rules.specs.Timeline.{answer_in, told as told_by};
-ghost use Rattle.plain_panel.specs.Desks.{all_answered, all_requests, answered_of};
+ghost use Rattle.panel_rules.specs.Timeline.{told as told_by};
+ghost use Rattle.plain_panel.specs.Desks.{all_answered, answered_of};
 
 use crate::op_answered::OpAnswered;
 use crate::reply::Reply;
@@ -21,7 +18,7 @@ pub fn answers_now(
     answers: &[OpAnswered],
     tick: Tick,
 ) -> Result<Vec<OpAnswered>, NoMemory>
-    ensures { IfOk result (λ now. (site : SiteOf) (kept : RetainedOf) → map answered_of now.items ≡ filter_map (answer_in site kept tick.0 (all_answered answers.now)) (all_requests requests.now)) }
+    ensures { IfOk result (λ now. AreGivenIn tick.0 requests.now answers.now now.items) }
 {
     let mut now = Vec::new(alloc);
     for request in requests {
@@ -33,7 +30,9 @@ pub fn answers_now(
     Ok(now)
 }
 
-/// The answers of a tick as they are told, and whether Keep's turn failed. More than 64 of them find no room.
+/// The answers of a tick as they are told, and whether Keep's turn failed. For more than 64 answers told by
+/// their number it says that memory is wanted. No run has more: they were taken in the tick or the one
+/// before, four of a panel in each.
 pub fn told(now: &[OpAnswered], failed: bool) -> Result<Answers, NoMemory>
     ensures { IfOk result (λ answers. answers ≡ told_by (map answered_of now.now) failed) }
 {
@@ -63,13 +62,15 @@ pub fn told(now: &[OpAnswered], failed: bool) -> Result<Answers, NoMemory>
 }
 
 ghost use Rattle.std.specs.Prelude.{◌==◌, ◌&&◌, ◌+◌, ◌<◌, ◌^◌, Some, if◌then◌else◌, option_map};
-ghost use Rattle.panel_rules.specs.Timeline.{busy_count as busy_count_of, is_busy as is_busy_reply, told_answer as told_answer_of, told_reply as told_reply_of};
+ghost use Rattle.panel_rules.specs.Timeline.{busy_count as busy_count_of, is_busy as is_busy_reply};
+ghost use Rattle.panel_rules.specs.Timeline.{told_answer as told_answer_of, told_reply as told_reply_of};
 ghost use Rattle.plain_panel.specs.Desks.{reply_of, request_of};
-ghost use Rattle.plain_panel.specs.Tellings.{answer_given};
+ghost use Rattle.plain_panel.specs.Tellings.{AreGivenIn, answer_given, answers_in};
 
 // The last answer to a request that was given in a tick.
 fn last_answer(request: &Request, answers: &[OpAnswered], tick: Tick) -> Option<OpAnswered>
-    ensures { option_map answered_of result ≡ answer_given tick.0 (all_answered answers.now) (request_of request.now) }
+    ensures { option_map answered_of result ≡ answer_given tick.0 (all_answered answers.now)
+        (request_of request.now) }
 {
     let mut found = None;
     for answered in answers {
@@ -84,7 +85,9 @@ fn found_after(
     answered: &OpAnswered,
     before: Option<OpAnswered>,
 ) -> Option<OpAnswered>
-    ensures { option_map answered_of result ≡ (if (answered.now.request.number == request.now.number) && (answered.now.tick.0 == tick.0) then Some (answered_of answered.now) else option_map answered_of before) }
+    ensures { option_map answered_of result
+        ≡ (if answers_in tick.0 (request_of request.now) (answered_of answered.now)
+        then Some (answered_of answered.now) else option_map answered_of before) }
 {
     if answered.request.number == request.number && answered.tick.0 == tick.0 {
         Some(*answered)
@@ -132,7 +135,8 @@ fn busy_count(panel: u8, now: &[OpAnswered]) -> u64
 
 fn count_after(panel: u8, answered: &OpAnswered, before: u64) -> u64
     requires { before + 1 < 2 ^ 64 }
-    ensures { result ≡ (if (answered.now.request.panel == panel) && is_busy_reply (reply_of answered.now.reply) then before + 1 else before) }
+    ensures { result ≡ (if (answered.now.request.panel == panel)
+        && is_busy_reply (reply_of answered.now.reply) then before + 1 else before) }
 {
     if answered.request.panel == panel && is_busy(answered.reply) {
         before + 1

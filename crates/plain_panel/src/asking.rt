@@ -22,7 +22,7 @@ pub struct Asking {
 }
 
 impl Asking {
-    ghost use Rattle.plain_panel.specs.Askings.{AsksSome, StandsForAsking};
+    ghost use Rattle.plain_panel.specs.Askings.{AsksSome, Hears, HearsIn, StandsForAsking};
 
     /// A panel of a site, 1 to its panels, of which nothing befell.
     pub fn new(alloc: Global, site: &Site, panel: u8) -> Result<Asking, NoMemory>
@@ -47,7 +47,7 @@ impl Asking {
         tick: Tick,
     ) -> Result<(), NoMemory>
         requires { AsksSome site.now self.old }
-        ensures { OnOk result ((panel : ℕ) (history : List MomentOf) → StandsForAsking site.now panel history self.old → tick_of history ≡ tick.0 → StandsForAsking site.now panel (moment_of moment.now ∷ history) self.new) }
+        ensures { OnOk result (HearsIn site.now tick.0 (moment_of moment.now) self.old self.new) }
     {
         match *moment {
             Moment::Began | Moment::Kept { .. } => Ok(()),
@@ -61,7 +61,9 @@ impl Asking {
 
     /// The answers whose findings the panel's Hold has taken.
     pub fn held(&self) -> &[Answer]
-        ensures { (site : SiteOf) (panel : ℕ) (history : List MomentOf) → StandsForAsking site panel history self.now → result.now ≡ held_answers site panel history }
+        ensures { (site : SiteOf) (panel : ℕ) (history : List MomentOf)
+            → StandsForAsking site panel history self.now
+            → result.now ≡ held_answers site panel history }
     {
         let count = self.held.min(self.answers.len());
         self.answers.as_slice().split_at(count).0
@@ -70,7 +72,7 @@ impl Asking {
     // An event happened.
     fn tell(&mut self, site: &Site, event: &Event)
         requires { AsksSome site.now self.old }
-        ensures { (panel : ℕ) (history : List MomentOf) → StandsForAsking site.now panel history self.old → StandsForAsking site.now panel (HappenedOf event.now ∷ history) self.new }
+        ensures { Hears site.now (HappenedOf event.now) self.old self.new }
     {
         match *event {
             Event::Point { point, state } => self.tell_point(site, point, state),
@@ -89,7 +91,7 @@ impl Asking {
 
     fn tell_point(&mut self, site: &Site, point: u16, state: PointState)
         requires { AsksSome site.now self.old }
-        ensures { (panel : ℕ) (history : List MomentOf) → StandsForAsking site.now panel history self.old → StandsForAsking site.now panel (HappenedOf (PointEvent point state) ∷ history) self.new }
+        ensures { Hears site.now (HappenedOf (PointEvent point state)) self.old self.new }
     {
         if stands_at(self.panel, site.points.get(point as usize)) {
             self.poller.set_point(point, state);
@@ -98,7 +100,8 @@ impl Asking {
 
     fn tell_piece(&mut self, site: &Site, panel: u8, line: u8, piece: u8, state: PieceState)
         requires { AsksSome site.now self.old }
-        ensures { (own : ℕ) (history : List MomentOf) → StandsForAsking site.now own history self.old → StandsForAsking site.now own (HappenedOf (CableEvent panel line piece state) ∷ history) self.new }
+        ensures { Hears site.now (HappenedOf (CableEvent panel line piece state)) self.old
+            self.new }
     {
         if panel == self.panel && line >= 1 && line <= 4 {
             self.poller.set_piece(line, piece, state);
@@ -115,7 +118,7 @@ impl Asking {
         tick: Tick,
     ) -> Result<(), NoMemory>
         requires { AsksSome site.now self.old }
-        ensures { OnOk result ((own : ℕ) (history : List MomentOf) → StandsForAsking site.now own history self.old → tick_of history ≡ tick.0 → StandsForAsking site.now own (TurnedOf panel task ∷ history) self.new) }
+        ensures { OnOk result (HearsIn site.now tick.0 (TurnedOf panel task) self.old self.new) }
     {
         if panel != self.panel {
             return Ok(());
@@ -142,7 +145,9 @@ impl Asking {
     // The panel's Poll has its turn: it puts what the points answer.
     fn poll(&mut self, alloc: Global, site: &Site, tick: Tick) -> Result<(), NoMemory>
         requires { AsksSome site.now self.old }
-        ensures { OnOk result ((panel : ℕ) (history : List MomentOf) → StandsForAsking site.now panel history self.old → tick_of history ≡ tick.0 → StandsForAsking site.now panel (TurnedOf panel PollTask ∷ history) self.new) }
+        ensures { OnOk result ((panel : ℕ) (history : List MomentOf)
+            → StandsForAsking site.now panel history self.old → tick_of history ≡ tick.0
+            → StandsForAsking site.now panel (TurnedOf panel PollTask ∷ history) self.new) }
     {
         let mut lane: Lane<Answer> = Lane::new(alloc, 32, 32)?;
         self.poller.turn(tick, &mut lane);
@@ -158,7 +163,7 @@ ghost use Rattle.tick_units.specs.declared.task.Task.TheVariants.{Poll as PollTa
 ghost use Rattle.site_types.specs.declared.event.Event.TheVariants.{Point as PointEvent, Cable as CableEvent};
 ghost use Rattle.site_types.specs.declared.site.Site.{Site as SiteOf};
 ghost use Rattle.panel_rules.specs.Moments.{Happened as HappenedOf, Turned as TurnedOf};
-ghost use Rattle.plain_panel.specs.Askings.{is_at as is_at_panel};
+ghost use Rattle.panel_rules.specs.Reports.{is_on_panel as is_at_panel};
 
 // Whether there is a point, and it is of the panel.
 fn stands_at(panel: u8, point: Option<&Point>) -> bool

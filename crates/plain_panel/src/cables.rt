@@ -1,10 +1,8 @@
-ghost use Rattle.std.specs.Prelude.{◌≡◌, ◌+◌, ◌∷◌, List, ℕ};
-ghost use Rattle.site_types.specs.declared.loop_plan.LoopPlan.{LoopPlan as PlanOf};
+ghost use Rattle.std.specs.Prelude.{◌≡◌};
 ghost use Rattle.isolators.specs.Reach.{status_of as status_with};
-ghost use Rattle.isolators.specs.Stands.{StandsFor as CableStands};
-ghost use Rattle.loop_poller.specs.Asked.{loop_at, status_on};
+ghost use Rattle.loop_poller.specs.Asked.{status_on};
+ghost use Rattle.site_types.specs.Things.{loop_of};
 ghost use Rattle.panel_rules.specs.Faults.{broken_loops, shorted_loops};
-ghost use Rattle.panel_rules.specs.Moments.{Moment as MomentOf};
 ghost use Rattle.panel_rules.specs.States.{piece_of};
 ghost use Rattle.plain_panel.specs.Histories.{history, moment_of};
 
@@ -38,7 +36,8 @@ pub(crate) fn shorted_loops(site: &Site, panel: u8, moments: &[Moment]) -> u8
 
 /// What is wrong with the cable of a loop of a panel; where there is no loop, nothing.
 fn line_status(site: &Site, panel: u8, line: u8, moments: &[Moment]) -> LineStatus
-    ensures { result ≡ status_on (loop_at site.now panel line) (λ piece. piece_of panel line piece (history moments.now)) }
+    ensures { result ≡ status_on (loop_of site.now panel line)
+        (λ piece. piece_of panel line piece (history moments.now)) }
 {
     match site.loop_of(panel, line) {
         Some(plan) => plan_status(plan, panel, line, moments),
@@ -47,7 +46,8 @@ fn line_status(site: &Site, panel: u8, line: u8, moments: &[Moment]) -> LineStat
 }
 
 fn plan_status(plan: &LoopPlan, panel: u8, line: u8, moments: &[Moment]) -> LineStatus
-    ensures { result ≡ status_with plan.now (λ piece. piece_of panel line piece (history moments.now)) }
+    ensures { result ≡ status_with plan.now
+        (λ piece. piece_of panel line piece (history moments.now)) }
 {
     if !was_reported(panel, line, moments) {
         return LineStatus::default();
@@ -61,7 +61,7 @@ fn plan_status(plan: &LoopPlan, panel: u8, line: u8, moments: &[Moment]) -> Line
 
 // Tells the cable of a loop what befalls the site.
 fn report(cable: &mut LoopLine, panel: u8, line: u8, moment: &Moment)
-    ensures { (plan : PlanOf) (before : List MomentOf) → CableStands plan (λ piece. piece_of panel line piece before) cable.old → CableStands plan (λ piece. piece_of panel line piece (moment_of moment.now ∷ before)) cable.new }
+    ensures { TakesReport panel line (moment_of moment.now) cable.old cable.new }
 {
     match *moment {
         Moment::Happened(event) => match event {
@@ -86,11 +86,12 @@ fn report(cable: &mut LoopLine, panel: u8, line: u8, moment: &Moment)
 }
 
 ghost use Rattle.std.specs.List.{list_any};
-ghost use Rattle.plain_panel.specs.Reported.{tells_cable as tells_cable_so};
+ghost use Rattle.plain_panel.specs.Reported.{TakesReport, tells_cable as tells_cable_so};
 
 // Whether anything was ever reported of the cable of a loop.
 fn was_reported(panel: u8, line: u8, moments: &[Moment]) -> bool
-    ensures { result ≡ list_any (λ moment. tells_cable_so panel line (moment_of moment)) moments.now }
+    ensures { result
+        ≡ list_any (λ moment. tells_cable_so panel line (moment_of moment)) moments.now }
 {
     moments
         .iter()

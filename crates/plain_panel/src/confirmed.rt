@@ -20,7 +20,8 @@ pub(crate) fn confirms(
     zone: usize,
     answer: &Answer,
 ) -> bool
-    ensures { result ≡ confirms_by site.now kept.now (all_done done.now) answers.now zone answer.now }
+    ensures { result
+        ≡ confirms_by site.now kept.now (all_done done.now) answers.now zone answer.now }
 {
     is_counted(site, kept, done, answer)
         && (is_by_call_point(site, zone, answer.point)
@@ -50,7 +51,8 @@ pub(crate) fn releases(
     zone: usize,
     answer: &Answer,
 ) -> bool
-    ensures { result ≡ releases_by_rule site.now kept.now (all_done done.now) answers.now zone answer.now }
+    ensures { result ≡ releases_by_rule site.now kept.now (all_done done.now) answers.now zone
+        answer.now }
 {
     match rule_at(site, zone) {
         Some(Rule::C) => {
@@ -62,7 +64,10 @@ pub(crate) fn releases(
 }
 
 ghost use Rattle.std.specs.List.{list_any};
-ghost use Rattle.coincidence_rules.specs.Confirmed.{coincides as coincides_by, counts_throughout as counts_throughout_by, is_by_call_point as is_by_call_point_so, is_near as is_near_by, is_verified as is_verified_by};
+ghost use Rattle.coincidence_rules.specs.Confirmed.{coincides as coincides_by};
+ghost use Rattle.coincidence_rules.specs.Confirmed.{counts_throughout as counts_throughout_by};
+ghost use Rattle.coincidence_rules.specs.Confirmed.{is_by_call_point as is_by_call_point_so, is_near as is_near_by};
+ghost use Rattle.coincidence_rules.specs.Confirmed.{is_verified as is_verified_by};
 
 fn is_by_call_point(site: &Site, zone: usize, point: u16) -> bool
     ensures { result ≡ is_by_call_point_so site.now zone point }
@@ -80,7 +85,8 @@ fn coincides(
     rule: Option<Rule>,
     answer: &Answer,
 ) -> bool
-    ensures { result ≡ coincides_by site.now kept.now (all_done done.now) answers.now zone rule answer.now }
+    ensures { result ≡ coincides_by site.now kept.now (all_done done.now) answers.now zone rule
+        answer.now }
 {
     match rule {
         None => false,
@@ -94,7 +100,8 @@ fn coincides(
     }
 }
 
-// Whether the answer's detector gave an answer that counts long enough ago, and each of its answers from that one to this one counts.
+// Whether the answer's detector gave an answer that counts long enough ago, and each of its answers from that
+// one to this one counts.
 fn is_verified(
     site: &Site,
     kept: &Retained,
@@ -104,7 +111,8 @@ fn is_verified(
     zone: usize,
     answer: &Answer,
 ) -> bool
-    ensures { result ≡ is_verified_by site.now kept.now (all_done done.now) answers.now verify zone answer.now }
+    ensures { result ≡ is_verified_by site.now kept.now (all_done done.now) answers.now verify zone
+        answer.now }
 {
     answers.iter().any(|first| {
         is_first_of_run(site, kept, done, verify, zone, answer, first)
@@ -121,7 +129,8 @@ fn counts_throughout(
     first: &Answer,
     last: &Answer,
 ) -> bool
-    ensures { result ≡ counts_throughout_by site.now kept.now (all_done done.now) answers.now last.now.point first.now.stamp.0 last.now.stamp.0 }
+    ensures { result ≡ counts_throughout_by site.now kept.now (all_done done.now) answers.now
+        last.now.point first.now.stamp.0 last.now.stamp.0 }
 {
     answers.iter().all(|other| {
         !is_between(last.point, first.stamp, last.stamp, other)
@@ -139,7 +148,9 @@ fn has_near(
     zone: usize,
     answer: &Answer,
 ) -> bool
-    ensures { result ≡ list_any (is_near_by site.now kept.now (all_done done.now) within zone answer.now) answers.now }
+    ensures { result
+        ≡ list_any (is_near_by site.now kept.now (all_done done.now) within zone answer.now)
+        answers.now }
 {
     answers.iter().any(|other| is_near(site, kept, done, within, zone, answer, other))
 }

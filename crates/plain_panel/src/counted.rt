@@ -2,7 +2,9 @@
 
 ghost use Rattle.std.specs.Prelude.{◌≡◌};
 ghost use Rattle.coincidence_rules.specs.Counted.{is_alarm as is_alarm_heard, is_counted as is_counted_by};
-ghost use Rattle.coincidence_rules.specs.Confirmed.{is_between as is_between_stamps, is_first_of_run as is_first_of_run_by, is_near as is_near_by, is_second as is_second_by, is_uncancelled as is_uncancelled_by};
+ghost use Rattle.coincidence_rules.specs.Confirmed.{is_between as is_between_stamps};
+ghost use Rattle.coincidence_rules.specs.Confirmed.{is_first_of_run as is_first_of_run_by, is_near as is_near_by};
+ghost use Rattle.coincidence_rules.specs.Confirmed.{is_second as is_second_by, is_uncancelled as is_uncancelled_by};
 ghost use Rattle.plain_panel.specs.Histories.{all_done};
 
 use crate::done::Done;
@@ -25,7 +27,8 @@ fn is_alarm(heard: Heard) -> bool
     matches!(heard, Heard::Alarm)
 }
 
-/// Whether the other answer is of another point of the zone, counts, was not given later and lies after each floor that came before the answer.
+/// Whether the other answer is of another point of the zone, counts, was not given later and lies after each
+/// floor that came before the answer.
 pub(crate) fn is_second(
     site: &Site,
     kept: &Retained,
@@ -34,7 +37,8 @@ pub(crate) fn is_second(
     answer: &Answer,
     other: &Answer,
 ) -> bool
-    ensures { result ≡ is_second_by site.now kept.now (all_done done.now) zone answer.now other.now }
+    ensures { result
+        ≡ is_second_by site.now kept.now (all_done done.now) zone answer.now other.now }
 {
     let floor = floor_before(site, zone, answer.stamp, done);
     is_of(site, zone, other.point)
@@ -54,7 +58,8 @@ pub(crate) fn is_near(
     answer: &Answer,
     other: &Answer,
 ) -> bool
-    ensures { result ≡ is_near_by site.now kept.now (all_done done.now) within zone answer.now other.now }
+    ensures { result ≡ is_near_by site.now kept.now (all_done done.now) within zone answer.now
+        other.now }
 {
     is_second(site, kept, done, zone, answer, other)
         && is_detector(site, other.point)
@@ -71,7 +76,8 @@ pub(crate) fn is_uncancelled(
     answer: &Answer,
     other: &Answer,
 ) -> bool
-    ensures { result ≡ is_uncancelled_by site.now kept.now (all_done done.now) within zone answer.now other.now }
+    ensures { result ≡ is_uncancelled_by site.now kept.now (all_done done.now) within zone
+        answer.now other.now }
 {
     is_near(site, kept, done, within, zone, answer, other)
         && cancelled_before(site, zone, answer.stamp, done).0 < other.stamp.0
@@ -84,7 +90,8 @@ pub(crate) fn is_between(point: u16, first: Tick, last: Tick, answer: &Answer) -
     answer.point == point && first.0 <= answer.stamp.0 && answer.stamp.0 <= last.0
 }
 
-/// Whether a first answer counts, is of the same point, after the zone's floor before the answer and at least so many ticks before it.
+/// Whether a first answer counts, is of the same point, after the zone's floor before the answer and at least
+/// so many ticks before it.
 pub(crate) fn is_first_of_run(
     site: &Site,
     kept: &Retained,
@@ -94,7 +101,8 @@ pub(crate) fn is_first_of_run(
     answer: &Answer,
     first: &Answer,
 ) -> bool
-    ensures { result ≡ is_first_of_run_by site.now kept.now (all_done done.now) verify zone answer.now first.now }
+    ensures { result ≡ is_first_of_run_by site.now kept.now (all_done done.now) verify zone
+        answer.now first.now }
 {
     let floor = floor_before(site, zone, answer.stamp, done);
     first.point == answer.point

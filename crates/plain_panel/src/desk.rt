@@ -55,8 +55,11 @@ impl Desk {
         tick: Tick,
         moment: &Moment,
     ) -> Result<bool, NoMemory>
-        ensures stands { OnOk result ((history : List MomentOf) → tick_of history ≡ tick.0 → StandsForDesk site.now kept.now history self.old → StandsForDesk site.now kept.now (moment_of moment.now ∷ history) self.new) }
-        ensures same { IfOk result (λ changed. changed ≡ false → self.new.outcomes.done.items ≡ self.old.outcomes.done.items) }
+        ensures stands { OnOk result ((history : List MomentOf) → tick_of history ≡ tick.0
+            → StandsForDesk site.now kept.now history self.old
+            → StandsForDesk site.now kept.now (moment_of moment.now ∷ history) self.new) }
+        ensures same { IfOk result (λ changed. changed ≡ false
+            → self.new.outcomes.done.items ≡ self.old.outcomes.done.items) }
     {
         match moment {
             Moment::Began => Ok(false),
@@ -75,7 +78,8 @@ impl Desk {
 
     // Takes the operation of an event.
     fn take(&mut self, site: &Site, tick: Tick, event: &Event) -> Result<(), NoMemory>
-        ensures more { OnOk result (all_requests self.new.requests.items ≡ and_request site.now tick.0 event.now (all_requests self.old.requests.items)) }
+        ensures more { OnOk result (all_requests self.new.requests.items ≡ and_request site.now
+            tick.0 event.now (all_requests self.old.requests.items)) }
         ensures same { self.new.outcomes ≡ self.old.outcomes }
     {
         if let Event::Op {

@@ -7,16 +7,17 @@ ghost use Rattle.site_types.specs.Valid.{IsValid};
 ghost use Rattle.panel_rules.specs.Moments.{Moment as MomentOf, tick_of};
 ghost use Rattle.plain_panel.specs.Histories.{all_done, moment_of};
 
-use crate::answered::zones_that_show;
+use crate::answered::zones_in_state;
 use crate::asking::Asking;
 use crate::done::Done;
 use crate::moment::Moment;
-use crate::sign::Sign;
+use crate::zone_state::ZoneState;
 use site_types::{Answer, Retained, Site};
 use std::alloc::Global;
 use tick_units::{NoMemory, Task, Tick};
 
-/// The answers of a panel, and how often it entered the fire alarm condition since the latest turn of Keep that did not fail.
+/// The answers of a panel, and how often it entered the fire alarm condition since the latest turn of Keep
+/// that did not fail.
 #[derive(Drop)]
 pub struct Entering {
     panel: u8,
@@ -27,12 +28,13 @@ pub struct Entering {
 }
 
 impl Entering {
-    ghost use Rattle.plain_panel.specs.Enterings.{EntersSome, StandsForEntering};
+    ghost use Rattle.plain_panel.specs.Enterings.{EntersAtHold, EntersSome, EntersWith, StandsForEntering};
 
     /// A panel of a site, 1 to its panels, of which nothing befell.
     pub fn new(alloc: Global, site: &Site, panel: u8) -> Result<Entering, NoMemory>
         requires { IsValid site.now }
-        ensures { IfOk result (λ entering. (kept : RetainedOf) (done : List DoneOf) → StandsForEntering site.now kept done panel [] entering) }
+        ensures { IfOk result (λ entering. (kept : RetainedOf) (done : List DoneOf)
+            → StandsForEntering site.now kept done panel [] entering) }
     {
         Ok(Entering {
             panel,
@@ -53,7 +55,9 @@ impl Entering {
         moment: &Moment,
     ) -> Result<(), NoMemory>
         requires { EntersSome site.now self.old }
-        ensures { OnOk result ((panel : ℕ) (history : List MomentOf) → StandsForEntering site.now kept.now (all_done done.now) panel history self.old → tick_of history ≡ tick.0 → StandsForEntering site.now kept.now (all_done done.now) panel (moment_of moment.now ∷ history) self.new) }
+        ensures { OnOk result
+            (EntersWith site.now kept.now (all_done done.now) tick.0 (moment_of moment.now) self.old
+            self.new) }
     {
         match *moment {
             Moment::Began => self.asking.step(alloc, site, moment, tick),
@@ -76,7 +80,9 @@ impl Entering {
 
     /// The answers whose findings the panel's Hold has taken.
     pub fn held(&self) -> &[Answer]
-        ensures { (site : SiteOf) (kept : RetainedOf) (done : List DoneOf) (panel : ℕ) (history : List MomentOf) → StandsForEntering site kept done panel history self.now → result.now ≡ held_answers site panel history }
+        ensures { (site : SiteOf) (kept : RetainedOf) (done : List DoneOf) (panel : ℕ) (history :
+            List MomentOf) → StandsForEntering site kept done panel history self.now
+            → result.now ≡ held_answers site panel history }
     {
         self.asking.held()
     }
@@ -100,7 +106,9 @@ impl Entering {
         task: Task,
     ) -> Result<(), NoMemory>
         requires { EntersSome site.now self.old }
-        ensures { OnOk result ((own : ℕ) (history : List MomentOf) → StandsForEntering site.now kept.now (all_done done.now) own history self.old → tick_of history ≡ tick.0 → StandsForEntering site.now kept.now (all_done done.now) own (TurnedOf panel task ∷ history) self.new) }
+        ensures { OnOk result
+            (EntersWith site.now kept.now (all_done done.now) tick.0 (TurnedOf panel task) self.old
+            self.new) }
     {
         if let Task::Hold = task {
             if panel == self.panel {
@@ -125,7 +133,8 @@ impl Entering {
         tick: Tick,
     ) -> Result<(), NoMemory>
         requires { EntersSome site.now self.old }
-        ensures { OnOk result ((own : ℕ) (history : List MomentOf) → StandsForEntering site.now kept.now (all_done done.now) own history self.old → tick_of history ≡ tick.0 → StandsForEntering site.now kept.now (all_done done.now) own (TurnedOf own HoldTask ∷ history) self.new) }
+        ensures { OnOk result (EntersAtHold site.now kept.now (all_done done.now) tick.0 self.old
+            self.new) }
     {
         let panel = self.panel;
         let was = is_in_fire(site, kept, done, panel, self.asking.held(), self.held_at);
@@ -145,6 +154,7 @@ ghost use Rattle.tick_units.specs.declared.task.Task.TheVariants.{Hold as HoldTa
 ghost use Rattle.site_types.specs.declared.site.Site.{Site as SiteOf};
 ghost use Rattle.panel_rules.specs.Moments.{Turned as TurnedOf};
 ghost use Rattle.panel_rules.specs.Zones.{held_answers};
+ghost use Rattle.plain_panel.specs.Enterings.{holds_fire_alarm};
 ghost use Rattle.std.specs.Prelude.{◌+◌, ◌&&◌, if◌then◌else◌};
 
 // Whether a panel is in the fire alarm condition by some answers at a tick.
@@ -156,9 +166,10 @@ fn is_in_fire(
     answers: &[Answer],
     tick: Tick,
 ) -> bool
-    ensures { result ≡ not (zones_where site.now panel (λ zone. is_in_alarm site.now kept.now (all_done done.now) answers.now zone tick.0) == 0) }
+    ensures { result ≡ holds_fire_alarm site.now kept.now (all_done done.now) tick.0 answers.now
+        panel }
 {
-    zones_that_show(Sign::Alarm, site, kept, panel, done, answers, tick) != 0
+    zones_in_state(ZoneState::Alarm, site, kept, panel, done, answers, tick) != 0
 }
 
 // What was not so is so now.

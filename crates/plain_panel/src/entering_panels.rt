@@ -3,7 +3,7 @@ ghost use Rattle.site_types.specs.declared.retained.Retained.{Retained as Retain
 ghost use Rattle.site_types.specs.Done.{Done as DoneOf};
 ghost use Rattle.site_types.specs.Valid.{IsValid};
 ghost use Rattle.panel_rules.specs.Moments.{Moment as MomentOf, tick_of};
-ghost use Rattle.plain_panel.specs.Enterings.{AllAsk, AllEnter};
+ghost use Rattle.plain_panel.specs.Enterings.{AllAsk, AllEnter, AllEnterWith};
 ghost use Rattle.plain_panel.specs.Histories.{all_done, moment_of};
 
 use crate::done::Done;
@@ -24,7 +24,9 @@ pub fn step_all(
     moment: &Moment,
 ) -> Result<(), NoMemory>
     requires { AllAsk site.now panels.old }
-    ensures { OnOk result ((first : ℕ) (history : List MomentOf) → AllEnter site.now kept.now (all_done done.now) history first panels.old → tick_of history ≡ tick.0 → AllEnter site.now kept.now (all_done done.now) (moment_of moment.now ∷ history) first panels.new) }
+    ensures { OnOk result
+        (AllEnterWith site.now kept.now (all_done done.now) tick.0 (moment_of moment.now) panels.old
+        panels.new) }
 {
     for entering in panels.iter_mut() {
         entering.step(alloc, site, kept, done, tick, moment)?;
@@ -35,7 +37,8 @@ pub fn step_all(
 /// The panels of a site, of which nothing befell.
 pub fn all_new(alloc: Global, site: &Site) -> Result<Vec<Entering>, NoMemory>
     requires { IsValid site.now }
-    ensures { IfOk result (λ panels. (kept : RetainedOf) (done : List DoneOf) → AreEntering site.now kept done [] panels.items) }
+    ensures { IfOk result (λ panels. (kept : RetainedOf) (done : List DoneOf)
+        → AreEntering site.now kept done [] panels.items) }
 {
     let mut panels = Vec::new(alloc);
     for place in 0..site.panels {
@@ -52,7 +55,9 @@ ghost use Rattle.plain_panel.specs.Enterings.{IsAmong};
 
 /// The answers whose findings the Hold of a panel has taken, of panels from 1 on; none where there is no such panel.
 pub fn held_at(panels: &[Entering], panel: u8) -> &[Answer]
-    ensures { (site : SiteOf) (kept : RetainedOf) (done : List DoneOf) (history : List MomentOf) → AllEnter site kept done history 1 panels.now → IsAmong panels.now panel → result.now ≡ held_answers site panel history }
+    ensures { (site : SiteOf) (kept : RetainedOf) (done : List DoneOf) (history : List MomentOf)
+        → AllEnter site kept done history 1 panels.now → IsAmong panels.now panel
+        → result.now ≡ held_answers site panel history }
 {
     match panels.get(panel.saturating_sub(1) as usize) {
         None => &[],

@@ -2,17 +2,16 @@
 
 ghost use Rattle.std.specs.Prelude.{◌≡◌, List};
 ghost use Rattle.site_types.specs.Valid.{IsPanel, IsValid};
-ghost use Rattle.panel_rules.specs.Faces.{face_with};
-ghost use Rattle.panel_rules.specs.Moments.{Moment as MomentOf, tick_of};
-ghost use Rattle.panel_rules.specs.Run.{facts_of};
-ghost use Rattle.plain_panel.specs.Drives.{DrivesFor};
+ghost use Rattle.panel_rules.specs.Moments.{Moment as MomentOf};
 ghost use Rattle.plain_panel.specs.Histories.{all_done};
-ghost use Rattle.plain_panel.specs.Network.{StandsFor};
+ghost use Rattle.plain_panel.specs.Network.{StandsFor, TellsWords};
+ghost use Rattle.plain_panel.specs.Standings.{TellsFace};
 
 use crate::done::Done;
 use crate::driving::Driving;
 use crate::network::Network;
-use crate::output_masks::{outputs_confirmed, outputs_on};
+use crate::output_masks::outputs_in;
+use crate::output_state::OutputState;
 use crate::setting::{Setting, in_force};
 use crate::settings_shown::{outputs_off, points_off, zones_in_test, zones_off};
 use face_text::Face;
@@ -33,15 +32,16 @@ pub fn face_of(
     requires valid { IsValid site.now }
     requires size { network.now.panels ≡ site.now.panels }
     requires panel { IsPanel site.now panel }
-    ensures { (before : List MomentOf) → StandsFor site.now kept.now (all_done done.now) before network.now → DrivesFor site.now (facts_of site.now kept.now (all_done done.now)) before driving.now → tick_of before ≡ tick.0 → result ≡ face_with site.now kept.now (all_done done.now) stored.now panel before }
+    ensures { TellsFace site.now kept.now (all_done done.now) network.now driving.now tick.0
+        stored.now panel result }
 {
     Face {
         panel,
         zones: alarms_shown(network, site, panel),
         firsts: firsts_shown(network, site, panel),
         faults: network.faults(panel),
-        outputs: outputs_on(driving, site, kept, done, panel),
-        confirmed: outputs_confirmed(driving, site, kept, done, panel),
+        outputs: outputs_in(OutputState::On, driving, site, kept, done, panel),
+        confirmed: outputs_in(OutputState::Confirmed, driving, site, kept, done, panel),
         points_off: points_off(site, kept, panel, done, tick),
         zones_off: zones_off(site, kept, panel, done, tick),
         outputs_off: outputs_off(site, kept, panel, done, tick),
@@ -52,19 +52,18 @@ pub fn face_of(
     }
 }
 
-ghost use Rattle.std.specs.Prelude.{◌≤◌, ℕ, map};
-ghost use Rattle.std.specs.List.{range_with_len};
+ghost use Rattle.std.specs.Prelude.{◌≤◌};
 ghost use Rattle.site_types.specs.declared.retained.Retained.{Retained as RetainedOf};
+ghost use Rattle.site_types.specs.declared.word.Word.{Word as WordOf};
 ghost use Rattle.site_types.specs.Done.{Done as DoneOf};
-ghost use Rattle.site_types.specs.Limits.{most_panels};
-ghost use Rattle.panel_links.specs.Words.{empty_word};
+ghost use Rattle.site_types.specs.Words.{empty_word};
 ghost use Rattle.panel_rules.specs.Faces.{shown_word};
 
 // The zones in alarm that a panel shows, by panel.
 fn alarms_shown(network: &Network, site: &Site, panel: u8) -> [u32; 8]
     requires size { network.now.panels ≡ site.now.panels }
     requires panel { IsPanel site.now panel }
-    ensures { (kept : RetainedOf) (done : List DoneOf) (before : List MomentOf) → StandsFor site.now kept done before network.now → result ≡ map (λ (source : ℕ). (shown_word site.now kept done panel before source).alarm) (range_with_len 1 most_panels) }
+    ensures { TellsWords site.now panel (λ (word : WordOf). word.alarm) network.now result }
 {
     [
         word_shown(network, site, panel, 1).alarm,
@@ -82,7 +81,7 @@ fn alarms_shown(network: &Network, site: &Site, panel: u8) -> [u32; 8]
 fn firsts_shown(network: &Network, site: &Site, panel: u8) -> [u32; 8]
     requires size { network.now.panels ≡ site.now.panels }
     requires panel { IsPanel site.now panel }
-    ensures { (kept : RetainedOf) (done : List DoneOf) (before : List MomentOf) → StandsFor site.now kept done before network.now → result ≡ map (λ (source : ℕ). (shown_word site.now kept done panel before source).first) (range_with_len 1 most_panels) }
+    ensures { TellsWords site.now panel (λ (word : WordOf). word.first) network.now result }
 {
     [
         word_shown(network, site, panel, 1).first,
@@ -101,7 +100,9 @@ fn word_shown(network: &Network, site: &Site, panel: u8, source: u8) -> Word
     requires size { network.now.panels ≡ site.now.panels }
     requires panel { IsPanel site.now panel }
     requires source { 1 ≤ source }
-    ensures { (kept : RetainedOf) (done : List DoneOf) (before : List MomentOf) → StandsFor site.now kept done before network.now → result ≡ shown_word site.now kept done panel before source }
+    ensures { (kept : RetainedOf) (done : List DoneOf) (before : List MomentOf)
+        → StandsFor site.now kept done before network.now
+        → result ≡ shown_word site.now kept done panel before source }
 {
     if source <= site.panels {
         network.shown_word(panel, source)

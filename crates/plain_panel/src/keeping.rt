@@ -1,9 +1,8 @@
 ghost use Rattle.std.specs.Prelude.{◌≡◌, ◌++◌, [], ◌∷◌, IfOk, OnOk};
 ghost use Rattle.site_types.specs.Valid.{IsValid};
 ghost use Rattle.panel_rules.specs.Moments.{tick_of};
-ghost use Rattle.panel_rules.specs.Operations.{operations};
 ghost use Rattle.plain_panel.specs.Desks.{StandsForDesk};
-ghost use Rattle.plain_panel.specs.Standings.{StandsForStanding};
+ghost use Rattle.plain_panel.specs.Standings.{StandsAfter};
 ghost use Rattle.plain_panel.specs.Histories.{history, moment_of};
 ghost use Rattle.plain_panel.specs.Keepings.{StandsForKeeping};
 
@@ -52,7 +51,9 @@ impl Keeping {
         requires stands { StandsForKeeping site.now kept.now (history before.now) self.old }
         requires ticks { tick_of (history before.now) ≡ tick.0 }
         requires all { with_it.now ≡ before.now ++ moment.now ∷ [] }
-        ensures { OnOk result (StandsForKeeping site.now kept.now (moment_of moment.now ∷ history before.now) self.new) }
+        ensures { OnOk result
+            (StandsForKeeping site.now kept.now (moment_of moment.now ∷ history before.now)
+            self.new) }
     {
         self.store_at(site, moment);
         self.go_on(alloc, site, kept, tick, before, moment, with_it)
@@ -71,11 +72,15 @@ impl Keeping {
     ) -> Result<(), NoMemory>
         requires valid { IsValid site.now }
         requires desk { StandsForDesk site.now kept.now (history before.now) self.old.desk }
-        requires standing { StandsForStanding site.now kept.now (operations site.now kept.now (history before.now)).done (history before.now) self.old.standing }
+        requires standing { StandsAfter site.now kept.now (history before.now) self.old.standing }
         requires ticks { tick_of (history before.now) ≡ tick.0 }
         requires all { with_it.now ≡ before.now ++ moment.now ∷ [] }
-        ensures desk { OnOk result (StandsForDesk site.now kept.now (moment_of moment.now ∷ history before.now) self.new.desk) }
-        ensures standing { OnOk result (StandsForStanding site.now kept.now (operations site.now kept.now (moment_of moment.now ∷ history before.now)).done (moment_of moment.now ∷ history before.now) self.new.standing) }
+        ensures desk { OnOk result
+            (StandsForDesk site.now kept.now (moment_of moment.now ∷ history before.now)
+            self.new.desk) }
+        ensures standing { OnOk result
+            (StandsAfter site.now kept.now (moment_of moment.now ∷ history before.now)
+            self.new.standing) }
         ensures stored { self.new.stored ≡ self.old.stored }
     {
         let changed = self.desk.step(site, kept, tick, moment)?;
@@ -93,7 +98,7 @@ impl Keeping {
     fn store_at(&mut self, site: &Site, moment: &Moment)
         requires valid { IsValid site.now }
         requires placed { AllPlaced self.old.standing.panels.items }
-        ensures stored { self.new.stored ≡ (if is_storing (moment_of moment.now) then changed_by (changes_of site.now (all_requests self.old.desk.outcomes.waiting.items)) (changed_by (all_counted self.old.standing.panels.items) self.old.stored) else self.old.stored) }
+        ensures stored { self.new.stored ≡ stored_after site.now (moment_of moment.now) self.old }
         ensures desk { self.new.desk ≡ self.old.desk }
         ensures standing { self.new.standing ≡ self.old.standing }
     {
@@ -107,7 +112,7 @@ impl Keeping {
     fn store(&mut self, site: &Site)
         requires valid { IsValid site.now }
         requires placed { AllPlaced self.old.standing.panels.items }
-        ensures stored { self.new.stored ≡ changed_by (changes_of site.now (all_requests self.old.desk.outcomes.waiting.items)) (changed_by (all_counted self.old.standing.panels.items) self.old.stored) }
+        ensures stored { self.new.stored ≡ stored_by_keep site.now self.old }
         ensures desk { self.new.desk ≡ self.old.desk }
         ensures standing { self.new.standing ≡ self.old.standing }
     {
@@ -116,11 +121,8 @@ impl Keeping {
     }
 }
 
-ghost use Rattle.std.specs.Prelude.{if◌then◌else◌};
 ghost use Rattle.site_types.specs.Changes.{IsPanelNumber, changed_by};
-ghost use Rattle.panel_rules.specs.Batches.{changes_of};
-ghost use Rattle.plain_panel.specs.Desks.{all_requests};
-ghost use Rattle.plain_panel.specs.Keepings.{AllPlaced, all_counted, counted, is_storing};
+ghost use Rattle.plain_panel.specs.Keepings.{AllPlaced, all_counted, counted, is_storing, stored_after, stored_by_keep};
 
 // A moment is a turn of Keep that does not fail.
 fn stores(moment: &Moment) -> bool

@@ -1,7 +1,7 @@
 //! The rules of the whole as a plain slow program.
 //!
-//! Each function gives for a list of moments exactly what a definition of `panel_rules` gives for the history that they are. The program looks
-//! through all moments anew and keeps only tables of what it has found.
+//! Each function gives for a list of moments exactly what a definition of `panel_rules` gives for the history
+//! that they are. The program looks through all moments anew and keeps only tables of what it has found.
 #![tactic(auto)]
 
 mod acting;
@@ -31,6 +31,7 @@ mod on;
 mod op_answered;
 mod outcomes;
 mod output_masks;
+mod output_state;
 mod own;
 mod pairs;
 mod places;
@@ -42,7 +43,6 @@ mod retained;
 mod seen;
 mod setting;
 mod settings_shown;
-mod sign;
 mod solved;
 mod standing;
 mod storing;
@@ -52,6 +52,7 @@ mod ticking;
 mod turns;
 mod unconfirmed;
 mod watched;
+mod zone_state;
 
 pub use alarm::{is_by_hand, is_first, is_in_alarm, is_released};
 pub use answered::{answered_faults, answered_word};
@@ -69,7 +70,7 @@ pub use moment::Moment;
 pub use network::Network;
 pub use op_answered::OpAnswered;
 pub use outcomes::Outcomes;
-pub use output_masks::{outputs_confirmed, outputs_on, outputs_unconfirmed};
+pub use output_state::OutputState;
 pub use own::Own;
 pub use reply::Reply;
 pub use request::Request;

@@ -1,5 +1,6 @@
 ghost use Rattle.std.specs.Prelude.{◌≡◌};
-ghost use Rattle.site_types.specs.Done.{cancelled_before as last_cancelling, floor_before as last_floor, muted_before as last_mute};
+ghost use Rattle.site_types.specs.Done.{cancelled_before as last_cancelling, floor_before as last_floor};
+ghost use Rattle.site_types.specs.Done.{muted_before as last_mute};
 ghost use Rattle.plain_panel.specs.Histories.{all_done};
 
 use crate::done::Done;
@@ -53,12 +54,14 @@ fn latest_before(site: &Site, mark: Mark, tick: Tick, done: &[Done]) -> Tick
 }
 
 ghost use Rattle.std.specs.Prelude.{◌&&◌, if◌then◌else◌, max, nat_lt, option_copied};
-ghost use Rattle.site_types.specs.Done.{is_cancel as is_cancelling, is_floor as is_floor_of, is_mute as is_muting, is_of_panel as lies_at};
+ghost use Rattle.site_types.specs.Done.{is_cancel as is_cancelling, is_floor as is_floor_of, is_mute as is_muting};
+ghost use Rattle.site_types.specs.Done.{is_of_panel as lies_at};
 ghost use Rattle.plain_panel.specs.Histories.{done_of};
 
 // The latest tick after one more operation.
 fn latest_after(site: &Site, mark: Mark, tick: Tick, done: &Done, before: u64) -> u64
-    ensures { result ≡ (if leaves_mark site.now mark (done_of done.now) && nat_lt done.now.tick.0 tick.0 then max done.now.tick.0 before else before) }
+    ensures { result ≡ (if leaves_mark site.now mark (done_of done.now)
+        && nat_lt done.now.tick.0 tick.0 then max done.now.tick.0 before else before) }
 {
     if leaves(site, mark, done) && done.tick.0 < tick.0 {
         done.tick.0.max(before)

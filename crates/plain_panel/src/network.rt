@@ -39,12 +39,14 @@ pub struct Network {
 }
 
 impl Network {
-    ghost use Rattle.plain_panel.specs.Network.{HasPanel, IsNotHold, IsOtherTask, StandsFor, outside_told, own_in, unconfirmed_at};
+    ghost use Rattle.plain_panel.specs.Network.{HasPanel, IsNotHold, IsOtherTask, NetworkHears, NetworkTakes};
+    ghost use Rattle.plain_panel.specs.Network.{ShowsAtHold, StandsFor, TakesHold, TellsOutside, own_in};
 
     /// The panels of a site before its first tick.
     pub fn new(site: &Site) -> Network
         requires { IsValid site.now }
-        ensures stands { (kept : RetainedOf) (done : List DoneOf) → StandsFor site.now kept done [] result }
+        ensures stands { (kept : RetainedOf) (done : List DoneOf)
+            → StandsFor site.now kept done [] result }
         ensures panels { result.panels ≡ site.now.panels }
     {
         Network {
@@ -54,8 +56,8 @@ impl Network {
         }
     }
 
-    /// Hold of a panel has its turn, after these moments and the tick that began last. The answers that it has taken after the turn are given, and
-    /// its outputs without confirmation then, by bit `number - 1`.
+    /// Hold of a panel has its turn, after these moments and the tick that began last. The answers that it
+    /// has taken after the turn are given, and its outputs without confirmation then, by bit `number - 1`.
     pub fn hold(
         &mut self,
         site: &Site,
@@ -67,10 +69,8 @@ impl Network {
         answers: &[Answer],
         unconfirmed: u32,
     )
-        ensures stands { StandsFor site.now kept.now (all_done done.now) (history before.now) self.old → now.0 ≡ tick_of (history before.now)
-            → (IsPanel site.now panel → answers.now ≡ held_answers site.now panel (TurnedOf panel HoldTask ∷ history before.now))
-            → (IsPanel site.now panel → unconfirmed ≡ unconfirmed_at site.now kept.now (all_done done.now) panel (TurnedOf panel HoldTask ∷ history before.now))
-            → StandsFor site.now kept.now (all_done done.now) (TurnedOf panel HoldTask ∷ history before.now) self.new }
+        ensures stands { TakesHold site.now (history before.now) now.0 panel unconfirmed
+            kept.now (all_done done.now) answers.now self.old self.new }
         ensures panels { self.new.panels ≡ self.old.panels }
     {
         if panel >= 1 && panel <= self.panels {
@@ -92,7 +92,7 @@ impl Network {
     // Shows what a turn of Hold of a panel made.
     fn show(&mut self, now: Tick, panel: u8, word: Word, faults: FaultSet)
         requires { HasPanel self.old panel }
-        ensures stands { (site : SiteOf) (kept : RetainedOf) (done : List DoneOf) (before : List MomentOf) → StandsFor site kept done before self.old → now.0 ≡ tick_of before → faults ≡ faults_with site kept done (tells_fault site kept done) panel (TurnedOf panel HoldTask ∷ before) → word ≡ word_made site kept done (tells_fault site kept done) panel (TurnedOf panel HoldTask ∷ before) → StandsFor site kept done (TurnedOf panel HoldTask ∷ before) self.new }
+        ensures stands { ShowsAtHold now.0 panel word faults self.old self.new }
         ensures panels { self.new.panels ≡ self.old.panels }
     {
         let own = self.own(panel);
@@ -109,7 +109,8 @@ impl Network {
         unconfirmed: u32,
     ) -> Outside
         requires { HasPanel self.now panel }
-        ensures { (kept : RetainedOf) (done : List DoneOf) → StandsFor site.now kept done (history before.now) self.now → now.0 ≡ tick_of (history before.now) → result ≡ outside_told site.now panel (history before.now) unconfirmed }
+        ensures { TellsOutside site.now (history before.now) now.0 panel unconfirmed self.now
+            result }
     {
         Outside {
             supply: shown_supplies(&site.waits, panel, before),
@@ -123,7 +124,8 @@ impl Network {
 
     /// Anything but a turn of Hold befalls the site, after the tick that began last.
     pub fn step(&mut self, now: Tick, moment: &Moment)
-        ensures stands { (site : SiteOf) (kept : RetainedOf) (done : List DoneOf) (before : List MomentOf) → StandsFor site kept done before self.old → now.0 ≡ tick_of before → IsNotHold moment.now → StandsFor site kept done (moment_of moment.now ∷ before) self.new }
+        ensures stands { IsNotHold moment.now
+            → NetworkTakes now.0 (moment_of moment.now) self.old self.new }
         ensures panels { self.new.panels ≡ self.old.panels }
     {
         match *moment {
@@ -135,7 +137,7 @@ impl Network {
     }
 
     fn hear(&mut self, event: &Event)
-        ensures stands { (site : SiteOf) (kept : RetainedOf) (done : List DoneOf) (before : List MomentOf) → StandsFor site kept done before self.old → StandsFor site kept done (HappenedOf event.now ∷ before) self.new }
+        ensures stands { NetworkHears event.now self.old self.new }
         ensures panels { self.new.panels ≡ self.old.panels }
     {
         match *event {
@@ -149,7 +151,7 @@ impl Network {
     }
 
     fn set_link(&mut self, link: u8, up: bool)
-        ensures stands { (site : SiteOf) (kept : RetainedOf) (done : List DoneOf) (before : List MomentOf) → StandsFor site kept done before self.old → StandsFor site kept done (HappenedOf (LinkTold link up) ∷ before) self.new }
+        ensures stands { NetworkHears (LinkTold link up) self.old self.new }
         ensures panels { self.new.panels ≡ self.old.panels }
     {
         if link >= 1 && link <= 8 {
@@ -158,7 +160,8 @@ impl Network {
     }
 
     fn turn(&mut self, now: Tick, panel: u8, task: Task)
-        ensures stands { (site : SiteOf) (kept : RetainedOf) (done : List DoneOf) (before : List MomentOf) → StandsFor site kept done before self.old → now.0 ≡ tick_of before → IsOtherTask task → StandsFor site kept done (TurnedOf panel task ∷ before) self.new }
+        ensures stands { IsOtherTask task
+            → NetworkTakes now.0 (TurnedOf panel task) self.old self.new }
         ensures panels { self.new.panels ≡ self.old.panels }
     {
         match task {
@@ -175,7 +178,7 @@ impl Network {
     }
 
     fn relay(&mut self, now: Tick, panel: u8)
-        ensures stands { (site : SiteOf) (kept : RetainedOf) (done : List DoneOf) (before : List MomentOf) → StandsFor site kept done before self.old → now.0 ≡ tick_of before → StandsFor site kept done (TurnedOf panel LinkTask ∷ before) self.new }
+        ensures stands { NetworkTakes now.0 (TurnedOf panel LinkTask) self.old self.new }
         ensures panels { self.new.panels ≡ self.old.panels }
     {
         if panel >= 1 && panel <= self.panels {
@@ -187,7 +190,9 @@ impl Network {
     /// The latest word of a panel.
     pub fn latest_word(&self, panel: u8) -> Word
         requires { HasPanel self.now panel }
-        ensures { (site : SiteOf) (kept : RetainedOf) (done : List DoneOf) (before : List MomentOf) → StandsFor site kept done before self.now → result ≡ latest_word site kept done (tells_fault site kept done) panel before }
+        ensures { (site : SiteOf) (kept : RetainedOf) (done : List DoneOf) (before : List MomentOf)
+            → StandsFor site kept done before self.now
+            → result ≡ latest_word site kept done (tells_fault site kept done) panel before }
     {
         self.own(panel).word
     }
@@ -196,7 +201,9 @@ impl Network {
     pub fn kept_word(&self, at: u8, of: u8) -> Word
         requires at { HasPanel self.now at }
         requires from { HasPanel self.now of }
-        ensures { (site : SiteOf) (kept : RetainedOf) (done : List DoneOf) (before : List MomentOf) → StandsFor site kept done before self.now → result ≡ kept_word_of site kept done (tells_fault site kept done) at of before }
+        ensures { (site : SiteOf) (kept : RetainedOf) (done : List DoneOf) (before : List MomentOf)
+            → StandsFor site kept done before self.now
+            → result ≡ kept_word_of site kept done (tells_fault site kept done) at of before }
     {
         self.ring.word(at, of)
     }
@@ -205,7 +212,9 @@ impl Network {
     pub fn shown_word(&self, at: u8, of: u8) -> Word
         requires at { HasPanel self.now at }
         requires from { HasPanel self.now of }
-        ensures { (site : SiteOf) (kept : RetainedOf) (done : List DoneOf) (before : List MomentOf) → StandsFor site kept done before self.now → result ≡ shown_word site kept done at before of }
+        ensures { (site : SiteOf) (kept : RetainedOf) (done : List DoneOf) (before : List MomentOf)
+            → StandsFor site kept done before self.now
+            → result ≡ shown_word site kept done at before of }
     {
         if of == at {
             self.latest_word(at)
@@ -217,7 +226,9 @@ impl Network {
     /// The faults that a panel shows.
     pub fn faults(&self, panel: u8) -> FaultSet
         requires { HasPanel self.now panel }
-        ensures { (site : SiteOf) (kept : RetainedOf) (done : List DoneOf) (before : List MomentOf) → StandsFor site kept done before self.now → result ≡ faults_of site kept done panel before }
+        ensures { (site : SiteOf) (kept : RetainedOf) (done : List DoneOf) (before : List MomentOf)
+            → StandsFor site kept done before self.now
+            → result ≡ faults_of site kept done panel before }
     {
         self.own(panel).faults
     }
@@ -225,7 +236,9 @@ impl Network {
     /// The last tick in which a panel showed something new; 0 for none.
     pub fn last_news(&self, panel: u8) -> Tick
         requires { HasPanel self.now panel }
-        ensures { (site : SiteOf) (kept : RetainedOf) (done : List DoneOf) (before : List MomentOf) → StandsFor site kept done before self.now → result.0 ≡ last_news site kept done panel before }
+        ensures { (site : SiteOf) (kept : RetainedOf) (done : List DoneOf) (before : List MomentOf)
+            → StandsFor site kept done before self.now
+            → result.0 ≡ last_news site kept done panel before }
     {
         self.own(panel).news
     }
@@ -233,17 +246,22 @@ impl Network {
     /// What the buzzer of a panel sounds.
     pub fn buzzer(&self, site: &Site, done: &[Done], panel: u8) -> Buzzer
         requires { HasPanel self.now panel }
-        ensures { (kept : RetainedOf) (before : List MomentOf) → StandsFor site.now kept (all_done done.now) before self.now → result ≡ buzzer_of site.now kept (all_done done.now) panel before }
+        ensures { (kept : RetainedOf) (before : List MomentOf)
+            → StandsFor site.now kept (all_done done.now) before self.now
+            → result ≡ buzzer_of site.now kept (all_done done.now) panel before }
     {
         let own = self.own(panel);
         let muted = muted_before(site, panel, own.word.stamp, done);
         sounds(&own.word, muted.0 < own.news.0)
     }
 
-    /// The facts of an Effect turn of a panel made now: what the words that it keeps say of zones, and which tell a fault.
+    /// The facts of an Effect turn of a panel made now: what the words that it keeps say of zones, and which
+    /// tell a fault.
     pub fn facts(&self, panel: u8) -> Facts
         requires { HasPanel self.now panel }
-        ensures { (site : SiteOf) (kept : RetainedOf) (done : List DoneOf) (before : List MomentOf) → IsValid site → StandsFor site kept done before self.now → AreFacts site (facts_of site kept done panel before) result }
+        ensures { (site : SiteOf) (kept : RetainedOf) (done : List DoneOf) (before : List MomentOf)
+            → IsValid site → StandsFor site kept done before self.now
+            → AreFacts site (facts_of site kept done panel before) result }
     {
         let mut zones = [0; 8];
         let mut manual = [0; 8];

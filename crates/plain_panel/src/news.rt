@@ -1,6 +1,8 @@
 ghost use Rattle.std.specs.Prelude.{◌≡◌, not, ◌==◌};
-ghost use Rattle.panel_conditions.specs.Shown.{has_more, has_more_faults, has_more_points, is_news as are_news, line_has_more, sounds as sounded};
-ghost use Rattle.panel_conditions.specs.Words.{has_fault as some_fault, has_points as some_point, some_on_line as some_of_line};
+ghost use Rattle.panel_conditions.specs.Shown.{has_more, has_more_faults, has_more_points, is_news as are_news};
+ghost use Rattle.panel_conditions.specs.Shown.{line_has_more, sounds as sounded};
+ghost use Rattle.panel_conditions.specs.Words.{has_fault as some_fault, has_points as some_point};
+ghost use Rattle.panel_conditions.specs.Words.{some_on_line as some_of_line};
 
 use site_types::{Buzzer, FaultSet, PointSet, Word};
 

@@ -10,6 +10,7 @@ ghost use Rattle.panel_rules.specs.Moments.{Moment as MomentOf};
 ghost use Rattle.panel_rules.specs.Outputs.{confirmations, is_on as is_on_in, on_run};
 ghost use Rattle.plain_panel.specs.Drives.{AreSeen, greatest, is_confirmation, newest};
 ghost use Rattle.plain_panel.specs.Histories.{all_done, moment_of};
+ghost use Rattle.plain_panel.specs.Outputs.{TellsOf};
 
 use crate::acting::{goes_on, has_passed};
 use crate::done::Done;
@@ -23,7 +24,8 @@ use tick_units::{Task, Tick};
 /// Whether an output is on after the latest turn of Drive of its panel.
 pub(crate) fn is_on(site: &Site, kept: &Retained, done: &[Done], output: u16, seen: &[Seen]) -> bool
     requires { IsValid site.now }
-    ensures { (facts : ℕ → List MomentOf → FactsOf) (history : List MomentOf) → AreSeen site.now facts seen.now history → result ≡ is_on_in site.now facts kept.now (all_done done.now) output history }
+    ensures { TellsOf site.now seen.now
+        (λ facts. is_on_in site.now facts kept.now (all_done done.now) output) result }
 {
     match seen {
         [] => false,
@@ -46,7 +48,9 @@ pub(crate) fn latest_on(
     seen: &[Seen],
 ) -> Option<Tick>
     requires { IsValid site.now }
-    ensures { (facts : ℕ → List MomentOf → FactsOf) (history : List MomentOf) → AreSeen site.now facts seen.now history → option_map (λ (tick : TickOf). tick.0) result ≡ newest (on_run site.now facts kept.now (all_done done.now) output history) }
+    ensures { TellsOf site.now seen.now (λ facts history.
+        newest (on_run site.now facts kept.now (all_done done.now) output history))
+        (option_map (λ (tick : TickOf). tick.0) result) }
 {
     match seen {
         [] => None,
@@ -75,7 +79,9 @@ pub(crate) fn was_on_for(
     seen: &[Seen],
 ) -> bool
     requires { IsValid site.now }
-    ensures { (facts : ℕ → List MomentOf → FactsOf) (history : List MomentOf) → AreSeen site.now facts seen.now history → result ≡ list_any (λ first. nat_le (first + ticks) tick.0) (on_run site.now facts kept.now (all_done done.now) output history) }
+    ensures { TellsOf site.now seen.now (λ facts history.
+        list_any (λ first. nat_le (first + ticks) tick.0)
+        (on_run site.now facts kept.now (all_done done.now) output history)) result }
 {
     match seen {
         [] => false,
@@ -93,7 +99,8 @@ pub(crate) fn was_on_for(
 
 /// The last tick in which an output was confirmed from outside, else 0.
 pub(crate) fn last_confirmation(output: u16, seen: &[Seen]) -> Tick
-    ensures { (site : SiteOf) (facts : ℕ → List MomentOf → FactsOf) (history : List MomentOf) → AreSeen site facts seen.now history → result.0 ≡ greatest (confirmations output history) }
+    ensures { (site : SiteOf) (facts : ℕ → List MomentOf → FactsOf) (history : List MomentOf)
+        → AreSeen site facts seen.now history → result.0 ≡ greatest (confirmations output history) }
 {
     let mut last = Tick(0);
     for one in seen {

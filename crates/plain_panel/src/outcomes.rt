@@ -2,7 +2,12 @@ ghost use Rattle.std.specs.Prelude.{◌≡◌, ◌&&◌, [], ◌∷◌, IfOk, On
 ghost use Rattle.site_types.specs.Done.{value_set as value_given};
 ghost use Rattle.std.specs.List.{list_any};
 ghost use Rattle.site_types.specs.Done.{is_on as is_on_setting, is_setting};
-ghost use Rattle.panel_rules.specs.Operations.{after_desk, after_keep, after_reply, and_done as done_where_told, answer_all as answers_to_all, desk_reply, do_all as all_are_done, done_in as done_at, is_unsettled as waits_for, keep_reply as answer_of_keep, no_operations, requests_in, setting_asked, setting_reply as reply_on_setting, stands_so as stands_already};
+ghost use Rattle.panel_rules.specs.Operations.{after_desk, after_keep, after_reply, and_done as done_where_told};
+ghost use Rattle.panel_rules.specs.Operations.{answer_all as answers_to_all, desk_reply, do_all as all_are_done};
+ghost use Rattle.panel_rules.specs.Operations.{done_in as done_at, is_unsettled as waits_for};
+ghost use Rattle.panel_rules.specs.Operations.{keep_reply as answer_of_keep, no_operations, requests_in};
+ghost use Rattle.panel_rules.specs.Operations.{setting_asked, setting_reply as reply_on_setting};
+ghost use Rattle.panel_rules.specs.Operations.{stands_so as stands_already};
 ghost use Rattle.plain_panel.specs.Desks.{all_answered, all_requests, outcomes_of, reply_of, request_of};
 ghost use Rattle.plain_panel.specs.Histories.{all_done, done_of};
 ghost use Rattle.plain_panel.specs.Settings.{setting_from};
@@ -37,7 +42,8 @@ impl Outcomes {
         }
     }
 
-    /// The turn of a panel's Desk: it takes the operations of its panel and tick out of all that were asked for. Tells whether one was done.
+    /// The turn of a panel's Desk: it takes the operations of its panel and tick out of all that were asked
+    /// for. Tells whether one was done.
     pub fn desk(
         &mut self,
         site: &Site,
@@ -46,8 +52,11 @@ impl Outcomes {
         panel: u8,
         tick: Tick,
     ) -> Result<bool, NoMemory>
-        ensures became { OnOk result (outcomes_of self.new ≡ after_desk site.now kept.now (requests_in panel tick.0 (all_requests requests.now)) (outcomes_of self.old)) }
-        ensures same { IfOk result (λ changed. changed ≡ false → self.new.done.items ≡ self.old.done.items) }
+        ensures became { OnOk result
+            (outcomes_of self.new ≡ after_desk site.now kept.now
+            (requests_in panel tick.0 (all_requests requests.now)) (outcomes_of self.old)) }
+        ensures same { IfOk result (λ changed. changed ≡ false
+            → self.new.done.items ≡ self.old.done.items) }
     {
         let mut changed = false;
         for request in requests {
@@ -59,8 +68,10 @@ impl Outcomes {
 
     /// The turn of Keep answers all that wait. Tells whether an operation was done.
     pub fn keep(&mut self, tick: Tick, failed: bool) -> Result<bool, NoMemory>
-        ensures became { OnOk result (outcomes_of self.new ≡ after_keep tick.0 failed (outcomes_of self.old)) }
-        ensures same { IfOk result (λ changed. changed ≡ false → self.new.done.items ≡ self.old.done.items) }
+        ensures became { OnOk result
+            (outcomes_of self.new ≡ after_keep tick.0 failed (outcomes_of self.old)) }
+        ensures same { IfOk result (λ changed. changed ≡ false
+            → self.new.done.items ≡ self.old.done.items) }
     {
         answer_all(&mut self.answers, &self.waiting, tick, failed)?;
         if !failed {
@@ -79,8 +90,11 @@ impl Outcomes {
         panel: u8,
         tick: Tick,
     ) -> Result<bool, NoMemory>
-        ensures became { OnOk result (outcomes_of self.new ≡ after_desk site.now kept.now (requests_in panel tick.0 (request_of request.now ∷ [])) (outcomes_of self.old)) }
-        ensures same { IfOk result (λ changed. changed ≡ false → self.new.done.items ≡ self.old.done.items) }
+        ensures became { OnOk result
+            (outcomes_of self.new ≡ after_desk site.now kept.now
+            (requests_in panel tick.0 (request_of request.now ∷ [])) (outcomes_of self.old)) }
+        ensures same { IfOk result (λ changed. changed ≡ false
+            → self.new.done.items ≡ self.old.done.items) }
     {
         if request.panel == panel && request.tick.0 == tick.0 {
             let reply = self.reply(site, kept, request);
@@ -92,7 +106,8 @@ impl Outcomes {
 
     // The answer at Desk's turn; none where the operation is accepted for Keep.
     fn reply(&self, site: &Site, kept: &Retained, request: &Request) -> Option<Reply>
-        ensures { option_map reply_of result ≡ desk_reply site.now kept.now (request_of request.now) (outcomes_of self.now) }
+        ensures { option_map reply_of result ≡ desk_reply site.now kept.now (request_of request.now)
+            (outcomes_of self.now) }
     {
         if request.earlier >= MOST_OPERATIONS {
             return Some(Reply::Busy);
@@ -117,7 +132,8 @@ impl Outcomes {
         request: &Request,
         setting: Setting,
     ) -> Option<Reply>
-        ensures { option_map reply_of result ≡ reply_on_setting site.now kept.now (request_of request.now) (outcomes_of self.now) (Some (setting_from setting)) }
+        ensures { option_map reply_of result ≡ reply_on_setting site.now kept.now
+            (request_of request.now) (outcomes_of self.now) (Some (setting_from setting)) }
     {
         if self.is_unsettled(setting, request.tick) {
             Some(Reply::Waiting)
@@ -137,7 +153,8 @@ impl Outcomes {
 
     // Whether the setting has the value already that an operation sets.
     fn stands_so(&self, site: &Site, kept: &Retained, request: &Request, setting: Setting) -> bool
-        ensures { result ≡ stands_already site.now kept.now (setting_from setting) request.now.tick.0 (value_given request.now.operation) (all_done self.now.done.items) }
+        ensures { result ≡ stands_already site.now kept.now (setting_from setting)
+            request.now.tick.0 (value_given request.now.operation) (all_done self.now.done.items) }
     {
         if let Setting::Counter(_) = setting {
             return false;
@@ -147,8 +164,10 @@ impl Outcomes {
 
     // Gives an answer, or accepts the operation for Keep where there is none. Tells whether it was done.
     fn answer(&mut self, request: &Request, reply: Option<Reply>) -> Result<bool, NoMemory>
-        ensures became { OnOk result (outcomes_of self.new ≡ after_reply (request_of request.now) (outcomes_of self.old) (option_map reply_of reply)) }
-        ensures same { IfOk result (λ changed. changed ≡ false → self.new.done.items ≡ self.old.done.items) }
+        ensures became { OnOk result (outcomes_of self.new ≡ after_reply (request_of request.now)
+            (outcomes_of self.old) (option_map reply_of reply)) }
+        ensures same { IfOk result (λ changed. changed ≡ false
+            → self.new.done.items ≡ self.old.done.items) }
     {
         let Some(reply) = reply else {
             self.waiting.push(*request)?;
@@ -165,14 +184,17 @@ impl Outcomes {
 
 // Whether one of some operations that wait is on a setting.
 fn any_waits(waiting: &[Request], setting: Setting) -> bool
-    ensures { result ≡ list_any (λ r. is_setting (setting_from setting) (setting_asked (request_of r))) waiting.now }
+    ensures { result
+        ≡ list_any (λ r. is_setting (setting_from setting) (setting_asked (request_of r)))
+        waiting.now }
 {
     waiting.iter().any(|request| is_of(request, setting))
 }
 
 // Whether one of some operations done is on a setting and isn't in force yet.
 fn any_is_fresh(done: &[Done], setting: Setting, tick: Tick) -> bool
-    ensures { result ≡ list_any (λ d. is_on_setting (setting_from setting) (done_of d) && nat_le tick.0 d.tick.0) done.now }
+    ensures { result ≡ list_any (λ d. is_on_setting (setting_from setting) (done_of d)
+        && nat_le tick.0 d.tick.0) done.now }
 {
     done.iter()
         .any(|one| is_on(setting, one) && tick.0 <= one.tick.0)
@@ -201,7 +223,8 @@ fn done_in(tick: Tick, request: &Request) -> Done
 
 // Does an operation whose answer says so. Tells whether it was done.
 fn and_done(done: &mut Vec<Done>, request: &Request, reply: Reply) -> Result<bool, NoMemory>
-    ensures became { OnOk result (all_done done.new.items ≡ done_where_told (request_of request.now) (reply_of reply) (all_done done.old.items)) }
+    ensures became { OnOk result (all_done done.new.items ≡ done_where_told (request_of request.now)
+        (reply_of reply) (all_done done.old.items)) }
     ensures same { IfOk result (λ changed. changed ≡ false → done.new.items ≡ done.old.items) }
 {
     if let Reply::WasDone = reply {
@@ -226,7 +249,8 @@ fn answer_all(
     tick: Tick,
     failed: bool,
 ) -> Result<(), NoMemory>
-    ensures { OnOk result (all_answered answers.new.items ≡ answers_to_all tick.0 failed (all_requests waiting.now) (all_answered answers.old.items)) }
+    ensures { OnOk result (all_answered answers.new.items ≡ answers_to_all tick.0 failed
+        (all_requests waiting.now) (all_answered answers.old.items)) }
 {
     let reply = keep_reply(failed);
     for request in waiting {
@@ -241,7 +265,8 @@ fn answer_all(
 
 // Does all that waits at a turn of Keep.
 fn do_all(done: &mut Vec<Done>, waiting: &[Request], tick: Tick) -> Result<(), NoMemory>
-    ensures { OnOk result (all_done done.new.items ≡ all_are_done tick.0 (all_requests waiting.now) (all_done done.old.items)) }
+    ensures { OnOk result (all_done done.new.items ≡ all_are_done tick.0 (all_requests waiting.now)
+        (all_done done.old.items)) }
 {
     for request in waiting {
         done.push(done_in(tick, request))?;

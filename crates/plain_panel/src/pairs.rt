@@ -22,7 +22,9 @@ pub(crate) fn has_pair(
     zone: usize,
     answer: &Answer,
 ) -> bool
-    ensures { result ≡ pairs_up site.now zone answer.now.point (λ (near : ℕ). list_any (is_uncancelled_by site.now kept.now (all_done done.now) within near answer.now) answers.now) }
+    ensures { result ≡ pairs_up site.now zone answer.now.point (λ (near : ℕ).
+        list_any (is_uncancelled_by site.now kept.now (all_done done.now) within near answer.now)
+        answers.now) }
 {
     let partner = partner_at(site, zone);
     let own = has_uncancelled(site, kept, done, answers, within, zone, answer);
@@ -45,7 +47,8 @@ pub(crate) fn has_second(
     zone: usize,
     answer: &Answer,
 ) -> bool
-    ensures { result ≡ has_second_by site.now kept.now (all_done done.now) answers.now zone answer.now }
+    ensures { result ≡ has_second_by site.now kept.now (all_done done.now) answers.now zone
+        answer.now }
 {
     let partner = partner_at(site, zone);
     let own = has_other(site, kept, done, answers, zone, answer);
@@ -77,7 +80,8 @@ fn has_uncancelled(
     zone: usize,
     answer: &Answer,
 ) -> bool
-    ensures { result ≡ list_any (is_uncancelled_by site.now kept.now (all_done done.now) within zone answer.now) answers.now }
+    ensures { result ≡ list_any (is_uncancelled_by site.now kept.now (all_done done.now) within zone
+        answer.now) answers.now }
 {
     answers.iter().any(|other| is_uncancelled(site, kept, done, within, zone, answer, other))
 }
@@ -90,7 +94,8 @@ fn has_other(
     zone: usize,
     answer: &Answer,
 ) -> bool
-    ensures { result ≡ list_any (is_second_by site.now kept.now (all_done done.now) zone answer.now) answers.now }
+    ensures { result ≡ list_any (is_second_by site.now kept.now (all_done done.now) zone answer.now)
+        answers.now }
 {
     answers
         .iter()

@@ -1,7 +1,10 @@
 //! Which points are of a zone, and which zone is a zone's partner. Points and zones are places in the site's lists.
 
 ghost use Rattle.std.specs.Prelude.{◌≡◌, option_copied, slice_get};
-ghost use Rattle.coincidence_rules.specs.Places.{detects as detects_so, is_call_point as is_call_point_so, is_detector as is_detector_so, is_manual as is_manual_so, is_of as is_of_zone, lies_in as lies_in_zone, partner_of as partner_of_zone, rule_of as rule_of_zone};
+ghost use Rattle.coincidence_rules.specs.Places.{detects as detects_so, is_call_point as is_call_point_so};
+ghost use Rattle.coincidence_rules.specs.Places.{is_detector as is_detector_so, is_manual as is_manual_so};
+ghost use Rattle.coincidence_rules.specs.Places.{is_of as is_of_zone, lies_in as lies_in_zone};
+ghost use Rattle.coincidence_rules.specs.Places.{partner_of as partner_of_zone, rule_of as rule_of_zone};
 
 use site_types::{Point, Rule, Site, Zone};
 

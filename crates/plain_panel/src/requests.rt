@@ -5,8 +5,12 @@ ghost use Rattle.site_types.specs.Valid.{IsPanel, IsValid};
 ghost use Rattle.marker_table.specs.Equations.{values_of};
 ghost use Rattle.panel_rules.specs.Markers.{Facts as FactsOf};
 ghost use Rattle.panel_rules.specs.Moments.{Moment as MomentOf};
-ghost use Rattle.panel_rules.specs.Outputs.{is_requested as is_requested_in, is_requested_by_hand as is_requested_by_hand_in, on_output, panel_of_output as panel_in, released_at_drive as released_at_drive_in, released_at_effect as released_at_effect_in};
+ghost use Rattle.panel_rules.specs.Outputs.{is_requested as is_requested_in};
+ghost use Rattle.panel_rules.specs.Outputs.{is_requested_by_hand as is_requested_by_hand_in, on_output};
+ghost use Rattle.panel_rules.specs.Outputs.{panel_of_output as panel_in, released_at_drive as released_at_drive_in};
+ghost use Rattle.panel_rules.specs.Outputs.{released_at_effect as released_at_effect_in};
 ghost use Rattle.plain_panel.specs.Drives.{AreSeen, AreZones};
+ghost use Rattle.plain_panel.specs.Outputs.{TellsOf};
 
 use crate::seen::Seen;
 use crate::turns::before_latest;
@@ -26,7 +30,8 @@ pub(crate) fn panel_of_output(site: &Site, output: u16) -> u8
 
 // Whether the marker of an output is true.
 fn is_true(site: &Site, output: u16, values: &Values) -> bool
-    ensures { result ≡ on_output (λ o. values_of values.now o.marker) (slice_get site.now.outputs output) }
+    ensures { result ≡ on_output (λ o. values_of values.now o.marker)
+        (slice_get site.now.outputs output) }
 {
     match site.outputs.get(output as usize) {
         None => false,
@@ -37,7 +42,7 @@ fn is_true(site: &Site, output: u16, values: &Values) -> bool
 /// Whether the latest turn of Effect requests an output.
 pub(crate) fn is_requested(site: &Site, output: u16, seen: &[Seen]) -> bool
     requires { IsValid site.now }
-    ensures { (facts : ℕ → List MomentOf → FactsOf) (history : List MomentOf) → AreSeen site.now facts seen.now history → result ≡ is_requested_in site.now facts output history }
+    ensures { TellsOf site.now seen.now (λ facts. is_requested_in site.now facts output) result }
 {
     match before_latest(panel_of_output(site, output), Task::Effect, seen) {
         None => false,
@@ -48,7 +53,8 @@ pub(crate) fn is_requested(site: &Site, output: u16, seen: &[Seen]) -> bool
 /// Whether the latest turn of Effect requests an output by hand.
 pub(crate) fn is_requested_by_hand(site: &Site, output: u16, seen: &[Seen]) -> bool
     requires { IsValid site.now }
-    ensures { (facts : ℕ → List MomentOf → FactsOf) (history : List MomentOf) → AreSeen site.now facts seen.now history → result ≡ is_requested_by_hand_in site.now facts output history }
+    ensures { TellsOf site.now seen.now (λ facts. is_requested_by_hand_in site.now facts output)
+        result }
 {
     match before_latest(panel_of_output(site, output), Task::Effect, seen) {
         None => false,
@@ -59,7 +65,9 @@ pub(crate) fn is_requested_by_hand(site: &Site, output: u16, seen: &[Seen]) -> b
 /// The zones that were released for the latest turn of Effect of a panel, as masks by panel.
 pub(crate) fn released_at_effect(site: &Site, panel: u8, seen: &[Seen]) -> [u32; 8]
     requires { IsPanel site.now panel }
-    ensures { (facts : ℕ → List MomentOf → FactsOf) (history : List MomentOf) → AreSeen site.now facts seen.now history → AreZones site.now (released_at_effect_in site.now facts panel history) result }
+    ensures { (facts : ℕ → List MomentOf → FactsOf) (history : List MomentOf)
+        → AreSeen site.now facts seen.now history
+        → AreZones site.now (released_at_effect_in site.now facts panel history) result }
 {
     match before_latest(panel, Task::Effect, seen) {
         None => [0; 8],
@@ -70,7 +78,9 @@ pub(crate) fn released_at_effect(site: &Site, panel: u8, seen: &[Seen]) -> [u32;
 /// The zones that were released for the latest turn of Effect before the latest one of Drive.
 pub(crate) fn released_at_drive(site: &Site, panel: u8, seen: &[Seen]) -> [u32; 8]
     requires { IsPanel site.now panel }
-    ensures { (facts : ℕ → List MomentOf → FactsOf) (history : List MomentOf) → AreSeen site.now facts seen.now history → AreZones site.now (released_at_drive_in site.now facts panel history) result }
+    ensures { (facts : ℕ → List MomentOf → FactsOf) (history : List MomentOf)
+        → AreSeen site.now facts seen.now history
+        → AreZones site.now (released_at_drive_in site.now facts panel history) result }
 {
     match before_latest(panel, Task::Drive, seen) {
         None => [0; 8],

@@ -2,7 +2,9 @@
 
 ghost use Rattle.std.specs.Prelude.{◌≡◌, ◌-◌, option_copied, slice_index, slice_index_or};
 ghost use Rattle.site_types.specs.Bits.{has_bit, has_point as has_point_at};
-ghost use Rattle.site_types.specs.Done.{at_opening as value_at_opening, kept_output as kept_output_of, kept_point as kept_point_of, kept_test as kept_test_of, kept_zone as kept_zone_of, no_points};
+ghost use Rattle.site_types.specs.Done.{at_opening as value_at_opening, kept_output as kept_output_of};
+ghost use Rattle.site_types.specs.Done.{kept_point as kept_point_of, kept_test as kept_test_of};
+ghost use Rattle.site_types.specs.Done.{kept_zone as kept_zone_of, no_points};
 ghost use Rattle.plain_panel.specs.Settings.{setting_from};
 
 use crate::setting::Setting;

@@ -3,8 +3,9 @@ ghost use Rattle.site_types.specs.Valid.{IsValid};
 ghost use Rattle.site_types.specs.declared.site.Site.{Site as SiteOf};
 ghost use Rattle.panel_rules.specs.Markers.{Facts as FactsOf};
 ghost use Rattle.panel_rules.specs.Moments.{Moment as MomentOf, tick_of};
-ghost use Rattle.plain_panel.specs.Drives.{AreFactsOfTurn, AreSeen, IsSeen, is_beginning as is_beginning_of, is_effect as is_effect_of};
+ghost use Rattle.plain_panel.specs.Drives.{AreSeen, is_beginning as is_beginning_of, is_effect as is_effect_of};
 ghost use Rattle.plain_panel.specs.Histories.{moment_of};
+ghost use Rattle.plain_panel.specs.Outputs.{IsSeenAt};
 
 use crate::moment::Moment;
 use crate::solved::{by_hand, solved};
@@ -27,10 +28,11 @@ pub struct Seen {
 }
 
 impl Seen {
-    /// What is kept of a moment, with the tick that had begun before it. Of a turn of Effect the facts are those of that turn.
+    /// What is kept of a moment, with the tick that had begun before it. Of a turn of Effect the facts are
+    /// those of that turn.
     pub fn of(site: &Site, moment: &Moment, tick: Tick, facts: &Facts) -> Seen
         requires { IsValid site.now }
-        ensures { (facts_of : ℕ → List MomentOf → FactsOf) (history : List MomentOf) → tick.0 ≡ tick_of history → AreFactsOfTurn site.now facts_of history (moment_of moment.now) facts.now → IsSeen site.now facts_of (moment_of moment.now) history result }
+        ensures { IsSeenAt site.now (moment_of moment.now) tick.0 facts.now result }
     {
         if is_effect(moment) {
             Seen {
@@ -66,7 +68,8 @@ fn is_effect(moment: &Moment) -> bool
 
 /// How many ticks have begun, at most as many as moments.
 pub(crate) fn ticks(seen: &[Seen]) -> u64
-    ensures { (site : SiteOf) (facts : ℕ → List MomentOf → FactsOf) (history : List MomentOf) → AreSeen site facts seen.now history → result ≡ tick_of history }
+    ensures { (site : SiteOf) (facts : ℕ → List MomentOf → FactsOf) (history : List MomentOf)
+        → AreSeen site facts seen.now history → result ≡ tick_of history }
 {
     let most = seen.len() as u64;
     match seen {

@@ -19,9 +19,11 @@ pub enum Setting {
     Counter(u8),
 }
 
-/// The value of a setting at a tick: by the latest operation on it that was done in a tick before, else the one that is kept.
+/// The value of a setting at a tick: by the latest operation on it that was done in a tick before, else the
+/// one that is kept.
 pub fn in_force(site: &Site, kept: &Retained, setting: Setting, tick: Tick, done: &[Done]) -> bool
-    ensures { result ≡ value_at site.now kept.now (setting_from setting) tick.0 (all_done done.now) }
+    ensures { result
+        ≡ value_at site.now kept.now (setting_from setting) tick.0 (all_done done.now) }
 {
     let mut value = at_opening(site, kept, setting);
     for one in done {
@@ -39,7 +41,9 @@ pub fn is_blocked(site: &Site, kept: &Retained, done: &[Done], point: usize, tic
 }
 
 ghost use Rattle.std.specs.Prelude.{◌&&◌, if◌then◌else◌, nat_lt, option_copied, option_map};
-ghost use Rattle.site_types.specs.Done.{is_on as is_on_setting, is_setting, is_zone_blocked as is_zone_blocked_at, item_off as setting_of_item, operation_setting as setting_of_operation, same_setting as is_same_setting, value_set as value_given};
+ghost use Rattle.site_types.specs.Done.{is_on as is_on_setting, is_setting, is_zone_blocked as is_zone_blocked_at};
+ghost use Rattle.site_types.specs.Done.{item_off as setting_of_item, operation_setting as setting_of_operation};
+ghost use Rattle.site_types.specs.Done.{same_setting as is_same_setting, value_set as value_given};
 ghost use Rattle.plain_panel.specs.Histories.{done_of};
 
 // Whether the zone of a point is disabled or in test.
@@ -50,7 +54,8 @@ fn is_zone_blocked(
     point: Option<&Point>,
     tick: Tick,
 ) -> bool
-    ensures { result ≡ is_zone_blocked_at site.now kept.now (all_done done.now) (option_copied point.entry) tick.0 }
+    ensures { result ≡ is_zone_blocked_at site.now kept.now (all_done done.now)
+        (option_copied point.entry) tick.0 }
 {
     match point {
         None => false,
@@ -64,7 +69,8 @@ fn is_zone_blocked(
 
 // The value of a setting after one more operation, of those that were done before a tick.
 fn value_after(setting: Setting, tick: Tick, done: &Done, before: bool) -> bool
-    ensures { result ≡ (if is_on_setting (setting_from setting) (done_of done.now) && nat_lt done.now.tick.0 tick.0 then value_given done.now.operation else before) }
+    ensures { result ≡ (if is_on_setting (setting_from setting) (done_of done.now)
+        && nat_lt done.now.tick.0 tick.0 then value_given done.now.operation else before) }
 {
     if is_on(setting, done) && done.tick.0 < tick.0 {
         value_set(done.operation)

@@ -22,21 +22,24 @@ pub(crate) enum ZoneSetting {
 
 /// The zones of a panel that are disabled at a tick.
 pub fn zones_off(site: &Site, kept: &Retained, panel: u8, done: &[Done], tick: Tick) -> u32
-    ensures { result ≡ zones_where site.now panel (λ (zone : ℕ). value_at site.now kept.now (ZoneOff zone) tick.0 (all_done done.now)) }
+    ensures { result ≡ zones_where site.now panel
+        (λ (zone : ℕ). value_at site.now kept.now (ZoneOff zone) tick.0 (all_done done.now)) }
 {
     zones_set(ZoneSetting::Off, site, kept, panel, done, tick)
 }
 
 /// The zones of a panel that are in test at a tick.
 pub fn zones_in_test(site: &Site, kept: &Retained, panel: u8, done: &[Done], tick: Tick) -> u32
-    ensures { result ≡ zones_where site.now panel (λ (zone : ℕ). value_at site.now kept.now (InTest zone) tick.0 (all_done done.now)) }
+    ensures { result ≡ zones_where site.now panel
+        (λ (zone : ℕ). value_at site.now kept.now (InTest zone) tick.0 (all_done done.now)) }
 {
     zones_set(ZoneSetting::Test, site, kept, panel, done, tick)
 }
 
 /// The outputs of a panel that are disabled at a tick.
 pub fn outputs_off(site: &Site, kept: &Retained, panel: u8, done: &[Done], tick: Tick) -> u32
-    ensures { result ≡ outputs_where site.now panel (λ (output : ℕ). value_at site.now kept.now (OutputOff output) tick.0 (all_done done.now)) }
+    ensures { result ≡ outputs_where site.now panel
+        (λ (output : ℕ). value_at site.now kept.now (OutputOff output) tick.0 (all_done done.now)) }
 {
     let mut mask = 0;
     for bit in 0..32u8 {
@@ -51,7 +54,8 @@ pub fn outputs_off(site: &Site, kept: &Retained, panel: u8, done: &[Done], tick:
 /// The points of a panel that are disabled at a tick.
 #[tactic(auto, unfolding(panel_conditions::specs::Points::points_where))]
 pub fn points_off(site: &Site, kept: &Retained, panel: u8, done: &[Done], tick: Tick) -> PointSet
-    ensures { result ≡ points_where site.now panel (λ (point : ℕ). value_at site.now kept.now (PointOff point) tick.0 (all_done done.now)) }
+    ensures { result ≡ points_where site.now panel
+        (λ (point : ℕ). value_at site.now kept.now (PointOff point) tick.0 (all_done done.now)) }
 {
     let half = |line, past| points_off_on(site, kept, panel, done, tick, line, past);
     PointSet {
@@ -64,21 +68,24 @@ pub fn points_off(site: &Site, kept: &Retained, panel: u8, done: &[Done], tick: 
     }
 }
 
-ghost use Rattle.std.specs.Prelude.{◌≤◌, false, slice_index_or, length, ◌<◌, Bool};
+ghost use Rattle.std.specs.Prelude.{◌≤◌, Bool, false, slice_index_or};
 ghost use Rattle.coincidence_rules.specs.Places.{on_zone};
 ghost use Rattle.panel_conditions.specs.Points.{addresses_where, on_point};
 ghost use Rattle.panel_rules.specs.Outputs.{on_place, output_numbered};
+ghost use Rattle.plain_panel.specs.Outputs.{AreFlags};
 ghost use Rattle.plain_panel.specs.Settings.{zone_setting};
 
 /// The outputs of a panel that pass a test, of which a flag is given for each output of the site.
 pub fn outputs_that(site: &Site, panel: u8, flags: &[bool]) -> u32
-    ensures { (test : ℕ → Bool) → ((place : ℕ) → place < length site.now.outputs → slice_index_or flags.now place false ≡ test place) → result ≡ outputs_where site.now panel test }
+    ensures { (test : ℕ → Bool) → AreFlags site.now flags.now test
+        → result ≡ outputs_where site.now panel test }
 {
     outputs_flagged(site, panel, flags)
 }
 
 fn outputs_flagged(site: &Site, panel: u8, flags: &[bool]) -> u32
-    ensures { result ≡ outputs_where site.now panel (λ (place : ℕ). slice_index_or flags.now place false) }
+    ensures { result ≡ outputs_where site.now panel
+        (λ (place : ℕ). slice_index_or flags.now place false) }
 {
     let mut mask = 0;
     for bit in 0..32u8 {
@@ -118,7 +125,9 @@ fn zones_set(
     done: &[Done],
     tick: Tick,
 ) -> u32
-    ensures { result ≡ zones_where site.now panel (λ (zone : ℕ). value_at site.now kept.now (zone_setting which zone) tick.0 (all_done done.now)) }
+    ensures { result ≡ zones_where site.now panel
+        (λ (zone : ℕ). value_at site.now kept.now (zone_setting which zone) tick.0
+        (all_done done.now)) }
 {
     let mut mask = 0;
     for bit in 0..32u8 {
@@ -139,7 +148,9 @@ fn zone_is_set(
     zone: Option<usize>,
     tick: Tick,
 ) -> bool
-    ensures { result ≡ on_zone (λ (zone : ℕ). value_at site.now kept.now (zone_setting which zone) tick.0 (all_done done.now)) zone }
+    ensures { result
+        ≡ on_zone (λ (zone : ℕ). value_at site.now kept.now (zone_setting which zone) tick.0
+        (all_done done.now)) zone }
 {
     match zone {
         None => false,
@@ -168,7 +179,9 @@ fn output_is_off(
     output: Option<usize>,
     tick: Tick,
 ) -> bool
-    ensures { result ≡ on_place (λ (output : ℕ). value_at site.now kept.now (OutputOff output) tick.0 (all_done done.now)) output }
+    ensures { result
+        ≡ on_place (λ (output : ℕ). value_at site.now kept.now (OutputOff output) tick.0
+        (all_done done.now)) output }
 {
     match output {
         None => false,
@@ -187,7 +200,9 @@ fn points_off_on(
     past: u8,
 ) -> u128
     requires { past ≤ 96 }
-    ensures { result ≡ addresses_where site.now panel (λ (point : ℕ). value_at site.now kept.now (PointOff point) tick.0 (all_done done.now)) line past }
+    ensures { result ≡ addresses_where site.now panel
+        (λ (point : ℕ). value_at site.now kept.now (PointOff point) tick.0 (all_done done.now)) line
+        past }
 {
     let mut mask = 0;
     for bit in 0..96u8 {
@@ -207,7 +222,9 @@ fn point_is_off(
     point: Option<usize>,
     tick: Tick,
 ) -> bool
-    ensures { result ≡ on_point (λ (point : ℕ). value_at site.now kept.now (PointOff point) tick.0 (all_done done.now)) point }
+    ensures { result
+        ≡ on_point (λ (point : ℕ). value_at site.now kept.now (PointOff point) tick.0
+        (all_done done.now)) point }
 {
     match point {
         None => false,

@@ -12,7 +12,8 @@ use site_types::{Combine, Marker, Site, Term, has_bit_8, has_bit_32};
 /// The markers that are true over facts.
 pub fn solved(site: &Site, facts: &Facts) -> Values
     requires { IsValid site.now }
-    ensures { (rules : FactsOf) → AreFacts site.now rules facts.now → (marker : ℕ) → values_of result marker ≡ solution site.now rules marker }
+    ensures { (rules : FactsOf) → AreFacts site.now rules facts.now → (marker : ℕ)
+        → values_of result marker ≡ solution site.now rules marker }
 {
     let mut values = Values::none();
     for _round in 0..site.markers.len() {
@@ -37,7 +38,8 @@ pub fn by_hand(facts: &Facts) -> Facts
 // What each marker's terms make of it over facts and values of the markers.
 fn evaluated(site: &Site, facts: &Facts, values: &Values) -> Values
     requires { IsValid site.now }
-    ensures { (marker : ℕ) → values_of result marker ≡ equation site.now facts.now (values_of values.now) marker }
+    ensures { (marker : ℕ)
+        → values_of result marker ≡ equation site.now facts.now (values_of values.now) marker }
 {
     let mut next = Values::none();
     for (place, marker) in site.markers.as_slice().iter().enumerate() {
@@ -49,7 +51,8 @@ fn evaluated(site: &Site, facts: &Facts, values: &Values) -> Values
 // Whether enough of a marker's terms hold.
 fn is_met(site: &Site, facts: &Facts, values: &Values, marker: &Marker) -> bool
     requires { IsValid site.now }
-    ensures { result ≡ meets marker.now.combine (holds_in site.now facts.now (values_of values.now)) marker.now.terms }
+    ensures { result ≡ meets marker.now.combine (holds_in site.now facts.now (values_of values.now))
+        marker.now.terms }
 {
     let terms = marker.terms.as_slice();
     match marker.combine {

@@ -12,7 +12,8 @@ use crate::entering::Entering;
 use crate::entering_panels::{all_new, held_at, step_all};
 use crate::moment::Moment;
 use crate::network::Network;
-use crate::output_masks::outputs_unconfirmed;
+use crate::output_masks::outputs_in;
+use crate::output_state::OutputState;
 use crate::ticking::tick_after;
 use marker_table::Facts;
 use site_types::{Retained, Site};
@@ -31,7 +32,8 @@ impl Standing {
     /// Nothing has befallen.
     pub fn new(alloc: Global, site: &Site) -> Result<Standing, NoMemory>
         requires { IsValid site.now }
-        ensures { IfOk result (λ standing. (kept : RetainedOf) (done : List DoneOf) → StandsForStanding site.now kept done [] standing) }
+        ensures { IfOk result (λ standing. (kept : RetainedOf) (done : List DoneOf)
+            → StandsForStanding site.now kept done [] standing) }
     {
         Ok(Standing {
             panels: all_new(alloc, site)?,
@@ -52,9 +54,12 @@ impl Standing {
         moment: &Moment,
     ) -> Result<(), NoMemory>
         requires valid { IsValid site.now }
-        requires stands { StandsForStanding site.now kept.now (all_done done.now) (history before.now) self.old }
+        requires stands { StandsForStanding site.now kept.now (all_done done.now)
+            (history before.now) self.old }
         requires ticks { tick_of (history before.now) ≡ tick.0 }
-        ensures { OnOk result (StandsForStanding site.now kept.now (all_done done.now) (moment_of moment.now ∷ history before.now) self.new) }
+        ensures { OnOk result
+            (StandsForStanding site.now kept.now (all_done done.now) (moment_of moment.now
+            ∷ history before.now) self.new) }
     {
         step_all(&mut self.panels, alloc, site, kept, done, tick, moment)?;
         let facts = facts_now(&self.network, site, moment);
@@ -72,7 +77,8 @@ impl Standing {
         moments: &[Moment],
     ) -> Result<Standing, NoMemory>
         requires { IsValid site.now }
-        ensures { IfOk result (λ standing. StandsForStanding site.now kept.now (all_done done.now) (history moments.now) standing) }
+        ensures { IfOk result (λ standing. StandsForStanding site.now kept.now (all_done done.now)
+            (history moments.now) standing) }
     {
         let mut standing = Standing::new(alloc, site)?;
         let mut tick = Tick(0);
@@ -95,18 +101,23 @@ impl Standing {
         moment: &Moment,
     )
         requires valid { IsValid site.now }
-        requires panels { AreEntering site.now kept.now (all_done done.now) (moment_of moment.now ∷ history before.now) self.old.panels.items }
-        requires network { StandsFor site.now kept.now (all_done done.now) (history before.now) self.old.network }
-        requires driving { DrivesFor site.now (facts_of site.now kept.now (all_done done.now)) (moment_of moment.now ∷ history before.now) self.old.driving }
+        requires panels { AreEntering site.now kept.now (all_done done.now) (moment_of moment.now
+            ∷ history before.now) self.old.panels.items }
+        requires network { StandsFor site.now kept.now (all_done done.now) (history before.now)
+            self.old.network }
+        requires driving { DrivesFor site.now (facts_of site.now kept.now (all_done done.now))
+            (moment_of moment.now ∷ history before.now) self.old.driving }
         requires ticks { tick_of (history before.now) ≡ tick.0 }
         ensures panels { self.new.panels ≡ self.old.panels }
-        ensures network { StandsFor site.now kept.now (all_done done.now) (moment_of moment.now ∷ history before.now) self.new.network }
+        ensures network { StandsFor site.now kept.now (all_done done.now) (moment_of moment.now
+            ∷ history before.now) self.new.network }
         ensures driving { self.new.driving ≡ self.old.driving }
     {
         match holder(moment) {
             None => self.network.step(tick, moment),
             Some(panel) => {
-                let unconfirmed = outputs_unconfirmed(&self.driving, site, kept, done, panel);
+                let state = OutputState::Unconfirmed;
+                let unconfirmed = outputs_in(state, &self.driving, site, kept, done, panel);
                 let held = held_at(&self.panels, panel);
                 self.network
                     .hold(site, kept, done, before, tick, panel, held, unconfirmed);
@@ -116,17 +127,18 @@ impl Standing {
 }
 
 ghost use Rattle.site_types.specs.Valid.{IsPanel};
-ghost use Rattle.std.specs.Prelude.{ℕ, MatchOption};
-ghost use Rattle.tick_units.specs.declared.task.Task.TheVariants.{Effect as EffectTask, Hold as HoldTask};
-ghost use Rattle.panel_rules.specs.Moments.{Moment as MomentOf, Turned as TurnedOf};
+ghost use Rattle.std.specs.Prelude.{MatchOption};
+ghost use Rattle.tick_units.specs.declared.task.Task.TheVariants.{Hold as HoldTask};
+ghost use Rattle.panel_rules.specs.Moments.{Moment as MomentOf};
 ghost use Rattle.panel_rules.specs.Run.{facts_of};
-ghost use Rattle.plain_panel.specs.Drives.{AreFacts, DrivesFor};
+ghost use Rattle.plain_panel.specs.Drives.{AreFacts, AreFactsOfTurn, DrivesFor};
 ghost use Rattle.plain_panel.specs.Enterings.{AreEntering};
 ghost use Rattle.plain_panel.specs.Network.{IsNotHold, StandsFor};
 
 // The panel whose Hold has its turn, where a moment is that.
 fn holder(moment: &Moment) -> Option<u8>
-    ensures { MatchOption result (IsNotHold moment.now) (λ panel. moment.now ≡ Moment.Turned panel HoldTask) }
+    ensures { MatchOption result (IsNotHold moment.now)
+        (λ panel. moment.now ≡ Moment.Turned panel HoldTask) }
 {
     match *moment {
         Moment::Turned { panel, task } => {
@@ -145,7 +157,9 @@ fn holder(moment: &Moment) -> Option<u8>
 // The facts of an Effect turn, where a moment is one.
 fn facts_now(network: &Network, site: &Site, moment: &Moment) -> Facts
     requires { network.now.panels ≡ site.now.panels }
-    ensures { (kept : RetainedOf) (done : List DoneOf) (before : List MomentOf) → IsValid site.now → StandsFor site.now kept done before network.now → (panel : ℕ) → IsPanel site.now panel → moment_of moment.now ≡ TurnedOf panel EffectTask → AreFacts site.now (facts_of site.now kept done panel before) result }
+    ensures { (kept : RetainedOf) (done : List DoneOf) (before : List MomentOf) → IsValid site.now
+        → StandsFor site.now kept done before network.now → AreFactsOfTurn site.now
+        (facts_of site.now kept done) before (moment_of moment.now) result }
 {
     match *moment {
         Moment::Turned { panel, .. } => facts_at(network, site, panel),
@@ -158,7 +172,9 @@ fn facts_now(network: &Network, site: &Site, moment: &Moment) -> Facts
 // The facts of an Effect turn of a panel made now, where there is such a panel.
 fn facts_at(network: &Network, site: &Site, panel: u8) -> Facts
     requires { network.now.panels ≡ site.now.panels }
-    ensures { (kept : RetainedOf) (done : List DoneOf) (before : List MomentOf) → IsValid site.now → StandsFor site.now kept done before network.now → IsPanel site.now panel → AreFacts site.now (facts_of site.now kept done panel before) result }
+    ensures { (kept : RetainedOf) (done : List DoneOf) (before : List MomentOf) → IsValid site.now
+        → StandsFor site.now kept done before network.now → IsPanel site.now panel
+        → AreFacts site.now (facts_of site.now kept done panel before) result }
 {
     if panel >= 1 && panel <= site.panels {
         network.facts(panel)

@@ -1,14 +1,12 @@
-ghost use Rattle.std.specs.Prelude.{◌≡◌, List};
+ghost use Rattle.std.specs.Prelude.{◌≡◌};
 ghost use Rattle.std.specs.Int.{w8};
-ghost use Rattle.std.specs.List.{cons_option};
-ghost use Rattle.site_types.specs.declared.change.Change.{Change as ChangeOf};
 ghost use Rattle.site_types.specs.declared.change.Change.TheVariants.{Clear as ClearOf, Delays as DelaysOf};
 ghost use Rattle.site_types.specs.Bits.{with_bit};
-ghost use Rattle.site_types.specs.Changes.{changed, changed_by, operation_change};
+ghost use Rattle.site_types.specs.Changes.{changed, changed_by};
 ghost use Rattle.site_types.specs.Valid.{IsValid};
 ghost use Rattle.panel_rules.specs.Batches.{changes_of};
 ghost use Rattle.plain_panel.specs.Desks.{all_requests};
-ghost use Rattle.plain_panel.specs.Storing.{HasPlace};
+ghost use Rattle.plain_panel.specs.Storing.{HasPlace, MakesChange};
 
 use crate::request::Request;
 use site_types::{Change, Retained, Site, with_bit_8};
@@ -26,7 +24,7 @@ pub(crate) fn make_changes(site: &Site, waiting: &[Request], stored: &mut Retain
 // Makes the change of an operation, if it makes one.
 fn make_change_of(site: &Site, request: &Request, stored: &mut Retained)
     requires { IsValid site.now }
-    ensures { (rest : List ChangeOf) → changed_by (cons_option (operation_change site.now request.now.panel request.now.operation) rest) stored.old ≡ changed_by rest stored.new }
+    ensures { MakesChange site.now request.now.panel request.now.operation stored.old stored.new }
 {
     match site.change_of(request.panel, &request.operation) {
         Some(change) => make_change(stored, &change),

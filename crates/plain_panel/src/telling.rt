@@ -23,7 +23,8 @@ pub fn timeline(
     moments: &[Moment],
 ) -> Result<Timeline, NoMemory>
     requires { IsValid site.now }
-    ensures { IfOk result (λ timeline. timeline ≡ timeline_of site.now kept.now (history moments.now)) }
+    ensures { IfOk result
+        (λ timeline. timeline ≡ timeline_of site.now kept.now (history moments.now)) }
 {
     let mut telling = Telling::new(alloc, site, kept)?;
     let opened = telling.opened(alloc, site, kept)?;
@@ -98,7 +99,9 @@ impl Telling {
         requires valid { IsValid site.now }
         requires stands { StandsForTelling site.now kept.now (history before.now) self.old }
         requires all { with_it.now ≡ before.now ++ moment.now ∷ [] }
-        ensures { OnOk result (StandsForTelling site.now kept.now (moment_of moment.now ∷ history before.now) self.new) }
+        ensures { OnOk result
+            (StandsForTelling site.now kept.now (moment_of moment.now ∷ history before.now)
+            self.new) }
     {
         match *moment {
             Moment::Began => {
@@ -129,8 +132,11 @@ impl Telling {
         requires stands { StandsForKeeping site.now kept.now (history before.now) self.old.keeping }
         requires ticks { tick_of (history before.now) ≡ self.old.tick.0 }
         requires all { with_it.now ≡ before.now ++ moment.now ∷ [] }
-        ensures stands { OnOk result (StandsForKeeping site.now kept.now (moment_of moment.now ∷ history before.now) self.new.keeping) }
-        ensures ticks { OnOk result (tick_of (moment_of moment.now ∷ history before.now) ≡ self.new.tick.0) }
+        ensures stands { OnOk result
+            (StandsForKeeping site.now kept.now (moment_of moment.now ∷ history before.now)
+            self.new.keeping) }
+        ensures ticks { OnOk result (tick_of (moment_of moment.now ∷ history before.now)
+            ≡ self.new.tick.0) }
         ensures failed { self.new.failed ≡ self.old.failed }
         ensures faces { self.new.faces ≡ self.old.faces }
         ensures steps { self.new.steps ≡ self.old.steps }
@@ -151,8 +157,11 @@ impl Telling {
     ) -> Result<(), NoMemory>
         requires valid { IsValid site.now }
         requires stands { StandsForTelling site.now kept.now (history before.now) self.old }
-        ensures steps { OnOk result (self.new.steps.items ≡ steps_upto site.now kept.now (history before.now) (tick_of (history before.now))) }
-        ensures faces { OnOk result (self.new.faces.items ≡ faces_of site.now kept.now (history before.now)) }
+        ensures steps { OnOk result
+            (self.new.steps.items ≡ steps_upto site.now kept.now (history before.now)
+            (tick_of (history before.now))) }
+        ensures faces { OnOk result
+            (self.new.faces.items ≡ faces_of site.now kept.now (history before.now)) }
         ensures keeping { self.new.keeping ≡ self.old.keeping }
         ensures tick { self.new.tick ≡ self.old.tick }
         ensures failed { self.new.failed ≡ self.old.failed }
@@ -193,14 +202,15 @@ impl Telling {
 ghost use Rattle.std.specs.Prelude.{◌==◌, ◌&&◌, ◌||◌, length, map, nat_le, not};
 ghost use Rattle.std.specs.List.{cons_option};
 ghost use Rattle.face_text.specs.Faces.{same_faces};
-ghost use Rattle.panel_rules.specs.Timeline.{told as told_by};
 ghost use Rattle.plain_panel.specs.Desks.{answered_of};
 ghost use Rattle.plain_panel.specs.Keepings.{StandsForKeeping};
-ghost use Rattle.plain_panel.specs.Timelines.{step_closed};
+ghost use Rattle.plain_panel.specs.Timelines.{step_closed, step_with};
 
 // Whether a tick is told: it was counted, and a face is not as it was or something was answered.
 fn is_told(tick: Tick, faces: &[Face], last: &[Face], now: &[OpAnswered], failed: bool) -> bool
-    ensures { result ≡ (nat_le 1 tick.0 && (not (same_faces faces.now last.now) || (not (length now.now == 0) || failed))) }
+    ensures { result
+        ≡ (nat_le 1 tick.0
+        && (not (same_faces faces.now last.now) || (not (length now.now == 0) || failed))) }
 {
     tick.0 >= 1 && (!are_same(faces, last) || !now.is_empty() || failed)
 }
@@ -219,7 +229,8 @@ fn made(
     now: &[OpAnswered],
     failed: bool,
 ) -> Result<Step, NoMemory>
-    ensures { IfOk result (λ step. step ≡ record { tick = tick; faces = faces.now; answers = told_by (map answered_of now.now) failed }) }
+    ensures { IfOk result (λ step. step ≡ step_with tick faces.now (map answered_of now.now)
+        failed) }
 {
     let answers = told(now, failed)?;
     let faces = Vec::from_slice(alloc, faces)?;

@@ -7,7 +7,8 @@ use tick_units::{NoMemory, Tick};
 
 /// The tick that began last, after a moment. Where it can't be counted it counts as refused memory.
 pub fn tick_after(tick: Tick, moment: &Moment) -> Result<Tick, NoMemory>
-    ensures { IfOk result (λ after. (history : List MomentOf) → tick_of history ≡ tick.0 → tick_of (moment_of moment.now ∷ history) ≡ after.0) }
+    ensures { IfOk result (λ after. (history : List MomentOf) → tick_of history ≡ tick.0
+        → tick_of (moment_of moment.now ∷ history) ≡ after.0) }
 {
     match moment {
         Moment::Began => {

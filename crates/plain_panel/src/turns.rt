@@ -27,7 +27,9 @@ pub(crate) fn is_turn(moment: &Moment, panel: u8, task: Task) -> bool
 /// How many moments came before the latest turn of a panel's task.
 pub(crate) fn before_latest(panel: u8, task: Task, seen: &[Seen]) -> Option<usize>
     ensures place { IfSome result (λ place. place < length seen.now) }
-    ensures turn { (site : SiteOf) (facts : ℕ → List MomentOf → FactsOf) (history : List MomentOf) → AreSeen site facts seen.now history → IsLatest site facts panel task seen.now history result }
+    ensures turn { (site : SiteOf) (facts : ℕ → List MomentOf → FactsOf) (history : List MomentOf)
+        → AreSeen site facts seen.now history
+        → IsLatest site facts panel task seen.now history result }
 {
     match seen {
         [] => None,

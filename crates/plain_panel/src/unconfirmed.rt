@@ -1,15 +1,13 @@
 //! Which outputs are confirmed, and which wait for too long.
 
-ghost use Rattle.std.specs.Prelude.{◌≡◌, ℕ, List, slice_get};
+ghost use Rattle.std.specs.Prelude.{◌≡◌, slice_get};
 ghost use Rattle.site_types.specs.Events.{is_confirming};
 ghost use Rattle.site_types.specs.Profile.{routing_of};
 ghost use Rattle.site_types.specs.Valid.{IsValid};
 ghost use Rattle.panel_rules.specs.Faults.{is_unconfirmed as is_unconfirmed_in};
-ghost use Rattle.panel_rules.specs.Markers.{Facts as FactsOf};
-ghost use Rattle.panel_rules.specs.Moments.{Moment as MomentOf};
 ghost use Rattle.panel_rules.specs.Outputs.{has_lasted as has_lasted_in, is_confirmed_out, on_output, on_run};
-ghost use Rattle.plain_panel.specs.Drives.{AreSeen};
 ghost use Rattle.plain_panel.specs.Histories.{all_done};
+ghost use Rattle.plain_panel.specs.Outputs.{TellsOf};
 
 use crate::done::Done;
 use crate::on::{last_confirmation, latest_on, was_on_for};
@@ -25,7 +23,8 @@ pub(crate) fn is_unconfirmed(
     seen: &[Seen],
 ) -> bool
     requires { IsValid site.now }
-    ensures { (facts : ℕ → List MomentOf → FactsOf) (history : List MomentOf) → AreSeen site.now facts seen.now history → result ≡ is_unconfirmed_in site.now facts kept.now (all_done done.now) output history }
+    ensures { TellsOf site.now seen.now
+        (λ facts. is_unconfirmed_in site.now facts kept.now (all_done done.now) output) result }
 {
     asks_for_confirmation(site, output)
         && (has_lasted(site, kept, done, output, seen)
@@ -41,7 +40,8 @@ pub(crate) fn is_confirmed(
     seen: &[Seen],
 ) -> bool
     requires { IsValid site.now }
-    ensures { (facts : ℕ → List MomentOf → FactsOf) (history : List MomentOf) → AreSeen site.now facts seen.now history → result ≡ is_confirmed_out site.now facts kept.now (all_done done.now) output history }
+    ensures { TellsOf site.now seen.now
+        (λ facts. is_confirmed_out site.now facts kept.now (all_done done.now) output) result }
 {
     let confirmed = last_confirmation(output, seen);
     confirmed.0 > 0 && was_on_for(site, kept, done, output, 1, confirmed, seen)
@@ -50,7 +50,8 @@ pub(crate) fn is_confirmed(
 // Whether an output has been on for as long as a confirmation may take.
 fn has_lasted(site: &Site, kept: &Retained, done: &[Done], output: u16, seen: &[Seen]) -> bool
     requires { IsValid site.now }
-    ensures { (facts : ℕ → List MomentOf → FactsOf) (history : List MomentOf) → AreSeen site.now facts seen.now history → result ≡ has_lasted_in (routing_of site.now.format) (on_run site.now facts kept.now (all_done done.now) output history) }
+    ensures { TellsOf site.now seen.now (λ facts history. has_lasted_in (routing_of site.now.format)
+        (on_run site.now facts kept.now (all_done done.now) output history)) result }
 {
     let limit = site.profile().routing();
     match latest_on(site, kept, done, output, seen) {

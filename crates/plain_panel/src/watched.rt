@@ -1,10 +1,10 @@
-ghost use Rattle.std.specs.Prelude.{◌≡◌, ◌+◌, ◌≤◌, ◌<◌, ◌^◌, ◌∷◌, [], List, ℕ, Some, None, if◌then◌else◌};
+ghost use Rattle.std.specs.Prelude.{◌≡◌, ◌+◌, ◌≤◌, ◌<◌, ◌^◌, ◌∷◌, [], List, ℕ};
 ghost use Rattle.site_types.specs.declared.supply_kind.SupplyKind.{SupplyKind as KindOf};
 ghost use Rattle.supply_monitor.specs.Supply.{Call as CallOf, bad_turns, is_bad, place_of};
 ghost use Rattle.panel_rules.specs.Faults.{and_supply, supply_calls};
 ghost use Rattle.panel_rules.specs.Moments.{Moment as MomentOf, Turned as TurnedOf};
 ghost use Rattle.plain_panel.specs.Histories.{moment_of};
-ghost use Rattle.plain_panel.specs.BadRuns.{Watches, least_of, run_of, shows};
+ghost use Rattle.plain_panel.specs.BadRuns.{Watches, least_of, run_of, run_with, shows};
 
 use crate::bad_run::BadRun;
 use crate::moment::Moment;
@@ -38,7 +38,8 @@ impl Watched {
     /// After one more moment.
     pub(crate) fn after(self, panel: u8, kind: SupplyKind, moment: &Moment) -> Watched
         requires { self.tick + 1 < 2 ^ 64 }
-        ensures stands { (before : List MomentOf) → Watches panel kind before self → Watches panel kind (moment_of moment.now ∷ before) result }
+        ensures stands { (before : List MomentOf) → Watches panel kind before self
+            → Watches panel kind (moment_of moment.now ∷ before) result }
         ensures tick { result.tick ≤ self.tick + 1 }
     {
         match *moment {
@@ -67,7 +68,9 @@ impl Watched {
 
     // The run after a turn of the panel's task.
     fn run_after(self, task: Task) -> Option<BadRun>
-        ensures { (panel : ℕ) (kind : KindOf) (before : List MomentOf) → Watches panel kind before self → result ≡ run_of (bad_turns kind (supply_calls panel (TurnedOf panel task ∷ before))) }
+        ensures { (panel : ℕ) (kind : KindOf) (before : List MomentOf)
+            → Watches panel kind before self
+            → result ≡ run_of (bad_turns kind (supply_calls panel (TurnedOf panel task ∷ before))) }
     {
         match task {
             Task::Supply => self.run_now(),
@@ -84,7 +87,7 @@ impl Watched {
 
     // The run after a turn of Supply made now.
     fn run_now(self) -> Option<BadRun>
-        ensures { result ≡ (if self.bad then Some (record { latest = self.tick; least = least_of self.tick self.run }) else None) }
+        ensures { result ≡ run_with self.tick self.bad self.run }
     {
         if self.bad {
             Some(BadRun {
@@ -124,7 +127,8 @@ impl Watched {
 
 // Whether a supply of a panel is bad after an event.
 fn bad_after(panel: u8, kind: SupplyKind, event: &Event, was: bool) -> bool
-    ensures { (calls : List CallOf) → was ≡ is_bad kind calls → result ≡ is_bad kind (and_supply panel event.now calls) }
+    ensures { (calls : List CallOf) → was ≡ is_bad kind calls
+        → result ≡ is_bad kind (and_supply panel event.now calls) }
 {
     match *event {
         Event::Supply {

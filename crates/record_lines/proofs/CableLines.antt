@@ -11,7 +11,8 @@ use Rattle.site_types.specs.declared.loop_plan.LoopPlan.{LoopPlan}
 use Rattle.site_types.specs.declared.event.Event.TheVariants.{Cable}
 use Rattle.site_types.specs.declared.piece_state.PieceState.{PieceState}
 use Rattle.record_lines.specs.Events.{cable_of, has_numbers, is_number, octet_of}
-use Rattle.record_lines.specs.Fields.{field, field_count}
+use Rattle.record_lines.specs.Fields.{field_count}
+use Rattle.site_types.specs.Fields.{field}
 use Rattle.record_lines.specs.Forms.{form_of}
 use Rattle.record_lines.specs.Printed.{event_text, joined, piece_state_word}
 use Rattle.record_lines.specs.Words.{piece_state_of}
@@ -27,7 +28,8 @@ use Rattle.record_lines.proofs.Verdicts.{IsTextOf, begun, counted, event_from, j
 
 -- ---- the numbers of a piece that the site has
 
-any_there : {X : Type 0} (test : X → Bool) (xs : List X) → list_any test xs ≡ true → (place : ℕ) × (x : X) × (slice_get xs place ≡ Some x) × (test x ≡ true)
+any_there : {X : Type 0} (test : X → Bool) (xs : List X) → list_any test xs ≡ true → (place : ℕ) × (x : X) × (slice_get xs place ≡ Some x)
+    × (test x ≡ true)
 any_there test [] passes = cc
 any_there test (x ∷ xs) passes =
     elim (or_cases (test x) (list_any test xs) passes) [
@@ -40,7 +42,8 @@ record AreOctets (panel line piece : ℕ) : Type 0 where
   line_is : line < 256
   piece_is : piece < 256
 
-numbers_of_plan : (site : Site) → IsValid site → (plan : LoopPlan) → IsLoop site plan → (panel line piece : ℕ) → ((plan.panel == panel) && (plan.line == line) && nat_le piece plan.last) ≡ true → AreOctets panel line piece
+numbers_of_plan : (site : Site) → IsValid site → (plan : LoopPlan) → IsLoop site plan → (panel line piece : ℕ)
+    → ((plan.panel == panel) && (plan.line == line) && nat_le piece plan.last) ≡ true → AreOctets panel line piece
 numbers_of_plan site valid plan is panel line piece passes =
     let front = and_parts ((plan.panel == panel) && (plan.line == line)) (nat_le piece plan.last) passes in
     let both = and_parts (plan.panel == panel) (plan.line == line) front.0 in
@@ -73,29 +76,38 @@ cable_fit panel line piece state are =
     let last = fit_more 20 (piece_state_word state) [] (piece_word state).fit refl in
     let third = fit_more 20 (decimal piece) (piece_state_word state ∷ []) (number_fit piece (octet_small piece are.piece_is)) last in
     let second = fit_more 20 (decimal line) (decimal piece ∷ piece_state_word state ∷ []) (number_fit line (octet_small line are.line_is)) third in
-    fit_more 20 (decimal panel) (decimal line ∷ decimal piece ∷ piece_state_word state ∷ []) (number_fit panel (octet_small panel are.panel_is)) second
+    fit_more 20 (decimal panel) (decimal line ∷ decimal piece ∷ piece_state_word state ∷ []) (number_fit panel (octet_small panel are.panel_is))
+    second
 
-cable_form_is : (text : List ℕ) (panel line piece : ℕ) (state : PieceState) → HasFields text (codes "cable") (cable_fields panel line piece state) → form_of text ≡ Some (CableForm state)
+cable_form_is : (text : List ℕ) (panel line piece : ℕ) (state : PieceState) → HasFields text (codes "cable") (cable_fields panel line piece state)
+    → form_of text ≡ Some (CableForm state)
 cable_form_is text panel line piece state has =
-    cable_row text (has.at 0) ∙ counted (field_count text) 5 (option_map (λ s. CableForm s) (piece_state_of (field 4 text))) None (ap (λ n. n + 1) has.count)
+    cable_row text (has.at 0) ∙ counted (field_count text) 5 (option_map (λ s. CableForm s) (piece_state_of (field 4 text))) None
+    (ap (λ n. n + 1) has.count)
     ∙ ap (λ word. option_map (λ s. CableForm s) (piece_state_of word)) (has.at 4) ∙ ap (option_map (λ s. CableForm s)) (piece_word state).back
 
-cable_numbers : (text : List ℕ) (panel line piece : ℕ) (state : PieceState) → AreOctets panel line piece → HasFields text (codes "cable") (cable_fields panel line piece state) →
+cable_numbers : (text : List ℕ) (panel line piece : ℕ) (state : PieceState) → AreOctets panel line piece
+    → HasFields text (codes "cable") (cable_fields panel line piece state) →
     has_numbers (CableForm state) text ≡ true
 cable_numbers text panel line piece state are has =
     let first = number_there (field 1 text) panel (has.at 1) (octet_small panel are.panel_is) in
     let second = number_there (field 2 text) line (has.at 2) (octet_small line are.line_is) in
     let third = number_there (field 3 text) piece (has.at 3) (octet_small piece are.piece_is) in
-    and_from (is_number (field 1 text) && is_number (field 2 text)) (is_number (field 3 text)) (and_from (is_number (field 1 text)) (is_number (field 2 text)) first second) third
+    and_from (is_number (field 1 text) && is_number (field 2 text)) (is_number (field 3 text))
+    (and_from (is_number (field 1 text)) (is_number (field 2 text)) first second) third
 
-cable_back : (text : List ℕ) (panel line piece : ℕ) (state : PieceState) → AreOctets panel line piece → HasFields text (codes "cable") (cable_fields panel line piece state) →
+cable_back : (text : List ℕ) (panel line piece : ℕ) (state : PieceState) → AreOctets panel line piece
+    → HasFields text (codes "cable") (cable_fields panel line piece state) →
     cable_of state text ≡ Some (Cable panel line piece state)
 cable_back text panel line piece state are has =
-    ap (option_and_then (λ p. option_and_then (λ l. option_map (λ n. Cable p l n state) (octet_of (field 3 text))) (octet_of (field 2 text)))) (octet_back (field 1 text) panel (has.at 1) are.panel_is)
-    ∙ ap (option_and_then (λ l. option_map (λ n. Cable panel l n state) (octet_of (field 3 text)))) (octet_back (field 2 text) line (has.at 2) are.line_is)
+    ap (option_and_then (λ p. option_and_then (λ l. option_map (λ n. Cable p l n state) (octet_of (field 3 text))) (octet_of (field 2 text))))
+    (octet_back (field 1 text) panel (has.at 1) are.panel_is)
+    ∙ ap (option_and_then (λ l. option_map (λ n. Cable panel l n state) (octet_of (field 3 text))))
+    (octet_back (field 2 text) line (has.at 2) are.line_is)
     ∙ ap (option_map (λ n. Cable panel line n state)) (octet_back (field 3 text) piece (has.at 3) are.piece_is)
 
-pub cable_printed : (site : Site) → IsValid site → (standing : Standing) → 1 ≤ standing.ticks → (panel line piece : ℕ) (state : PieceState) → has_event site (Cable panel line piece state) ≡ true →
+pub cable_printed : (site : Site) → IsValid site → (standing : Standing) → 1 ≤ standing.ticks → (panel line piece : ℕ) (state : PieceState)
+    → has_event site (Cable panel line piece state) ≡ true →
     IsTextOf site standing (EventLine (Cable panel line piece state)) (event_text site (Cable panel line piece state))
 cable_printed site valid standing due panel line piece state there =
     let are = octets_of site valid panel line piece there in
@@ -105,6 +117,9 @@ cable_printed site valid standing due panel line piece state there =
     let has = fields_of 20 (codes "cable") fields refl fit in
     record {
       bytes = joined_text 20 (codes "cable") fields refl fit (omega arith);
-      says = judged_from site standing text (CableForm state) (EventLine (Cable panel line piece state)) (cable_form_is text panel line piece state has) (begun standing due)
-          (cable_numbers text panel line piece state are has) (event_from site (CableForm state) text (Cable panel line piece state) (cable_back text panel line piece state are has) there);
+      says =
+          judged_from site standing text (CableForm state) (EventLine (Cable panel line piece state)) (cable_form_is text panel line piece state has)
+          (begun standing due)
+          (cable_numbers text panel line piece state are has)
+          (event_from site (CableForm state) text (Cable panel line piece state) (cable_back text panel line piece state are has) there);
     }

@@ -5,7 +5,8 @@ use Rattle.std.specs.List.{list_all}
 use Rattle.std.proofs.lemmas.Bool.{and_from, and_parts, le-leb, leb-true, ne_eqb, not-true, not_from_false}
 use Rattle.std.proofs.lemmas.List.Folds.{list_all-append}
 use Rattle.std.proofs.lemmas.List.Sums.{sum_by-append}
-use Rattle.record_lines.specs.Fields.{after_space, each_field, field, space_count}
+use Rattle.record_lines.specs.Fields.{each_field, space_count}
+use Rattle.site_types.specs.Fields.{after_space, field}
 use Rattle.record_lines.specs.Lines.{is_printable, refusal_within}
 use Rattle.record_lines.specs.Printed.{joined}
 use Rattle.record_lines.specs.declared.why.Why.TheVariants.{NotAscii}
@@ -65,7 +66,8 @@ pub record HasFields (text word : List ℕ) (fields : List (List ℕ)) : Type 0 
   pub at : (place : ℕ) → field place text ≡ get_or (word ∷ fields) place []
   pub count : space_count text ≡ length fields
 
-pub fields_of : (most : ℕ) (word : List ℕ) (fields : List (List ℕ)) → is_fit most word ≡ true → are_fit most fields ≡ true → HasFields (joined word fields) word fields
+pub fields_of : (most : ℕ) (word : List ℕ) (fields : List (List ℕ)) → is_fit most word ≡ true → are_fit most fields ≡ true
+    → HasFields (joined word fields) word fields
 fields_of most word fields fit others =
     let clear = fit_clear most word fit in
     let clears = fit_all_clear most fields others in
@@ -88,19 +90,22 @@ after_first word (first ∷ fields) clear = after_word word first fields clear
 pub after_joined : (word : List ℕ) (fields : List (List ℕ)) → is_clear word ≡ true → after_space (joined word fields) ≡ parted fields
 after_joined word fields clear = ap after_space (joined_is word fields) ∙ after_first word fields clear
 
-pub each_parted : (test : List ℕ → Bool) (fields : List (List ℕ)) → all_clear fields ≡ true → each_field test (length fields) (parted fields) ≡ list_all test fields
+pub each_parted : (test : List ℕ → Bool) (fields : List (List ℕ)) → all_clear fields ≡ true
+    → each_field test (length fields) (parted fields) ≡ list_all test fields
 each_parted test [] clear = refl
 each_parted test (first ∷ fields) clear =
     let p = both (is_clear first) (all_clear fields) clear in
     ap (λ t. test t && each_field test (length fields) (after_space (first ++ spaced fields))) (before_word first fields p.0)
-    ∙ ap (λ t. test first && each_field test (length fields) t) (after_first first fields p.0) ∙ ap (λ b. test first && b) (each_parted test fields p.1)
+    ∙ ap (λ t. test first && each_field test (length fields) t) (after_first first fields p.0) ∙ ap (λ b. test first && b)
+    (each_parted test fields p.1)
 
 pub seats_parted : (fields : List (List ℕ)) → all_clear fields ≡ true → seats_of (length fields) (parted fields) ≡ map seat_of fields
 seats_parted [] clear = refl
 seats_parted (first ∷ fields) clear =
     let p = both (is_clear first) (all_clear fields) clear in
     ap (λ t. seat_of t ∷ seats_of (length fields) (after_space (first ++ spaced fields))) (before_word first fields p.0)
-    ∙ ap (λ t. seat_of first ∷ seats_of (length fields) t) (after_first first fields p.0) ∙ ap (λ rest. seat_of first ∷ rest) (seats_parted fields p.1)
+    ∙ ap (λ t. seat_of first ∷ seats_of (length fields) t) (after_first first fields p.0) ∙ ap (λ rest. seat_of first ∷ rest)
+    (seats_parted fields p.1)
 
 -- ---- bytes
 
@@ -138,7 +143,8 @@ pub record IsLineText (text : List ℕ) : Type 0 where
   pub printable : list_all is_printable text ≡ true
   pub short : length text ≤ 512
 
-pub joined_text : (most : ℕ) (word : List ℕ) (fields : List (List ℕ)) → is_fit most word ≡ true → are_fit most fields ≡ true → (most + 1) * (length fields + 1) ≤ 512 → IsLineText (joined word fields)
+pub joined_text : (most : ℕ) (word : List ℕ) (fields : List (List ℕ)) → is_fit most word ≡ true → are_fit most fields ≡ true
+    → (most + 1) * (length fields + 1) ≤ 512 → IsLineText (joined word fields)
 joined_text most word fields fit others few =
     let front = fit_short most word fit in
     let behind = spaced_short most fields others in
@@ -154,5 +160,6 @@ fine_bytes (byte ∷ rest) (suc room) printable short =
     let p = and_parts (is_printable byte) (list_all is_printable rest) printable in
     ap (λ good. if good then refusal_within room rest else Some NotAscii) p.0 ∙ fine_bytes rest room p.1 (omega arith)
 
-pub fit_more : (most : ℕ) (first : List ℕ) (fields : List (List ℕ)) → is_fit most first ≡ true → are_fit most fields ≡ true → are_fit most (first ∷ fields) ≡ true
+pub fit_more : (most : ℕ) (first : List ℕ) (fields : List (List ℕ)) → is_fit most first ≡ true → are_fit most fields ≡ true
+    → are_fit most (first ∷ fields) ≡ true
 fit_more most first fields fit others = and_from (is_fit most first) (are_fit most fields) fit others

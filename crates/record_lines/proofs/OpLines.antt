@@ -15,9 +15,13 @@ use Rattle.site_types.specs.declared.item.Item.TheVariants.{Point as PointItem, 
 use Rattle.site_types.specs.declared.named.Thing.{Thing}
 use Rattle.site_types.specs.declared.named.Thing.TheVariants.{Point as PointThing, Zone as ZoneThing, Output as OutputThing}
 use Rattle.site_types.specs.declared.operation.Operation.{Operation}
-use Rattle.site_types.specs.declared.operation.Operation.TheVariants.{Mute, Override, Silence, Resound, Reset, Cancel as CancelZone, Disable as DisableItem, Enable as EnableItem, Test as TestZone, Untest as UntestZone, Delays, Clear}
+use Rattle.site_types.specs.declared.operation.Operation.TheVariants.{Mute, Override, Silence, Resound, Reset}
+use Rattle.site_types.specs.declared.operation.Operation.TheVariants.{Cancel as CancelZone, Disable as DisableItem}
+use Rattle.site_types.specs.declared.operation.Operation.TheVariants.{Enable as EnableItem, Test as TestZone}
+use Rattle.site_types.specs.declared.operation.Operation.TheVariants.{Untest as UntestZone, Delays, Clear}
 use Rattle.record_lines.specs.Events.{code_in, event_view, item_of, label_view, labelled, op_of, operation_of, output_in, point_in, zone_in}
-use Rattle.record_lines.specs.Fields.{field, field_count}
+use Rattle.record_lines.specs.Fields.{field_count}
+use Rattle.site_types.specs.Fields.{field}
 use Rattle.record_lines.specs.Forms.{action_of, form_of, is_code_field, named_action_of, plain_action_of, zone_action_of}
 use Rattle.record_lines.specs.Printed.{action_fields, code_text, event_text, item_fields, joined, name_text, on_word}
 use Rattle.record_lines.specs.ReadBack.{IsCode}
@@ -93,13 +97,18 @@ are_named site valid panel Clear has = tt
 
 -- ---- the fields of an operation
 
-named_fit : (site : Site) (word : List ℕ) (thing : Thing) → is_fit 20 word ≡ true → IsNamed site thing → are_fit 20 (word ∷ name_text site thing ∷ []) ≡ true
+named_fit : (site : Site) (word : List ℕ) (thing : Thing) → is_fit 20 word ≡ true → IsNamed site thing
+    → are_fit 20 (word ∷ name_text site thing ∷ []) ≡ true
 named_fit site word thing fit named = fit_more 20 word (name_text site thing ∷ []) fit (fit_more 20 (name_text site thing) [] named.fit refl)
 
-item_fit : (site : Site) (word : List ℕ) (item : Item) → is_fit 20 word ≡ true → IsNamed site (item_thing item) → are_fit 20 (word ∷ item_fields site item) ≡ true
-item_fit site word (PointItem place) fit named = fit_more 20 word (item_fields site (PointItem place)) fit (named_fit site (codes "point") (PointThing place) refl named)
-item_fit site word (ZoneItem place) fit named = fit_more 20 word (item_fields site (ZoneItem place)) fit (named_fit site (codes "zone") (ZoneThing place) refl named)
-item_fit site word (OutputItem place) fit named = fit_more 20 word (item_fields site (OutputItem place)) fit (named_fit site (codes "output") (OutputThing place) refl named)
+item_fit : (site : Site) (word : List ℕ) (item : Item) → is_fit 20 word ≡ true → IsNamed site (item_thing item)
+    → are_fit 20 (word ∷ item_fields site item) ≡ true
+item_fit site word (PointItem place) fit named =
+    fit_more 20 word (item_fields site (PointItem place)) fit (named_fit site (codes "point") (PointThing place) refl named)
+item_fit site word (ZoneItem place) fit named =
+    fit_more 20 word (item_fields site (ZoneItem place)) fit (named_fit site (codes "zone") (ZoneThing place) refl named)
+item_fit site word (OutputItem place) fit named =
+    fit_more 20 word (item_fields site (OutputItem place)) fit (named_fit site (codes "output") (OutputThing place) refl named)
 
 action_fit : (site : Site) (operation : Operation) → AreNamed site operation → are_fit 20 (action_fields site operation) ≡ true
 action_fit site Mute named = refl
@@ -156,44 +165,62 @@ action_for (Delays on) = Plain (Delays on)
 action_for Clear = Plain Clear
 
 abbrev action_by : ℕ → List ℕ → List ℕ → Option Action
-action_by count word next = if count == 4 then plain_action_of word else (if count == 5 then zone_action_of word next else (if count == 6 then named_action_of word next else None))
+action_by count word next =
+    if count == 4 then plain_action_of word else
+    (if count == 5 then zone_action_of word next else (if count == 6 then named_action_of word next else None))
 
-read_action : (text : List ℕ) (count : ℕ) (word next : List ℕ) → field_count text ≡ count → field 3 text ≡ word → field 4 text ≡ next → action_of text ≡ action_by count word next
+read_action : (text : List ℕ) (count : ℕ) (word next : List ℕ) → field_count text ≡ count → field 3 text ≡ word → field 4 text ≡ next
+    → action_of text ≡ action_by count word next
 read_action text count word next is_count is_word is_next =
-    ap (λ n. action_by n (field 3 text) (field 4 text)) is_count ∙ ap (λ w. action_by count w (field 4 text)) is_word ∙ ap (action_by count word) is_next
+    ap (λ n. action_by n (field 3 text) (field 4 text)) is_count ∙ ap (λ w. action_by count w (field 4 text)) is_word ∙ ap (action_by count word)
+    is_next
 
 -- the fields of an operation line
 abbrev HasOperation : List ℕ → Site → List ℕ → List ℕ → Operation → Type 0
 HasOperation text site panel code operation = HasFields text (codes "op") (panel ∷ code ∷ action_fields site operation)
 
-action_back : (text : List ℕ) (site : Site) (panel code : List ℕ) (operation : Operation) → HasOperation text site panel code operation → action_of text ≡ Some (action_for operation)
+action_back : (text : List ℕ) (site : Site) (panel code : List ℕ) (operation : Operation) → HasOperation text site panel code operation
+    → action_of text ≡ Some (action_for operation)
 action_back text site panel code Mute has = read_action text 4 (codes "mute") [] (ap (λ n. n + 1) has.count) (has.at 3) (has.at 4)
 action_back text site panel code Override has = read_action text 4 (codes "override") [] (ap (λ n. n + 1) has.count) (has.at 3) (has.at 4)
 action_back text site panel code Silence has = read_action text 4 (codes "silence") [] (ap (λ n. n + 1) has.count) (has.at 3) (has.at 4)
 action_back text site panel code Resound has = read_action text 4 (codes "resound") [] (ap (λ n. n + 1) has.count) (has.at 3) (has.at 4)
 action_back text site panel code Reset has = read_action text 4 (codes "reset") [] (ap (λ n. n + 1) has.count) (has.at 3) (has.at 4)
-action_back text site panel code (CancelZone zone) has = read_action text 5 (codes "cancel") (name_text site (ZoneThing zone)) (ap (λ n. n + 1) has.count) (has.at 3) (has.at 4)
-action_back text site panel code (DisableItem (PointItem place)) has = read_action text 6 (codes "disable") (codes "point") (ap (λ n. n + 1) has.count) (has.at 3) (has.at 4)
-action_back text site panel code (DisableItem (ZoneItem place)) has = read_action text 6 (codes "disable") (codes "zone") (ap (λ n. n + 1) has.count) (has.at 3) (has.at 4)
-action_back text site panel code (DisableItem (OutputItem place)) has = read_action text 6 (codes "disable") (codes "output") (ap (λ n. n + 1) has.count) (has.at 3) (has.at 4)
-action_back text site panel code (EnableItem (PointItem place)) has = read_action text 6 (codes "enable") (codes "point") (ap (λ n. n + 1) has.count) (has.at 3) (has.at 4)
-action_back text site panel code (EnableItem (ZoneItem place)) has = read_action text 6 (codes "enable") (codes "zone") (ap (λ n. n + 1) has.count) (has.at 3) (has.at 4)
-action_back text site panel code (EnableItem (OutputItem place)) has = read_action text 6 (codes "enable") (codes "output") (ap (λ n. n + 1) has.count) (has.at 3) (has.at 4)
-action_back text site panel code (TestZone zone) has = read_action text 5 (codes "test") (name_text site (ZoneThing zone)) (ap (λ n. n + 1) has.count) (has.at 3) (has.at 4)
-action_back text site panel code (UntestZone zone) has = read_action text 5 (codes "untest") (name_text site (ZoneThing zone)) (ap (λ n. n + 1) has.count) (has.at 3) (has.at 4)
+action_back text site panel code (CancelZone zone) has =
+    read_action text 5 (codes "cancel") (name_text site (ZoneThing zone)) (ap (λ n. n + 1) has.count) (has.at 3) (has.at 4)
+action_back text site panel code (DisableItem (PointItem place)) has =
+    read_action text 6 (codes "disable") (codes "point") (ap (λ n. n + 1) has.count) (has.at 3) (has.at 4)
+action_back text site panel code (DisableItem (ZoneItem place)) has =
+    read_action text 6 (codes "disable") (codes "zone") (ap (λ n. n + 1) has.count) (has.at 3) (has.at 4)
+action_back text site panel code (DisableItem (OutputItem place)) has =
+    read_action text 6 (codes "disable") (codes "output") (ap (λ n. n + 1) has.count) (has.at 3) (has.at 4)
+action_back text site panel code (EnableItem (PointItem place)) has =
+    read_action text 6 (codes "enable") (codes "point") (ap (λ n. n + 1) has.count) (has.at 3) (has.at 4)
+action_back text site panel code (EnableItem (ZoneItem place)) has =
+    read_action text 6 (codes "enable") (codes "zone") (ap (λ n. n + 1) has.count) (has.at 3) (has.at 4)
+action_back text site panel code (EnableItem (OutputItem place)) has =
+    read_action text 6 (codes "enable") (codes "output") (ap (λ n. n + 1) has.count) (has.at 3) (has.at 4)
+action_back text site panel code (TestZone zone) has =
+    read_action text 5 (codes "test") (name_text site (ZoneThing zone)) (ap (λ n. n + 1) has.count) (has.at 3) (has.at 4)
+action_back text site panel code (UntestZone zone) has =
+    read_action text 5 (codes "untest") (name_text site (ZoneThing zone)) (ap (λ n. n + 1) has.count) (has.at 3) (has.at 4)
 action_back text site panel code (Delays on) has =
-    read_action text 5 (codes "delays") (on_word on) (ap (λ n. n + 1) has.count) (has.at 3) (has.at 4) ∙ ap (option_map (λ o. Plain (Delays o))) (word_of_on on).back
+    read_action text 5 (codes "delays") (on_word on) (ap (λ n. n + 1) has.count) (has.at 3) (has.at 4) ∙ ap (option_map (λ o. Plain (Delays o)))
+    (word_of_on on).back
 action_back text site panel code Clear has = read_action text 4 (codes "clear") [] (ap (λ n. n + 1) has.count) (has.at 3) (has.at 4)
 
 -- ---- the operation that it is read as
 
 -- what is made of a zone whose name was printed
-zone_back : {A : Type 0} (site : Site) (make : ℕ → A) (field : List ℕ) (zone : ℕ) → field ≡ name_text site (ZoneThing zone) → IsNamed site (ZoneThing zone) →
+zone_back : {A : Type 0} (site : Site) (make : ℕ → A) (field : List ℕ) (zone : ℕ) → field ≡ name_text site (ZoneThing zone)
+    → IsNamed site (ZoneThing zone) →
     option_map make (zone_in (thing_named site field)) ≡ Some (make zone)
-zone_back site make field zone is named = ap (λ n. option_map make (zone_in (thing_named site n))) is ∙ ap (λ t. option_map make (zone_in t)) named.found
+zone_back site make field zone is named =
+    ap (λ n. option_map make (zone_in (thing_named site n))) is ∙ ap (λ t. option_map make (zone_in t)) named.found
 
 -- and of an item
-item_back : (site : Site) (make : Item → Operation) (field : List ℕ) (item : Item) → field ≡ name_text site (item_thing item) → IsNamed site (item_thing item) →
+item_back : (site : Site) (make : Item → Operation) (field : List ℕ) (item : Item) → field ≡ name_text site (item_thing item)
+    → IsNamed site (item_thing item) →
     option_map make (item_of site (kind_for item) field) ≡ Some (make item)
 item_back site make field (PointItem place) is named =
     ap (λ n. option_map make (item_of site PointKind n)) is ∙ ap (λ t. option_map make (option_map (λ p. PointItem p) (point_in t))) named.found
@@ -203,12 +230,14 @@ item_back site make field (OutputItem place) is named =
     ap (λ n. option_map make (item_of site OutputKind n)) is ∙ ap (λ t. option_map make (option_map (λ p. OutputItem p) (output_in t))) named.found
 
 -- the name of an item is the last field
-item_at : (text : List ℕ) (site : Site) (panel code word : List ℕ) (item : Item) → HasFields text (codes "op") (panel ∷ code ∷ word ∷ item_fields site item) → field 5 text ≡ name_text site (item_thing item)
+item_at : (text : List ℕ) (site : Site) (panel code word : List ℕ) (item : Item)
+    → HasFields text (codes "op") (panel ∷ code ∷ word ∷ item_fields site item) → field 5 text ≡ name_text site (item_thing item)
 item_at text site panel code word (PointItem place) has = has.at 5
 item_at text site panel code word (ZoneItem place) has = has.at 5
 item_at text site panel code word (OutputItem place) has = has.at 5
 
-operation_back : (text : List ℕ) (site : Site) (panel code : List ℕ) (operation : Operation) → HasOperation text site panel code operation → AreNamed site operation →
+operation_back : (text : List ℕ) (site : Site) (panel code : List ℕ) (operation : Operation) → HasOperation text site panel code operation
+    → AreNamed site operation →
     operation_of site (action_for operation) text ≡ Some operation
 operation_back text site panel code Mute has named = refl
 operation_back text site panel code Override has named = refl
@@ -216,8 +245,10 @@ operation_back text site panel code Silence has named = refl
 operation_back text site panel code Resound has named = refl
 operation_back text site panel code Reset has named = refl
 operation_back text site panel code (CancelZone zone) has named = zone_back site (λ z. CancelZone z) (field 4 text) zone (has.at 4) named
-operation_back text site panel code (DisableItem item) has named = item_back site (λ i. DisableItem i) (field 5 text) item (item_at text site panel code (codes "disable") item has) named
-operation_back text site panel code (EnableItem item) has named = item_back site (λ i. EnableItem i) (field 5 text) item (item_at text site panel code (codes "enable") item has) named
+operation_back text site panel code (DisableItem item) has named =
+    item_back site (λ i. DisableItem i) (field 5 text) item (item_at text site panel code (codes "disable") item has) named
+operation_back text site panel code (EnableItem item) has named =
+    item_back site (λ i. EnableItem i) (field 5 text) item (item_at text site panel code (codes "enable") item has) named
 operation_back text site panel code (TestZone zone) has named = zone_back site (λ z. TestZone z) (field 4 text) zone (has.at 4) named
 operation_back text site panel code (UntestZone zone) has named = zone_back site (λ z. UntestZone z) (field 4 text) zone (has.at 4) named
 operation_back text site panel code (Delays on) has named = refl
@@ -225,14 +256,18 @@ operation_back text site panel code Clear has named = refl
 
 -- ---- the line
 
-op_form_is : (text : List ℕ) (site : Site) (panel : List ℕ) (code : Option ArrayString) (operation : Operation) → IsCode code → HasOperation text site panel (code_text code) operation →
+op_form_is : (text : List ℕ) (site : Site) (panel : List ℕ) (code : Option ArrayString) (operation : Operation) → IsCode code
+    → HasOperation text site panel (code_text code) operation →
     form_of text ≡ Some (OpForm (action_for operation))
 op_form_is text site panel code operation spelled has =
     let coded : is_code_field (field 2 text) ≡ true = ap is_code_field (has.at 2) ∙ code_form code spelled in
-    op_row text (has.at 0) ∙ passed (is_code_field (field 2 text)) (option_map (λ a. OpForm a) (action_of text)) None coded ∙ ap (option_map (λ a. OpForm a)) (action_back text site panel (code_text code) operation has)
+    op_row text (has.at 0) ∙ passed (is_code_field (field 2 text)) (option_map (λ a. OpForm a) (action_of text)) None coded ∙ ap
+    (option_map (λ a. OpForm a)) (action_back text site panel (code_text code) operation has)
 
-op_back : (text : List ℕ) (site : Site) (panel : ℕ) (code : Option ArrayString) (operation : Operation) → panel < 256 → IsCode code → AreNamed site operation →
-    HasOperation text site (decimal panel) (code_text code) operation → op_of site (action_for operation) text ≡ Some (event_view (Op panel code operation))
+op_back : (text : List ℕ) (site : Site) (panel : ℕ) (code : Option ArrayString) (operation : Operation) → panel < 256 → IsCode code
+    → AreNamed site operation →
+    HasOperation text site (decimal panel) (code_text code) operation
+    → op_of site (action_for operation) text ≡ Some (event_view (Op panel code operation))
 op_back text site panel code operation below spelled named has =
     let made = λ (p : ℕ) (c : Option ArrayString) (o : Option Operation). option_map (λ operation. Op p c operation) o in
     let read = option_map labelled (code_in (field 2 text)) in
@@ -240,7 +275,8 @@ op_back text site panel code operation below spelled named has =
     ∙ ap (made panel read) (operation_back text site (decimal panel) (code_text code) operation has named)
     ∙ ap (λ c. made panel c (Some operation)) (ap (λ t. option_map labelled (code_in t)) (has.at 2) ∙ code_back code spelled)
 
-pub op_printed : (site : Site) → IsValid site → (standing : Standing) → 1 ≤ standing.ticks → (panel : ℕ) (code : Option ArrayString) (operation : Operation) → IsCode code → has_event site (Op panel code operation) ≡ true →
+pub op_printed : (site : Site) → IsValid site → (standing : Standing) → 1 ≤ standing.ticks
+    → (panel : ℕ) (code : Option ArrayString) (operation : Operation) → IsCode code → has_event site (Op panel code operation) ≡ true →
     IsTextOf site standing (EventLine (Op panel code operation)) (event_text site (Op panel code operation))
 op_printed site valid standing due panel code operation spelled there =
     let parts = and_parts (is_panel site panel) (has_operands site panel operation) there in
@@ -255,7 +291,10 @@ op_printed site valid standing due panel code operation spelled there =
     let few = action_few site operation in
     record {
       bytes = joined_text 20 (codes "op") fields refl fit (omega (arith, few));
-      says = judged_from site standing text (OpForm (action_for operation)) (EventLine (event_view (Op panel code operation))) (op_form_is text site (decimal panel) code operation spelled has) (begun standing due)
+      says =
+          judged_from site standing text (OpForm (action_for operation)) (EventLine (event_view (Op panel code operation)))
+          (op_form_is text site (decimal panel) code operation spelled has) (begun standing due)
           (number_there (field 1 text) panel (has.at 1) (octet_small panel below))
-          (event_from site (OpForm (action_for operation)) text (event_view (Op panel code operation)) (op_back text site panel code operation below spelled named has) there);
+          (event_from site (OpForm (action_for operation)) text (event_view (Op panel code operation))
+          (op_back text site panel code operation below spelled named has) there);
     }

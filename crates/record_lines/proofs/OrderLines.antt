@@ -1,5 +1,6 @@
 -- The printed line of an order.
-use Rattle.std.proofs.Common.{◌≡◌, ◌≢◌, ◌∙◌, ◌&&◌, ◌+◌, ◌*◌, ◌<◌, ◌≤◌, ◌^◌, inl, inr, ℕ, Bool, true, false, List, [], ◌∷◌, Some, None, Ok, Err, is_some, length, get_or, map, refl, sym, ap, subst, arith}
+use Rattle.std.proofs.Common.{◌≡◌, ◌≢◌, ◌∙◌, ◌&&◌, ◌+◌, ◌*◌, ◌<◌, ◌≤◌, ◌^◌, inl, inr, ℕ, Bool, true, false, List, []}
+use Rattle.std.proofs.Common.{◌∷◌, Some, None, Ok, Err, is_some, length, get_or, map, refl, sym, ap, subst, arith}
 use Rattle.std.specs.Prelude.{◌⊎◌, codes, bytes_eq, decimal, nat_le}
 use Rattle.std.specs.List.{AllByRecursion, list_all}
 use Rattle.std.proofs.lemmas.Bool.{and_from, cond-false, le-leb, or_right}
@@ -17,7 +18,8 @@ use Rattle.tick_units.proofs.Canonical.{IsPanelSeat, Contains-canonical_seats-ca
 use Rattle.tick_units.proofs.Faults.{order_fault-none}
 use Rattle.tick_units.proofs.OrderLaws.{length-order}
 use Rattle.tick_units.proofs.Sound.{sound_from_order}
-use Rattle.record_lines.specs.Fields.{after_space, each_field, field, field_count, space_count}
+use Rattle.record_lines.specs.Fields.{each_field, field_count, space_count}
+use Rattle.site_types.specs.Fields.{after_space, field}
 use Rattle.record_lines.specs.Forms.{form_of, is_seat}
 use Rattle.record_lines.specs.Judged.{order_line, ordered}
 use Rattle.record_lines.specs.Printed.{joined, line_text, seat_text}
@@ -44,14 +46,17 @@ pub record IsSeatText (seat : Seat) (text : List ℕ) : Type 0 where
 panel_back : (panel : ℕ) → panel < 256 → panel_of (Some panel) ≡ panel
 panel_back panel below = omega (arith, below)
 
-lettered : (letter : ℕ) (task : Task) (panel : ℕ) → task_of letter ≡ Some task → is_plain letter ≡ true → panel < 256 → IsSeatText (seat_at panel task) (letter ∷ decimal panel)
+lettered : (letter : ℕ) (task : Task) (panel : ℕ) → task_of letter ≡ Some task → is_plain letter ≡ true → panel < 256
+    → IsSeatText (seat_at panel task) (letter ∷ decimal panel)
 lettered letter task panel known plain below =
     let small : panel < 2 ^ 64 = omega (arith, below) in
     let digits = decimal panel in
     let number = number_back digits panel refl small in
     let short = length-decimal-le 3 panel (omega arith) (omega (arith, below)) small in
+    let all_plain = and_from (is_plain letter) (list_all is_plain digits) plain (decimal_plain panel small) in
+    let few = le-leb (length (letter ∷ digits)) 5 (omega (arith, short)) in
     record {
-      fit = and_from (is_plain letter && list_all is_plain digits) (nat_le (length (letter ∷ digits)) 5) (and_from (is_plain letter) (list_all is_plain digits) plain (decimal_plain panel small)) (le-leb (length (letter ∷ digits)) 5 (omega (arith, short)));
+      fit = and_from (is_plain letter && list_all is_plain digits) (nat_le (length (letter ∷ digits)) 5) all_plain few;
       is = or_right (bytes_eq (letter ∷ digits) (codes "k")) (is_some (task_of letter)) (ap is_some known);
       numbered = or_right (bytes_eq (letter ∷ digits) (codes "k")) (is_some (number_of digits)) (ap is_some number);
       back = ap (λ t. seat_with t digits) known ∙ ap (λ n. seat_at (panel_of n) task) number ∙ ap (λ p. seat_at p task) (panel_back panel below);
@@ -83,11 +88,14 @@ seat_printed panels few seat (inr keep) = subst IsPrinted (sym keep) keep_printe
 seats_printed : (panels : ℕ) → panels ≤ 8 → (seats : List Seat) → IsOrder panels seats → AllByRecursion IsPrinted seats
 seats_printed panels few seats order =
     let known = (sound_from_order panels seats order).known in
-    recursion_from_All IsPrinted seats (λ k d within. seat_printed panels few (get_or seats k d) ((Contains-canonical_seats-cases panels (get_or seats k d)).0 (known k d within)))
+    recursion_from_All IsPrinted seats
+    (λ k d within. seat_printed panels few (get_or seats k d) ((Contains-canonical_seats-cases panels (get_or seats k d)).0 (known k d within)))
 
-each_passes : (test : List ℕ → Bool) → ((seat : Seat) → IsPrinted seat → test (seat_text seat) ≡ true) → (seats : List Seat) → AllByRecursion IsPrinted seats → list_all test (map seat_text seats) ≡ true
+each_passes : (test : List ℕ → Bool) → ((seat : Seat) → IsPrinted seat → test (seat_text seat) ≡ true) → (seats : List Seat)
+    → AllByRecursion IsPrinted seats → list_all test (map seat_text seats) ≡ true
 each_passes test one [] all = refl
-each_passes test one (seat ∷ seats) all = and_from (test (seat_text seat)) (list_all test (map seat_text seats)) (one seat all.0) (each_passes test one seats all.1)
+each_passes test one (seat ∷ seats) all =
+    and_from (test (seat_text seat)) (list_all test (map seat_text seats)) (one seat all.0) (each_passes test one seats all.1)
 
 all_back : (seats : List Seat) → AllByRecursion IsPrinted seats → map seat_of (map seat_text seats) ≡ seats
 all_back [] all = refl
@@ -112,14 +120,16 @@ walked seats all =
     let has = fields_of 5 (codes "order") fields refl fit in
     let behind = after_joined (codes "order") fields refl in
     let walk : (test : List ℕ → Bool) → each_field test (space_count text) (after_space text) ≡ list_all test fields =
-    λ test. ap (λ n. each_field test n (after_space text)) has.count ∙ ap (λ t. each_field test (length fields) t) behind ∙ each_parted test fields clear
+    λ test. ap (λ n. each_field test n (after_space text)) has.count ∙ ap (λ t. each_field test (length fields) t) behind ∙ each_parted test fields
+    clear
     in
     record {
       row = ap (λ n. n + 1) (has.count ∙ length-map seats seat_text);
       first = has.at 0;
       are_seats = walk is_seat ∙ each_passes is_seat (λ seat printed. printed.is) seats all;
       are_numbered = walk is_numbered ∙ each_passes is_numbered (λ seat printed. printed.numbered) seats all;
-      back = ap (λ n. seats_of n (after_space text)) has.count ∙ ap (λ t. seats_of (length fields) t) behind ∙ seats_parted fields clear ∙ all_back seats all;
+      back = ap (λ n. seats_of n (after_space text)) has.count ∙ ap (λ t. seats_of (length fields) t) behind ∙ seats_parted fields clear ∙ all_back
+          seats all;
     }
 
 order_form_is : (text : List ℕ) (seats : List Seat) → 1 ≤ length seats → IsOrderText text seats → form_of text ≡ Some OrderForm
@@ -127,15 +137,19 @@ order_form_is text seats some is =
     let row = is.row in
     let many : nat_le 2 (field_count text) ≡ true = le-leb 2 (field_count text) (omega (arith, row, some)) in
     let seated = each_field is_seat (space_count text) (after_space text) in
-    order_row text is.first ∙ passed (nat_le 2 (field_count text) && seated) (Some OrderForm) None (and_from (nat_le 2 (field_count text)) seated many is.are_seats)
+    order_row text is.first ∙ passed (nat_le 2 (field_count text) && seated) (Some OrderForm) None
+    (and_from (nat_le 2 (field_count text)) seated many is.are_seats)
 
-order_line_is : (site : Site) (standing : Standing) (text : List ℕ) (seats : List Seat) → standing.has_order ≡ false → IsOrder site.panels seats → IsOrderText text seats →
+order_line_is : (site : Site) (standing : Standing) (text : List ℕ) (seats : List Seat) → standing.has_order ≡ false → IsOrder site.panels seats
+    → IsOrderText text seats →
     order_line site standing text ≡ Ok (OrderLine seats)
 order_line_is site standing text seats first order is =
     let read = ordered (order_of site.panels (seats_of (space_count text) (after_space text))) in
-    cond-false standing.has_order (Err (BadOrder 0)) read first ∙ ap (λ s. ordered (order_of site.panels s)) is.back ∙ ap (λ fault. ordered (order_unless seats fault)) ((order_fault-none site.panels seats).1 order)
+    cond-false standing.has_order (Err (BadOrder 0)) read first ∙ ap (λ s. ordered (order_of site.panels s)) is.back ∙ ap
+    (λ fault. ordered (order_unless seats fault)) ((order_fault-none site.panels seats).1 order)
 
-pub order_printed : (site : Site) → IsValid site → (standing : Standing) → 1 ≤ standing.ticks → standing.has_order ≡ false → (seats : List Seat) → IsOrder site.panels seats →
+pub order_printed : (site : Site) → IsValid site → (standing : Standing) → 1 ≤ standing.ticks → standing.has_order ≡ false → (seats : List Seat)
+    → IsOrder site.panels seats →
     IsTextOf site standing (OrderLine seats) (line_text site (OrderLine seats))
 order_printed site valid standing due first seats order =
     let few = valid.forms.panels.1 in
@@ -147,5 +161,6 @@ order_printed site valid standing due first seats order =
     let is = walked seats all in
     record {
       bytes = joined_text 5 (codes "order") fields refl fit (omega (arith, count, few, length-map seats seat_text));
-      says = judged_from site standing text OrderForm (OrderLine seats) (order_form_is text seats (omega (arith, count)) is) (begun standing due) is.are_numbered (order_line_is site standing text seats first order is);
+      says = judged_from site standing text OrderForm (OrderLine seats) (order_form_is text seats (omega (arith, count)) is) (begun standing due)
+          is.are_numbered (order_line_is site standing text seats first order is);
     }

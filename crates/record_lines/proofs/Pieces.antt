@@ -28,7 +28,8 @@ grow : (before piece : List ℕ) (k : ℕ) → k < length piece → (before ++ t
 grow before piece k within = append_assoc before (take k piece) (get_or piece k 0 ∷ []) ∙ ap (λ t. before ++ t) (sym (take_more piece k 0 within))
 
 -- the record stands where its reader does
-pub may_come_when : (site : Site) (before : List ℕ) (reader : LineReader) (step : Step) → reader.over ≡ None → StandsFor site before reader → StepMayCome site reader.standing step →
+pub may_come_when : (site : Site) (before : List ℕ) (reader : LineReader) (step : Step) → reader.over ≡ None → StandsFor site before reader
+    → StepMayCome site reader.standing step →
     StepMayCome site (reading_of site before).standing step
 may_come_when site before reader step over stands may =
     let waiting = waits_when site before reader over stands in
@@ -38,11 +39,13 @@ no_ending : (site : Site) (bytes : List ℕ) (reader : LineReader) → IsOpen si
 no_ending site bytes reader waiting = ap (λ r. r.ending) (open_is site bytes reader waiting) ∙ waiting.going
 
 -- the front of a piece, which is kept and brings nothing
-ongoing_kept : (site : Site) (before piece : List ℕ) (count : ℕ) (old reader : LineReader) → Keeps old piece count reader → IsOpen site before old → Ongoing site before (before ++ take count piece) reader
+ongoing_kept : (site : Site) (before piece : List ℕ) (count : ℕ) (old reader : LineReader) → Keeps old piece count reader → IsOpen site before old
+    → Ongoing site before (before ++ take count piece) reader
 ongoing_kept site before piece count old reader kept waiting =
     let front = take count piece in
     let e = cut_on before front kept.printable in
-    let fits : length (cut before).rest + length front ≤ 512 = omega (arith, ap length waiting.keeps, ap length kept.text, length-append old.text.items front, kept.room) in
+    let fits : length (cut before).rest + length front ≤ 512 =
+    omega (arith, ap length waiting.keeps, ap length kept.text, length-append old.text.items front, kept.room) in
     let on : IsOpen site (before ++ front) reader = record {
       going = ap (λ k. (lines_read site k.whole).ending) e ∙ waiting.going;
       stands = kept.stands ∙ waiting.stands ∙ sym (ap (λ k. (lines_read site k.whole).standing) e);
@@ -52,7 +55,9 @@ ongoing_kept site before piece count old reader kept waiting =
     } in
     record {
       waits = on;
-      same = ap (λ r. r.lines) (open_is site (before ++ front) reader on) ∙ ap (λ k. (lines_read site k.whole).lines) e ∙ sym (ap (λ r. r.lines) (open_is site before old waiting));
+      same =
+          ap (λ r. r.lines) (open_is site (before ++ front) reader on) ∙ ap (λ k. (lines_read site k.whole).lines) e ∙ sym
+          (ap (λ r. r.lines) (open_is site before old waiting));
     }
 
 tells_from : (earlier before after : Reading) (step : Step) → before.lines ≡ earlier.lines → Tells before after step → Tells earlier after step
@@ -60,36 +65,43 @@ tells_from earlier before after Need same tells = (tells.0 ∙ same, tells.1)
 tells_from earlier before after (LineStep line) same tells = (tells.0 ∙ ap (λ lines. lines ++ line_view line ∷ []) same, tells.1)
 tells_from earlier before after (RefusedStep refusal) same tells = (tells.0 ∙ same, tells.1)
 
-first_at : (site : Site) (before piece : List ℕ) (k : ℕ) (old : LineReader) → k < length piece → Ongoing site before (before ++ take k piece) old → IsFirst site before piece (k + 1) k
+first_at : (site : Site) (before piece : List ℕ) (k : ℕ) (old : LineReader) → k < length piece → Ongoing site before (before ++ take k piece) old
+    → IsFirst site before piece (k + 1) k
 first_at site before piece k old within ongoing =
     record { last = refl; within = within; same = ongoing.same; going = no_ending site (before ++ take k piece) old ongoing.waits }
 
-fed_at : (site : Site) (before piece : List ℕ) (k : ℕ) (initial old reader : LineReader) (step : Step) → k < length piece → Uses site before piece (k + 1) step →
-    TakesByte site (before ++ take k piece) (get_or piece k 0) reader step → Ongoing site before (before ++ take k piece) old → IsOpen site before initial →
+fed_at : (site : Site) (before piece : List ℕ) (k : ℕ) (initial old reader : LineReader) (step : Step) → k < length piece
+    → Uses site before piece (k + 1) step →
+    TakesByte site (before ++ take k piece) (get_or piece k 0) reader step → Ongoing site before (before ++ take k piece) old
+    → IsOpen site before initial →
     Feeds site before piece (record { used = k + 1; step = step }) reader
 fed_at site before piece k initial old reader step within uses takes ongoing waiting =
     let tells = subst (λ b. Tells (reading_of site (before ++ take k piece)) (reading_of site b) step) (grow before piece k within) takes.tells in
     record {
       stands = subst (λ b. StandsFor site b reader) (grow before piece k within) takes.stands;
       answers = subst (λ e. Answers site before piece (record { used = k + 1; step = step }) e) (sym (no_ending site before initial waiting)) (
-        tells_from (reading_of site before) (reading_of site (before ++ take k piece)) (reading_of site (before ++ take (k + 1) piece)) step ongoing.same tells,
+        tells_from (reading_of site before) (reading_of site (before ++ take k piece)) (reading_of site (before ++ take (k + 1) piece)) step
+            ongoing.same tells,
         uses,
       );
     }
 
 -- the byte behind the front ends the line, or is refused
 fed_last : (site : Site) (before piece : List ℕ) (k : ℕ) (initial old reader : LineReader) (step : Step) → k < length piece → EndsLine step →
-    TakesByte site (before ++ take k piece) (get_or piece k 0) reader step → Ongoing site before (before ++ take k piece) old → IsOpen site before initial →
+    TakesByte site (before ++ take k piece) (get_or piece k 0) reader step → Ongoing site before (before ++ take k piece) old
+    → IsOpen site before initial →
     Feeds site before piece (record { used = k + 1; step = step }) reader
 fed_last site before piece k initial old reader Need within ends takes ongoing waiting = absurd ends
 fed_last site before piece k initial old reader (LineStep line) within ends takes ongoing waiting =
     fed_at site before piece k initial old reader (LineStep line) within (k, first_at site before piece k old within ongoing) takes ongoing waiting
 fed_last site before piece k initial old reader (RefusedStep refusal) within ends takes ongoing waiting =
-    fed_at site before piece k initial old reader (RefusedStep refusal) within (k, first_at site before piece k old within ongoing) takes ongoing waiting
+    fed_at site before piece k initial old reader (RefusedStep refusal) within (k, first_at site before piece k old within ongoing) takes ongoing
+    waiting
 
 -- no byte of the piece brought anything
 fed_all : (site : Site) (before piece : List ℕ) (k : ℕ) (initial reader : LineReader) → length piece ≤ k → reader.over ≡ None →
-    Ongoing site before (before ++ take k piece) reader → IsOpen site before initial → Feeds site before piece (record { used = length piece; step = Need }) reader
+    Ongoing site before (before ++ take k piece) reader → IsOpen site before initial
+    → Feeds site before piece (record { used = length piece; step = Need }) reader
 fed_all site before piece k initial reader past over ongoing waiting =
     let same : take k piece ≡ take (length piece) piece = take_all k piece past ∙ sym (take_all (length piece) piece (omega arith)) in
     let all = subst (λ t. Ongoing site before (before ++ t) reader) same ongoing in
@@ -102,17 +114,21 @@ fed_all site before piece k initial reader past over ongoing waiting =
     }
 
 -- a piece is kept as a whole
-pub fed_whole : (site : Site) (before piece : List ℕ) (k : ℕ) (initial reader : LineReader) → initial.over ≡ None → Keeps initial piece k reader → length piece ≤ k → StandsFor site before initial →
+pub fed_whole : (site : Site) (before piece : List ℕ) (k : ℕ) (initial reader : LineReader) → initial.over ≡ None → Keeps initial piece k reader
+    → length piece ≤ k → StandsFor site before initial →
     Feeds site before piece (record { used = k; step = Need }) reader
 fed_whole site before piece k initial reader over kept past stands =
     let waiting = waits_when site before initial over stands in
     let all : k ≡ length piece = omega (arith, past, kept.within) in
-    let fed = fed_all site before piece k initial reader past (kept.over ∙ over) (ongoing_kept site before piece k initial reader kept waiting) waiting in
+    let fed = fed_all site before piece k initial reader past (kept.over ∙ over) (ongoing_kept site before piece k initial reader kept waiting)
+    waiting in
     subst (λ used. Feeds site before piece (record { used = used; step = Need }) reader) (sym all) fed
 
 -- the front of a piece is kept, and the next byte ends the line or is refused
-pub fed_front : (site : Site) (before piece : List ℕ) (k byte : ℕ) (initial old reader : LineReader) (step : Step) → initial.over ≡ None → Keeps initial piece k old → k < length piece → byte ≡ get_or piece k byte → EndsLine step →
-    ((bytes : List ℕ) → IsOpen site bytes old → TakesByte site bytes byte reader step) → StandsFor site before initial → Feeds site before piece (record { used = k + 1; step = step }) reader
+pub fed_front : (site : Site) (before piece : List ℕ) (k byte : ℕ) (initial old reader : LineReader) (step : Step) → initial.over ≡ None
+    → Keeps initial piece k old → k < length piece → byte ≡ get_or piece k byte → EndsLine step →
+    ((bytes : List ℕ) → IsOpen site bytes old → TakesByte site bytes byte reader step) → StandsFor site before initial
+    → Feeds site before piece (record { used = k + 1; step = step }) reader
 fed_front site before piece k byte initial old reader step over kept within is ends takes stands =
     let waiting = waits_when site before initial over stands in
     let ongoing = ongoing_kept site before piece k initial old kept waiting in
@@ -121,7 +137,8 @@ fed_front site before piece k byte initial old reader step over kept within is e
     fed_last site before piece k initial old reader step within ends taken ongoing waiting
 
 -- a reader that is over answers the same again
-pub fed_again : (site : Site) (before piece : List ℕ) (reader : LineReader) (over : Over) (step : Step) → reader.over ≡ Some over → step ≡ over_step over →
+pub fed_again : (site : Site) (before piece : List ℕ) (reader : LineReader) (over : Over) (step : Step) → reader.over ≡ Some over
+    → step ≡ over_step over →
     StandsFor site before reader → Feeds site before piece (record { used = 0; step = step }) reader
 fed_again site before piece reader over step is says stands =
     let ending : (reading_of site before).ending ≡ Some over = subst (λ o. StandsBy site before reader o) is stands in

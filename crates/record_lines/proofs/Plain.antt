@@ -49,15 +49,19 @@ dash_plain : (byte : ℕ) → (byte == 45) ≡ true → is_plain byte ≡ true
 dash_plain byte is = plain_within byte (omega (arith, eqb-true byte 45 is)) (omega (arith, eqb-true byte 45 is))
 
 code_byte_plain : (byte : ℕ) → is_code_byte byte ≡ true → is_plain byte ≡ true
-code_byte_plain byte is = elim (or_cases (is_letter byte) (is_digit byte) is) [ inl letter ↦ letter_plain byte letter | inr digit ↦ digit_plain byte digit ]
+code_byte_plain byte is =
+    elim (or_cases (is_letter byte) (is_digit byte) is) [ inl letter ↦ letter_plain byte letter | inr digit ↦ digit_plain byte digit ]
 
 name_byte_plain : (byte : ℕ) → is_name_byte byte ≡ true → is_plain byte ≡ true
-name_byte_plain byte is = elim (or_cases (is_letter byte || is_digit byte) (byte == 45) is) [ inl code ↦ code_byte_plain byte code | inr dash ↦ dash_plain byte dash ]
+name_byte_plain byte is =
+    elim (or_cases (is_letter byte || is_digit byte) (byte == 45) is) [ inl code ↦ code_byte_plain byte code | inr dash ↦ dash_plain byte dash ]
 
 -- the length of a field with a greater bound
-fit_from : (least most : ℕ) (field : List ℕ) → least ≤ most → list_all is_plain field ≡ true → nat_le (length field) least ≡ true → is_fit most field ≡ true
+fit_from : (least most : ℕ) (field : List ℕ) → least ≤ most → list_all is_plain field ≡ true → nat_le (length field) least ≡ true
+    → is_fit most field ≡ true
 fit_from least most field within plain short =
-    and_from (list_all is_plain field) (nat_le (length field) most) plain (le-leb (length field) most (omega (arith, leb-true (length field) least short, within)))
+    and_from (list_all is_plain field) (nat_le (length field) most) plain
+    (le-leb (length field) most (omega (arith, leb-true (length field) least short, within)))
 
 pub name_fit : (name : List ℕ) → is_name name ≡ true → is_fit 20 name ≡ true
 name_fit name is =
@@ -84,7 +88,8 @@ decimal_plain n small = digits_plain (decimal n) (number_parts (decimal n) n (nu
 
 pub number_fit : (n : ℕ) → n < 2 ^ 64 → is_fit 20 (decimal n) ≡ true
 number_fit n small =
-    and_from (list_all is_plain (decimal n)) (nat_le (length (decimal n)) 20) (decimal_plain n small) (le-leb (length (decimal n)) 20 (length-decimal-le 20 n (omega arith) (omega (arith, small)) small))
+    and_from (list_all is_plain (decimal n)) (nat_le (length (decimal n)) 20) (decimal_plain n small)
+    (le-leb (length (decimal n)) 20 (length-decimal-le 20 n (omega arith) (omega (arith, small)) small))
 
 pub octet_small : (n : ℕ) → n < 256 → n < 2 ^ 64
 octet_small n below = omega (arith, below)

@@ -10,7 +10,8 @@ use Rattle.site_types.specs.declared.event.Event.TheVariants.{Point, Confirmed}
 use Rattle.site_types.specs.declared.named.Thing.TheVariants.{Point as PointThing, Output as OutputThing}
 use Rattle.site_types.specs.declared.point_state.PointState.{PointState}
 use Rattle.record_lines.specs.Events.{event_of, output_in, point_in}
-use Rattle.record_lines.specs.Fields.{field, field_count}
+use Rattle.record_lines.specs.Fields.{field_count}
+use Rattle.site_types.specs.Fields.{field}
 use Rattle.record_lines.specs.Forms.{form_of}
 use Rattle.record_lines.specs.Printed.{event_text, joined, name_text, point_state_word}
 use Rattle.record_lines.specs.Words.{point_state_of}
@@ -23,12 +24,15 @@ use Rattle.record_lines.proofs.PrintedWords.{point_word}
 use Rattle.record_lines.proofs.Rows.{point_row, routing_row}
 use Rattle.record_lines.proofs.Verdicts.{IsTextOf, begun, counted, event_from, judged_from, passed}
 
-point_form_is : (text name : List ℕ) (state : PointState) → HasFields text (codes "point") (name ∷ point_state_word state ∷ []) → form_of text ≡ Some (PointForm state)
+point_form_is : (text name : List ℕ) (state : PointState) → HasFields text (codes "point") (name ∷ point_state_word state ∷ [])
+    → form_of text ≡ Some (PointForm state)
 point_form_is text name state has =
-    point_row text (has.at 0) ∙ counted (field_count text) 3 (option_map (λ s. PointForm s) (point_state_of (field 2 text))) None (ap (λ n. n + 1) has.count)
+    point_row text (has.at 0) ∙ counted (field_count text) 3 (option_map (λ s. PointForm s) (point_state_of (field 2 text))) None
+    (ap (λ n. n + 1) has.count)
     ∙ ap (λ word. option_map (λ s. PointForm s) (point_state_of word)) (has.at 2) ∙ ap (option_map (λ s. PointForm s)) (point_word state).back
 
-pub point_printed : (site : Site) → IsValid site → (standing : Standing) → 1 ≤ standing.ticks → (point : ℕ) (state : PointState) → has_event site (Point point state) ≡ true →
+pub point_printed : (site : Site) → IsValid site → (standing : Standing) → 1 ≤ standing.ticks → (point : ℕ) (state : PointState)
+    → has_event site (Point point state) ≡ true →
     IsTextOf site standing (EventLine (Point point state)) (event_text site (Point point state))
 point_printed site valid standing due point state there =
     let name = name_text site (PointThing point) in
@@ -37,19 +41,24 @@ point_printed site valid standing due point state there =
     let text = joined (codes "point") fields in
     let fit = fit_more 20 name (point_state_word state ∷ []) named.fit (fit_more 20 (point_state_word state) [] (point_word state).fit refl) in
     let has = fields_of 20 (codes "point") fields refl fit in
-    let is : event_of site (PointForm state) text ≡ Some (Point point state) = ap (λ n. option_map (λ p. Point p state) (point_in (thing_named site n))) (has.at 1) ∙ ap (λ t. option_map (λ p. Point p state) (point_in t)) named.found in
+    let is : event_of site (PointForm state) text ≡ Some (Point point state) =
+    ap (λ n. option_map (λ p. Point p state) (point_in (thing_named site n))) (has.at 1) ∙ ap (λ t. option_map (λ p. Point p state) (point_in t))
+    named.found in
     record {
       bytes = joined_text 20 (codes "point") fields refl fit (omega arith);
-      says = judged_from site standing text (PointForm state) (EventLine (Point point state)) (point_form_is text name state has) (begun standing due) refl (event_from site (PointForm state) text (Point point state) is there);
+      says = judged_from site standing text (PointForm state) (EventLine (Point point state)) (point_form_is text name state has) (begun standing due)
+          refl (event_from site (PointForm state) text (Point point state) is there);
     }
 
 routing_form_is : (text name : List ℕ) → HasFields text (codes "routing") (name ∷ codes "confirmed" ∷ []) → form_of text ≡ Some RoutingForm
 routing_form_is text name has =
     let count : (field_count text == 3) ≡ true = eq-eqb (field_count text) 3 (ap (λ n. n + 1) has.count) in
     let word : bytes_eq (field 2 text) (codes "confirmed") ≡ true = ap (λ w. bytes_eq w (codes "confirmed")) (has.at 2) in
-    routing_row text (has.at 0) ∙ passed ((field_count text == 3) && bytes_eq (field 2 text) (codes "confirmed")) (Some RoutingForm) None (and_from (field_count text == 3) (bytes_eq (field 2 text) (codes "confirmed")) count word)
+    routing_row text (has.at 0) ∙ passed ((field_count text == 3) && bytes_eq (field 2 text) (codes "confirmed")) (Some RoutingForm) None
+    (and_from (field_count text == 3) (bytes_eq (field 2 text) (codes "confirmed")) count word)
 
-pub routing_printed : (site : Site) → IsValid site → (standing : Standing) → 1 ≤ standing.ticks → (output : ℕ) → has_event site (Confirmed output) ≡ true →
+pub routing_printed : (site : Site) → IsValid site → (standing : Standing) → 1 ≤ standing.ticks → (output : ℕ)
+    → has_event site (Confirmed output) ≡ true →
     IsTextOf site standing (EventLine (Confirmed output)) (event_text site (Confirmed output))
 routing_printed site valid standing due output there =
     let name = name_text site (OutputThing output) in
@@ -58,8 +67,11 @@ routing_printed site valid standing due output there =
     let text = joined (codes "routing") fields in
     let fit = fit_more 20 name (codes "confirmed" ∷ []) named.fit refl in
     let has = fields_of 20 (codes "routing") fields refl fit in
-    let is : event_of site RoutingForm text ≡ Some (Confirmed output) = ap (λ n. option_map (λ o. Confirmed o) (output_in (thing_named site n))) (has.at 1) ∙ ap (λ t. option_map (λ o. Confirmed o) (output_in t)) named.found in
+    let is : event_of site RoutingForm text ≡ Some (Confirmed output) =
+    ap (λ n. option_map (λ o. Confirmed o) (output_in (thing_named site n))) (has.at 1) ∙ ap (λ t. option_map (λ o. Confirmed o) (output_in t))
+    named.found in
     record {
       bytes = joined_text 20 (codes "routing") fields refl fit (omega arith);
-      says = judged_from site standing text RoutingForm (EventLine (Confirmed output)) (routing_form_is text name has) (begun standing due) refl (event_from site RoutingForm text (Confirmed output) is there);
+      says = judged_from site standing text RoutingForm (EventLine (Confirmed output)) (routing_form_is text name has) (begun standing due) refl
+          (event_from site RoutingForm text (Confirmed output) is there);
     }

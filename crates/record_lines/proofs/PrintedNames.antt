@@ -21,7 +21,8 @@ pub record IsNamed (site : Site) (thing : Thing) : Type 0 where
   pub fit : is_fit 20 (name_text site thing) ≡ true
   pub found : thing_named site (name_text site thing) ≡ Some thing
 
-named_from : (site : Site) → IsValid site → (thing : Thing) (name : List ℕ) → name_at site thing ≡ Some name → is_name name ≡ true → IsNamed site thing
+named_from : (site : Site) → IsValid site → (thing : Thing) (name : List ℕ) → name_at site thing ≡ Some name → is_name name ≡ true
+    → IsNamed site thing
 named_from site valid thing name has form =
     let is : name_text site thing ≡ name = ap known_name has in
     record {
@@ -33,17 +34,22 @@ named_from site valid thing name has form =
 pub at_place : {X : Type 0} (P : X → Type 0) (xs : List X) (place : ℕ) (x : X) → All P xs → slice_get xs place ≡ Some x → P x
 at_place P xs place x all at = subst P (get_or_from_slice_get xs place x x at) (all place x (slice_get_within xs place x at))
 
-pub point_named : (site : Site) → IsValid site → (place : ℕ) (point : PointOf) → slice_get site.points place ≡ Some point → IsNamed site (PointThing place)
+pub point_named : (site : Site) → IsValid site → (place : ℕ) (point : PointOf) → slice_get site.points place ≡ Some point
+    → IsNamed site (PointThing place)
 point_named site valid place point at =
-    named_from site valid (PointThing place) point.name.bytes (ap (option_map (λ (p : PointOf). p.name.bytes)) at) (at_place (IsPoint site) site.points place point valid.forms.points at).name
+    named_from site valid (PointThing place) point.name.bytes (ap (option_map (λ (p : PointOf). p.name.bytes)) at)
+    (at_place (IsPoint site) site.points place point valid.forms.points at).name
 
 pub zone_named : (site : Site) → IsValid site → (place : ℕ) (zone : ZoneOf) → slice_get site.zones place ≡ Some zone → IsNamed site (ZoneThing place)
 zone_named site valid place zone at =
-    named_from site valid (ZoneThing place) zone.name.bytes (ap (option_map (λ (z : ZoneOf). z.name.bytes)) at) (at_place (IsZone site) site.zones place zone valid.forms.zones at).name
+    named_from site valid (ZoneThing place) zone.name.bytes (ap (option_map (λ (z : ZoneOf). z.name.bytes)) at)
+    (at_place (IsZone site) site.zones place zone valid.forms.zones at).name
 
-pub output_named : (site : Site) → IsValid site → (place : ℕ) (output : OutputOf) → slice_get site.outputs place ≡ Some output → IsNamed site (OutputThing place)
+pub output_named : (site : Site) → IsValid site → (place : ℕ) (output : OutputOf) → slice_get site.outputs place ≡ Some output
+    → IsNamed site (OutputThing place)
 output_named site valid place output at =
-    named_from site valid (OutputThing place) output.name.bytes (ap (option_map (λ (o : OutputOf). o.name.bytes)) at) (at_place (IsOutput site) site.outputs place output valid.forms.outputs at).name
+    named_from site valid (OutputThing place) output.name.bytes (ap (option_map (λ (o : OutputOf). o.name.bytes)) at)
+    (at_place (IsOutput site) site.outputs place output valid.forms.outputs at).name
 
 -- ---- as the tests of events tell that they are there
 
@@ -61,17 +67,20 @@ point_there site valid place has =
     let there = there_within site.points place (ltb-true place (length site.points) has) in
     point_named site valid place there.0 there.1
 
-pub zone_there : (site : Site) → IsValid site → (test : ZoneOf → Bool) (place : ℕ) → is_some_with test (slice_get site.zones place) ≡ true → IsNamed site (ZoneThing place)
+pub zone_there : (site : Site) → IsValid site → (test : ZoneOf → Bool) (place : ℕ) → is_some_with test (slice_get site.zones place) ≡ true
+    → IsNamed site (ZoneThing place)
 zone_there site valid test place has =
     let there = there_with test (slice_get site.zones place) has in
     zone_named site valid place there.0 there.1
 
-pub point_with : (site : Site) → IsValid site → (test : PointOf → Bool) (place : ℕ) → is_some_with test (slice_get site.points place) ≡ true → IsNamed site (PointThing place)
+pub point_with : (site : Site) → IsValid site → (test : PointOf → Bool) (place : ℕ) → is_some_with test (slice_get site.points place) ≡ true
+    → IsNamed site (PointThing place)
 point_with site valid test place has =
     let there = there_with test (slice_get site.points place) has in
     point_named site valid place there.0 there.1
 
-pub output_there : (site : Site) → IsValid site → (test : OutputOf → Bool) (place : ℕ) → is_some_with test (slice_get site.outputs place) ≡ true → IsNamed site (OutputThing place)
+pub output_there : (site : Site) → IsValid site → (test : OutputOf → Bool) (place : ℕ) → is_some_with test (slice_get site.outputs place) ≡ true
+    → IsNamed site (OutputThing place)
 output_there site valid test place has =
     let there = there_with test (slice_get site.outputs place) has in
     output_named site valid place there.0 there.1

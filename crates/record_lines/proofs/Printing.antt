@@ -3,7 +3,7 @@ use Rattle.std.proofs.Common.{◌≡◌, ◌∙◌, ◌+◌, ◌<◌, ◌++◌, 
 use Rattle.std.specs.Prelude.{◌==◌, not, if◌then◌else◌}
 use Rattle.std.proofs.lemmas.List.{append-nil, map_more}
 use Rattle.tick_units.specs.declared.seat.Seat.{Seat}
-use Rattle.record_lines.specs.Fields.{after_space, before_space, field}
+use Rattle.site_types.specs.Fields.{after_space, before_space, field}
 use Rattle.record_lines.specs.Printed.{joined, seat_text}
 
 -- one field more
@@ -12,10 +12,12 @@ joined_push text [] last = refl
 joined_push text (first ∷ fields) last = joined_push (text ++ 32 ∷ first) fields last
 
 -- one seat more
-pub joined_more : (text before after : List ℕ) (seats : List Seat) (place : ℕ) (d : Seat) → place < length seats → before ≡ joined text (map seat_text (take place seats)) →
+pub joined_more : (text before after : List ℕ) (seats : List Seat) (place : ℕ) (d : Seat) → place < length seats
+    → before ≡ joined text (map seat_text (take place seats)) →
     after ≡ before ++ 32 ∷ seat_text (get_or seats place d) → after ≡ joined text (map seat_text (take (place + 1) seats))
 joined_more text before after seats place d within is more =
-    more ∙ ap (λ b. b ++ 32 ∷ seat_text (get_or seats place d)) is ∙ sym (joined_push text (map seat_text (take place seats)) (seat_text (get_or seats place d)))
+    more ∙ ap (λ b. b ++ 32 ∷ seat_text (get_or seats place d)) is ∙ sym
+    (joined_push text (map seat_text (take place seats)) (seat_text (get_or seats place d)))
     ∙ ap (joined text) (sym (map_more seat_text seats place d within))
 
 -- ---- fields without spaces
@@ -57,11 +59,13 @@ after_byte : (space : Bool) (rest behind word : List ℕ) → not space ≡ true
 after_byte true rest behind word other is = cc
 after_byte false rest behind word other is = is
 
-pub after_word : (word first : List ℕ) (fields : List (List ℕ)) → is_clear word ≡ true → after_space (word ++ spaced (first ∷ fields)) ≡ first ++ spaced fields
+pub after_word : (word first : List ℕ) (fields : List (List ℕ)) → is_clear word ≡ true → after_space (word ++ spaced (first ∷ fields)) ≡ first
+    ++ spaced fields
 after_word [] first fields clear = refl
 after_word (byte ∷ word) first fields clear =
     let p = both (not (byte == 32)) (is_clear word) clear in
-    after_byte (byte == 32) (word ++ spaced (first ∷ fields)) (after_space (word ++ spaced (first ∷ fields))) (first ++ spaced fields) p.0 (after_word word first fields p.1)
+    after_byte (byte == 32) (word ++ spaced (first ∷ fields)) (after_space (word ++ spaced (first ∷ fields))) (first ++ spaced fields) p.0
+    (after_word word first fields p.1)
 
 pub after_last : (word : List ℕ) → is_clear word ≡ true → after_space (word ++ []) ≡ []
 after_last [] clear = refl
@@ -77,7 +81,8 @@ nothing_at : (place : ℕ) → [] ≡ get_or {A = List ℕ} [] place []
 nothing_at zero = refl
 nothing_at (suc place) = refl
 
-field_spaced : (place : ℕ) (word : List ℕ) (fields : List (List ℕ)) → is_clear word ≡ true → all_clear fields ≡ true → field place (word ++ spaced fields) ≡ get_or (word ∷ fields) place []
+field_spaced : (place : ℕ) (word : List ℕ) (fields : List (List ℕ)) → is_clear word ≡ true → all_clear fields ≡ true
+    → field place (word ++ spaced fields) ≡ get_or (word ∷ fields) place []
 field_spaced zero word fields clear others = before_word word fields clear
 field_spaced (suc place) word [] clear others = ap (field place) (after_last word clear) ∙ no_field place ∙ nothing_at place
 field_spaced (suc place) word (first ∷ fields) clear others =
@@ -85,5 +90,6 @@ field_spaced (suc place) word (first ∷ fields) clear others =
     ap (field place) (after_word word first fields clear) ∙ field_spaced place first fields p.0 p.1
 
 -- each field of a printed text is the one that was joined there
-pub field_joined : (place : ℕ) (word : List ℕ) (fields : List (List ℕ)) → is_clear word ≡ true → all_clear fields ≡ true → field place (joined word fields) ≡ get_or (word ∷ fields) place []
+pub field_joined : (place : ℕ) (word : List ℕ) (fields : List (List ℕ)) → is_clear word ≡ true → all_clear fields ≡ true
+    → field place (joined word fields) ≡ get_or (word ∷ fields) place []
 field_joined place word fields clear others = ap (field place) (joined_is word fields) ∙ field_spaced place word fields clear others

@@ -1,5 +1,6 @@
 -- A text with a line end behind it, read where a line begins.
-use Rattle.std.proofs.Common.{◌≡◌, ◌∙◌, ◌+◌, ◌<◌, ◌≤◌, ◌++◌, inl, inr, ℕ, zero, suc, true, false, List, [], ◌∷◌, None, length, get_or, take, drop, refl, sym, ap, subst, append_assoc, length-append, arith}
+use Rattle.std.proofs.Common.{◌≡◌, ◌∙◌, ◌+◌, ◌<◌, ◌≤◌, ◌++◌, inl, inr, ℕ, zero, suc, true, false, List, [], ◌∷◌, None}
+use Rattle.std.proofs.Common.{length, get_or, take, drop, refl, sym, ap, subst, append_assoc, length-append, arith}
 use Rattle.std.specs.Prelude.{◌==◌, nat_le}
 use Rattle.std.specs.List.{list_all}
 use Rattle.std.proofs.lemmas.Bool.{and_from, and_parts, cases_lt, leb-true, ne_eqb}
@@ -29,12 +30,15 @@ printable_goes_on byte printable =
     let low = leb-true 32 byte (and_parts (nat_le 32 byte) (nat_le byte 126) printable).0 in
     ne_eqb byte 10 (λ e. omega (arith, e, low))
 
-cut_text : (before text : List ℕ) → list_all is_printable text ≡ true → cut (before ++ text) ≡ record { whole = (cut before).whole; rest = (cut before).rest ++ text }
-cut_text before [] printable = ap cut (append-nil before) ∙ ap (λ r. record { whole = (cut before).whole; rest = r }) (sym (append-nil (cut before).rest))
+cut_text : (before text : List ℕ) → list_all is_printable text ≡ true
+    → cut (before ++ text) ≡ record { whole = (cut before).whole; rest = (cut before).rest ++ text }
+cut_text before [] printable =
+    ap cut (append-nil before) ∙ ap (λ r. record { whole = (cut before).whole; rest = r }) (sym (append-nil (cut before).rest))
 cut_text before (byte ∷ text) printable =
     let p = and_parts (is_printable byte) (list_all is_printable text) printable in
     let one = cut_more before byte (printable_goes_on byte p.0) in
-    ap cut (sym (append_assoc before (byte ∷ []) text)) ∙ cut_text (before ++ byte ∷ []) text p.1 ∙ ap (λ (c : Cut). record { whole = c.whole; rest = c.rest ++ text }) one
+    ap cut (sym (append_assoc before (byte ∷ []) text)) ∙ cut_text (before ++ byte ∷ []) text p.1 ∙ ap
+    (λ (c : Cut). record { whole = c.whole; rest = c.rest ++ text }) one
     ∙ ap (λ r. record { whole = (cut before).whole; rest = r }) (append_assoc (cut before).rest (byte ∷ []) text)
 
 -- ---- readings
@@ -48,14 +52,18 @@ at_beginning site before fresh =
 lines_go_on : (site : Site) (before : List ℕ) → IsBetweenLines site before → (lines_read site (cut before).whole).ending ≡ None
 lines_go_on site before between = ap (λ r. r.ending) (sym (at_beginning site before between.fresh)) ∙ between.going
 
-begun_line : (site : Site) (before text : List ℕ) → IsBetweenLines site before → list_all is_printable text ≡ true → cut (before ++ text) ≡ record { whole = (cut before).whole; rest = text }
-begun_line site before text between printable = cut_text before text printable ∙ ap (λ r. record { whole = (cut before).whole; rest = r ++ text }) between.fresh
+begun_line : (site : Site) (before text : List ℕ) → IsBetweenLines site before → list_all is_printable text ≡ true
+    → cut (before ++ text) ≡ record { whole = (cut before).whole; rest = text }
+begun_line site before text between printable =
+    cut_text before text printable ∙ ap (λ r. record { whole = (cut before).whole; rest = r ++ text }) between.fresh
 
 -- before its end a line changes nothing
-quiet : (site : Site) (before text : List ℕ) → IsBetweenLines site before → IsLineText text → reading_of site (before ++ text) ≡ reading_of site before
+quiet : (site : Site) (before text : List ℕ) → IsBetweenLines site before → IsLineText text
+    → reading_of site (before ++ text) ≡ reading_of site before
 quiet site before text between fine =
     let reading = lines_read site (cut before).whole in
-    ap (λ (c : Cut). rest_by_ending (lines_read site c.whole) c.rest (lines_read site c.whole).ending) (begun_line site before text between fine.printable)
+    ap (λ (c : Cut). rest_by_ending (lines_read site c.whole) c.rest (lines_read site c.whole).ending)
+    (begun_line site before text between fine.printable)
     ∙ ap (rest_by_ending reading text) (lines_go_on site before between) ∙ ap (refused_rest reading) (fine_bytes text 512 fine.printable fine.short)
     ∙ sym (at_beginning site before between.fresh)
 
@@ -65,7 +73,8 @@ read_line : (site : Site) (before text : List ℕ) → IsBetweenLines site befor
 read_line site before text between fine =
     let whole = (cut before).whole in
     let ended : cut ((before ++ text) ++ 10 ∷ []) ≡ record { whole = whole ++ text ∷ []; rest = [] } =
-    cut_end (before ++ text) 10 refl ∙ ap (λ (c : Cut). record { whole = c.whole ++ c.rest ∷ []; rest = [] }) (begun_line site before text between fine.printable)
+    cut_end (before ++ text) 10 refl ∙ ap (λ (c : Cut). record { whole = c.whole ++ c.rest ∷ []; rest = [] })
+    (begun_line site before text between fine.printable)
     in
     reading_behind site (before ++ text) 10 refl ∙ ap (λ (c : Cut). lines_read site c.whole) ended
     ∙ read_more site whole text (lines_go_on site before between) (fine_bytes text 512 fine.printable fine.short)
@@ -98,13 +107,16 @@ front_text text n fine =
 part_quiet : (site : Site) (before text : List ℕ) (used : ℕ) → IsBetweenLines site before → IsLineText text → used ≤ length text →
     reading_of site (before ++ take used (text ++ 10 ∷ [])) ≡ reading_of site before
 part_quiet site before text used between fine within =
-    ap (λ t. reading_of site (before ++ t)) (take-append-le used text (10 ∷ []) within) ∙ quiet site before (take used text) between (front_text text used fine)
+    ap (λ t. reading_of site (before ++ t)) (take-append-le used text (10 ∷ []) within) ∙ quiet site before (take used text) between
+    (front_text text used fine)
 
 -- all of them bring the line
-whole_told : (site : Site) (line : Line) (text before : List ℕ) (used : ℕ) → IsBetweenLines site before → IsTextOf site (reading_of site before).standing line text → length text < used →
+whole_told : (site : Site) (line : Line) (text before : List ℕ) (used : ℕ) → IsBetweenLines site before
+    → IsTextOf site (reading_of site before).standing line text → length text < used →
     reading_of site (before ++ take used (text ++ 10 ∷ [])) ≡ accepted (reading_of site before) (line_view line)
 whole_told site line text before used between is past =
-    ap (λ t. reading_of site (before ++ t)) (take_all used (text ++ 10 ∷ []) (omega (arith, past, length-append text (10 ∷ [])))) ∙ ap (reading_of site) (sym (append_assoc before text (10 ∷ [])))
+    ap (λ t. reading_of site (before ++ t)) (take_all used (text ++ 10 ∷ []) (omega (arith, past, length-append text (10 ∷ [])))) ∙ ap
+    (reading_of site) (sym (append_assoc before text (10 ∷ [])))
     ∙ told site line text before between is
 
 longer : (lines : List Line) (line : Line) → lines ++ line ∷ [] ≡ lines → ⊥
@@ -121,27 +133,39 @@ used_within site before text used place first =
     let within = first.within in
     omega (arith, last, within, length-append text (10 ∷ []))
 
-by_step : (site : Site) (line : Line) (text before : List ℕ) (used : ℕ) (step : Step) → IsBetweenLines site before → IsTextOf site (reading_of site before).standing line text →
-    Tells (reading_of site before) (reading_of site (before ++ take used (text ++ 10 ∷ []))) step → Uses site before (text ++ 10 ∷ []) used step → IsAnswer line step × (used ≡ length text + 1)
+by_step : (site : Site) (line : Line) (text before : List ℕ) (used : ℕ) (step : Step) → IsBetweenLines site before
+    → IsTextOf site (reading_of site before).standing line text →
+    Tells (reading_of site before) (reading_of site (before ++ take used (text ++ 10 ∷ []))) step → Uses site before (text ++ 10 ∷ []) used step
+    → IsAnswer line step × (used ≡ length text + 1)
 by_step site line text before used Need between is tells uses =
     let past : length text < used = omega (arith, uses, length-append text (10 ∷ [])) in
-    absurd (longer (reading_of site before).lines (line_view line) (sym (ap (λ r. r.lines) (whole_told site line text before used between is past)) ∙ tells.0))
+    absurd
+    (longer (reading_of site before).lines (line_view line)
+    (sym (ap (λ r. r.lines) (whole_told site line text before used between is past)) ∙ tells.0))
 by_step site line text before used (LineStep read) between is tells uses =
     let most = used_within site before text used uses.0 uses.1 in
     elim (cases_lt (length text) used) [
       | inl past ↦ (
-        last_same (reading_of site before).lines (line_view read) (line_view line) (sym tells.0 ∙ ap (λ r. r.lines) (whole_told site line text before used between is past)),
+        last_same (reading_of site before).lines (line_view read) (line_view line)
+            (sym tells.0 ∙ ap (λ r. r.lines) (whole_told site line text before used between is past)),
         omega (arith, past, most),
       )
-      | inr part ↦ absurd (longer (reading_of site before).lines (line_view read) (sym tells.0 ∙ ap (λ r. r.lines) (part_quiet site before text used between is.bytes part)))
+      | inr part ↦
+          absurd
+          (longer (reading_of site before).lines (line_view read)
+          (sym tells.0 ∙ ap (λ r. r.lines) (part_quiet site before text used between is.bytes part)))
     ]
 by_step site line text before used (RefusedStep refusal) between is tells uses =
     elim (cases_lt (length text) used) [
-      | inl past ↦ absurd (longer (reading_of site before).lines (line_view line) (sym (ap (λ r. r.lines) (whole_told site line text before used between is past)) ∙ tells.0))
+      | inl past ↦
+          absurd
+          (longer (reading_of site before).lines (line_view line)
+          (sym (ap (λ r. r.lines) (whole_told site line text before used between is past)) ∙ tells.0))
       | inr part ↦ absurd (let none = sym tells.1 ∙ ap (λ r. r.ending) (part_quiet site before text used between is.bytes part) ∙ between.going in cc)
     ]
 
-answered : (site : Site) (line : Line) (text before : List ℕ) → IsBetweenLines site before → IsTextOf site (reading_of site before).standing line text →
+answered : (site : Site) (line : Line) (text before : List ℕ) → IsBetweenLines site before
+    → IsTextOf site (reading_of site before).standing line text →
     (fed : Fed) (reader : LineReader) → Feeds site before (text ++ 10 ∷ []) fed reader → IsAnswer line fed.step × (fed.used ≡ length text + 1)
 answered site line text before between is fed reader feeds =
     let answers = subst (λ e. Answers site before (text ++ 10 ∷ []) fed e) between.going feeds.answers in

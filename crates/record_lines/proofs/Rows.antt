@@ -1,7 +1,7 @@
 -- The row of a text, by its first word.
 use Rattle.std.proofs.Common.{◌≡◌, ℕ, List, refl}
 use Rattle.std.specs.Prelude.{codes}
-use Rattle.record_lines.specs.Fields.{field}
+use Rattle.site_types.specs.Fields.{field}
 use Rattle.record_lines.specs.Forms.{cable_form, end_form, form_of, link_form, op_form, order_form, point_form, routing_form, supply_form, tick_form}
 
 pub tick_row : (text : List ℕ) → field 0 text ≡ codes "tick" → form_of text ≡ tick_form text

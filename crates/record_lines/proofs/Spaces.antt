@@ -1,15 +1,18 @@
 -- Where the spaces of a line lie, and walks over its fields.
-use Rattle.std.proofs.Common.{◌≡◌, ◌<◌, ◌≤◌, ◌+◌, ◌-◌, ◌++◌, ◌&&◌, ◌∙◌, ℕ, zero, suc, Bool, true, false, List, [], ◌∷◌, refl, sym, ap, length, get_or, take, drop, take-append-drop, append_assoc, arith}
+use Rattle.std.proofs.Common.{◌≡◌, ◌<◌, ◌≤◌, ◌+◌, ◌-◌, ◌++◌, ◌&&◌, ◌∙◌, ℕ, zero, suc, Bool, true, false, List, []}
+use Rattle.std.proofs.Common.{◌∷◌, refl, sym, ap, length, get_or, take, drop, take-append-drop, append_assoc, arith}
 use Rattle.std.specs.Prelude.{◌==◌, bytes_eq, if◌then◌else◌}
 use Rattle.std.proofs.lemmas.Slice.Eq.{bytes_eq-Decides}
 use Rattle.std.proofs.lemmas.List.{append-nil}
 use Rattle.std.proofs.lemmas.Bool.{eq-eqb, ne_eqb}
 use Rattle.tick_units.specs.declared.seat.Seat.{Seat}
-use Rattle.record_lines.specs.Fields.{before_space, after_space, field, each_field}
+use Rattle.record_lines.specs.Fields.{each_field}
+use Rattle.site_types.specs.Fields.{after_space, before_space, field}
 use Rattle.record_lines.specs.Seats.{seat_of, seats_of}
 
 -- the first space is at a place
-pub at_space : (text : List ℕ) (k : ℕ) → k < length text → ((j : ℕ) → j < k → get_or text j 0 ≡ 32 → ⊥) → get_or text k 0 ≡ 32 → length (before_space text) ≡ k
+pub at_space : (text : List ℕ) (k : ℕ) → k < length text → ((j : ℕ) → j < k → get_or text j 0 ≡ 32 → ⊥) → get_or text k 0 ≡ 32
+    → length (before_space text) ≡ k
 at_space [] k within none is = absurd (omega arith)
 at_space (byte ∷ rest) zero within none is = rw (eq-eqb byte 32 is) refl
 at_space (byte ∷ rest) (suc k) within none is =
@@ -67,7 +70,8 @@ left count passed below = omega arith
 over : (count passed : ℕ) → count ≤ passed → count - passed ≡ 0
 over count passed past = omega arith
 
-pub field_step : (place passed : ℕ) (rest whole : List ℕ) → passed < place → field (place - passed) rest ≡ whole → field (place - (passed + 1)) (after_space rest) ≡ whole
+pub field_step : (place passed : ℕ) (rest whole : List ℕ) → passed < place → field (place - passed) rest ≡ whole
+    → field (place - (passed + 1)) (after_space rest) ≡ whole
 field_step place passed rest whole below is = sym (ap (λ n. field n rest) (left place passed below)) ∙ is
 
 pub field_end : (place passed : ℕ) (rest whole : List ℕ) → place ≤ passed → field (place - passed) rest ≡ whole → before_space rest ≡ whole
@@ -76,20 +80,24 @@ field_end place passed rest whole past is = sym (ap (λ n. field n rest) (over p
 pub each_step : (test : List ℕ → Bool) (count passed : ℕ) (rest : List ℕ) (whole : Bool) → passed < count → test (before_space rest) ≡ true →
     each_field test (count - passed) rest ≡ whole → each_field test (count - (passed + 1)) (after_space rest) ≡ whole
 each_step test count passed rest whole below passes is =
-    sym (ap (λ b. b && each_field test (count - (passed + 1)) (after_space rest)) passes) ∙ sym (ap (λ n. each_field test n rest) (left count passed below)) ∙ is
+    sym (ap (λ b. b && each_field test (count - (passed + 1)) (after_space rest)) passes) ∙ sym
+    (ap (λ n. each_field test n rest) (left count passed below)) ∙ is
 
 pub each_stop : (test : List ℕ → Bool) (count passed : ℕ) (rest : List ℕ) (whole : Bool) → passed < count → test (before_space rest) ≡ false →
     each_field test (count - passed) rest ≡ whole → false ≡ whole
 each_stop test count passed rest whole below fails is =
-    sym (ap (λ b. b && each_field test (count - (passed + 1)) (after_space rest)) fails) ∙ sym (ap (λ n. each_field test n rest) (left count passed below)) ∙ is
+    sym (ap (λ b. b && each_field test (count - (passed + 1)) (after_space rest)) fails) ∙ sym
+    (ap (λ n. each_field test n rest) (left count passed below)) ∙ is
 
-pub each_end : (test : List ℕ → Bool) (count passed : ℕ) (rest : List ℕ) (whole : Bool) → count ≤ passed → each_field test (count - passed) rest ≡ whole → true ≡ whole
+pub each_end : (test : List ℕ → Bool) (count passed : ℕ) (rest : List ℕ) (whole : Bool) → count ≤ passed
+    → each_field test (count - passed) rest ≡ whole → true ≡ whole
 each_end test count passed rest whole past is = sym (ap (λ n. each_field test n rest) (over count passed past)) ∙ is
 
 pub seats_step : (count passed : ℕ) (rest : List ℕ) (before whole : List Seat) → passed < count → before ++ seats_of (count - passed) rest ≡ whole →
     (before ++ seat_of (before_space rest) ∷ []) ++ seats_of (count - (passed + 1)) (after_space rest) ≡ whole
 seats_step count passed rest before whole below is =
-    append_assoc before (seat_of (before_space rest) ∷ []) (seats_of (count - (passed + 1)) (after_space rest)) ∙ sym (ap (λ n. before ++ seats_of n rest) (left count passed below)) ∙ is
+    append_assoc before (seat_of (before_space rest) ∷ []) (seats_of (count - (passed + 1)) (after_space rest)) ∙ sym
+    (ap (λ n. before ++ seats_of n rest) (left count passed below)) ∙ is
 
 -- ---- as the reader of fields finds them
 
@@ -109,26 +117,34 @@ drop_none text n is most past =
     let behind : length text ≤ length (before_space text) = omega (arith, is, past) in
     ap (λ k. drop k text) all ∙ drop_length text ∙ nothing_behind text behind
 
-pub seats_end : (count passed : ℕ) (rest : List ℕ) (before whole : List Seat) → count ≤ passed → before ++ seats_of (count - passed) rest ≡ whole → before ≡ whole
+pub seats_end : (count passed : ℕ) (rest : List ℕ) (before whole : List Seat) → count ≤ passed → before ++ seats_of (count - passed) rest ≡ whole
+    → before ≡ whole
 seats_end count passed rest before whole past is = sym (append-nil before) ∙ sym (ap (λ n. before ++ seats_of n rest) (over count passed past)) ∙ is
 
 -- ---- as the loops go
 
-pub field_on : (place passed : ℕ) (rest next whole : List ℕ) → passed < place → next ≡ after_space rest → field (place - passed) rest ≡ whole → field (place - (passed + 1)) next ≡ whole
-field_on place passed rest next whole below is_next is = ap (λ r. field (place - (passed + 1)) r) is_next ∙ field_step place passed rest whole below is
+pub field_on : (place passed : ℕ) (rest next whole : List ℕ) → passed < place → next ≡ after_space rest → field (place - passed) rest ≡ whole
+    → field (place - (passed + 1)) next ≡ whole
+field_on place passed rest next whole below is_next is =
+    ap (λ r. field (place - (passed + 1)) r) is_next ∙ field_step place passed rest whole below is
 
-pub each_on : (test : List ℕ → Bool) (count passed : ℕ) (rest front next : List ℕ) (whole : Bool) → passed < count → next ≡ after_space rest → front ≡ before_space rest → true ≡ test front →
+pub each_on : (test : List ℕ → Bool) (count passed : ℕ) (rest front next : List ℕ) (whole : Bool) → passed < count → next ≡ after_space rest
+    → front ≡ before_space rest → true ≡ test front →
     each_field test (count - passed) rest ≡ whole → each_field test (count - (passed + 1)) next ≡ whole
 each_on test count passed rest front next whole below is_next is_front passes is =
     ap (λ r. each_field test (count - (passed + 1)) r) is_next ∙ each_step test count passed rest whole below (sym (passes ∙ ap test is_front)) is
 
-pub seats_on : (count passed : ℕ) (rest front next : List ℕ) (seat : Seat) (before after whole : List Seat) → passed < count → next ≡ after_space rest → front ≡ before_space rest →
-    seat ≡ seat_of front → after ≡ before ++ seat ∷ [] → before ++ seats_of (count - passed) rest ≡ whole → after ++ seats_of (count - (passed + 1)) next ≡ whole
+pub seats_on : (count passed : ℕ) (rest front next : List ℕ) (seat : Seat) (before after whole : List Seat) → passed < count → next ≡ after_space rest
+    → front ≡ before_space rest →
+    seat ≡ seat_of front → after ≡ before ++ seat ∷ [] → before ++ seats_of (count - passed) rest ≡ whole
+    → after ++ seats_of (count - (passed + 1)) next ≡ whole
 seats_on count passed rest front next seat before after whole below is_next is_front is_seat is_after is =
     ap (λ a. a ++ seats_of (count - (passed + 1)) next) is_after ∙ ap (λ r. (before ++ seat ∷ []) ++ seats_of (count - (passed + 1)) r) is_next
-    ∙ ap (λ s. (before ++ s ∷ []) ++ seats_of (count - (passed + 1)) (after_space rest)) (is_seat ∙ ap seat_of is_front) ∙ seats_step count passed rest before whole below is
+    ∙ ap (λ s. (before ++ s ∷ []) ++ seats_of (count - (passed + 1)) (after_space rest)) (is_seat ∙ ap seat_of is_front) ∙ seats_step count passed
+    rest before whole below is
 
 -- what is left of a text that begins with a word
 pub word_front : (text word rest : List ℕ) → bytes_eq (take (length word) text) word ≡ true → rest ≡ drop (length word) text → text ≡ word ++ rest
 word_front text word rest begins is =
-    sym (take-append-drop (length word) text) ∙ ap (λ t. t ++ drop (length word) text) ((bytes_eq-Decides (take (length word) text) word).0 begins) ∙ ap (λ t. word ++ t) (sym is)
+    sym (take-append-drop (length word) text) ∙ ap (λ t. t ++ drop (length word) text) ((bytes_eq-Decides (take (length word) text) word).0 begins) ∙
+    ap (λ t. word ++ t) (sym is)

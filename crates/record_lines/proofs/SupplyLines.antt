@@ -9,7 +9,8 @@ use Rattle.site_types.specs.declared.site.Site.{Site}
 use Rattle.site_types.specs.declared.event.Event.TheVariants.{Supply, Link}
 use Rattle.site_types.specs.declared.supply_kind.SupplyKind.{SupplyKind}
 use Rattle.record_lines.specs.Events.{link_of, supply_of}
-use Rattle.record_lines.specs.Fields.{field, field_count}
+use Rattle.record_lines.specs.Fields.{field_count}
+use Rattle.site_types.specs.Fields.{field}
 use Rattle.record_lines.specs.Forms.{form_of}
 use Rattle.record_lines.specs.Printed.{bad_word, event_text, joined, supply_word, up_word}
 use Rattle.record_lines.specs.Words.{is_bad_of, is_up_of, supply_kind_of}
@@ -38,7 +39,8 @@ link_octet site valid link is =
 
 -- ---- supplies
 
-supply_form_is : (text : List ℕ) (panel : ℕ) (kind : SupplyKind) (bad : Bool) → HasFields text (codes "supply") (decimal panel ∷ supply_word kind ∷ bad_word bad ∷ []) →
+supply_form_is : (text : List ℕ) (panel : ℕ) (kind : SupplyKind) (bad : Bool)
+    → HasFields text (codes "supply") (decimal panel ∷ supply_word kind ∷ bad_word bad ∷ []) →
     form_of text ≡ Some (SupplyForm kind bad)
 supply_form_is text panel kind bad has =
     let read = option_and_then (λ k. option_map (λ b. SupplyForm k b) (is_bad_of (field 3 text))) in
@@ -46,36 +48,46 @@ supply_form_is text panel kind bad has =
     ∙ ap (λ word. read (supply_kind_of word)) (has.at 2) ∙ ap read (kind_word kind).back
     ∙ ap (λ word. option_map (λ b. SupplyForm kind b) (is_bad_of word)) (has.at 3) ∙ ap (option_map (λ b. SupplyForm kind b)) (word_of_bad bad).back
 
-pub supply_printed : (site : Site) → IsValid site → (standing : Standing) → 1 ≤ standing.ticks → (panel : ℕ) (kind : SupplyKind) (bad : Bool) → has_event site (Supply panel kind bad) ≡ true →
+pub supply_printed : (site : Site) → IsValid site → (standing : Standing) → 1 ≤ standing.ticks → (panel : ℕ) (kind : SupplyKind) (bad : Bool)
+    → has_event site (Supply panel kind bad) ≡ true →
     IsTextOf site standing (EventLine (Supply panel kind bad)) (event_text site (Supply panel kind bad))
 supply_printed site valid standing due panel kind bad there =
     let below = panel_octet site valid panel there in
     let fields = decimal panel ∷ supply_word kind ∷ bad_word bad ∷ [] in
     let text = joined (codes "supply") fields in
     let last = fit_more 20 (bad_word bad) [] (word_of_bad bad).fit refl in
-    let fit = fit_more 20 (decimal panel) (supply_word kind ∷ bad_word bad ∷ []) (number_fit panel (octet_small panel below)) (fit_more 20 (supply_word kind) (bad_word bad ∷ []) (kind_word kind).fit last) in
+    let fit =
+    fit_more 20 (decimal panel) (supply_word kind ∷ bad_word bad ∷ []) (number_fit panel (octet_small panel below))
+    (fit_more 20 (supply_word kind) (bad_word bad ∷ []) (kind_word kind).fit last) in
     let has = fields_of 20 (codes "supply") fields refl fit in
-    let is : supply_of kind bad text ≡ Some (Supply panel kind bad) = ap (option_map (λ p. Supply p kind bad)) (octet_back (field 1 text) panel (has.at 1) below) in
+    let is : supply_of kind bad text ≡ Some (Supply panel kind bad) =
+    ap (option_map (λ p. Supply p kind bad)) (octet_back (field 1 text) panel (has.at 1) below) in
     record {
       bytes = joined_text 20 (codes "supply") fields refl fit (omega arith);
-      says = judged_from site standing text (SupplyForm kind bad) (EventLine (Supply panel kind bad)) (supply_form_is text panel kind bad has) (begun standing due)
-          (number_there (field 1 text) panel (has.at 1) (octet_small panel below)) (event_from site (SupplyForm kind bad) text (Supply panel kind bad) is there);
+      says = judged_from site standing text (SupplyForm kind bad) (EventLine (Supply panel kind bad)) (supply_form_is text panel kind bad has)
+          (begun standing due)
+          (number_there (field 1 text) panel (has.at 1) (octet_small panel below))
+          (event_from site (SupplyForm kind bad) text (Supply panel kind bad) is there);
     }
 
 -- ---- links
 
-link_form_is : (text : List ℕ) (link : ℕ) (up : Bool) → HasFields text (codes "link") (decimal link ∷ up_word up ∷ []) → form_of text ≡ Some (LinkForm up)
+link_form_is : (text : List ℕ) (link : ℕ) (up : Bool) → HasFields text (codes "link") (decimal link ∷ up_word up ∷ [])
+    → form_of text ≡ Some (LinkForm up)
 link_form_is text link up has =
     link_row text (has.at 0) ∙ counted (field_count text) 3 (option_map (λ u. LinkForm u) (is_up_of (field 2 text))) None (ap (λ n. n + 1) has.count)
     ∙ ap (λ word. option_map (λ u. LinkForm u) (is_up_of word)) (has.at 2) ∙ ap (option_map (λ u. LinkForm u)) (word_of_up up).back
 
-pub link_printed : (site : Site) → IsValid site → (standing : Standing) → 1 ≤ standing.ticks → (link : ℕ) (up : Bool) → has_event site (Link link up) ≡ true →
+pub link_printed : (site : Site) → IsValid site → (standing : Standing) → 1 ≤ standing.ticks → (link : ℕ) (up : Bool)
+    → has_event site (Link link up) ≡ true →
     IsTextOf site standing (EventLine (Link link up)) (event_text site (Link link up))
 link_printed site valid standing due link up there =
     let below = link_octet site valid link there in
     let fields = decimal link ∷ up_word up ∷ [] in
     let text = joined (codes "link") fields in
-    let fit = fit_more 20 (decimal link) (up_word up ∷ []) (number_fit link (octet_small link below)) (fit_more 20 (up_word up) [] (word_of_up up).fit refl) in
+    let fit =
+    fit_more 20 (decimal link) (up_word up ∷ []) (number_fit link (octet_small link below)) (fit_more 20 (up_word up) [] (word_of_up up).fit refl)
+    in
     let has = fields_of 20 (codes "link") fields refl fit in
     let is : link_of up text ≡ Some (Link link up) = ap (option_map (λ l. Link l up)) (octet_back (field 1 text) link (has.at 1) below) in
     record {

@@ -3,9 +3,11 @@ use Rattle.std.proofs.Common.{◌≡◌, ◌∙◌, ◌+◌, ◌<◌, ◌≤◌,
 use Rattle.std.specs.Prelude.{◌==◌, codes, decimal, nat_le, if◌then◌else◌}
 use Rattle.std.proofs.lemmas.Bool.{cond-false, lt-leb}
 use Rattle.site_types.specs.declared.site.Site.{Site}
+use Rattle.tick_units.specs.Ticks.{last_tick}
 use Rattle.tick_units.specs.declared.tick.Tick.{Tick}
-use Rattle.record_lines.specs.Fields.{field, field_count}
-use Rattle.record_lines.specs.Judged.{last_tick, tick_as}
+use Rattle.site_types.specs.Fields.{field}
+use Rattle.record_lines.specs.Fields.{field_count}
+use Rattle.record_lines.specs.Judged.{tick_as}
 use Rattle.record_lines.specs.Printed.{joined, line_text}
 use Rattle.record_lines.specs.declared.form.Form.TheVariants.{Tick as TickForm}
 use Rattle.record_lines.specs.declared.line.Line.TheVariants.{Tick as TickLine, End}
@@ -21,9 +23,11 @@ tick_next : (ticks : ℕ) (tick : Tick) → tick.0 ≤ last_tick → tick.0 ≡ 
 tick_next ticks tick high due =
     let other = if tick.0 == ticks + 1 then Ok (TickLine tick) else Err (BadTick (ticks + 1) tick.0) in
     let more : ticks < last_tick = omega (arith, high, due) in
-    cond-false (nat_le last_tick ticks) (Err TickLimit) other (lt-leb last_tick ticks more) ∙ counted tick.0 (ticks + 1) (Ok (TickLine tick)) (Err (BadTick (ticks + 1) tick.0)) due
+    cond-false (nat_le last_tick ticks) (Err TickLimit) other (lt-leb last_tick ticks more) ∙ counted tick.0 (ticks + 1) (Ok (TickLine tick))
+    (Err (BadTick (ticks + 1) tick.0)) due
 
-pub tick_printed : (site : Site) (standing : Standing) (tick : Tick) → tick.0 ≤ last_tick → tick.0 ≡ standing.ticks + 1 → IsTextOf site standing (TickLine tick) (line_text site (TickLine tick))
+pub tick_printed : (site : Site) (standing : Standing) (tick : Tick) → tick.0 ≤ last_tick → tick.0 ≡ standing.ticks + 1
+    → IsTextOf site standing (TickLine tick) (line_text site (TickLine tick))
 tick_printed site standing tick high due =
     let small : tick.0 < 2 ^ 64 = omega (arith, high) in
     let fields = decimal tick.0 ∷ [] in
@@ -34,7 +38,9 @@ tick_printed site standing tick high due =
     let number = number_back (field 1 text) tick.0 (has.at 1) small in
     record {
       bytes = joined_text 20 (codes "tick") fields refl fit (omega arith);
-      says = judged_from site standing text TickForm (TickLine tick) row refl (number_there (field 1 text) tick.0 (has.at 1) small) (ap (tick_as standing.ticks) number ∙ tick_next standing.ticks tick high due);
+      says =
+          judged_from site standing text TickForm (TickLine tick) row refl (number_there (field 1 text) tick.0 (has.at 1) small)
+          (ap (tick_as standing.ticks) number ∙ tick_next standing.ticks tick high due);
     }
 
 pub end_printed : (site : Site) (standing : Standing) → IsTextOf site standing End (line_text site End)

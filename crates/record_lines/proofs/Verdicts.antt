@@ -19,7 +19,8 @@ use Rattle.record_lines.specs.declared.why.Why.TheVariants.{BadNumber, BeforeFir
 use Rattle.record_lines.proofs.Joins.{IsLineText}
 
 -- a line whose row, turn, numbers and content are right
-pub judged_from : (site : Site) (standing : Standing) (text : List ℕ) (form : Form) (line : Line) → form_of text ≡ Some form → may_stand standing form ≡ true → has_numbers form text ≡ true →
+pub judged_from : (site : Site) (standing : Standing) (text : List ℕ) (form : Form) (line : Line) → form_of text ≡ Some form
+    → may_stand standing form ≡ true → has_numbers form text ≡ true →
     content_of site standing form text ≡ Ok line → judged site standing text ≡ Ok line
 judged_from site standing text form line row due numbers content =
     let numbered = if has_numbers form text then content_of site standing form text else Err BadNumber in
@@ -27,7 +28,8 @@ judged_from site standing text form line row due numbers content =
     ∙ cond-true (has_numbers form text) (content_of site standing form text) (Err BadNumber) numbers ∙ content
 
 -- an event that the site has
-pub event_from : (site : Site) (form : Form) (text : List ℕ) (event : Event) → event_of site form text ≡ Some event → has_event site event ≡ true → event_line site form text ≡ Ok (EventLine event)
+pub event_from : (site : Site) (form : Form) (text : List ℕ) (event : Event) → event_of site form text ≡ Some event → has_event site event ≡ true
+    → event_line site form text ≡ Ok (EventLine event)
 event_from site form text event is has = ap (event_in site) is ∙ cond-true (has_event site event) (Ok (EventLine event)) (Err NoSuch) has
 
 -- ---- numbers

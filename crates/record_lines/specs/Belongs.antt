@@ -3,7 +3,7 @@ use Rattle.std.specs.Prelude.{◌≡◌, ◌≤◌, true}
 use Rattle.site_types.specs.Events.{has_event}
 use Rattle.site_types.specs.declared.site.Site.{Site}
 use Rattle.tick_units.specs.Orders.{IsOrder}
-use Rattle.record_lines.specs.Judged.{last_tick}
+use Rattle.tick_units.specs.Ticks.{last_tick}
 use Rattle.record_lines.specs.declared.line.Line.{Line}
 use Rattle.record_lines.specs.declared.line.Line.TheVariants.{Tick, Event, Order, End}
 use Rattle.record_lines.specs.declared.step.Step.{Step}

@@ -1,5 +1,7 @@
--- What befalls a site by a line whose fixed words are of their form: its numbers, and what its names stand for.
-use Rattle.std.specs.Prelude.{◌&&◌, ℕ, Bool, true, nat_lt, List, [], Option, Some, None, option_map, is_some, if◌then◌else◌}
+-- What befalls a site by a line whose fixed words are of their form: its numbers, and what its names stand
+-- for.
+use Rattle.std.specs.Prelude.{◌&&◌, ℕ, Bool, true, nat_lt, List, [], Option, Some, None, option_map, is_some}
+use Rattle.std.specs.Prelude.{if◌then◌else◌}
 use Rattle.std.specs.Option.{option_and_then}
 use Rattle.arrayvec.specs.ArrayString.{ArrayString}
 use Rattle.site_types.specs.Names.{code_of}
@@ -7,23 +9,31 @@ use Rattle.site_types.specs.Numbers.{number_of}
 use Rattle.site_types.specs.Things.{thing_named}
 use Rattle.site_types.specs.declared.site.Site.{Site}
 use Rattle.site_types.specs.declared.named.Thing.{Thing}
-use Rattle.site_types.specs.declared.named.Thing.TheVariants.{Point as PointThing, Zone as ZoneThing, Output as OutputThing}
+use Rattle.site_types.specs.declared.named.Thing.TheVariants.{Point as PointThing, Zone as ZoneThing}
+use Rattle.site_types.specs.declared.named.Thing.TheVariants.{Output as OutputThing}
 use Rattle.site_types.specs.declared.item.Item.{Item}
 use Rattle.site_types.specs.declared.item.Item.TheVariants.{Point as PointItem, Zone as ZoneItem, Output as OutputItem}
 use Rattle.site_types.specs.declared.operation.Operation.{Operation}
-use Rattle.site_types.specs.declared.operation.Operation.TheVariants.{Cancel as CancelZone, Disable as DisableItem, Enable as EnableItem, Test as TestZone, Untest as UntestZone}
+use Rattle.site_types.specs.declared.operation.Operation.TheVariants.{Cancel as CancelZone, Disable as DisableItem}
+use Rattle.site_types.specs.declared.operation.Operation.TheVariants.{Enable as EnableItem, Test as TestZone}
+use Rattle.site_types.specs.declared.operation.Operation.TheVariants.{Untest as UntestZone}
 use Rattle.site_types.specs.declared.piece_state.PieceState.{PieceState}
 use Rattle.site_types.specs.declared.supply_kind.SupplyKind.{SupplyKind}
 use Rattle.site_types.specs.declared.event.Event.{Event}
 use Rattle.site_types.specs.declared.event.Event.TheVariants.{Point, Cable, Supply, Link, Confirmed, Op}
-use Rattle.record_lines.specs.Fields.{field, space_count, after_space, each_field}
+use Rattle.record_lines.specs.Fields.{space_count, each_field}
+use Rattle.site_types.specs.Fields.{after_space, field}
 use Rattle.record_lines.specs.Seats.{is_numbered}
 use Rattle.record_lines.specs.declared.form.Form.{Form}
-use Rattle.record_lines.specs.declared.form.Form.TheVariants.{Tick as TickForm, Point as PointForm, Cable as CableForm, Supply as SupplyForm, Link as LinkForm, Routing as RoutingForm, Op as OpForm, Order as OrderForm, End as EndForm}
+use Rattle.record_lines.specs.declared.form.Form.TheVariants.{Tick as TickForm, Point as PointForm}
+use Rattle.record_lines.specs.declared.form.Form.TheVariants.{Cable as CableForm, Supply as SupplyForm}
+use Rattle.record_lines.specs.declared.form.Form.TheVariants.{Link as LinkForm, Routing as RoutingForm, Op as OpForm}
+use Rattle.record_lines.specs.declared.form.Form.TheVariants.{Order as OrderForm, End as EndForm}
 use Rattle.record_lines.specs.declared.form.Action.{Action}
 use Rattle.record_lines.specs.declared.form.Action.TheVariants.{Plain, Cancel, Test, Untest, Disable, Enable}
 use Rattle.record_lines.specs.declared.form.Kind.{Kind}
-use Rattle.record_lines.specs.declared.form.Kind.TheVariants.{Point as PointKind, Zone as ZoneKind, Output as OutputKind}
+use Rattle.record_lines.specs.declared.form.Kind.TheVariants.{Point as PointKind, Zone as ZoneKind}
+use Rattle.record_lines.specs.declared.form.Kind.TheVariants.{Output as OutputKind}
 
 -- ---- numbers
 
@@ -34,7 +44,8 @@ is_number text = is_some (number_of text)
 abbrev pub has_numbers : Form → List ℕ → Bool
 has_numbers TickForm text = is_number (field 1 text)
 has_numbers (PointForm state) text = true
-has_numbers (CableForm state) text = is_number (field 1 text) && is_number (field 2 text) && is_number (field 3 text)
+has_numbers (CableForm state) text = is_number (field 1 text) && is_number (field 2 text)
+    && is_number (field 3 text)
 has_numbers (SupplyForm kind bad) text = is_number (field 1 text)
 has_numbers (LinkForm up) text = is_number (field 1 text)
 has_numbers RoutingForm text = true
@@ -94,7 +105,8 @@ operation_of site (Plain operation) text = Some operation
 operation_of site Cancel text = option_map (λ zone. CancelZone zone) (zone_of site (field 4 text))
 operation_of site Test text = option_map (λ zone. TestZone zone) (zone_of site (field 4 text))
 operation_of site Untest text = option_map (λ zone. UntestZone zone) (zone_of site (field 4 text))
-operation_of site (Disable kind) text = option_map (λ item. DisableItem item) (item_of site kind (field 5 text))
+operation_of site (Disable kind) text =
+    option_map (λ item. DisableItem item) (item_of site kind (field 5 text))
 operation_of site (Enable kind) text = option_map (λ item. EnableItem item) (item_of site kind (field 5 text))
 
 -- the code of a field; none for `-`
@@ -106,7 +118,10 @@ labelled bytes = record { bytes = bytes; spare = [] }
 
 abbrev pub cable_of : PieceState → List ℕ → Option Event
 cable_of state text =
-    option_and_then (λ panel. option_and_then (λ line. option_map (λ piece. Cable panel line piece state) (octet_of (field 3 text))) (octet_of (field 2 text))) (octet_of (field 1 text))
+    option_and_then
+    (λ panel.
+    option_and_then (λ line. option_map (λ piece. Cable panel line piece state) (octet_of (field 3 text)))
+    (octet_of (field 2 text))) (octet_of (field 1 text))
 
 abbrev pub supply_of : SupplyKind → Bool → List ℕ → Option Event
 supply_of kind bad text = option_map (λ panel. Supply panel kind bad) (octet_of (field 1 text))
@@ -116,7 +131,9 @@ link_of up text = option_map (λ link. Link link up) (octet_of (field 1 text))
 
 abbrev pub op_of : Site → Action → List ℕ → Option Event
 op_of site action text =
-    option_and_then (λ panel. option_map (λ operation. Op panel (option_map labelled (code_in (field 2 text))) operation) (operation_of site action text)) (octet_of (field 1 text))
+    option_and_then
+    (λ panel. option_map (λ operation. Op panel (option_map labelled (code_in (field 2 text))) operation)
+    (operation_of site action text)) (octet_of (field 1 text))
 
 -- the event of a line; none where a name names nothing of its kind
 abbrev pub event_of : Site → Form → List ℕ → Option Event

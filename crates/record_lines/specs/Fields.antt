@@ -1,19 +1,7 @@
 -- The fields of a line: what stands before, between and behind its spaces.
-use Rattle.std.specs.Prelude.{◌+◌, ◌==◌, ◌&&◌, ℕ, zero, suc, Bool, true, List, [], ◌∷◌, if◌then◌else◌}
+use Rattle.std.specs.Prelude.{◌+◌, ◌==◌, ◌&&◌, ℕ, zero, suc, Bool, true, List}
 use Rattle.std.specs.List.{count_by}
-
-abbrev pub before_space : List ℕ → List ℕ
-before_space [] = []
-before_space (byte ∷ rest) = if byte == 32 then [] else byte ∷ before_space rest
-
-abbrev pub after_space : List ℕ → List ℕ
-after_space [] = []
-after_space (byte ∷ rest) = if byte == 32 then rest else after_space rest
-
--- the field at a place, counted from 0; empty where there is none
-abbrev pub field : ℕ → List ℕ → List ℕ
-field zero text = before_space text
-field (suc place) text = field place (after_space text)
+use Rattle.site_types.specs.Fields.{after_space, before_space}
 
 abbrev pub space_count : List ℕ → ℕ
 space_count text = count_by (λ byte. byte == 32) text

@@ -1,21 +1,28 @@
 -- What a line says where a record stands so, or the first of the refusals that applies to it.
-use Rattle.std.specs.Prelude.{◌≡◌, ◌==◌, ◌+◌, ℕ, Bool, true, nat_le, nat_lt, List, Option, Some, None, Result, Ok, Err, if◌then◌else◌}
+use Rattle.std.specs.Prelude.{◌≡◌, ◌==◌, ◌+◌, ℕ, Bool, true, nat_le, nat_lt, List, Option, Some, None, Result, Ok}
+use Rattle.std.specs.Prelude.{Err, if◌then◌else◌}
 use Rattle.site_types.specs.Events.{has_event}
 use Rattle.site_types.specs.Numbers.{number_of}
 use Rattle.site_types.specs.declared.site.Site.{Site}
 use Rattle.site_types.specs.declared.event.Event.{Event}
+use Rattle.tick_units.specs.Ticks.{last_tick}
 use Rattle.tick_units.specs.declared.seat.Seat.{Seat}
-use Rattle.record_lines.specs.Fields.{field, space_count, after_space}
+use Rattle.record_lines.specs.Fields.{space_count}
+use Rattle.site_types.specs.Fields.{after_space, field}
 use Rattle.record_lines.specs.Forms.{form_of, is_seat}
 use Rattle.record_lines.specs.Seats.{is_numbered, order_of, seat_of, seats_of}
 use Rattle.record_lines.specs.Events.{event_of, event_view, has_numbers}
 use Rattle.record_lines.specs.declared.form.Form.{Form}
-use Rattle.record_lines.specs.declared.form.Form.TheVariants.{Tick as TickForm, Point as PointForm, Cable as CableForm, Supply as SupplyForm, Link as LinkForm, Routing as RoutingForm, Op as OpForm, Order as OrderForm, End as EndForm}
+use Rattle.record_lines.specs.declared.form.Form.TheVariants.{Tick as TickForm, Point as PointForm}
+use Rattle.record_lines.specs.declared.form.Form.TheVariants.{Cable as CableForm, Supply as SupplyForm}
+use Rattle.record_lines.specs.declared.form.Form.TheVariants.{Link as LinkForm, Routing as RoutingForm, Op as OpForm}
+use Rattle.record_lines.specs.declared.form.Form.TheVariants.{Order as OrderForm, End as EndForm}
 use Rattle.record_lines.specs.declared.line.Line.{Line}
 use Rattle.record_lines.specs.declared.line.Line.TheVariants.{Tick, Event as EventLine, Order, End}
 use Rattle.record_lines.specs.declared.standing.Standing.{Standing}
 use Rattle.record_lines.specs.declared.why.Why.{Why}
-use Rattle.record_lines.specs.declared.why.Why.TheVariants.{BadWord, BadNumber, NoSuch, BadTick, BadOrder, BeforeFirstTick, TickLimit}
+use Rattle.record_lines.specs.declared.why.Why.TheVariants.{BadWord, BadNumber, NoSuch, BadTick, BadOrder}
+use Rattle.record_lines.specs.declared.why.Why.TheVariants.{BeforeFirstTick, TickLimit}
 
 -- a line with the bytes of a code alone
 abbrev pub line_view : Line → Line
@@ -36,14 +43,12 @@ may_stand standing (OpForm action) = nat_lt 0 standing.ticks
 may_stand standing OrderForm = nat_lt 0 standing.ticks
 may_stand standing EndForm = true
 
--- the last tick that a run may have
-abbrev pub last_tick : ℕ
-last_tick = 1000000000
-
 -- ticks come as 1, 2, 3 and so on, up to the last
 abbrev pub tick_as : ℕ → Option ℕ → Result Line Why
 tick_as ticks None = Err BadNumber
-tick_as ticks (Some found) = if nat_le last_tick ticks then Err TickLimit else (if found == ticks + 1 then Ok (Tick (record { 0 = found })) else Err (BadTick (ticks + 1) found))
+tick_as ticks (Some found) =
+    if nat_le last_tick ticks then Err TickLimit else
+    (if found == ticks + 1 then Ok (Tick (record { 0 = found })) else Err (BadTick (ticks + 1) found))
 
 abbrev pub tick_line : Standing → List ℕ → Result Line Why
 tick_line standing text = tick_as standing.ticks (number_of (field 1 text))
@@ -54,7 +59,8 @@ ordered (Err why) = Err why
 
 -- a tick has at most one order; place 0 tells a second one
 abbrev pub order_with : Site → Standing → List Seat → Result Line Why
-order_with site standing seats = if standing.has_order then Err (BadOrder 0) else ordered (order_of site.panels seats)
+order_with site standing seats =
+    if standing.has_order then Err (BadOrder 0) else ordered (order_of site.panels seats)
 
 abbrev pub order_line : Site → Standing → List ℕ → Result Line Why
 order_line site standing text = order_with site standing (seats_of (space_count text) (after_space text))
@@ -83,7 +89,8 @@ content_of site standing EndForm text = Ok End
 abbrev pub judged_as : Site → Standing → List ℕ → Option Form → Result Line Why
 judged_as site standing text None = Err BadWord
 judged_as site standing text (Some form) =
-    if may_stand standing form then (if has_numbers form text then content_of site standing form text else Err BadNumber) else Err BeforeFirstTick
+    if may_stand standing form then (if has_numbers form text then content_of site standing form text else Err
+    BadNumber) else Err BeforeFirstTick
 
 -- a line of at most 512 printable bytes
 abbrev pub judged : Site → Standing → List ℕ → Result Line Why
@@ -110,4 +117,5 @@ pub record SpellsOrder (text : List ℕ) (seats : List Seat) : Type 0 where
 
 -- an order that may not come before the first tick
 abbrev pub order_after : Site → Standing → List Seat → Result Line Why
-order_after site standing seats = if nat_lt 0 standing.ticks then order_with site standing seats else Err BeforeFirstTick
+order_after site standing seats =
+    if nat_lt 0 standing.ticks then order_with site standing seats else Err BeforeFirstTick

@@ -1,7 +1,9 @@
 -- The lines that bytes hold, and how their reading ended, if it did.
-use Rattle.std.specs.Prelude.{◌+◌, ◌-◌, ◌^◌, ◌==◌, ◌&&◌, ◌++◌, ℕ, zero, suc, Bool, true, false, nat_le, min, List, [], ◌∷◌, Option, Some, None, Result, Ok, Err, if◌then◌else◌}
+use Rattle.std.specs.Prelude.{◌+◌, ◌-◌, ◌^◌, ◌==◌, ◌&&◌, ◌++◌, ℕ, zero, suc, Bool, true, false, nat_le, min, List, []}
+use Rattle.std.specs.Prelude.{◌∷◌, Option, Some, None, Result, Ok, Err, if◌then◌else◌}
 use Rattle.std.specs.List.{fold}
 use Rattle.site_types.specs.declared.site.Site.{Site}
+use Rattle.site_types.specs.Limits.{line_bytes}
 use Rattle.record_lines.specs.Judged.{judged}
 use Rattle.record_lines.specs.declared.line.Line.{Line}
 use Rattle.record_lines.specs.declared.line.Line.TheVariants.{Tick, Event, Order, End}
@@ -41,15 +43,17 @@ is_printable byte = nat_le 32 byte && nat_le byte 126
 abbrev pub refusal_within : ℕ → List ℕ → Option Why
 refusal_within room [] = None
 refusal_within zero (byte ∷ rest) = Some LineTooLong
-refusal_within (suc room) (byte ∷ rest) = if is_printable byte then refusal_within room rest else Some NotAscii
+refusal_within (suc room) (byte ∷ rest) =
+    if is_printable byte then refusal_within room rest else Some NotAscii
 
 -- a line has at most 512 bytes, each printable
 abbrev pub byte_refusal : List ℕ → Option Why
-byte_refusal text = refusal_within 512 text
+byte_refusal text = refusal_within line_bytes text
 
 -- ---- lines are read in turn
 
--- what was read of a record: its lines, with the bytes of codes alone; the number of the line that comes next, which stays at the greatest of 64 bits;
+-- what was read of a record: its lines, with the bytes of codes alone; the number of the line that comes
+-- next, which stays at the greatest of 64 bits;
 -- where the record stands; and how its reading ended
 pub record Reading : Type 0 where
   pub lines : List Line
@@ -58,7 +62,13 @@ pub record Reading : Type 0 where
   pub ending : Option Over
 
 abbrev pub at_start : Reading
-at_start = record { lines = []; number = 1; standing = record { ticks = 0; has_order = false }; ending = None }
+at_start = record {
+  lines = [];
+  number = 1;
+  standing = record { ticks = 0; has_order = false };
+  ending =
+      None;
+}
 
 abbrev pub next_number : ℕ → ℕ
 next_number number = min (number + 1) (2 ^ 64 - 1)
@@ -78,11 +88,23 @@ ends_with End = Some Ended
 
 abbrev pub accepted : Reading → Line → Reading
 accepted reading line =
-    record { lines = reading.lines ++ line ∷ []; number = next_number reading.number; standing = stands_behind reading.standing line; ending = ends_with line }
+    record {
+      lines = reading.lines ++ line ∷ [];
+      number = next_number reading.number;
+      standing =
+          stands_behind reading.standing line;
+      ending = ends_with line;
+    }
 
 abbrev pub refused : Reading → Why → Reading
 refused reading why =
-    record { lines = reading.lines; number = reading.number; standing = reading.standing; ending = Some (Refused (record { line = reading.number; why = why })) }
+    record {
+      lines = reading.lines;
+      number = reading.number;
+      standing = reading.standing;
+      ending =
+          Some (Refused (record { line = reading.number; why = why }));
+    }
 
 abbrev pub verdict : Reading → Result Line Why → Reading
 verdict reading (Ok line) = accepted reading line

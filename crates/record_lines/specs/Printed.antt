@@ -7,9 +7,11 @@ use Rattle.site_types.specs.declared.event.Event.TheVariants.{Point, Cable, Supp
 use Rattle.site_types.specs.declared.item.Item.{Item}
 use Rattle.site_types.specs.declared.item.Item.TheVariants.{Point as PointItem, Zone as ZoneItem, Output as OutputItem}
 use Rattle.site_types.specs.declared.operation.Operation.{Operation}
-use Rattle.site_types.specs.declared.operation.Operation.TheVariants.{Mute, Override, Silence, Resound, Reset, Cancel, Disable, Enable, Test, Untest, Delays, Clear}
+use Rattle.site_types.specs.declared.operation.Operation.TheVariants.{Mute, Override, Silence, Resound, Reset, Cancel}
+use Rattle.site_types.specs.declared.operation.Operation.TheVariants.{Disable, Enable, Test, Untest, Delays, Clear}
 use Rattle.site_types.specs.declared.named.Thing.{Thing}
-use Rattle.site_types.specs.declared.named.Thing.TheVariants.{Point as PointThing, Zone as ZoneThing, Output as OutputThing}
+use Rattle.site_types.specs.declared.named.Thing.TheVariants.{Point as PointThing, Zone as ZoneThing}
+use Rattle.site_types.specs.declared.named.Thing.TheVariants.{Output as OutputThing}
 use Rattle.site_types.specs.declared.point_state.PointState.{PointState}
 use Rattle.site_types.specs.declared.point_state.PointState.TheVariants.{Quiet, Alarm, Gone}
 use Rattle.site_types.specs.declared.piece_state.PieceState.{PieceState}
@@ -18,7 +20,8 @@ use Rattle.site_types.specs.declared.supply_kind.SupplyKind.{SupplyKind}
 use Rattle.site_types.specs.declared.supply_kind.SupplyKind.TheVariants.{Mains, Standby, Voltage, Charger}
 use Rattle.arrayvec.specs.ArrayString.{ArrayString}
 use Rattle.tick_units.specs.declared.task.Task.{Task}
-use Rattle.tick_units.specs.declared.task.Task.TheVariants.{Poll, Decide, Supply as SupplyTask, Desk, Hold, Link as LinkTask, Effect, Drive, Keep}
+use Rattle.tick_units.specs.declared.task.Task.TheVariants.{Poll, Decide, Supply as SupplyTask, Desk, Hold}
+use Rattle.tick_units.specs.declared.task.Task.TheVariants.{Link as LinkTask, Effect, Drive, Keep}
 use Rattle.tick_units.specs.declared.seat.Seat.{Seat}
 use Rattle.record_lines.specs.declared.line.Line.{Line}
 use Rattle.record_lines.specs.declared.line.Line.TheVariants.{Tick, Event as EventLine, Order, End}
@@ -120,12 +123,17 @@ action_fields site Clear = codes "clear" ∷ []
 -- ---- lines
 
 abbrev pub event_text : Site → Event → List ℕ
-event_text site (Point point state) = joined (codes "point") (name_text site (PointThing point) ∷ point_state_word state ∷ [])
-event_text site (Cable panel line piece state) = joined (codes "cable") (decimal panel ∷ decimal line ∷ decimal piece ∷ piece_state_word state ∷ [])
-event_text site (Supply panel kind bad) = joined (codes "supply") (decimal panel ∷ supply_word kind ∷ bad_word bad ∷ [])
+event_text site (Point point state) =
+    joined (codes "point") (name_text site (PointThing point) ∷ point_state_word state ∷ [])
+event_text site (Cable panel line piece state) =
+    joined (codes "cable") (decimal panel ∷ decimal line ∷ decimal piece ∷ piece_state_word state ∷ [])
+event_text site (Supply panel kind bad) =
+    joined (codes "supply") (decimal panel ∷ supply_word kind ∷ bad_word bad ∷ [])
 event_text site (Link link up) = joined (codes "link") (decimal link ∷ up_word up ∷ [])
-event_text site (Confirmed output) = joined (codes "routing") (name_text site (OutputThing output) ∷ codes "confirmed" ∷ [])
-event_text site (Op panel code operation) = joined (codes "op") (decimal panel ∷ code_text code ∷ action_fields site operation)
+event_text site (Confirmed output) =
+    joined (codes "routing") (name_text site (OutputThing output) ∷ codes "confirmed" ∷ [])
+event_text site (Op panel code operation) =
+    joined (codes "op") (decimal panel ∷ code_text code ∷ action_fields site operation)
 
 -- without its line end
 abbrev pub line_text : Site → Line → List ℕ

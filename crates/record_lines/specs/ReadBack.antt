@@ -42,7 +42,8 @@ HasSpelling (Tick tick) = Unit {0}
 HasSpelling (Order order) = Unit {0}
 HasSpelling End = Unit {0}
 
--- where a record stands so, this line's turn has come: a tick follows the one before, an event and an order come in a tick, a tick has at most one order
+-- where a record stands so, this line's turn has come: a tick follows the one before, an event and an order
+-- come in a tick, a tick has at most one order
 abbrev pub IsDue : Standing → Line → Type 0
 IsDue standing (Tick tick) = tick.0 ≡ standing.ticks + 1
 IsDue standing (EventLine event) = 1 ≤ standing.ticks
@@ -67,11 +68,14 @@ IsAnswer line Need = ⊥
 IsAnswer line (LineStep read) = line_view read ≡ line_view line
 IsAnswer line (RefusedStep refusal) = ⊥
 
--- behind these bytes the text and a line end are read as the line, and a reader that is fed them answers the line and uses all of them
+-- behind these bytes the text and a line end are read as the line, and a reader that is fed them answers the
+-- line and uses all of them
 pub record IsReadAs (site : Site) (line : Line) (text before : List ℕ) : Type 0 where
   pub told : reading_of site (before ++ text ++ 10 ∷ []) ≡ accepted (reading_of site before) (line_view line)
-  pub answered : (fed : Fed) (reader : LineReader) → Feeds site before (text ++ 10 ∷ []) fed reader → IsAnswer line fed.step × (fed.used ≡ length text + 1)
+  pub answered : (fed : Fed) (reader : LineReader) → Feeds site before (text ++ 10 ∷ []) fed reader
+      → IsAnswer line fed.step × (fed.used ≡ length text + 1)
 
 -- the text is read as the line wherever the line may come
 abbrev pub ReadsBack : Site → Line → List ℕ → Type 0
-ReadsBack site line text = (before : List ℕ) → IsBetweenLines site before → MayCome site (reading_of site before).standing line → IsReadAs site line text before
+ReadsBack site line text = (before : List ℕ) → IsBetweenLines site before
+    → MayCome site (reading_of site before).standing line → IsReadAs site line text before

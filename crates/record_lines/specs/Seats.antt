@@ -1,12 +1,13 @@
 -- What the seats of an order line are, and the order that they give.
-use Rattle.std.specs.Prelude.{◌+◌, ◌||◌, ℕ, zero, suc, Bool, false, min, List, [], ◌∷◌, codes, bytes_eq, length, Option, Some, None, is_some, Result, Ok, Err}
+use Rattle.std.specs.Prelude.{◌+◌, ◌||◌, ℕ, zero, suc, Bool, false, min, List, [], ◌∷◌, codes, bytes_eq, length}
+use Rattle.std.specs.Prelude.{Option, Some, None, is_some, Result, Ok, Err}
 use Rattle.site_types.specs.Numbers.{number_of}
 use Rattle.tick_units.specs.Orders.{order_fault, seat_of as seat_at, keep_seat}
 use Rattle.tick_units.specs.declared.task.Task.{Task}
 use Rattle.tick_units.specs.declared.seat.Seat.{Seat}
 use Rattle.tick_units.specs.declared.order_fault.BadOrder.{BadOrder}
 use Rattle.tick_units.specs.declared.order_fault.BadOrder.TheVariants.{Repeated, Missing, Strange}
-use Rattle.record_lines.specs.Fields.{before_space, after_space}
+use Rattle.site_types.specs.Fields.{after_space, before_space}
 use Rattle.record_lines.specs.Words.{task_of}
 use Rattle.record_lines.specs.declared.why.Why.{Why}
 use Rattle.record_lines.specs.declared.why.Why.TheVariants.{BadOrder as RefusedOrder}

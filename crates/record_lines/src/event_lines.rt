@@ -1,7 +1,8 @@
 //! What befalls the site by a line.
 
 ghost use Rattle.std.specs.Prelude.{◌≡◌, option_map, IfSome};
-ghost use Rattle.record_lines.specs.Events.{cable_of, code_in, event_of, event_view, item_of, link_of, op_of, operation_of, output_of, point_of, supply_of, zone_of};
+ghost use Rattle.record_lines.specs.Events.{cable_of, code_in, event_of, event_view, item_of, link_of, op_of};
+ghost use Rattle.record_lines.specs.Events.{operation_of, output_of, point_of, supply_of, zone_of};
 ghost use Rattle.record_lines.specs.ReadBack.{HasCode, IsCode};
 ghost use Rattle.site_types.specs.Valid.{IsValid};
 
@@ -10,7 +11,8 @@ use crate::form::{Action, Form, Kind};
 use crate::number_fields::octet;
 use site_types::{Event, Item, Label, Operation, PieceState, Site, SupplyKind, Thing, read_code};
 
-/// The event of a line whose fixed words and numbers are of their forms. Where a name or a number names nothing there is none.
+/// The event of a line whose fixed words and numbers are of their forms. Where a name or a number names
+/// nothing there is none.
 pub fn read_event(site: &Site, form: Form, text: &[u8]) -> Option<Event>
     requires { IsValid site.now }
     ensures event { option_map event_view result ≡ event_of site.now form text.now }

@@ -1,7 +1,8 @@
 //! The fields of a line, which single spaces part.
 
 ghost use Rattle.std.specs.Prelude.{◌≡◌, ◌+◌, ◌<◌, ◌≤◌, ◌++◌, IfSome, length};
-ghost use Rattle.record_lines.specs.Fields.{after_space as behind_space, before_space as front, field as field_at, field_count as fields_in, space_count as spaces_in};
+ghost use Rattle.record_lines.specs.Fields.{field_count as fields_in, space_count as spaces_in};
+ghost use Rattle.site_types.specs.Fields.{after_space as behind_space, before_space as front, field as field_at};
 
 /// The field at a place, counted from 0; empty where there is none.
 pub fn field(text: &[u8], place: usize) -> &[u8]

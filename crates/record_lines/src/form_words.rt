@@ -1,7 +1,9 @@
 //! Which row a line is of, by its first word, the number of its fields and its fixed words.
 
 ghost use Rattle.std.specs.Prelude.{◌≡◌, ◌≤◌, length};
-ghost use Rattle.record_lines.specs.Forms.{action_of, cable_form, end_form, form_of, is_code_field, link_form, named_action_of, op_form, order_form, plain_action_of, point_form, routing_form, supply_form, tick_form, zone_action_of};
+ghost use Rattle.record_lines.specs.Forms.{action_of, cable_form, end_form, form_of, is_code_field, link_form};
+ghost use Rattle.record_lines.specs.Forms.{named_action_of, op_form, order_form, plain_action_of, point_form};
+ghost use Rattle.record_lines.specs.Forms.{routing_form, supply_form, tick_form, zone_action_of};
 
 use crate::fields::{field, field_count};
 use crate::form::{Action, Form};

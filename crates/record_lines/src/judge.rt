@@ -2,7 +2,8 @@
 
 ghost use Rattle.std.specs.Prelude.{◌≡◌, ◌≤◌, IfOk, IfSome, MatchResult, Some, length, true};
 ghost use Rattle.site_types.specs.declared.site.Site.{Site as SiteOf};
-ghost use Rattle.record_lines.specs.Judged.{SpellsTick, content_of, event_line, judged, line_view, may_stand, order_after, order_with, tick_as};
+ghost use Rattle.record_lines.specs.Judged.{SpellsTick, content_of, event_line, judged, line_view, may_stand};
+ghost use Rattle.record_lines.specs.Judged.{order_after, order_with, tick_as};
 ghost use Rattle.record_lines.specs.ReadBack.{MayCome};
 ghost use Rattle.record_lines.specs.declared.standing.Standing.{Standing as StandingOf};
 ghost use Rattle.site_types.specs.Valid.{IsValid};
@@ -23,7 +24,8 @@ use tick_units::{LAST_TICK, Seat, Tick};
 pub fn judge(site: &Site, standing: &Standing, text: &[u8]) -> Result<Line, Why>
     requires valid { IsValid site.now }
     requires short { length text.now ≤ 512 }
-    ensures answer { MatchResult result (λ line. judged site.now standing.now text.now ≡ Ok (line_view line)) (λ why. judged site.now standing.now text.now ≡ Err why) }
+    ensures answer { MatchResult result (λ line. judged site.now standing.now text.now
+        ≡ Ok (line_view line)) (λ why. judged site.now standing.now text.now ≡ Err why) }
     ensures may_come { IfOk result (λ line. MayCome site.now standing.now line) }
 {
     if let Some(found) = tick_number(text) {
@@ -39,7 +41,8 @@ pub fn judge(site: &Site, standing: &Standing, text: &[u8]) -> Result<Line, Why>
 fn judge_by_form(site: &Site, standing: &Standing, text: &[u8]) -> Result<Line, Why>
     requires valid { IsValid site.now }
     requires short { length text.now ≤ 512 }
-    ensures answer { MatchResult result (λ line. judged site.now standing.now text.now ≡ Ok (line_view line)) (λ why. judged site.now standing.now text.now ≡ Err why) }
+    ensures answer { MatchResult result (λ line. judged site.now standing.now text.now
+        ≡ Ok (line_view line)) (λ why. judged site.now standing.now text.now ≡ Err why) }
     ensures may_come { IfOk result (λ line. MayCome site.now standing.now line) }
 {
     let form = match form(text) {
@@ -69,7 +72,8 @@ fn content(site: &Site, standing: &Standing, form: Form, text: &[u8]) -> Result<
     requires valid { IsValid site.now }
     requires short { length text.now ≤ 512 }
     requires may_stand { may_stand standing.now form ≡ true }
-    ensures answer { MatchResult result (λ line. content_of site.now standing.now form text.now ≡ Ok (line_view line)) (λ why. content_of site.now standing.now form text.now ≡ Err why) }
+    ensures answer { MatchResult result (λ line. content_of site.now standing.now form text.now
+        ≡ Ok (line_view line)) (λ why. content_of site.now standing.now form text.now ≡ Err why) }
     ensures may_come { IfOk result (λ line. MayCome site.now standing.now line) }
 {
     match form {
@@ -141,8 +145,10 @@ fn order(site: &Site, standing: &Standing, seats: &[Seat]) -> Result<Line, Why>
 
 fn event(site: &Site, form: Form, text: &[u8]) -> Result<Line, Why>
     requires { IsValid site.now }
-    ensures answer { MatchResult result (λ line. event_line site.now form text.now ≡ Ok (line_view line)) (λ why. event_line site.now form text.now ≡ Err why) }
-    ensures may_come { (standing : StandingOf) → 1 ≤ standing.ticks → IfOk result (λ line. MayCome site.now standing line) }
+    ensures answer { MatchResult result (λ line. event_line site.now form text.now
+        ≡ Ok (line_view line)) (λ why. event_line site.now form text.now ≡ Err why) }
+    ensures may_come { (standing : StandingOf) → 1 ≤ standing.ticks
+        → IfOk result (λ line. MayCome site.now standing line) }
 {
     match read_event(site, form, text) {
         Some(event) => {

@@ -1,11 +1,13 @@
 //! The line that gives a tick its order.
 
 ghost use Rattle.std.specs.Prelude.{◌≡◌, ◌≤◌, IfOk, IfSome, length, true};
-ghost use Rattle.record_lines.specs.Fields.{after_space as behind_space, each_field, space_count as spaces_in};
+ghost use Rattle.record_lines.specs.Fields.{each_field, space_count as spaces_in};
+ghost use Rattle.site_types.specs.Fields.{after_space as behind_space};
 ghost use Rattle.record_lines.specs.Forms.{is_seat as is_seat_field};
 ghost use Rattle.record_lines.specs.Judged.{SpellsOrder, SpellsSeat};
 ghost use Rattle.site_types.specs.Numbers.{number_of};
-ghost use Rattle.record_lines.specs.Seats.{is_numbered as is_numbered_seat, order_of, panel_of as panel_number, place_of, seat_of as seat_in, seats_of};
+ghost use Rattle.record_lines.specs.Seats.{is_numbered as is_numbered_seat, order_of, panel_of as panel_number};
+ghost use Rattle.record_lines.specs.Seats.{place_of, seat_of as seat_in, seats_of};
 ghost use Rattle.tick_units.specs.Orders.{IsOrder, IsPanelCount};
 
 use crate::fields::{after_space, before_space, behind_word, space_count, split_field};
@@ -89,7 +91,8 @@ pub fn order_seats(text: &[u8]) -> Option<ArrayVec<Seat, 65>>
 fn whole_seats(fields: &[u8], count: usize) -> Option<ArrayVec<Seat, 65>>
     ensures some { IfSome result (λ seats. 1 ≤ count) }
     ensures seated { IfSome result (λ seats. each_field is_seat_field count fields.now ≡ true) }
-    ensures numbered { IfSome result (λ seats. each_field is_numbered_seat count fields.now ≡ true) }
+    ensures numbered { IfSome result (λ seats. each_field is_numbered_seat count fields.now
+        ≡ true) }
     ensures back { IfSome result (λ seats. seats_of count fields.now ≡ seats.items) }
 {
     if count == 0 || count > 65 {

@@ -1,7 +1,8 @@
 //! Printing a line.
 
 ghost use Rattle.std.specs.Prelude.{◌≡◌, ◌<◌, ◌≤◌, ◌+◌, ◌++◌, ◌∷◌, [], decimal, length, map};
-ghost use Rattle.record_lines.specs.Printed.{action_fields, code_text, event_text, item_fields, joined, line_text, seat_text};
+ghost use Rattle.record_lines.specs.Printed.{action_fields, code_text, event_text, item_fields, joined, line_text};
+ghost use Rattle.record_lines.specs.Printed.{seat_text};
 ghost use Rattle.record_lines.specs.ReadBack.{ReadsBack};
 ghost use Rattle.site_types.specs.Valid.{IsValid};
 

@@ -1,8 +1,11 @@
 //! The fixed words of lines as they are printed.
 
 ghost use Rattle.std.specs.Prelude.{◌≡◌, ◌≤◌, length};
-ghost use Rattle.record_lines.specs.Printed.{bad_word as word_of_bad, letter_of, name_text, on_word as word_of_on, piece_state_word as word_of_piece, point_state_word as word_of_point, supply_word as word_of_supply, up_word as word_of_up};
-ghost use Rattle.site_types.specs.declared.named.Thing.TheVariants.{Point as PointThing, Zone as ZoneThing, Output as OutputThing};
+ghost use Rattle.record_lines.specs.Printed.{bad_word as word_of_bad, letter_of, name_text, on_word as word_of_on};
+ghost use Rattle.record_lines.specs.Printed.{piece_state_word as word_of_piece, point_state_word as word_of_point};
+ghost use Rattle.record_lines.specs.Printed.{supply_word as word_of_supply, up_word as word_of_up};
+ghost use Rattle.site_types.specs.declared.named.Thing.TheVariants.{Point as PointThing, Zone as ZoneThing};
+ghost use Rattle.site_types.specs.declared.named.Thing.TheVariants.{Output as OutputThing};
 
 use site_types::{PieceState, PointState, Site, SupplyKind};
 use tick_units::Task;

@@ -6,7 +6,8 @@ ghost use Rattle.record_lines.specs.Belongs.{StepBelongs};
 ghost use Rattle.record_lines.specs.Lines.{is_printable as is_printable_byte, reading_of};
 ghost use Rattle.record_lines.specs.ReadBack.{StepMayCome};
 ghost use Rattle.record_lines.specs.declared.standing.Standing.{Standing as StandingOf};
-ghost use Rattle.record_lines.specs.Stands.{Accepts, EndsLine, Feeds, IsOpen, Keeps, Refuses, StandsFor, Stops, TakesByte, TakesLine, over_step};
+ghost use Rattle.record_lines.specs.Stands.{Accepts, EndsLine, Feeds, IsOpen, Keeps, Refuses, StandsFor, Stops};
+ghost use Rattle.record_lines.specs.Stands.{TakesByte, TakesLine, over_step};
 ghost use Rattle.site_types.specs.Valid.{IsValid};
 ghost use Rattle.site_types.specs.declared.site.Site.{Site as SiteOf};
 
@@ -48,15 +49,18 @@ impl LineReader {
         }
     }
 
-    /// Takes a piece of the record, up to and with the first line end or the first byte that is refused. `Line` uses at least one byte. After
-    /// the line `end` or a refusal the answer is the same for every piece, and none of its bytes is used.
+    /// Takes a piece of the record, up to and with the first line end or the first byte that is refused.
+    /// `Line` uses at least one byte. After the line `end` or a refusal the answer is the same for every
+    /// piece, and none of its bytes is used.
     pub fn feed(&mut self, site: &Site, piece: &[u8]) -> Fed
         requires { IsValid site.now }
-        ensures feeds { (before : List ℕ) → StandsFor site.now before self.old → Feeds site.now before piece.now result self.new }
+        ensures feeds { (before : List ℕ) → StandsFor site.now before self.old
+            → Feeds site.now before piece.now result self.new }
 
         // A tick, an event and an order are the site's, and each line comes where it may come.
         ensures belongs { StepBelongs site.now result.step }
-        ensures may_come { (before : List ℕ) → StandsFor site.now before self.old → StepMayCome site.now (reading_of site.now before).standing result.step }
+        ensures may_come { (before : List ℕ) → StandsFor site.now before self.old
+            → StepMayCome site.now (reading_of site.now before).standing result.step }
     {
         if let Some(over) = self.over {
             return Fed {
@@ -77,9 +81,12 @@ impl LineReader {
         }
     }
 
-    /// The refusal of a record that ends here without its line `end`. It is meant for a reader that answered neither that line nor a refusal.
+    /// The refusal of a record that ends here without its line `end`. It is meant for a reader that answered
+    /// neither that line nor a refusal.
     pub fn finish(&self) -> Refusal
-        ensures { (site : SiteOf) (before : List ℕ) → StandsFor site before self.now → (reading_of site before).ending ≡ None → result ≡ record { line = (reading_of site before).number; why = Why.Truncated } }
+        ensures { (site : SiteOf) (before : List ℕ) → StandsFor site before self.now
+            → (reading_of site before).ending ≡ None
+            → result ≡ record { line = (reading_of site before).number; why = Why.Truncated } }
     {
         Refusal {
             line: self.number,
@@ -87,7 +94,8 @@ impl LineReader {
         }
     }
 
-    // Puts the front of a piece behind what has come of the line: its printable bytes, as far as there is room. Answers how many these are.
+    // Puts the front of a piece behind what has come of the line: its printable bytes, as far as there is
+    // room. Answers how many these are.
     fn keep(&mut self, piece: &[u8]) -> usize
         ensures keeps { Keeps self.old piece.now result self.new }
         ensures stops { (byte : ℕ) → slice_get piece.now result ≡ Some byte → Stops self.new byte }
@@ -108,7 +116,8 @@ impl LineReader {
         ensures ends { EndsLine result }
         ensures belongs { StepBelongs site.now result }
         ensures may_come { StepMayCome site.now self.old.standing result }
-        ensures takes { (before : List ℕ) → IsOpen site.now before self.old → TakesByte site.now before byte self.new result }
+        ensures takes { (before : List ℕ) → IsOpen site.now before self.old
+            → TakesByte site.now before byte self.new result }
     {
         if byte == b'\n' {
             self.take_line(site)
@@ -156,7 +165,8 @@ impl LineReader {
     fn refuse(&mut self, why: Why) -> Step
         ensures refuses { Refuses self.old why self.new result }
         ensures belongs { (site : SiteOf) → StepBelongs site result }
-        ensures may_come { (site : SiteOf) (standing : StandingOf) → StepMayCome site standing result }
+        ensures may_come { (site : SiteOf) (standing : StandingOf)
+            → StepMayCome site standing result }
     {
         let refusal = Refusal {
             line: self.number,
@@ -183,7 +193,8 @@ fn again(over: Over) -> Step
 fn printable_count(text: &[u8]) -> usize
     ensures within { result ≤ length text.now }
     ensures front { list_all is_printable_byte (take result text.now) ≡ true }
-    ensures stops { (byte : ℕ) → slice_get text.now result ≡ Some byte → is_printable_byte byte ≡ false }
+    ensures stops { (byte : ℕ) → slice_get text.now result ≡ Some byte
+        → is_printable_byte byte ≡ false }
 {
     for (place, byte) in text.iter().enumerate() {
         if !is_printable(*byte) {

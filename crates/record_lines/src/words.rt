@@ -1,7 +1,8 @@
 //! The fixed words of lines.
 
 ghost use Rattle.std.specs.Prelude.{◌≡◌, bytes_eq};
-ghost use Rattle.record_lines.specs.Words.{kind_of, is_bad_of, is_on_of, is_up_of, piece_state_of, point_state_of, supply_kind_of, task_of};
+ghost use Rattle.record_lines.specs.Words.{kind_of, is_bad_of, is_on_of, is_up_of, piece_state_of, point_state_of};
+ghost use Rattle.record_lines.specs.Words.{supply_kind_of, task_of};
 
 use crate::form::Kind;
 use site_types::{PieceState, PointState, SupplyKind};

@@ -7,9 +7,12 @@ use Rattle.retained_journal.specs.Fields.{Agrees, bytes_at, mask_at, number_at, 
 use Rattle.retained_journal.specs.Slots.{loop_at, panel_points, points_at, retained_at, slot_number}
 
 -- a part of what agrees
-pub part : (n : ℕ) (file : List ℕ) (at : ℕ) (other : List ℕ) (from : ℕ) (k m : ℕ) → Agrees n file at other from → k + m ≤ n → Agrees m file (at + k) other (from + k)
+pub part : (n : ℕ) (file : List ℕ) (at : ℕ) (other : List ℕ) (from : ℕ) (k m : ℕ) → Agrees n file at other from → k + m ≤ n
+    → Agrees m file (at + k) other (from + k)
 part n file at other from k m agrees fits = record {
-  same = λ i less. subst (λ (j : ℕ). slice_index file j ≡ slice_index other (from + k + i)) (omega arith) (subst (λ (j : ℕ). slice_index file (at + (k + i)) ≡ slice_index other j) (omega arith) (agrees.same (k + i) (omega arith)));
+  same =
+      λ i less. subst (λ (j : ℕ). slice_index file j ≡ slice_index other (from + k + i)) (omega arith)
+      (subst (λ (j : ℕ). slice_index file (at + (k + i)) ≡ slice_index other j) (omega arith) (agrees.same (k + i) (omega arith)));
 }
 
 pub sooner : (n : ℕ) (file : List ℕ) (at : ℕ) (other : List ℕ) (from : ℕ) (m : ℕ) → Agrees n file at other from → m ≤ n → Agrees m file at other from
@@ -18,20 +21,27 @@ sooner n file at other from m agrees fits = record { same = λ i less. agrees.sa
 pub turned : (n : ℕ) (file : List ℕ) (at : ℕ) (other : List ℕ) (from : ℕ) → Agrees n file at other from → Agrees n other from file at
 turned n file at other from agrees = record { same = λ i less. sym (agrees.same i less) }
 
-pub joined : (n : ℕ) (file : List ℕ) (at : ℕ) (other : List ℕ) (from : ℕ) (third : List ℕ) (last : ℕ) → Agrees n file at other from → Agrees n other from third last → Agrees n file at third last
+pub joined : (n : ℕ) (file : List ℕ) (at : ℕ) (other : List ℕ) (from : ℕ) (third : List ℕ) (last : ℕ) → Agrees n file at other from
+    → Agrees n other from third last → Agrees n file at third last
 joined n file at other from third last one two = record { same = λ i less. one.same i less ∙ two.same i less }
 
 -- from the beginning of a file on
-pub from_start : (n : ℕ) (file other : List ℕ) (from : ℕ) → ((i : ℕ) → i < n → slice_index file i ≡ slice_index other (from + i)) → Agrees n file 0 other from
-from_start n file other from same = record { same = λ i less. subst (λ (j : ℕ). slice_index file j ≡ slice_index other (from + i)) (sym (zero-add i)) (same i less) }
+pub from_start : (n : ℕ) (file other : List ℕ) (from : ℕ) → ((i : ℕ) → i < n → slice_index file i ≡ slice_index other (from + i))
+    → Agrees n file 0 other from
+from_start n file other from same =
+    record { same = λ i less. subst (λ (j : ℕ). slice_index file j ≡ slice_index other (from + i)) (sym (zero-add i)) (same i less) }
 
-pub first_byte : (n : ℕ) (file : List ℕ) (at : ℕ) (other : List ℕ) (from : ℕ) → Agrees n file at other from → 0 < n → slice_index file at ≡ slice_index other from
+pub first_byte : (n : ℕ) (file : List ℕ) (at : ℕ) (other : List ℕ) (from : ℕ) → Agrees n file at other from → 0 < n
+    → slice_index file at ≡ slice_index other from
 first_byte n file at other from agrees some =
-    subst (λ (j : ℕ). slice_index file j ≡ slice_index other from) (add-zero at) (subst (λ (j : ℕ). slice_index file (at + 0) ≡ slice_index other j) (add-zero from) (agrees.same 0 some))
+    subst (λ (j : ℕ). slice_index file j ≡ slice_index other from) (add-zero at)
+    (subst (λ (j : ℕ). slice_index file (at + 0) ≡ slice_index other j) (add-zero from) (agrees.same 0 some))
 
 rest : (n : ℕ) (file : List ℕ) (at : ℕ) (other : List ℕ) (from : ℕ) → Agrees (suc n) file at other from → Agrees n file (suc at) other (suc from)
 rest n file at other from agrees = record {
-  same = λ i less. subst (λ (j : ℕ). slice_index file j ≡ slice_index other (suc from + i)) (omega arith) (subst (λ (j : ℕ). slice_index file (at + (1 + i)) ≡ slice_index other j) (omega arith) (agrees.same (1 + i) (omega arith)));
+  same =
+      λ i less. subst (λ (j : ℕ). slice_index file j ≡ slice_index other (suc from + i)) (omega arith)
+      (subst (λ (j : ℕ). slice_index file (at + (1 + i)) ≡ slice_index other j) (omega arith) (agrees.same (1 + i) (omega arith)));
 }
 
 big-agrees : (n : ℕ) (file : List ℕ) (at : ℕ) (other : List ℕ) (from : ℕ) → Agrees n file at other from → big_from at n file ≡ big_from from n other
@@ -41,32 +51,38 @@ big-agrees (suc n) file at other from agrees =
     let more = big-agrees n file (suc at) other (suc from) (rest n file at other from agrees) in
     rw (byte, more) refl
 
-little-agrees : (n : ℕ) (file : List ℕ) (at : ℕ) (other : List ℕ) (from : ℕ) → Agrees n file at other from → little_from at n file ≡ little_from from n other
+little-agrees : (n : ℕ) (file : List ℕ) (at : ℕ) (other : List ℕ) (from : ℕ) → Agrees n file at other from
+    → little_from at n file ≡ little_from from n other
 little-agrees zero file at other from agrees = refl
 little-agrees (suc n) file at other from agrees =
     let byte = first_byte (suc n) file at other from agrees (omega arith) in
     let more = little-agrees n file (suc at) other (suc from) (rest n file at other from agrees) in
     rw (byte, more) refl
 
-pub number-agrees : (n : ℕ) (file : List ℕ) (at : ℕ) (other : List ℕ) (from : ℕ) → Agrees n file at other from → number_at n at file ≡ number_at n from other
+pub number-agrees : (n : ℕ) (file : List ℕ) (at : ℕ) (other : List ℕ) (from : ℕ) → Agrees n file at other from
+    → number_at n at file ≡ number_at n from other
 unfolding number_at
 number-agrees n file at other from agrees = big-agrees n file at other from agrees
 
-pub mask-agrees : (n : ℕ) (file : List ℕ) (at : ℕ) (other : List ℕ) (from : ℕ) → Agrees n file at other from → mask_at n at file ≡ mask_at n from other
+pub mask-agrees : (n : ℕ) (file : List ℕ) (at : ℕ) (other : List ℕ) (from : ℕ) → Agrees n file at other from
+    → mask_at n at file ≡ mask_at n from other
 unfolding mask_at
 mask-agrees n file at other from agrees = little-agrees n file at other from agrees
 
 -- what is told from each place is the same
-pub map-same : {X : Type 0} (f g : ℕ → X) (a n : ℕ) → ((i : ℕ) → a ≤ i → i < a + n → f i ≡ g i) → map f (range_with_len a n) ≡ map g (range_with_len a n)
+pub map-same : {X : Type 0} (f g : ℕ → X) (a n : ℕ) → ((i : ℕ) → a ≤ i → i < a + n → f i ≡ g i)
+    → map f (range_with_len a n) ≡ map g (range_with_len a n)
 map-same f g a zero same = refl
 map-same f g a (suc n) same =
     let here = same a (omega arith) (omega arith) in
     let more = map-same f g (a + 1) n (λ i low high. same i (omega arith) (omega arith)) in
     cc
 
-pub bytes-agree : (n : ℕ) (file : List ℕ) (at : ℕ) (other : List ℕ) (from : ℕ) → Agrees n file at other from → bytes_at n at file ≡ bytes_at n from other
+pub bytes-agree : (n : ℕ) (file : List ℕ) (at : ℕ) (other : List ℕ) (from : ℕ) → Agrees n file at other from
+    → bytes_at n at file ≡ bytes_at n from other
 unfolding bytes_at
-bytes-agree n file at other from agrees = map-same (λ k. slice_index file (at + k)) (λ k. slice_index other (from + k)) 0 n (λ i low high. agrees.same i (omega arith))
+bytes-agree n file at other from agrees =
+    map-same (λ k. slice_index file (at + k)) (λ k. slice_index other (from + k)) 0 n (λ i low high. agrees.same i (omega arith))
 
 pub numbers-agree : (file : List ℕ) (at : ℕ) (other : List ℕ) (from : ℕ) → Agrees 32 file at other from → numbers_at at file ≡ numbers_at from other
 unfolding numbers_at
@@ -80,7 +96,10 @@ the_set rows = record { loops = rows }
 module _ (wide : Bool) (file : List ℕ) (at : ℕ) (other : List ℕ) (from : ℕ) (agrees : Agrees 905 file (at + 1) other (from + 1)) where
   there : (k m : ℕ) → 1 ≤ k → k + m ≤ 906 → Agrees m file (at + k) other (from + k)
   there k m some fits = record {
-    same = λ i less. subst (λ (x : ℕ). slice_index file x ≡ slice_index other (from + k + i)) (omega (arith, some)) (subst (λ (x : ℕ). slice_index file (at + 1 + (k - 1 + i)) ≡ slice_index other x) (omega (arith, some)) (agrees.same (k - 1 + i) (omega (arith, some, fits, less))));
+    same =
+        λ i less. subst (λ (x : ℕ). slice_index file x ≡ slice_index other (from + k + i)) (omega (arith, some))
+        (subst (λ (x : ℕ). slice_index file (at + 1 + (k - 1 + i)) ≡ slice_index other x) (omega (arith, some))
+        (agrees.same (k - 1 + i) (omega (arith, some, fits, less))));
   }
 
   further : (k j m : ℕ) → 1 ≤ k → k + j + m ≤ 906 → Agrees m file (at + k + j) other (from + k + j)
@@ -89,7 +108,8 @@ module _ (wide : Bool) (file : List ℕ) (at : ℕ) (other : List ℕ) (from : �
   loop-agrees : (b : Bool) (which : ℕ) → which < 32 → loop_at b at which file ≡ loop_at b from which other
   loop-agrees true which less =
       let low = mask-agrees 12 file (at + 9 + 12 * which) other (from + 9 + 12 * which) (further 9 (12 * which) 12 (omega arith) (omega arith)) in
-      let high = mask-agrees 12 file (at + 490 + 12 * which) other (from + 490 + 12 * which) (further 490 (12 * which) 12 (omega arith) (omega arith)) in
+      let high = mask-agrees 12 file (at + 490 + 12 * which) other (from + 490 + 12 * which) (further 490 (12 * which) 12 (omega arith) (omega arith))
+      in
       rw (low, high) refl
   loop-agrees false which less =
       let low = mask-agrees 12 file (at + 9 + 12 * which) other (from + 9 + 12 * which) (further 9 (12 * which) 12 (omega arith) (omega arith)) in
@@ -99,11 +119,14 @@ module _ (wide : Bool) (file : List ℕ) (at : ℕ) (other : List ℕ) (from : �
   unfolding panel_points
   panel-agrees panel less =
       ap (λ (rows : List (List ℕ)). the_set rows)
-      (map-same (λ line. loop_at wide at (4 * panel + line) file) (λ line. loop_at wide from (4 * panel + line) other) 0 4 (λ i low high. loop-agrees wide (4 * panel + i) (omega arith)))
+      (map-same (λ line. loop_at wide at (4 * panel + line) file) (λ line. loop_at wide from (4 * panel + line) other) 0 4
+      (λ i low high. loop-agrees wide (4 * panel + i) (omega arith)))
 
   points-agree : points_at wide at file ≡ points_at wide from other
   unfolding points_at
-  points-agree = map-same (λ panel. panel_points wide at panel file) (λ panel. panel_points wide from panel other) 0 8 (λ i low high. panel-agrees i (omega arith))
+  points-agree =
+      map-same (λ panel. panel_points wide at panel file) (λ panel. panel_points wide from panel other) 0 8
+      (λ i low high. panel-agrees i (omega arith))
 
   pub retained-body : retained_at wide at file ≡ retained_at wide from other
   retained-body =
@@ -118,8 +141,11 @@ module _ (wide : Bool) (file : List ℕ) (at : ℕ) (other : List ℕ) (from : �
 body_of : (file : List ℕ) (at : ℕ) (other : List ℕ) (from : ℕ) → Agrees 906 file at other from → Agrees 905 file (at + 1) other (from + 1)
 body_of file at other from agrees = part 906 file at other from 1 905 agrees (omega arith)
 
-pub retained-agrees : (wide : Bool) (file : List ℕ) (at : ℕ) (other : List ℕ) (from : ℕ) → Agrees 906 file at other from → retained_at wide at file ≡ retained_at wide from other
+pub retained-agrees : (wide : Bool) (file : List ℕ) (at : ℕ) (other : List ℕ) (from : ℕ) → Agrees 906 file at other from
+    → retained_at wide at file ≡ retained_at wide from other
 retained-agrees wide file at other from agrees = retained-body wide file at other from (body_of file at other from agrees)
 
-pub slot_number-agrees : (wide : Bool) (file : List ℕ) (at : ℕ) (other : List ℕ) (from : ℕ) → Agrees 906 file at other from → slot_number at file ≡ slot_number from other
-slot_number-agrees wide file at other from agrees = number-agrees 8 file (at + 1) other (from + 1) (part 906 file at other from 1 8 agrees (omega arith))
+pub slot_number-agrees : (wide : Bool) (file : List ℕ) (at : ℕ) (other : List ℕ) (from : ℕ) → Agrees 906 file at other from
+    → slot_number at file ≡ slot_number from other
+slot_number-agrees wide file at other from agrees =
+    number-agrees 8 file (at + 1) other (from + 1) (part 906 file at other from 1 8 agrees (omega arith))

@@ -19,35 +19,45 @@ use Rattle.retained_journal.proofs.Torn.{Spares, torn_holds, torn_keeps}
 
 module _ {D : Type 0} (honest : D → Type 0) (images : D → List ℕ → Type 0) where
   -- a write that spares what an image needs leaves images
-  pub still_stands : (j : Journal) (old new : D) (at n : ℕ) → Stands honest images old j → Spares j at n → (honest new → honest old) → (honest old → Follows (Torn at n) (images old) (images new)) → Stands honest images new j
+  pub still_stands : (j : Journal) (old new : D) (at n : ℕ) → Stands honest images old j → Spares j at n → (honest new → honest old)
+      → (honest old → Follows (Torn at n) (images old) (images new)) → Stands honest images new j
   still_stands j old new at n stands spares back crash = record {
     sound = stands.sound;
     each = λ h c now'. let was = crash (back h) c now' in torn_keeps j was.0 c at n (stands.each (back h) was.0 was.1) was.2 spares stands.sound.few;
   }
 
   -- a write that succeeded leaves images of the journal after it
-  pub then_stands : (j k : Journal) (old new : D) (at : ℕ) (bytes : List ℕ) → Stands honest images old j → Spares j at (length bytes) → IsSound k → (honest new → honest old) → (honest old → Follows (Holds at bytes) (images old) (images new))
+  pub then_stands : (j k : Journal) (old new : D) (at : ℕ) (bytes : List ℕ) → Stands honest images old j → Spares j at (length bytes) → IsSound k
+      → (honest new → honest old) → (honest old → Follows (Holds at bytes) (images old) (images new))
       → ((d c : List ℕ) → honest old → images old d → IsImage j c → Holds at bytes d c → IsImage k c) → Stands honest images new k
   then_stands j k old new at bytes stands spares sound back holds step = record {
     sound = sound;
     each = λ h c now'.
         let was = holds (back h) c now' in
-        step was.0 c (back h) was.1 (torn_keeps j was.0 c at (length bytes) (stands.each (back h) was.0 was.1) (torn_holds at bytes was.0 c was.2) spares stands.sound.few) was.2;
+        step was.0 c (back h) was.1 (torn_keeps j was.0 c at (length bytes) (stands.each (back h) was.0 was.1) (torn_holds at bytes was.0 c was.2)
+        spares stands.sound.few) was.2;
   }
 
   -- what each image of a journal has, each image of another has
-  pub other_stands : (j k : Journal) (disk : D) → Stands honest images disk j → IsSound k → ((c : List ℕ) → honest disk → images disk c → IsImage j c → IsImage k c) → Stands honest images disk k
+  pub other_stands : (j k : Journal) (disk : D) → Stands honest images disk j → IsSound k
+      → ((c : List ℕ) → honest disk → images disk c → IsImage j c → IsImage k c) → Stands honest images disk k
   other_stands j k disk stands sound step = record { sound = sound; each = λ h c now'. step c h now' (stands.each h c now') }
 
   -- where no step is left out, as many cells of what a read gives count as are known
-  pub counts_read : (j : Journal) (disk : D) (seen : Option (List ℕ)) → Stands honest images disk j → honest disk → (file : List ℕ) × (seen ≡ Some file) × images disk file
+  pub counts_read : (j : Journal) (disk : D) (seen : Option (List ℕ)) → Stands honest images disk j → honest disk
+      → (file : List ℕ) × (seen ≡ Some file) × images disk file
       → j.log ≡ Open → j.cell_may_be_open ≡ false → j.moving ≡ false → IfSome seen (λ file. counted file ≡ j.cells)
-  counts_read j disk seen stands h read open' sure still = subst (λ s. IfSome s (λ file. counted file ≡ j.cells)) (sym read.1) (whole_counts j read.0 stands.sound (stands.each h read.0 read.2) open' sure still).1
+  counts_read j disk seen stands h read open' sure still =
+      subst (λ s. IfSome s (λ file. counted file ≡ j.cells)) (sym read.1)
+      (whole_counts j read.0 stands.sound (stands.each h read.0 read.2) open' sure still).1
 
-  module _ (moment : D → ℕ) (left_since : D → ℕ → List ℕ → Type 0) (only_now : (disk : D) (c : List ℕ) → honest disk → left_since disk (moment disk) c → images disk c) where
+  module _ (moment : D → ℕ) (left_since : D → ℕ → List ℕ → Type 0) (only_now : (disk : D) (c : List ℕ) → honest disk → left_since disk (moment disk) c
+      → images disk c) where
     -- no call at all
-    pub no_moment : (j : Journal) (disk : D) → Stands honest images disk j → honest disk → HasRoom j → LeavesOnly moment left_since disk disk (OpensToKeptOrAttempt j)
-    no_moment j disk stands h room = stays moment left_since disk (OpensToKeptOrAttempt j) (λ c left. opens_image j c stands.sound (stands.each h c (only_now disk c h left)) room)
+    pub no_moment : (j : Journal) (disk : D) → Stands honest images disk j → honest disk → HasRoom j
+        → LeavesOnly moment left_since disk disk (OpensToKeptOrAttempt j)
+    no_moment j disk stands h room =
+        stays moment left_since disk (OpensToKeptOrAttempt j) (λ c left. opens_image j c stands.sound (stands.each h c (only_now disk c h left)) room)
 
     -- no call at all leaves nothing new
     pub nothing_new : (disk : D) → honest disk → LeavesOnly moment left_since disk disk (images disk)
@@ -55,7 +65,8 @@ module _ {D : Type 0} (honest : D → Type 0) (images : D → List ℕ → Type 
 
     -- at each moment of the call a crash leaves what is kept, or that with the batch last attempted
     pub its_moments : (j : Journal) (old new : D) (at n : ℕ) → Stands honest images old j → Spares j at n → honest old → HasRoom j
-        → Elapses (moment old) (moment new) (left_since old) (left_since new) (After (Torn at n) (images old)) → LeavesOnly moment left_since old new (OpensToKeptOrAttempt j)
+        → Elapses (moment old) (moment new) (left_since old) (left_since new) (After (Torn at n) (images old))
+        → LeavesOnly moment left_since old new (OpensToKeptOrAttempt j)
     its_moments j old new at n stands spares h room time =
         one_call moment left_since old new (OpensToKeptOrAttempt j) (After (Torn at n) (images old))
         (λ c left. opens_image j c stands.sound (stands.each h c (only_now old c h left)) room)
@@ -63,18 +74,24 @@ module _ {D : Type 0} (honest : D → Type 0) (images : D → List ℕ → Type 
         (λ c after. opens_image j c stands.sound (torn_keeps j after.0 c at n (stands.each h after.0 after.1) after.2 spares stands.sound.few) room)
 
     -- the same of a call that doesn't end with a sync
-    pub write_moments : (j : Journal) (old new : D) (at n : ℕ) → Stands honest images old j → Spares j at n → honest old → HasRoom j → (honest old → Follows (Torn at n) (images old) (images new))
-        → Elapses (moment old) (moment new) (left_since old) (left_since new) (images new) → LeavesOnly moment left_since old new (OpensToKeptOrAttempt j)
+    pub write_moments : (j : Journal) (old new : D) (at n : ℕ) → Stands honest images old j → Spares j at n → honest old → HasRoom j
+        → (honest old → Follows (Torn at n) (images old) (images new))
+        → Elapses (moment old) (moment new) (left_since old) (left_since new) (images new)
+        → LeavesOnly moment left_since old new (OpensToKeptOrAttempt j)
     write_moments j old new at n stands spares h room crash time =
         one_call moment left_since old new (OpensToKeptOrAttempt j) (images new)
         (λ c left. opens_image j c stands.sound (stands.each h c (only_now old c h left)) room)
         time
-        (λ c here. let was = crash h c here in opens_image j c stands.sound (torn_keeps j was.0 c at n (stands.each h was.0 was.1) was.2 spares stands.sound.few) room)
+        (λ c here. let was = crash h c here in
+        opens_image j c stands.sound (torn_keeps j was.0 c at n (stands.each h was.0 was.1) was.2 spares stands.sound.few) room)
 
 -- one part that leaves nothing new after another
-pub still_nothing_new : {D : Type 0} (moment : D → ℕ) (left_since : D → ℕ → List ℕ → Type 0) (images : D → List ℕ → Type 0) (old mid new : D) → Stays (images old) (images mid)
-    → LeavesOnly moment left_since old mid (images old) → LeavesOnly moment left_since mid new (images mid) → LeavesOnly moment left_since old new (images old)
-still_nothing_new moment left_since images old mid new crash first second = then_more moment left_since old mid new (images old) first (weaker moment left_since mid new (images mid) (images old) crash second)
+pub still_nothing_new : {D : Type 0} (moment : D → ℕ) (left_since : D → ℕ → List ℕ → Type 0) (images : D → List ℕ → Type 0) (old mid new : D)
+    → Stays (images old) (images mid)
+    → LeavesOnly moment left_since old mid (images old) → LeavesOnly moment left_since mid new (images mid)
+    → LeavesOnly moment left_since old new (images old)
+still_nothing_new moment left_since images old mid new crash first second =
+    then_more moment left_since old mid new (images old) first (weaker moment left_since mid new (images mid) (images old) crash second)
 
 pub same_batch : (j k : Journal) → k.attempt ≡ j.attempt → k.attempt.items ≡ j.attempt.items
 same_batch j k same = rw same
@@ -85,7 +102,8 @@ module _ (j mended begun : Journal) (same : KeepsAll j mended) (is : begun ≡ r
   begun_number = ap (λ (k : Journal). k.number) is ∙ same.same_number
 
   -- what it leaves with its attempt is what was kept with that batch
-  pub with_attempt : (batch : List Change) → begun.attempt.items ≡ batch → (file : List ℕ) → OpensToKeptOrAttempt begun file → OpensToKeptOrWith j batch file
+  pub with_attempt : (batch : List Change) → begun.attempt.items ≡ batch → (file : List ℕ) → OpensToKeptOrAttempt begun file
+      → OpensToKeptOrWith j batch file
   with_attempt batch attempt file h =
       let wide = ap (λ (k : Journal). k.wide) is ∙ same.same_wide in
       let digest = ap (λ (k : Journal). k.digest) is ∙ same.same_digest in
@@ -115,19 +133,38 @@ module _ (j : Journal) (s : IsSound j) where
   sound_ready shut = record { few = s.few; keeps = s.keeps; bound = s.bound; untorn = λ whole. absurd (let o = (s.untorn whole).0 in cc) }
 
   -- the state went to the other slot
-  pub sound_moved : j.torn ≡ true → j.number + 1 ≤ 2 ^ 63 + 64 + 2 * j.tried → IsSound (record j { slot_may_be_open = true; second = not j.second; number = j.number + 1; cells = 0; cell_may_be_open = true; moving = false })
+  pub sound_moved : j.torn ≡ true → j.number + 1 ≤ 2 ^ 63 + 64 + 2 * j.tried
+      → IsSound (record j {
+        slot_may_be_open = true;
+        second = not j.second;
+        number = j.number + 1;
+        cells = 0;
+        cell_may_be_open = true;
+        moving =
+            false;
+      })
   sound_moved torn bound = record { few = omega arith; keeps = s.keeps; bound = bound; untorn = λ whole. absurd (cc) }
 
   -- the batch was appended
-  pub sound_appended : j.torn ≡ true → j.number + 1 ≤ 2 ^ 63 + 64 + 2 * j.tried → j.cells < 64 → IsBatch j.wide j.attempt.items → IsSound (record j { kept = changed_by j.attempt.items j.kept; number = j.number + 1; cells = j.cells + 1; cell_may_be_open = false })
-  sound_appended torn bound free batch = record { few = omega (arith, free); keeps = keeps-batch j.wide j.attempt.items j.kept batch.keeps s.keeps; bound = bound; untorn = λ whole. absurd (cc) }
+  pub sound_appended : j.torn ≡ true → j.number + 1 ≤ 2 ^ 63 + 64 + 2 * j.tried → j.cells < 64 → IsBatch j.wide j.attempt.items
+      → IsSound (record j { kept = changed_by j.attempt.items j.kept; number = j.number + 1; cells = j.cells + 1; cell_may_be_open = false })
+  sound_appended torn bound free batch =
+      record {
+        few = omega (arith, free);
+        keeps = keeps-batch j.wide j.attempt.items j.kept batch.keeps s.keeps;
+        bound = bound;
+        untorn =
+            λ whole. absurd (cc);
+      }
 
 -- the front stays where cells are written
 pub front_stays : (at : ℕ) (bytes old new : List ℕ) → 2048 ≤ at → Holds at bytes old new → SameFront old new
-front_stays at bytes old new past holds = record { no_shorter = let s = holds.size in omega (arith, s); same_bytes = λ i front less. holds.same i less (inl (omega (arith, front, past))) }
+front_stays at bytes old new past holds =
+    record { no_shorter = let s = holds.size in omega (arith, s); same_bytes = λ i front less. holds.same i less (inl (omega (arith, front, past))) }
 
 torn_front : (at n : ℕ) (old new : List ℕ) → 2048 ≤ at → Torn at n old new → SameFront old new
-torn_front at n old new past torn = record { no_shorter = torn.no_shorter; same_bytes = λ i front less. torn.same i less (inl (omega (arith, front, past))) }
+torn_front at n old new past torn =
+    record { no_shorter = torn.no_shorter; same_bytes = λ i front less. torn.same i less (inl (omega (arith, front, past))) }
 
 pub fronts : (old mid new : Option (List ℕ)) → Becomes SameFront old mid → Becomes SameFront mid new → Becomes SameFront old new
 fronts None mid new one two = tt
@@ -158,7 +195,8 @@ front_kept old new same = subst (Becomes SameFront old) (sym same) (go old)
     go (Some file) = record { no_shorter = omega arith; same_bytes = λ i front less. refl }
 
 -- a write with its sync behind the front, whatever it answered
-pub either_front : {E : Type 0} (r : Result (Unit {0}) E) (at : ℕ) (bytes : List ℕ) (old new : Option (List ℕ)) → 2048 ≤ at → OnOk r (Becomes (Holds at bytes) old new) → OnErr r (Becomes (Torn at (length bytes)) old new) → Becomes SameFront old new
+pub either_front : {E : Type 0} (r : Result (Unit {0}) E) (at : ℕ) (bytes : List ℕ) (old new : Option (List ℕ)) → 2048 ≤ at
+    → OnOk r (Becomes (Holds at bytes) old new) → OnErr r (Becomes (Torn at (length bytes)) old new) → Becomes SameFront old new
 either_front (Ok u) at bytes old new past ok err = becomes_front at bytes old new past ok
 either_front (Err e) at bytes old new past ok err = torn_becomes_front at (length bytes) old new past err
 
@@ -166,17 +204,20 @@ zeros_long : length {A = ℕ} (replicate 592 0) ≡ 592
 zeros_long = refl
 
 -- one cell more was made zero
-pub zeros_more : (cells : ℕ) (seen new : Option (List ℕ)) (file : List ℕ) → seen ≡ Some file → IfSome seen (HasZeros cells) → Becomes (Holds (cell_place cells) (replicate 592 0)) seen new → IfSome new (HasZeros (cells + 1))
+pub zeros_more : (cells : ℕ) (seen new : Option (List ℕ)) (file : List ℕ) → seen ≡ Some file → IfSome seen (HasZeros cells)
+    → Becomes (Holds (cell_place cells) (replicate 592 0)) seen new → IfSome new (HasZeros (cells + 1))
 zeros_more cells None new file is had became = absurd (cc)
 zeros_more cells (Some old) None file is had became = absurd became
-zeros_more cells (Some old) (Some new) file is had became = λ some. (gate cells had became, let s = became.size in let r = zeros_long in omega (arith, s, r))
+zeros_more cells (Some old) (Some new) file is had became =
+    λ some. (gate cells had became, let s = became.size in let r = zeros_long in omega (arith, s, r))
   where
     gate : (k : ℕ) → HasZeros k old → Holds (cell_place k) (replicate 592 0) old new → slice_index new (cell_place 0) ≡ 0
     gate zero h holds = holds.inside 0 (omega (arith, zeros_long)) ∙ get_or-replicate 592 0 0 0 (omega arith)
     gate (suc k) h holds = let had' = h (omega arith) in holds.same (cell_place 0) (let l = had'.1 in omega (arith, l)) (inl (omega arith)) ∙ had'.0
 
 -- all cells are zero, and the file is whole
-pub all_zero : (seen new : Option (List ℕ)) (file : List ℕ) → seen ≡ Some file → IfSome seen (HasZeros 64) → Becomes (Holds (cell_place 64) (0 ∷ [])) seen new → IfSome new (λ f. (slice_index f (cell_place 0) ≡ 0) × (whole_bytes ≤ length f))
+pub all_zero : (seen new : Option (List ℕ)) (file : List ℕ) → seen ≡ Some file → IfSome seen (HasZeros 64)
+    → Becomes (Holds (cell_place 64) (0 ∷ [])) seen new → IfSome new (λ f. (slice_index f (cell_place 0) ≡ 0) × (whole_bytes ≤ length f))
 all_zero None new file is had became = absurd (cc)
 all_zero (Some old) None file is had became = absurd became
 all_zero (Some old) (Some new) file is had became =
@@ -184,6 +225,7 @@ all_zero (Some old) (Some new) file is had became =
     (became.same (cell_place 0) (let l = zeros.1 in omega (arith, l)) (inl (omega arith)) ∙ zeros.0, let s = became.size in omega (arith, s))
 
 -- what is said of the only file that a crash may leave is said of each image
-pub only_so : (new : Option (List ℕ)) (file : List ℕ) (images : List ℕ → Type 0) (P : List ℕ → Type 0) → new ≡ Some file → IfSome new P → IfSome new (λ f. Only f images) → (c : List ℕ) → images c → P c
+pub only_so : (new : Option (List ℕ)) (file : List ℕ) (images : List ℕ → Type 0) (P : List ℕ → Type 0) → new ≡ Some file → IfSome new P
+    → IfSome new (λ f. Only f images) → (c : List ℕ) → images c → P c
 only_so None file images P is p only c now' = absurd (cc)
 only_so (Some f) file images P is p only c now' = subst P (sym (only c now')) p

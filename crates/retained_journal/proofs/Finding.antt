@@ -53,7 +53,8 @@ is_none None e = refl
 is_none (Some x) e = absurd (cc)
 
 -- what was found at a place below which there is nothing, as a call answered it
-pub found_option : (find : ℕ → Option ℕ) (i n : ℕ) (found : Option ℕ) → first_in find i ≡ None → found ≡ find i → is_some found ≡ true → i < n → found ≡ first_in find n
+pub found_option : (find : ℕ → Option ℕ) (i n : ℕ) (found : Option ℕ) → first_in find i ≡ None → found ≡ find i → is_some found ≡ true → i < n
+    → found ≡ first_in find n
 found_option find i n (Some x) before e some less = sym (found-first find i x n before (sym e) less)
 found_option find i n None before e some less = absurd (cc)
 
@@ -70,10 +71,12 @@ first-same find other (suc n) same =
     rw (before, here) refl
 
 -- what is found first has what each that is found has
-pub found-within : (find : ℕ → Option ℕ) (P : ℕ → Type 0) (n : ℕ) → ((i k : ℕ) → i < n → find i ≡ Some k → P k) → (k : ℕ) → first_in find n ≡ Some k → P k
+pub found-within : (find : ℕ → Option ℕ) (P : ℕ → Type 0) (n : ℕ) → ((i k : ℕ) → i < n → find i ≡ Some k → P k) → (k : ℕ) → first_in find n ≡ Some k
+    → P k
 unfolding first_in
 found-within find P zero each k is = absurd (cc)
-found-within find P (suc n) each k is = either (first_in find n) (find n) refl refl is (λ e. found-within find P n (λ i x less. each i x (omega arith)) k e)
+found-within find P (suc n) each k is =
+    either (first_in find n) (find n) refl refl is (λ e. found-within find P n (λ i x less. each i x (omega arith)) k e)
   where
     either : (a b : Option ℕ) → first_in find n ≡ a → find n ≡ b → or_else a b ≡ Some k → (first_in find n ≡ Some k → P k) → P k
     either None b before here e earlier = each n k (omega arith) (here ∙ e)

@@ -32,7 +32,8 @@ one_to_seven P a b c d e f g (suc (suc (suc (suc (suc (suc (suc (suc n)))))))) l
 
 -- the bytes of a kind that are in their form make a change that can be made
 abbrev CanMake : Bool → ℕ → Type 0
-CanMake wide kind = (panel line number last entries : ℕ) → is_in_form wide kind 1 panel ≡ true → is_in_form wide kind 2 line ≡ true → is_in_form wide kind 3 number ≡ true → CanApply (change_by kind panel line number last entries)
+CanMake wide kind = (panel line number last entries : ℕ) → is_in_form wide kind 1 panel ≡ true → is_in_form wide kind 2 line ≡ true
+    → is_in_form wide kind 3 number ≡ true → CanApply (change_by kind panel line number last entries)
 
 address_fits : (wide : Bool) (n : ℕ) → is_within 1 (greatest_address wide) n ≡ true → (1 ≤ n) × (n ≤ 192)
 address_fits true n h = within 1 192 n h
@@ -40,7 +41,8 @@ address_fits false n h = let w = within 1 96 n h in (w.0, omega (arith, w.1))
 
 can_point : (wide : Bool) → CanMake wide 1
 unfolding is_in_form
-can_point wide panel line number last entries p l n = let a = within 1 4 line l in let b = address_fits wide number n in (within 1 8 panel p, (a.0, a.1, b.0, b.1))
+can_point wide panel line number last entries p l n = let a = within 1 4 line l in let b = address_fits wide number n in
+    (within 1 8 panel p, (a.0, a.1, b.0, b.1))
 
 can_zone : (wide : Bool) → CanMake wide 2
 unfolding is_in_form
@@ -71,30 +73,42 @@ unfolding is_in_form
 kind_within wide kind h = within 1 7 kind h
 
 -- where no byte is wrong, each is in its form
-pub right_byte : (wide : Bool) (at : ℕ) (file : List ℕ) (place : ℕ) → wrong_byte wide at file place ≡ None → is_in_form wide (slice_index file at) place (slice_index file (at + place)) ≡ true
+pub right_byte : (wide : Bool) (at : ℕ) (file : List ℕ) (place : ℕ) → wrong_byte wide at file place ≡ None
+    → is_in_form wide (slice_index file at) place (slice_index file (at + place)) ≡ true
 right_byte wide at file place none = go (is_in_form wide (slice_index file at) place (slice_index file (at + place))) refl none
   where
-    go : (b : Bool) → is_in_form wide (slice_index file at) place (slice_index file (at + place)) ≡ b → (if b then None else Some (at + place)) ≡ None → is_in_form wide (slice_index file at) place (slice_index file (at + place)) ≡ true
+    go : (b : Bool) → is_in_form wide (slice_index file at) place (slice_index file (at + place)) ≡ b → (if b then None else Some (at + place)) ≡ None
+        → is_in_form wide (slice_index file at) place (slice_index file (at + place)) ≡ true
     go true is e = is
     go false is e = absurd (cc)
+
+-- the kind of a change in which no byte is wrong
+pub kind_at : (wide : Bool) (at : ℕ) (file : List ℕ) → wrong_in_change wide at file ≡ None → (1 ≤ slice_index file at) × (slice_index file at ≤ 7)
+kind_at wide at file none =
+    kind_within wide (slice_index file at)
+    (subst (λ (k : ℕ). is_in_form wide (slice_index file at) 0 (slice_index file k) ≡ true) (add-zero at)
+    (right_byte wide at file 0 (none_each (wrong_byte wide at file) 8 none 0 (omega arith))))
 
 pub can_apply_at : (wide : Bool) (at : ℕ) (file : List ℕ) → wrong_in_change wide at file ≡ None → CanApply (change_at at file)
 unfolding change_at
 can_apply_at wide at file none =
     let kind = slice_index file at in
     let each = none_each (wrong_byte wide at file) 8 none in
-    let first = subst (λ (k : ℕ). is_in_form wide kind 0 (slice_index file k) ≡ true) (add-zero at) (right_byte wide at file 0 (each 0 (omega arith))) in
-    let in_range = kind_within wide kind first in
-    one_to_seven (CanMake wide) (can_point wide) (can_zone wide) (can_output wide) (can_delays wide) (can_count wide) (can_clear wide) (can_test wide) kind in_range.0 in_range.1
+    let in_range = kind_at wide at file none in
+    one_to_seven (CanMake wide) (can_point wide) (can_zone wide) (can_output wide) (can_delays wide) (can_count wide) (can_clear wide) (can_test wide)
+    kind in_range.0 in_range.1
     (slice_index file (at + 1)) (slice_index file (at + 2)) (slice_index file (at + 3)) _ _
-    (right_byte wide at file 1 (each 1 (omega arith))) (right_byte wide at file 2 (each 2 (omega arith))) (right_byte wide at file 3 (each 3 (omega arith)))
+    (right_byte wide at file 1 (each 1 (omega arith))) (right_byte wide at file 2 (each 2 (omega arith)))
+    (right_byte wide at file 3 (each 3 (omega arith)))
 
 -- one change more
-pub changes_at-more : (count at : ℕ) (file : List ℕ) → changes_at (count + 1) at file ≡ changes_at count at file ++ change_at (at + 8 * count) file ∷ []
+pub changes_at-more : (count at : ℕ) (file : List ℕ) → changes_at (count + 1) at file ≡ changes_at count at file ++ change_at (at + 8 * count) file
+    ∷ []
 unfolding changes_at
 changes_at-more count at file = map-range_with_len_more (λ k. change_at (at + 8 * k) file) 0 count count (zero-add count)
 
-pub made_more : (count at : ℕ) (file : List ℕ) (initial now' : Retained) → now' ≡ changed_by (changes_at count at file) initial → changed (change_at (at + 8 * count) file) now' ≡ changed_by (changes_at (count + 1) at file) initial
+pub made_more : (count at : ℕ) (file : List ℕ) (initial now' : Retained) → now' ≡ changed_by (changes_at count at file) initial
+    → changed (change_at (at + 8 * count) file) now' ≡ changed_by (changes_at (count + 1) at file) initial
 made_more count at file initial now' e =
     rw (e, changes_at-more count at file) (sym (changed_by-append (changes_at count at file) (change_at (at + 8 * count) file ∷ []) initial))
 
@@ -103,11 +117,13 @@ unfolding changes_at
 made_none at file initial = refl
 
 -- what is wrong in a cell
-pub wrong_count : (wide : Bool) (at : ℕ) (file : List ℕ) → is_within 1 most_changes (cell_count at file) ≡ false → wrong_in_cell wide at file ≡ Some (at + 9)
+pub wrong_count : (wide : Bool) (at : ℕ) (file : List ℕ) → is_within 1 most_changes (cell_count at file) ≡ false
+    → wrong_in_cell wide at file ≡ Some (at + 9)
 unfolding wrong_in_cell
 wrong_count wide at file out = rw out refl
 
-pub wrong_change : (wide : Bool) (at : ℕ) (file : List ℕ) → is_within 1 most_changes (cell_count at file) ≡ true → wrong_in_cell wide at file ≡ first_in (λ k. wrong_in_change wide (at + 10 + 8 * k) file) (cell_count at file)
+pub wrong_change : (wide : Bool) (at : ℕ) (file : List ℕ) → is_within 1 most_changes (cell_count at file) ≡ true
+    → wrong_in_cell wide at file ≡ first_in (λ k. wrong_in_change wide (at + 10 + 8 * k) file) (cell_count at file)
 unfolding wrong_in_cell
 wrong_change wide at file within' = rw within' refl
 

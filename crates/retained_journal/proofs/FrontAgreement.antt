@@ -6,7 +6,9 @@ use Rattle.retained_journal.specs.declared.open_refusal.OpenRefusal.{OpenRefusal
 use Rattle.retained_journal.specs.Fields.{Agrees, first_in, number_at}
 use Rattle.retained_journal.specs.Places.{slot_place}
 use Rattle.retained_journal.specs.Slots.{retained_at, slot_number}
-use Rattle.retained_journal.specs.Opening.{chosen_place, counter_too_great, cut_short, damaged, first_of, front_refusal, great_counter, is_open, is_second, no_open_slot, not_a_journal, number_too_great, other_site}
+use Rattle.retained_journal.specs.Opening.{chosen_place, counter_too_great, cut_short, damaged, first_of}
+use Rattle.retained_journal.specs.Opening.{front_refusal, great_counter, is_open, is_second, no_open_slot}
+use Rattle.retained_journal.specs.Opening.{not_a_journal, number_too_great, other_site}
 use Rattle.retained_journal.proofs.Agreement.{bytes-agree, number-agrees, retained-agrees, slot_number-agrees, sooner}
 use Rattle.retained_journal.proofs.Finding.{first-same, found-within}
 
@@ -14,7 +16,8 @@ pub chosen_fits : (second : Bool) → slot_place second + 906 ≤ 2048
 chosen_fits true = omega arith
 chosen_fits false = omega arith
 
-pub six : (a b c d e f a' b' c' d' e' f' : Option OpenRefusal) → a ≡ a' → b ≡ b' → c ≡ c' → d ≡ d' → e ≡ e' → f ≡ f' → first_of (a ∷ b ∷ c ∷ d ∷ e ∷ f ∷ []) ≡ first_of (a' ∷ b' ∷ c' ∷ d' ∷ e' ∷ f' ∷ [])
+pub six : (a b c d e f a' b' c' d' e' f' : Option OpenRefusal) → a ≡ a' → b ≡ b' → c ≡ c' → d ≡ d' → e ≡ e' → f ≡ f'
+    → first_of (a ∷ b ∷ c ∷ d ∷ e ∷ f ∷ []) ≡ first_of (a' ∷ b' ∷ c' ∷ d' ∷ e' ∷ f' ∷ [])
 six a b c d e f a' b' c' d' e' f' p q r s t u = rw (p, q, r, s, t, u) refl
 
 -- a counter stands in its slot
@@ -26,7 +29,8 @@ counter_at at file panel place less fits is = go (nat_lt greatest_count (number_
     go false e = absurd (cc)
 
 counter_within : (at : ℕ) (file : List ℕ) (n place : ℕ) → n ≤ 8 → at + 906 ≤ 2048 → first_in (great_counter at file) n ≡ Some place → place < 2048
-counter_within at file n place le fits is = found-within (great_counter at file) (λ k. k < 2048) n (λ i k less e. counter_at at file i k (omega (arith, less, le)) fits e) place is
+counter_within at file n place le fits is =
+    found-within (great_counter at file) (λ k. k < 2048) n (λ i k less e. counter_at at file i k (omega (arith, less, le)) fits e) place is
 
 module _ (front file : List ℕ) (agrees : Agrees 2048 front 0 file 0) where
   pub byte_same : (i : ℕ) → i < 2048 → slice_index front i ≡ slice_index file i
@@ -78,10 +82,12 @@ module _ (front file : List ℕ) (agrees : Agrees 2048 front 0 file 0) where
 
   counter_same : (at : ℕ) → at + 906 ≤ 2048 → (panel : ℕ) → panel < 8 → great_counter at front panel ≡ great_counter at file panel
   counter_same at fits panel less =
-      let e = number-agrees 4 front (at + 458 + 4 * panel) file (at + 458 + 4 * panel) (part_same 4 (at + 458 + 4 * panel) (omega (arith, fits, less))) in
+      let e =
+      number-agrees 4 front (at + 458 + 4 * panel) file (at + 458 + 4 * panel) (part_same 4 (at + 458 + 4 * panel) (omega (arith, fits, less))) in
       rw e refl
 
-  found_at : (at : ℕ) → at + 906 ≤ 2048 → (found : Option ℕ) → ((place : ℕ) → found ≡ Some place → place < 2048) → damaged front found ≡ damaged file found
+  found_at : (at : ℕ) → at + 906 ≤ 2048 → (found : Option ℕ) → ((place : ℕ) → found ≡ Some place → place < 2048)
+      → damaged front found ≡ damaged file found
   found_at at fits None within = refl
   found_at at fits (Some place) within = let e = byte_same place (within place refl) in rw e refl
 

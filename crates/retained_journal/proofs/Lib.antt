@@ -7,11 +7,14 @@ pub mod FrontAgreement
 pub mod Images
 pub mod Keeping
 pub mod NewFiles
+pub mod NewJournals
+pub mod OlderFiles
 pub mod Openings
 pub mod ReadImages
 pub mod Reading
 pub mod Refused
 pub mod Replaying
+pub mod SameFiles
 pub mod Stepped
 pub mod Told
 pub mod Torn

@@ -12,7 +12,9 @@ use Rattle.retained_journal.specs.Fields.{Agrees}
 use Rattle.retained_journal.specs.Places.{log_gate, slot_place, whole_bytes}
 use Rattle.retained_journal.specs.Slots.{retained_at, slot_number}
 use Rattle.retained_journal.specs.Cells.{changes_of_cells}
-use Rattle.retained_journal.specs.Opening.{change_out_of_form, chosen_place, counted, counter_too_great, cut_short, no_open_slot, not_a_journal, other_site, damaged, first_of, front_refusal, is_open, is_second, number_too_great, passes, refusal_of}
+use Rattle.retained_journal.specs.Opening.{change_out_of_form, chosen_place, counted, counter_too_great, cut_short}
+use Rattle.retained_journal.specs.Opening.{no_open_slot, not_a_journal, other_site, damaged, first_of, front_refusal}
+use Rattle.retained_journal.specs.Opening.{is_open, is_second, number_too_great, passes, refusal_of}
 use Rattle.retained_journal.specs.Replays.{EndsReplay, RefusesReplay, counted_behind, wrong_in_cells}
 use Rattle.retained_journal.specs.Journals.{IsLong, IsOfFront, IsReadFrom, IsReplayOf}
 use Rattle.retained_journal.proofs.Finding.{found-none}
@@ -46,7 +48,8 @@ module _ (wide : Bool) (front file : List ℕ) (second : Bool) (agrees : Agrees 
     is_begun : begun ≡ begun_at wide (chosen_place file) file
     is_begun = is ∙ begun_same
 
-    pub replay_open : slice_index front 40 ≡ 1 → (replay : Replay) → EndsReplay file begun replay → (change_out_of_form wide file ≡ None) × IsReplayOf wide file replay
+    pub replay_open : slice_index front 40 ≡ 1 → (replay : Replay) → EndsReplay file begun replay → (change_out_of_form wide file ≡ None)
+        × IsReplayOf wide file replay
     replay_open one replay ends = go (subst (λ (b : Replay). EndsReplay file b replay) is_begun ends)
       where
         open' : is_open log_gate file ≡ true
@@ -66,8 +69,10 @@ module _ (wide : Bool) (front file : List ℕ) (second : Bool) (agrees : Agrees 
           },
         )
 
-    pub replay_refused : slice_index front 40 ≡ 1 → (refusal : OpenRefusal) → RefusesReplay file begun refusal → change_out_of_form wide file ≡ Some refusal
-    replay_refused one refusal refuses = ap (λ (n : ℕ). damaged file (wrong_in_cells wide file n)) count ∙ subst (λ (b : Replay). RefusesReplay file b refusal) is_begun refuses
+    pub replay_refused : slice_index front 40 ≡ 1 → (refusal : OpenRefusal) → RefusesReplay file begun refusal
+        → change_out_of_form wide file ≡ Some refusal
+    replay_refused one refusal refuses =
+        ap (λ (n : ℕ). damaged file (wrong_in_cells wide file n)) count ∙ subst (λ (b : Replay). RefusesReplay file b refusal) is_begun refuses
       where
         count : counted file ≡ counted_behind file (slot_number (chosen_place file) file)
         count = let open' = sym gate_same ∙ is_one (slice_index front 40) one in rw open' refl
@@ -86,7 +91,8 @@ module _ (wide : Bool) (front file : List ℕ) (second : Bool) (agrees : Agrees 
         shut : is_open log_gate file ≡ false
         shut = sym gate_same ∙ not_one (slice_index front 40) other
 
-  pub read_so : (digest : List ℕ) (replay : Replay) (journal : Journal) → IsOfFront wide digest front second replay journal → IsReplayOf wide file replay → IsReadFrom wide digest file journal
+  pub read_so : (digest : List ℕ) (replay : Replay) (journal : Journal) → IsOfFront wide digest front second replay journal
+      → IsReplayOf wide file replay → IsReadFrom wide digest file journal
   read_so digest replay journal of_front of = record {
     same_wide = of_front.same_wide;
     same_digest = of_front.same_digest;
@@ -97,7 +103,9 @@ module _ (wide : Bool) (front file : List ℕ) (second : Bool) (agrees : Agrees 
     second = of_front.same_second ∙ same_second;
     cells = of_front.cells ∙ of.cells;
     log = of_front.log ∙ ap (λ (b : Bool). if b then Open else Shut) gate_same;
-    slot = of_front.slot ∙ open_same front file agrees (slot_place (not second)) (other_fits (not second)) ∙ ap (λ (b : Bool). is_open (slot_place (not b)) file) same_second;
+    slot =
+        of_front.slot ∙ open_same front file agrees (slot_place (not second)) (other_fits (not second)) ∙ ap
+        (λ (b : Bool). is_open (slot_place (not b)) file) same_second;
     next = of_front.next ∙ of.next;
     moving = of_front.moving;
     torn = of_front.torn ∙ (let e = gate_same in let n = of.next in rw (e, n) refl);
@@ -116,7 +124,8 @@ pub passes_some : (found : Option OpenRefusal) (refusal : OpenRefusal) → Err r
 passes_some None refusal e = absurd (cc)
 passes_some (Some r) refusal e = cc
 
-six_none : (a b c d e f : Option OpenRefusal) → first_of (a ∷ b ∷ c ∷ d ∷ e ∷ f ∷ []) ≡ None → (a ≡ None) × (b ≡ None) × (c ≡ None) × (d ≡ None) × (e ≡ None) × (f ≡ None)
+six_none : (a b c d e f : Option OpenRefusal) → first_of (a ∷ b ∷ c ∷ d ∷ e ∷ f ∷ []) ≡ None → (a ≡ None) × (b ≡ None) × (c ≡ None) × (d ≡ None)
+    × (e ≡ None) × (f ≡ None)
 six_none (Some x) b c d e f h = absurd (cc)
 six_none None (Some x) c d e f h = absurd (cc)
 six_none None None (Some x) d e f h = absurd (cc)
@@ -127,15 +136,20 @@ six_none None None None None None None h = (refl, refl, refl, refl, refl, refl)
 
 -- none of the causes stands where a front passes
 pub no_cause : (digest : List ℕ) (len : ℕ) (file : List ℕ) → front_refusal digest len file ≡ None
-    → (not_a_journal file ≡ None) × (cut_short len file ≡ None) × (other_site digest file ≡ None) × (no_open_slot file ≡ None) × (number_too_great (chosen_place file) file ≡ None) × (counter_too_great (chosen_place file) file ≡ None)
+    → (not_a_journal file ≡ None) × (cut_short len file ≡ None) × (other_site digest file ≡ None) × (no_open_slot file ≡ None)
+    × (number_too_great (chosen_place file) file ≡ None) × (counter_too_great (chosen_place file) file ≡ None)
 no_cause digest len file none =
-    six_none (not_a_journal file) (cut_short len file) (other_site digest file) (no_open_slot file) (number_too_great (chosen_place file) file) (counter_too_great (chosen_place file) file) none
+    six_none (not_a_journal file) (cut_short len file) (other_site digest file) (no_open_slot file) (number_too_great (chosen_place file) file)
+    (counter_too_great (chosen_place file) file) none
 
-pub number_small : (digest : List ℕ) (len : ℕ) (front : List ℕ) (at : ℕ) → at ≡ chosen_place front → front_refusal digest len front ≡ None → slot_number at front ≤ 2 ^ 63
+pub number_small : (digest : List ℕ) (len : ℕ) (front : List ℕ) (at : ℕ) → at ≡ chosen_place front → front_refusal digest len front ≡ None
+    → slot_number at front ≤ 2 ^ 63
 number_small digest len front at e none =
-    subst (λ (k : ℕ). slot_number k front ≤ 2 ^ 63) (sym e) (go (nat_lt (2 ^ 63) (slot_number (chosen_place front) front)) refl (no_cause digest len front none).4)
+    subst (λ (k : ℕ). slot_number k front ≤ 2 ^ 63) (sym e)
+    (go (nat_lt (2 ^ 63) (slot_number (chosen_place front) front)) refl (no_cause digest len front none).4)
   where
-    go : (b : Bool) → nat_lt (2 ^ 63) (slot_number (chosen_place front) front) ≡ b → number_too_great (chosen_place front) front ≡ None → slot_number (chosen_place front) front ≤ 2 ^ 63
+    go : (b : Bool) → nat_lt (2 ^ 63) (slot_number (chosen_place front) front) ≡ b → number_too_great (chosen_place front) front ≡ None
+        → slot_number (chosen_place front) front ≤ 2 ^ 63
     go true is h = absurd (some_none is h)
       where
         some_none : nat_lt (2 ^ 63) (slot_number (chosen_place front) front) ≡ true → number_too_great (chosen_place front) front ≡ None → ⊥
@@ -150,11 +164,13 @@ not_cut false false true refusal is h = refl
 
 pub long_enough : (digest front file : List ℕ) → front_refusal digest (length file) front ≡ None → IsLong front file
 long_enough digest front file none open' =
-    let few = not_cut (nat_lt (length file) 2048) (nat_lt (length file) whole_bytes) (is_open log_gate front) (Damaged (length file) 0) open' (no_cause digest (length file) front none).1 in
+    let few = not_cut (nat_lt (length file) 2048) (nat_lt (length file) whole_bytes) (is_open log_gate front) (Damaged (length file) 0) open'
+    (no_cause digest (length file) front none).1 in
     grind (arith, nat_tests)
 
 -- a file that isn't refused by its front is refused by its cells alone
-pub front_passes : (wide : Bool) (digest file : List ℕ) (cells : Option OpenRefusal) → front_refusal digest (length file) file ≡ None → change_out_of_form wide file ≡ cells → refusal_of wide digest file ≡ cells
+pub front_passes : (wide : Bool) (digest file : List ℕ) (cells : Option OpenRefusal) → front_refusal digest (length file) file ≡ None
+    → change_out_of_form wide file ≡ cells → refusal_of wide digest file ≡ cells
 front_passes wide digest file cells none found = pair (front_refusal digest (length file) file) (change_out_of_form wide file) cells none found
   where
     pair : (a b c : Option OpenRefusal) → a ≡ None → b ≡ c → first_of (a ∷ b ∷ []) ≡ c
@@ -162,7 +178,8 @@ front_passes wide digest file cells none found = pair (front_refusal digest (len
     pair None (Some r) c e f = f
     pair (Some x) b c e f = absurd (cc)
 
-pub front_refuses : (wide : Bool) (digest file : List ℕ) (refusal : OpenRefusal) → front_refusal digest (length file) file ≡ Some refusal → refusal_of wide digest file ≡ Some refusal
+pub front_refuses : (wide : Bool) (digest file : List ℕ) (refusal : OpenRefusal) → front_refusal digest (length file) file ≡ Some refusal
+    → refusal_of wide digest file ≡ Some refusal
 front_refuses wide digest file refusal some = pair (front_refusal digest (length file) file) (change_out_of_form wide file) some
   where
     pair : (a b : Option OpenRefusal) → a ≡ Some refusal → first_of (a ∷ b ∷ []) ≡ Some refusal

@@ -1,81 +1,37 @@
 -- A file that was read, or made, is an image of the journal that was opened.
-use Rattle.std.proofs.Common.{inl, inr, ◌≡◌, ◌≢◌, ◌⊎◌, ◌+◌, ◌^◌, ◌<◌, ◌≤◌, ◌==◌, ℕ, zero, suc, Bool, true, false, List, [], ◌∷◌, slice_index, length, refl, sym, ap, ◌∙◌, subst, arith}
+use Rattle.std.proofs.Common.{inl, inr, ◌≡◌, ◌≢◌, ◌⊎◌, ◌+◌, ◌^◌, ◌<◌, ◌≤◌, ◌==◌, ℕ, Bool, true, false, List, [], ◌∷◌, slice_index, length, refl, sym, ap, ◌∙◌, subst, arith}
 use Rattle.std.specs.Prelude.{Option, Some, None, if◌then◌else◌, ◌&&◌, ◌||◌, not, nat_lt, nat_le, bytes_eq, MatchBool}
 use Rattle.std.proofs.lemmas.Bool.Decides.{eqb_tells, leb_tells, nat_tests}
 use Rattle.std.proofs.lemmas.Slice.Eq.{bytes_eq-Decides}
-use Rattle.site_types.specs.Changes.{AreCounters, nothing_retained}
-use Rattle.site_types.specs.declared.retained.Retained.{Retained}
+use Rattle.site_types.specs.Changes.{AreCounters}
 use Rattle.retained_journal.specs.declared.journal.Journal.{Journal}
-use Rattle.std.proofs.lemmas.List.{get_or-replicate, get_or_past}
-use Rattle.std.proofs.Common.{get_or, replicate}
-use Rattle.site_types.specs.Done.{no_points}
-use Rattle.site_types.specs.Limits.{greatest_count}
-use Rattle.site_types.specs.declared.point_set.PointSet.{PointSet}
 use Rattle.retained_journal.specs.declared.replay.Replay.{Replay}
 use Rattle.retained_journal.specs.declared.log_gate.LogGate.TheVariants.{Shut, Open}
 use Rattle.retained_journal.specs.declared.open_refusal.OpenRefusal.{OpenRefusal}
 use Rattle.retained_journal.specs.Fields.{bytes_at, first_in, number_at, run_length}
 use Rattle.retained_journal.specs.Places.{cell_place, file_mark, log_gate, slot_place, whole_bytes}
-use Rattle.retained_journal.specs.Slots.{AreNarrow, FitHalves, FitLoops, HasNarrowLoops, IsKeepable, counters_at, slot_number}
+use Rattle.retained_journal.specs.Slots.{IsKeepable, counters_at, slot_number}
 use Rattle.retained_journal.specs.Cells.{is_next, wrong_in_cell}
 use Rattle.retained_journal.specs.Opening.{change_out_of_form, chosen_place, counted, damaged, first_of, front_refusal, great_counter, is_open, is_second, kept_in, refusal_of}
 use Rattle.retained_journal.specs.Images.{HasLog, HoldsBatch, HoldsCopy, IsBehind, IsImage, IsSound, MayCount, OpensToKept, chosen_of, next_of, other_of}
-use Rattle.retained_journal.specs.Journals.{IsNewJournal, IsOfFront, IsReadFrom}
-use Rattle.retained_journal.specs.NewFiles.{IsNewFile}
+use Rattle.retained_journal.specs.Journals.{IsOfFront, IsReadFrom}
 use Rattle.retained_journal.proofs.Finding.{none_each}
 use Rattle.retained_journal.proofs.Images.{is_next_both}
 use Rattle.retained_journal.proofs.Keeping.{small_counters}
-use Rattle.retained_journal.proofs.NewFiles.{new_counted, new_opens, opens_with}
+use Rattle.retained_journal.proofs.NewFiles.{opens_with}
 use Rattle.retained_journal.proofs.Openings.{is_one, no_cause}
-use Rattle.retained_journal.proofs.Replaying.{cells-none, run_holds, run_past}
-
--- nothing can be kept
-pub keeps_nothing : (wide : Bool) → IsKeepable wide nothing_retained
-keeps_nothing wide = record { fits = fits; narrow = narrow wide; small = small }
-  where
-    zeros : (k d : ℕ) → d < 2 ^ 96 → get_or (0 ∷ 0 ∷ []) k d < 2 ^ 96
-    zeros zero d h = omega arith
-    zeros (suc zero) d h = omega arith
-    zeros (suc (suc k)) d h = h
-
-    halves : (l : ℕ) → FitHalves (get_or (replicate 4 (replicate 2 0)) l [])
-    halves zero k less = zeros k 0 (omega arith)
-    halves (suc zero) k less = zeros k 0 (omega arith)
-    halves (suc (suc zero)) k less = zeros k 0 (omega arith)
-    halves (suc (suc (suc zero))) k less = zeros k 0 (omega arith)
-    halves (suc (suc (suc (suc l)))) k less = omega arith
-
-    narrow_halves : (b : Bool) (l : ℕ) → AreNarrow b (get_or (replicate 4 (replicate 2 0)) l [])
-    narrow_halves true l = tt
-    narrow_halves false zero = refl
-    narrow_halves false (suc zero) = refl
-    narrow_halves false (suc (suc zero)) = refl
-    narrow_halves false (suc (suc (suc zero))) = refl
-    narrow_halves false (suc (suc (suc (suc l)))) = refl
-
-    fits : (panel : ℕ) → panel < 8 → FitLoops (get_or nothing_retained.points panel no_points).loops
-    fits panel less = subst (λ (s : PointSet). FitLoops s.loops) (sym (get_or-replicate 8 panel (record { loops = replicate 4 (replicate 2 0) }) no_points less)) (λ line few. halves line)
-
-    narrow : (b : Bool) (panel : ℕ) → panel < 8 → HasNarrowLoops b (get_or nothing_retained.points panel no_points).loops
-    narrow b panel less = subst (λ (s : PointSet). HasNarrowLoops b s.loops) (sym (get_or-replicate 8 panel (record { loops = replicate 4 (replicate 2 0) }) no_points less)) (λ line few. narrow_halves b line)
-
-    small : AreCounters nothing_retained.counters
-    small k = go (leb_tells 8 k)
-      where
-        go : ((nat_le 8 k ≡ true) × (8 ≤ k)) ⊎ ((nat_le 8 k ≡ false) × (k < 8)) → slice_index (replicate 8 0) k ≤ greatest_count
-        go (inl past) = let e = get_or_past {X = ℕ} (replicate 8 0) k 0 past.1 in omega (arith, e)
-        go (inr within') = let e = get_or-replicate {A = ℕ} 8 k 0 0 within'.1 in omega (arith, e)
+use Rattle.retained_journal.proofs.Replaying.{run_holds, run_past}
 
 -- what a test that passes says
 passed_if : (b : Bool) (r : OpenRefusal) → (if b then None else Some r) ≡ None → b ≡ true
 passed_if true r h = refl
 passed_if false r h = absurd (cc)
 
-none_damaged : (file : List ℕ) (found : Option ℕ) → damaged file found ≡ None → found ≡ None
+pub none_damaged : (file : List ℕ) (found : Option ℕ) → damaged file found ≡ None → found ≡ None
 none_damaged file None h = refl
 none_damaged file (Some at) h = absurd (cc)
 
-both_none : (a b : Option OpenRefusal) → first_of (a ∷ b ∷ []) ≡ None → (a ≡ None) × (b ≡ None)
+pub both_none : (a b : Option OpenRefusal) → first_of (a ∷ b ∷ []) ≡ None → (a ≡ None) × (b ≡ None)
 both_none None None h = (refl, refl)
 both_none None (Some x) h = absurd (cc)
 both_none (Some x) b h = absurd (cc)
@@ -87,10 +43,12 @@ not_gate : (n : ℕ) → (n == 1) ≡ false → n ≢ 1
 not_gate n h one = let t = is_one n one in cc
 
 -- the chosen slot is open, and the other is behind it where it is open
-chosen_open : (a b : ℕ) (less : Bool) (second : Bool) → ((b == 1) && (not (a == 1) || less)) ≡ second → ((a == 1) || (b == 1)) ≡ true → (if second then b else a) ≡ 1
+chosen_open : (a b : ℕ) (less : Bool) (second : Bool) → ((b == 1) && (not (a == 1) || less)) ≡ second → ((a == 1) || (b == 1)) ≡ true
+    → (if second then b else a) ≡ 1
 chosen_open a b less second is some = go (eqb_tells a 1) (eqb_tells b 1)
   where
-    go : (((a == 1) ≡ true) × (a ≡ 1)) ⊎ (((a == 1) ≡ false) × (a ≢ 1)) → (((b == 1) ≡ true) × (b ≡ 1)) ⊎ (((b == 1) ≡ false) × (b ≢ 1)) → (if second then b else a) ≡ 1
+    go : (((a == 1) ≡ true) × (a ≡ 1)) ⊎ (((a == 1) ≡ false) × (a ≢ 1)) → (((b == 1) ≡ true) × (b ≡ 1)) ⊎ (((b == 1) ≡ false) × (b ≢ 1))
+        → (if second then b else a) ≡ 1
     go (inl x) (inl y) = pick second x.1 y.1
       where
         pick : (s : Bool) → a ≡ 1 → b ≡ 1 → (if s then b else a) ≡ 1
@@ -100,7 +58,8 @@ chosen_open a b less second is some = go (eqb_tells a 1) (eqb_tells b 1)
     go (inl x) (inr y) = let e : false ≡ second = (rw y.0 at is) in subst (λ (s : Bool). (if s then b else a) ≡ 1) e x.1
     go (inr x) (inr y) = absurd (let e = rw (x.0, y.0) at some in cc)
 
-other_behind : (m n : ℕ) (a b : Bool) (second : Bool) → (b && (not a || nat_lt m n)) ≡ second → (if second then a else b) ≡ true → IsBehind second (if second then m else n) (if second then n else m)
+other_behind : (m n : ℕ) (a b : Bool) (second : Bool) → (b && (not a || nat_lt m n)) ≡ second → (if second then a else b) ≡ true
+    → IsBehind second (if second then m else n) (if second then n else m)
 other_behind m n a b true is open' = ltb_true m n (go a b (nat_lt m n) open' is)
   where
     go : (x y z : Bool) → x ≡ true → (y && (not x || z)) ≡ true → z ≡ true
@@ -124,14 +83,18 @@ place_if : (second : Bool) (file : List ℕ) → slice_index file (slot_place se
 place_if true file = refl
 place_if false file = refl
 
-long_of : (len : ℕ) (open' : Bool) (r : OpenRefusal) → (if nat_lt len 2048 || (open' && nat_lt len whole_bytes) then Some r else None) ≡ None → (2048 ≤ len) × (open' ≡ true → whole_bytes ≤ len)
+long_of : (len : ℕ) (open' : Bool) (r : OpenRefusal) → (if nat_lt len 2048 || (open' && nat_lt len whole_bytes) then Some r else None) ≡ None
+    → (2048 ≤ len) × (open' ≡ true → whole_bytes ≤ len)
 long_of len open' r h = go (leb_tells 2048 len) (leb_tells whole_bytes len) open' refl
   where
-    go : ((nat_le 2048 len ≡ true) × (2048 ≤ len)) ⊎ ((nat_le 2048 len ≡ false) × (len < 2048)) → ((nat_le whole_bytes len ≡ true) × (whole_bytes ≤ len)) ⊎ ((nat_le whole_bytes len ≡ false) × (len < whole_bytes)) → (b : Bool) → open' ≡ b → (2048 ≤ len) × (open' ≡ true → whole_bytes ≤ len)
+    go : ((nat_le 2048 len ≡ true) × (2048 ≤ len)) ⊎ ((nat_le 2048 len ≡ false) × (len < 2048))
+        → ((nat_le whole_bytes len ≡ true) × (whole_bytes ≤ len)) ⊎ ((nat_le whole_bytes len ≡ false) × (len < whole_bytes)) → (b : Bool) → open' ≡ b
+        → (2048 ≤ len) × (open' ≡ true → whole_bytes ≤ len)
     go (inr short) w b is = absurd (let f = short.1 in let t : nat_lt len 2048 ≡ true = grind (arith, nat_tests) in let g = rw t at h in cc)
     go (inl l) (inl w) b is = (l.1, λ o. w.1)
     go (inl l) (inr short) false is = (l.1, λ o. absurd (cc))
-    go (inl l) (inr short) true is = absurd (let f = short.1 in let s = l.1 in let t : nat_lt len whole_bytes ≡ true = grind (arith, nat_tests) in let u : nat_lt len 2048 ≡ false = grind (arith, nat_tests) in let g = rw (u, is, t) at h in cc)
+    go (inl l) (inr short) true is = absurd (let f = short.1 in let s = l.1 in let t : nat_lt len whole_bytes ≡ true = grind (arith, nat_tests) in
+        let u : nat_lt len 2048 ≡ false = grind (arith, nat_tests) in let g = rw (u, is, t) at h in cc)
 
 both_true : (a b c : Bool) → a ≡ true → b ≡ true → (a && (b && c)) ≡ c
 both_true true true c p q = refl
@@ -142,12 +105,18 @@ below : (n : ℕ) → n < 64 → nat_lt n 64 ≡ true
 below n less = grind (arith, nat_tests)
 
 -- an opened journal is sound
-pub sound_read : (wide : Bool) (digest front : List ℕ) (second : Bool) (replay : Replay) (j : Journal) → IsOfFront wide digest front second replay j → IsKeepable wide replay.kept → replay.cells ≤ 64 → replay.number ≤ 2 ^ 63 + 64 → IsSound j
+pub sound_read : (wide : Bool) (digest front : List ℕ) (second : Bool) (replay : Replay) (j : Journal) → IsOfFront wide digest front second replay j
+    → IsKeepable wide replay.kept → replay.cells ≤ 64 → replay.number ≤ 2 ^ 63 + 64 → IsSound j
 sound_read wide digest front second replay j of keeps few bound = record {
   few = let e = of.cells in omega (arith, e, few);
   keeps = let w = of.same_wide in let k = of.kept in rw (w, k) keeps;
   bound = let e = of.number in omega (arith, e, bound);
-  untorn = λ whole. (open_log (is_open log_gate front) replay.is_next_open (sym of.torn ∙ whole) of.log, of.next ∙ not_next (is_open log_gate front) replay.is_next_open (sym of.torn ∙ whole), of.moving);
+  untorn =
+      λ whole. (
+        open_log (is_open log_gate front) replay.is_next_open (sym of.torn ∙ whole) of.log,
+        of.next ∙ not_next (is_open log_gate front) replay.is_next_open (sym of.torn ∙ whole),
+        of.moving,
+      );
 }
   where
     open_log : (a b : Bool) → (not a || b) ≡ false → j.log ≡ (if a then Open else Shut) → j.log ≡ Open
@@ -157,14 +126,6 @@ sound_read wide digest front second replay j of keeps few bound = record {
     not_next : (a b : Bool) → (not a || b) ≡ false → b ≡ false
     not_next true b h = h
     not_next false b h = absurd (cc)
-
-pub sound_new : (wide : Bool) (digest : List ℕ) (j : Journal) → IsNewJournal wide digest j → IsSound j
-sound_new wide digest j new = record {
-  few = let e = new.cells in omega (arith, e);
-  keeps = let w = new.same_wide in let k = new.kept in rw (w, k) (keeps_nothing wide);
-  bound = let e = new.number in omega (arith, e);
-  untorn = λ whole. absurd (let t = new.torn in cc);
-}
 
 module _ (wide : Bool) (digest file : List ℕ) (j : Journal) (read : IsReadFrom wide digest file j) (none : refusal_of wide digest file ≡ None) where
   causes : (front_refusal digest (length file) file ≡ None) × (change_out_of_form wide file ≡ None)
@@ -176,10 +137,13 @@ module _ (wide : Bool) (digest file : List ℕ) (j : Journal) (read : IsReadFrom
   chosen : chosen_of j ≡ chosen_place file
   chosen = ap slot_place read.second
 
-  count_is : is_open log_gate file ≡ true → (i : ℕ) → i < counted file → is_next (slot_number (chosen_place file) file + 1 + i) (cell_place i) file ≡ true
-  count_is open' i less = run_holds (λ k. is_next (slot_number (chosen_place file) file + 1 + k) (cell_place k) file) 64 i (let e = count_open open' in omega (arith, less, e))
+  count_is : is_open log_gate file ≡ true → (i : ℕ) → i < counted file
+      → is_next (slot_number (chosen_place file) file + 1 + i) (cell_place i) file ≡ true
+  count_is open' i less = run_holds (λ k. is_next (slot_number (chosen_place file) file + 1 + k) (cell_place k) file) 64 i (let e =
+      count_open open' in omega (arith, less, e))
     where
-      count_open : is_open log_gate file ≡ true → counted file ≡ run_length (λ k. is_next (slot_number (chosen_place file) file + 1 + k) (cell_place k) file) 0 64
+      count_open : is_open log_gate file ≡ true
+          → counted file ≡ run_length (λ k. is_next (slot_number (chosen_place file) file + 1 + k) (cell_place k) file) 0 64
       count_open o = rw o refl
 
   -- it opens to what the journal keeps, and as many cells count as the journal says
@@ -187,30 +151,53 @@ module _ (wide : Bool) (digest file : List ℕ) (j : Journal) (read : IsReadFrom
   read_opens =
       let w = read.same_wide in
       let d = read.same_digest in
-      let k = read.kept in
-      (rw (w, d, k) (opens_with (length file) (let l = long.0 in omega (arith, l)) (front_refusal digest (length file) file) (change_out_of_form wide file) (kept_in wide file) causes.0 causes.1), sym read.cells)
+      let k = read.kept in (
+        rw (w, d, k) (opens_with (length file) (let l = long.0 in omega (arith, l)) (front_refusal digest (length file) file)
+            (change_out_of_form wide file) (kept_in wide file) causes.0 causes.1),
+        sym read.cells,
+      )
 
   pub read_image : IsImage j file
   read_image = record {
     size = long.0;
-    mark = (bytes_eq-Decides (bytes_at 8 0 file) file_mark).0 (passed_if (bytes_eq (bytes_at 8 0 file) file_mark) _ (no_cause digest (length file) file causes.0).0);
-    site = (bytes_eq-Decides (bytes_at 32 8 file) digest).0 (passed_if (bytes_eq (bytes_at 32 8 file) digest) _ (no_cause digest (length file) file causes.0).2) ∙ sym read.same_digest;
+    mark =
+        (bytes_eq-Decides (bytes_at 8 0 file) file_mark).0
+        (passed_if (bytes_eq (bytes_at 8 0 file) file_mark) _ (no_cause digest (length file) file causes.0).0);
+    site =
+        (bytes_eq-Decides (bytes_at 32 8 file) digest).0
+        (passed_if (bytes_eq (bytes_at 32 8 file) digest) _ (no_cause digest (length file) file causes.0).2) ∙ sym read.same_digest;
     log = log_is (is_open log_gate file) refl;
-    gate = subst (λ (at : ℕ). slice_index file at ≡ 1) (sym chosen) (place_if (is_second file) file ∙ chosen_open (slice_index file 64) (slice_index file 1024) _ (is_second file) refl (passed_if (is_open 64 file || is_open 1024 file) _ (no_cause digest (length file) file causes.0).3));
+    gate =
+        subst (λ (at : ℕ). slice_index file at ≡ 1) (sym chosen)
+        (place_if (is_second file) file ∙ chosen_open (slice_index file 64) (slice_index file 1024) _ (is_second file) refl
+        (passed_if (is_open 64 file || is_open 1024 file) _ (no_cause digest (length file) file causes.0).3));
     number = let c = chosen in let n = read.number in let k = read.cells in rw (c, n, k) refl;
-    small = subst (λ (at : ℕ). AreCounters (counters_at at file)) (sym chosen) (small_counters (chosen_place file) file (none_damaged file (first_in (great_counter (chosen_place file) file) 8) (no_cause digest (length file) file causes.0).5));
-    counts = λ i less. subst (λ (at : ℕ). is_next (slot_number at file + 1 + i) (cell_place i) file ≡ true) (sym chosen) (counts (is_open log_gate file) refl i (let k = read.cells in omega (arith, k, less)));
-    form = λ i less. subst (λ (w : Bool). wrong_in_cell w (cell_place i) file ≡ None) (sym read.same_wide) (none_each (λ k. wrong_in_cell wide (cell_place k) file) (counted file) (none_damaged file _ causes.1) i (let k = read.cells in omega (arith, k, less)));
+    small =
+        subst (λ (at : ℕ). AreCounters (counters_at at file)) (sym chosen)
+        (small_counters (chosen_place file) file
+        (none_damaged file (first_in (great_counter (chosen_place file) file) 8) (no_cause digest (length file) file causes.0).5));
+    counts =
+        λ i less. subst (λ (at : ℕ). is_next (slot_number at file + 1 + i) (cell_place i) file ≡ true) (sym chosen)
+        (counts (is_open log_gate file) refl i (let k = read.cells in omega (arith, k, less)));
+    form =
+        λ i less. subst (λ (w : Bool). wrong_in_cell w (cell_place i) file ≡ None) (sym read.same_wide)
+        (none_each (λ k. wrong_in_cell wide (cell_place k) file) (counted file) (none_damaged file _ causes.1) i (let k = read.cells in
+        omega (arith, k, less)));
     state = let c = chosen in let k = read.cells in let w = read.same_wide in rw (c, k, w) (sym read.kept);
     next = λ may free. next_is may free j.cell_may_be_open refl;
     other = other_is j.slot_may_be_open refl;
   }
     where
       log_is : (b : Bool) → is_open log_gate file ≡ b → HasLog j.log j.cells file
-      log_is true is = subst (λ log. HasLog log j.cells file) (sym (read.log ∙ ap (λ (b : Bool). if b then Open else Shut) is)) (is_gate (slice_index file log_gate) is, long.1 is)
-      log_is false is = subst (λ log. HasLog log j.cells file) (sym (read.log ∙ ap (λ (b : Bool). if b then Open else Shut) is)) (not_gate (slice_index file log_gate) is, read.cells ∙ rw is refl)
+      log_is true is =
+          subst (λ log. HasLog log j.cells file) (sym (read.log ∙ ap (λ (b : Bool). if b then Open else Shut) is))
+          (is_gate (slice_index file log_gate) is, long.1 is)
+      log_is false is =
+          subst (λ log. HasLog log j.cells file) (sym (read.log ∙ ap (λ (b : Bool). if b then Open else Shut) is))
+          (not_gate (slice_index file log_gate) is, read.cells ∙ rw is refl)
 
-      counts : (b : Bool) → is_open log_gate file ≡ b → (i : ℕ) → i < counted file → is_next (slot_number (chosen_place file) file + 1 + i) (cell_place i) file ≡ true
+      counts : (b : Bool) → is_open log_gate file ≡ b → (i : ℕ) → i < counted file
+          → is_next (slot_number (chosen_place file) file + 1 + i) (cell_place i) file ≡ true
       counts true is i less = count_is is i less
       counts false is i less = absurd (let z : counted file ≡ 0 = rw is refl in omega (arith, z, less))
 
@@ -224,11 +211,17 @@ module _ (wide : Bool) (digest file : List ℕ) (j : Journal) (read : IsReadFrom
       next_gate : (may : MayCount j.log) → j.cells < 64 → j.cell_may_be_open ≡ is_open (next_of j) file
       next_gate may free =
           read.next
-          ∙ both_true (is_open log_gate file) (nat_lt (counted file) 64) (is_open (cell_place (counted file)) file) (log_open may) (let e = read.cells in below (counted file) (omega (arith, e, free)))
+          ∙ both_true (is_open log_gate file) (nat_lt (counted file) 64) (is_open (cell_place (counted file)) file) (log_open may) (let e =
+          read.cells in below (counted file) (omega (arith, e, free)))
           ∙ ap (λ (n : ℕ). is_open (cell_place n) file) (sym read.cells)
 
       number_not : (may : MayCount j.log) → j.cells < 64 → slice_index file (next_of j) ≡ 1 → number_at 8 (next_of j + 1) file ≢ j.number + 1
-      number_not may free one same = absurd (let f = past in let t = is_next_both (slot_number (chosen_place file) file + 1 + counted file) (cell_place (counted file)) file (subst (λ (n : ℕ). slice_index file (cell_place n) ≡ 1) read.cells one) (subst (λ (n : ℕ). number_at 8 (cell_place n + 1) file ≡ slot_number (chosen_place file) file + 1 + counted file) read.cells (same ∙ numbers)) in cc)
+      number_not may free one same =
+          absurd (let f = past in let t =
+          is_next_both (slot_number (chosen_place file) file + 1 + counted file) (cell_place (counted file)) file
+          (subst (λ (n : ℕ). slice_index file (cell_place n) ≡ 1) read.cells one)
+          (subst (λ (n : ℕ). number_at 8 (cell_place n + 1) file ≡ slot_number (chosen_place file) file + 1 + counted file) read.cells
+          (same ∙ numbers)) in cc)
         where
           numbers : j.number + 1 ≡ slot_number (chosen_place file) file + 1 + counted file
           numbers = let n = read.number in omega (arith, n)
@@ -237,9 +230,13 @@ module _ (wide : Bool) (digest file : List ℕ) (j : Journal) (read : IsReadFrom
           count_open = let o = log_open may in rw o refl
 
           past : is_next (slot_number (chosen_place file) file + 1 + counted file) (cell_place (counted file)) file ≡ false
-          past = subst (λ (n : ℕ). is_next (slot_number (chosen_place file) file + 1 + n) (cell_place n) file ≡ false) (sym count_open) (run_past (λ k. is_next (slot_number (chosen_place file) file + 1 + k) (cell_place k) file) 64 (let e = count_open in let k = read.cells in omega (arith, e, k, free)))
+          past =
+              subst (λ (n : ℕ). is_next (slot_number (chosen_place file) file + 1 + n) (cell_place n) file ≡ false) (sym count_open)
+              (run_past (λ k. is_next (slot_number (chosen_place file) file + 1 + k) (cell_place k) file) 64 (let e = count_open in let k =
+              read.cells in omega (arith, e, k, free)))
 
-      next_is : (may : MayCount j.log) → (free : j.cells < 64) → (b : Bool) → j.cell_may_be_open ≡ b → MatchBool b ((number_at 8 (next_of j + 1) file ≢ j.number + 1) ⊎ HoldsBatch j file) (slice_index file (next_of j) ≢ 1)
+      next_is : (may : MayCount j.log) → (free : j.cells < 64) → (b : Bool) → j.cell_may_be_open ≡ b
+          → MatchBool b ((number_at 8 (next_of j + 1) file ≢ j.number + 1) ⊎ HoldsBatch j file) (slice_index file (next_of j) ≢ 1)
       next_is may free true is = inl (number_not may free (is_gate (slice_index file (next_of j)) (sym (next_gate may free) ∙ is)))
       next_is may free false is = not_gate (slice_index file (next_of j)) (sym (next_gate may free) ∙ is)
 
@@ -261,43 +258,16 @@ module _ (wide : Bool) (digest file : List ℕ) (j : Journal) (read : IsReadFrom
       behind : j.slot_may_be_open ≡ true → IsBehind j.second (slot_number (other_of j) file) (slot_number (chosen_of j) file)
       behind is =
           subst (λ (b : Bool). IsBehind b (slot_number (slot_place (not b)) file) (slot_number (slot_place b) file)) (sym read.second)
-          (let h = other_behind (slot_number 64 file) (slot_number 1024 file) (is_open 64 file) (is_open 1024 file) (is_second file) refl (sym other_open ∙ is) in
+          (let h =
+          other_behind (slot_number 64 file) (slot_number 1024 file) (is_open 64 file) (is_open 1024 file) (is_second file) refl
+          (sym other_open ∙ is) in
           subst (λ (n : ℕ). IsBehind (is_second file) n (slot_number (slot_place (is_second file)) file)) (sym (others_if (is_second file)))
-          (subst (λ (n : ℕ). IsBehind (is_second file) (if is_second file then slot_number 64 file else slot_number 1024 file) n) (sym (numbers_if (is_second file))) h))
+          (subst (λ (n : ℕ). IsBehind (is_second file) (if is_second file then slot_number 64 file else slot_number 1024 file) n)
+          (sym (numbers_if (is_second file))) h))
 
-      other_is : (b : Bool) → j.slot_may_be_open ≡ b → MatchBool b (IsBehind j.second (slot_number (other_of j) file) (slot_number (chosen_of j) file) ⊎ ((j.moving ≡ true) × HoldsCopy j file)) (slice_index file (other_of j) ≢ 1)
+      other_is : (b : Bool) → j.slot_may_be_open ≡ b
+          → MatchBool b (IsBehind j.second (slot_number (other_of j) file) (slot_number (chosen_of j) file) ⊎ ((j.moving ≡ true) × HoldsCopy j file))
+          (slice_index file (other_of j) ≢ 1)
       other_is true is = inl (behind is)
-      other_is false is = not_gate (slice_index file (other_of j)) (sym (read.slot ∙ ap (λ (b : Bool). is_open (slot_place (not b)) file) (sym read.second)) ∙ is)
-
--- a new file opens to what a new journal keeps
-pub new_opens_kept : (wide : Bool) (digest file : List ℕ) (j : Journal) → IsNewJournal wide digest j → IsNewFile digest nothing_retained file → OpensToKept j file × (counted file ≡ j.cells)
-new_opens_kept wide digest file j new is =
-    let keeps = keeps_nothing wide in
-    let w = new.same_wide in
-    let d = new.same_digest in
-    let k = new.kept in
-    (rw (w, d, k) (new_opens digest nothing_retained file is wide keeps.narrow keeps.small), new_counted digest nothing_retained file is ∙ sym new.cells)
-
--- a new file is an image of a new journal
-pub new_image : (wide : Bool) (digest file : List ℕ) (j : Journal) → IsNewJournal wide digest j → IsNewFile digest nothing_retained file → IsKeepable wide nothing_retained → IsImage j file
-new_image wide digest file j new is keeps = record {
-  size = let s = is.size in omega (arith, s);
-  mark = is.mark;
-  site = is.digest_kept ∙ sym new.same_digest;
-  log = subst (λ log. HasLog log j.cells file) (sym new.log) (zero_shut _ is.log_shut, new.cells);
-  gate = subst (λ (b : Bool). slice_index file (slot_place b) ≡ 1) (sym new.second) is.slot_open;
-  number = let s = new.second in let n = is.number in let c = new.cells in let m = new.number in rw (s, c, m, n) refl;
-  small = subst (λ (b : Bool). AreCounters (counters_at (slot_place b) file)) (sym new.second) (subst (λ (s : Retained). AreCounters s.counters) (sym (is.holds wide keeps.narrow)) keeps.small);
-  counts = λ i less. absurd (let c = new.cells in omega (arith, c, less));
-  form = λ i less. absurd (let c = new.cells in omega (arith, c, less));
-  state = let s = new.second in let c = new.cells in let n = cells-none file in let h = is.holds wide keeps.narrow in let k = new.kept in let w = new.same_wide in rw (s, c, w, n, h, k) refl;
-  next = λ may free. absurd (subst MayCount new.log may);
-  other = other_shut j.slot_may_be_open new.slot;
-}
-  where
-    zero_shut : (n : ℕ) → n ≡ 0 → n ≢ 1
-    zero_shut n z o = omega (arith, z, o)
-
-    other_shut : (b : Bool) → b ≡ false → MatchBool b (IsBehind j.second (slot_number (other_of j) file) (slot_number (chosen_of j) file) ⊎ ((j.moving ≡ true) × HoldsCopy j file)) (slice_index file (other_of j) ≢ 1)
-    other_shut true f = absurd (cc)
-    other_shut false f = subst (λ (s : Bool). slice_index file (slot_place (not s)) ≢ 1) (sym new.second) (zero_shut _ is.other_shut)
+      other_is false is =
+          not_gate (slice_index file (other_of j)) (sym (read.slot ∙ ap (λ (b : Bool). is_open (slot_place (not b)) file) (sym read.second)) ∙ is)

@@ -48,7 +48,8 @@ either_behind true P Q p q = p
 either_behind false P Q p q = q
 
 module _ (j : Journal) where
-  in_other : (at n : ℕ) → other_of j ≤ at → at + n ≤ other_of j + 906 → MatchBool j.slot_may_be_open (Apart at n (other_of j + 1) 905) (Apart at n (other_of j) 1) → Spares j at n
+  in_other : (at n : ℕ) → other_of j ≤ at → at + n ≤ other_of j + 906
+      → MatchBool j.slot_may_be_open (Apart at n (other_of j + 1) 905) (Apart at n (other_of j) 1) → Spares j at n
   in_other at n from to apart =
       let slots = slots_apart j.second in
       record {
@@ -56,11 +57,14 @@ module _ (j : Journal) where
         log_gate_apart = inr (let l = slots.low in omega (arith, l, from));
         slot = chosen slots.apart;
         cells_apart = inr (inr (let h = slots.high in omega (arith, h, to)));
-        next_apart = λ may free. either_behind j.cell_may_be_open _ _ (inr (let h = slots.high in omega (arith, h, to))) (inr (let h = slots.high in omega (arith, h, to)));
+        next_apart =
+            λ may free. either_behind j.cell_may_be_open _ _ (inr (let h = slots.high in omega (arith, h, to)))
+            (inr (let h = slots.high in omega (arith, h, to)));
         other_apart = apart;
       }
     where
-      chosen : (slot_place (not j.second) + 906 ≤ slot_place j.second) ⊎ (slot_place j.second + 906 ≤ slot_place (not j.second)) → Apart at n (chosen_of j) 906
+      chosen : (slot_place (not j.second) + 906 ≤ slot_place j.second) ⊎ (slot_place j.second + 906 ≤ slot_place (not j.second))
+          → Apart at n (chosen_of j) 906
       chosen (inl before) = inr (omega (arith, before, to))
       chosen (inr behind) = inl (omega (arith, behind, from))
 
@@ -71,7 +75,8 @@ module _ (j : Journal) where
   spares_other_body is = in_other (other_of j + 1) 905 (omega arith) (omega arith) (when_false j.slot_may_be_open _ _ is (inl (omega arith)))
 
   -- a write behind the front
-  in_cells : (at n : ℕ) → 2048 ≤ at → ((j.log ≡ Shut) ⊎ Apart at n 2048 (592 * j.cells)) → (MayCount j.log → j.cells < 64 → MatchBool j.cell_may_be_open (Apart at n (next_of j + 1) 592) (Apart at n (next_of j) 1)) → Spares j at n
+  in_cells : (at n : ℕ) → 2048 ≤ at → ((j.log ≡ Shut) ⊎ Apart at n 2048 (592 * j.cells))
+      → (MayCount j.log → j.cells < 64 → MatchBool j.cell_may_be_open (Apart at n (next_of j + 1) 592) (Apart at n (next_of j) 1)) → Spares j at n
   in_cells at n from cells next =
       let slots = slots_apart j.second in
       record {
@@ -80,14 +85,18 @@ module _ (j : Journal) where
         slot = inl (let h = slots.chosen_high in omega (arith, h, from));
         cells_apart = cells;
         next_apart = next;
-        other_apart = either_behind j.slot_may_be_open _ _ (inl (let h = slots.high in omega (arith, h, from))) (inl (let h = slots.high in omega (arith, h, from)));
+        other_apart =
+            either_behind j.slot_may_be_open _ _ (inl (let h = slots.high in omega (arith, h, from)))
+            (inl (let h = slots.high in omega (arith, h, from)));
       }
 
   pub spares_next_gate : j.cell_may_be_open ≡ true → Spares j (next_of j) 1
-  spares_next_gate is = in_cells (next_of j) 1 (omega arith) (inr (inl (omega arith))) (λ may free. when_true j.cell_may_be_open _ _ is (inr (omega arith)))
+  spares_next_gate is =
+      in_cells (next_of j) 1 (omega arith) (inr (inl (omega arith))) (λ may free. when_true j.cell_may_be_open _ _ is (inr (omega arith)))
 
   pub spares_next_body : j.cell_may_be_open ≡ false → Spares j (next_of j + 1) 592
-  spares_next_body is = in_cells (next_of j + 1) 592 (omega arith) (inr (inl (omega arith))) (λ may free. when_false j.cell_may_be_open _ _ is (inl (omega arith)))
+  spares_next_body is =
+      in_cells (next_of j + 1) 592 (omega arith) (inr (inl (omega arith))) (λ may free. when_false j.cell_may_be_open _ _ is (inl (omega arith)))
 
   pub spares_cells : (at n : ℕ) → j.log ≡ Shut → 2048 ≤ at → Spares j at n
   spares_cells at n shut from = in_cells at n from (inl shut) (λ may free. absurd (subst MayCount shut may))
@@ -101,7 +110,8 @@ module _ (j : Journal) where
         slot = inr (low_chosen j.second);
         cells_apart = inr (inr (omega arith));
         next_apart = λ may free. either_behind j.cell_may_be_open _ _ (inr (omega arith)) (inr (omega arith));
-        other_apart = either_behind j.slot_may_be_open _ _ (inr (let l = slots.low in omega (arith, l))) (inr (let l = slots.low in omega (arith, l)));
+        other_apart =
+            either_behind j.slot_may_be_open _ _ (inr (let l = slots.low in omega (arith, l))) (inr (let l = slots.low in omega (arith, l)));
       }
     where
       low_chosen : (b : Bool) → 41 ≤ slot_place b
@@ -171,7 +181,8 @@ module _ (j : Journal) (c : List ℕ) (image : IsImage j c) where
       whole Ready h m = h.0
       whole Open h m = h.1
 
-  pub cells_ready : j.log ≡ Shut → whole_bytes ≤ length c → slice_index c (cell_place 0) ≡ 0 → IsImage (record j { log = Ready; cell_may_be_open = false }) c
+  pub cells_ready : j.log ≡ Shut → whole_bytes ≤ length c → slice_index c (cell_place 0) ≡ 0
+      → IsImage (record j { log = Ready; cell_may_be_open = false }) c
   cells_ready shut long zero' = record {
     size = image.size;
     mark = image.mark;
@@ -224,7 +235,15 @@ module _ (j : Journal) (c : List ℕ) (image : IsImage j c) where
 
   -- the state went to the other slot
   pub moved_over : HoldsCopy j c → slice_index c (other_of j) ≡ 1 → AreCounters j.kept.counters
-      → IsImage (record j { slot_may_be_open = true; second = not j.second; number = j.number + 1; cells = 0; cell_may_be_open = true; moving = false }) c
+      → IsImage (record j {
+        slot_may_be_open = true;
+        second = not j.second;
+        number = j.number + 1;
+        cells = 0;
+        cell_may_be_open = true;
+        moving =
+            false;
+      }) c
   moved_over holds one counters = record {
     size = image.size;
     mark = image.mark;
@@ -251,7 +270,8 @@ module _ (j : Journal) (c : List ℕ) (image : IsImage j c) where
       log_kept Ready h = absurd (let z = h.1 in omega (arith, z, full))
       log_kept Open h = h
 
-      behind : (b : Bool) → slot_number (slot_place b) c < slot_number (slot_place (not b)) c → IsBehind (not b) (slot_number (slot_place (not (not b))) c) (slot_number (slot_place (not b)) c)
+      behind : (b : Bool) → slot_number (slot_place b) c < slot_number (slot_place (not b)) c
+          → IsBehind (not b) (slot_number (slot_place (not (not b))) c) (slot_number (slot_place (not b)) c)
       behind true less = omega (arith, less)
       behind false less = less
 
@@ -266,7 +286,9 @@ module _ (j : Journal) (c : List ℕ) (image : IsImage j c) where
     gate = image.gate;
     number = let m = image.number in omega (arith, m);
     small = image.small;
-    counts = λ i less. at_or_below (λ k. is_next (slot_number (chosen_of j) c + 1 + k) (cell_place k) c ≡ true) image.counts (is_next_both _ (next_of j) c one (holds.next_number ∙ numbers)) i less (leb_tells j.cells i);
+    counts =
+        λ i less. at_or_below (λ k. is_next (slot_number (chosen_of j) c + 1 + k) (cell_place k) c ≡ true) image.counts
+        (is_next_both _ (next_of j) c one (holds.next_number ∙ numbers)) i less (leb_tells j.cells i);
     form = λ i less. at_or_below (λ k. wrong_in_cell j.wide (cell_place k) c ≡ None) image.form holds.form i less (leb_tells j.cells i);
     state =
         ap (λ changes. changed_by changes (retained_at j.wide (chosen_of j) c)) (cells-more c j.cells)
@@ -285,18 +307,30 @@ module _ (j : Journal) (c : List ℕ) (image : IsImage j c) where
       log_kept Ready is h = absurd (cc)
       log_kept Open is h = h
 
-      at_or_below : (P : ℕ → Type 0) → ((i : ℕ) → i < j.cells → P i) → P j.cells → (i : ℕ) → i < j.cells + 1 → ((nat_le j.cells i ≡ true) × (j.cells ≤ i)) ⊎ ((nat_le j.cells i ≡ false) × (i < j.cells)) → P i
+      at_or_below : (P : ℕ → Type 0) → ((i : ℕ) → i < j.cells → P i) → P j.cells → (i : ℕ) → i < j.cells + 1
+          → ((nat_le j.cells i ≡ true) × (j.cells ≤ i)) ⊎ ((nat_le j.cells i ≡ false) × (i < j.cells)) → P i
       at_or_below P before here i less (inl at) = subst P (let a = at.1 in omega (arith, a, less)) here
       at_or_below P before here i less (inr below) = before i below.1
 
-      other_kept : (b : Bool) → MatchBool b (IsBehind j.second (slot_number (other_of j) c) (slot_number (chosen_of j) c) ⊎ ((j.moving ≡ true) × HoldsCopy j c)) (slice_index c (other_of j) ≢ 1)
-          → MatchBool b (IsBehind j.second (slot_number (other_of j) c) (slot_number (chosen_of j) c) ⊎ ((j.moving ≡ true) × HoldsCopy (record j { kept = changed_by j.attempt.items j.kept; number = j.number + 1; cells = j.cells + 1; cell_may_be_open = false }) c)) (slice_index c (other_of j) ≢ 1)
+      other_kept : (b : Bool)
+          → MatchBool b (IsBehind j.second (slot_number (other_of j) c) (slot_number (chosen_of j) c) ⊎ ((j.moving ≡ true) × HoldsCopy j c))
+          (slice_index c (other_of j) ≢ 1)
+          → MatchBool b (IsBehind j.second (slot_number (other_of j) c) (slot_number (chosen_of j) c)
+          ⊎ ((j.moving ≡ true)
+          × HoldsCopy (record j {
+            kept = changed_by j.attempt.items j.kept;
+            number = j.number + 1;
+            cells = j.cells + 1;
+            cell_may_be_open =
+                false;
+          }) c)) (slice_index c (other_of j) ≢ 1)
       other_kept true (inl behind) = inl behind
       other_kept true (inr copy) = absurd (let f = copy.1.all_cells in omega (arith, f, free))
       other_kept false shut = shut
 
 -- the gate of the next cell is shut already
-pub shut_already : (flag result : Bool) (Free P Q : Type 0) → (IsTrue result ↔ (Free × (flag ≡ true))) → result ≡ false → Free → MatchBool flag P Q → Q
+pub shut_already : (flag result : Bool) (Free P Q : Type 0) → (IsTrue result ↔ (Free × (flag ≡ true))) → result ≡ false → Free → MatchBool flag P Q
+    → Q
 shut_already false result Free P Q means no' free next = next
 shut_already true result Free P Q means no' free next = absurd (let t = means.1 (free, refl) in cc)
 
@@ -304,18 +338,24 @@ shut_already true result Free P Q means no' free next = absurd (let t = means.1 
 pub copy_after : (j : Journal) (d c : List ℕ) (byte : ℕ) → IsImage j d → Holds (other_of j) (byte ∷ []) d c → HoldsCopy j d → HoldsCopy j c
 copy_after j d c byte image holds copy = record {
   all_cells = copy.all_cells;
-  copy_number = number-agrees 8 c (other_of j + 1) d (other_of j + 1) (sooner 905 c (other_of j + 1) d (other_of j + 1) 8 body (omega arith)) ∙ copy.copy_number;
+  copy_number = number-agrees 8 c (other_of j + 1) d (other_of j + 1) (sooner 905 c (other_of j + 1) d (other_of j + 1) 8 body (omega arith)) ∙
+      copy.copy_number;
   copy = retained-body j.wide c (other_of j) d (other_of j) body ∙ copy.copy;
 }
   where
     body : Agrees 905 c (other_of j + 1) d (other_of j + 1)
-    body = unharmed (other_of j) 1 (other_of j + 1) 905 d c (torn_holds (other_of j) (byte ∷ []) d c holds) (let s = image.size in let h = (slots_apart j.second).high in omega (arith, s, h)) (inr (omega arith))
+    body = unharmed (other_of j) 1 (other_of j + 1) 905 d c (torn_holds (other_of j) (byte ∷ []) d c holds) (let s = image.size in let h =
+        (slots_apart j.second).high in omega (arith, s, h)) (inr (omega arith))
 
-pub batch_after : (j : Journal) (d c : List ℕ) (byte : ℕ) → IsImage j d → MayCount j.log → j.cells < 64 → Holds (next_of j) (byte ∷ []) d c → HoldsBatch j d → HoldsBatch j c
+pub batch_after : (j : Journal) (d c : List ℕ) (byte : ℕ) → IsImage j d → MayCount j.log → j.cells < 64 → Holds (next_of j) (byte ∷ []) d c
+    → HoldsBatch j d → HoldsBatch j c
 batch_after j d c byte image may free holds batch = record {
-  next_number = number-agrees 8 c (next_of j + 1) d (next_of j + 1) (sooner 592 c (next_of j + 1) d (next_of j + 1) 8 body (omega arith)) ∙ batch.next_number;
+  next_number =
+      number-agrees 8 c (next_of j + 1) d (next_of j + 1) (sooner 592 c (next_of j + 1) d (next_of j + 1) 8 body (omega arith)) ∙ batch.next_number;
   form = wrong_in_cell-same j.wide c d (next_of j) (behind 9 583 (omega arith) (omega arith)) ∙ batch.form;
-  changes = cell_changes-body c (next_of j) d (next_of j) (behind 9 583 (omega arith) (omega arith)) (cell_in_form j.wide (next_of j) d batch.form).few ∙ batch.changes;
+  changes =
+      cell_changes-body c (next_of j) d (next_of j) (behind 9 583 (omega arith) (omega arith)) (cell_in_form j.wide (next_of j) d batch.form).few ∙
+      batch.changes;
   after_shut = λ one. batch.after_shut (sym after ∙ one);
 }
   where
@@ -328,13 +368,16 @@ batch_after j d c byte image may free holds batch = record {
         go Open h m = h.1
 
     body : Agrees 592 c (next_of j + 1) d (next_of j + 1)
-    body = unharmed (next_of j) 1 (next_of j + 1) 592 d c (torn_holds (next_of j) (byte ∷ []) d c holds) (let l = long in omega (arith, l, free)) (inr (omega arith))
+    body = unharmed (next_of j) 1 (next_of j + 1) 592 d c (torn_holds (next_of j) (byte ∷ []) d c holds) (let l = long in
+        omega (arith, l, free)) (inr (omega arith))
 
     behind : (k m : ℕ) → 1 ≤ k → k + m ≤ 593 → Agrees m c (next_of j + k) d (next_of j + k)
-    behind k m some fits = unharmed (next_of j) 1 (next_of j + k) m d c (torn_holds (next_of j) (byte ∷ []) d c holds) (let l = long in omega (arith, l, free, fits)) (inr (omega (arith, some)))
+    behind k m some fits = unharmed (next_of j) 1 (next_of j + k) m d c (torn_holds (next_of j) (byte ∷ []) d c holds) (let l = long in
+        omega (arith, l, free, fits)) (inr (omega (arith, some)))
 
     after : slice_index c (cell_place (j.cells + 1)) ≡ slice_index d (cell_place (j.cells + 1))
-    after = byte_unharmed (next_of j) 1 (cell_place (j.cells + 1)) d c (torn_holds (next_of j) (byte ∷ []) d c holds) (let l = long in omega (arith, l, free)) (inr (omega arith))
+    after = byte_unharmed (next_of j) 1 (cell_place (j.cells + 1)) d c (torn_holds (next_of j) (byte ∷ []) d c holds) (let l = long in
+        omega (arith, l, free)) (inr (omega arith))
 
 -- a move is begun
 pub move_begun : (j : Journal) (c : List ℕ) → IsImage j c → IsImage (record j { moving = true }) c
@@ -353,8 +396,11 @@ move_begun j c image = record {
   other = other_kept j.slot_may_be_open image.other;
 }
   where
-    other_kept : (b : Bool) → MatchBool b (IsBehind j.second (slot_number (other_of j) c) (slot_number (chosen_of j) c) ⊎ ((j.moving ≡ true) × HoldsCopy j c)) (slice_index c (other_of j) ≢ 1)
-        → MatchBool b (IsBehind j.second (slot_number (other_of j) c) (slot_number (chosen_of j) c) ⊎ ((true ≡ true) × HoldsCopy j c)) (slice_index c (other_of j) ≢ 1)
+    other_kept : (b : Bool)
+        → MatchBool b (IsBehind j.second (slot_number (other_of j) c) (slot_number (chosen_of j) c) ⊎ ((j.moving ≡ true) × HoldsCopy j c))
+        (slice_index c (other_of j) ≢ 1)
+        → MatchBool b (IsBehind j.second (slot_number (other_of j) c) (slot_number (chosen_of j) c) ⊎ ((true ≡ true) × HoldsCopy j c))
+        (slice_index c (other_of j) ≢ 1)
     other_kept true (inl behind) = inl behind
     other_kept true (inr copy) = inr (refl, copy.1)
     other_kept false shut = shut

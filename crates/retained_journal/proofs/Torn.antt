@@ -30,8 +30,10 @@ pub record Spares (j : Journal) (at n : ℕ) : Type 0 where
   pub other_apart : MatchBool j.slot_may_be_open (Apart at n (other_of j + 1) 905) (Apart at n (other_of j) 1)
 
 pub unharmed : (at n from m : ℕ) (d c : List ℕ) → Torn at n d c → from + m ≤ length d → Apart at n from m → Agrees m c from d from
-unharmed at n from m d c torn fits (inl before) = record { same = λ i less. torn.same (from + i) (omega (arith, fits, less)) (inl (omega (arith, before, less))) }
-unharmed at n from m d c torn fits (inr behind) = record { same = λ i less. torn.same (from + i) (omega (arith, fits, less)) (inr (omega (arith, behind))) }
+unharmed at n from m d c torn fits (inl before) =
+    record { same = λ i less. torn.same (from + i) (omega (arith, fits, less)) (inl (omega (arith, before, less))) }
+unharmed at n from m d c torn fits (inr behind) =
+    record { same = λ i less. torn.same (from + i) (omega (arith, fits, less)) (inr (omega (arith, behind))) }
 
 pub byte_unharmed : (at n i : ℕ) (d c : List ℕ) → Torn at n d c → i < length d → Apart at n i 1 → slice_index c i ≡ slice_index d i
 byte_unharmed at n i d c torn less (inl before) = torn.same i less (inl (omega (arith, before)))
@@ -40,7 +42,8 @@ byte_unharmed at n i d c torn less (inr behind) = torn.same i less (inr (omega (
 pub torn_holds : (at : ℕ) (bytes d c : List ℕ) → Holds at bytes d c → Torn at (length bytes) d c
 torn_holds at bytes d c h = record { no_shorter = omega (arith, h.size); no_longer = omega (arith, h.size); same = h.same }
 
-changes-same : (c d : List ℕ) (n : ℕ) → ((i : ℕ) → i < n → Agrees 592 c (cell_place i) d (cell_place i)) → ((i : ℕ) → i < n → cell_count (cell_place i) d ≤ 72) → changes_of_cells c n ≡ changes_of_cells d n
+changes-same : (c d : List ℕ) (n : ℕ) → ((i : ℕ) → i < n → Agrees 592 c (cell_place i) d (cell_place i))
+    → ((i : ℕ) → i < n → cell_count (cell_place i) d ≤ 72) → changes_of_cells c n ≡ changes_of_cells d n
 unfolding changes_of_cells
 changes-same c d zero same few = refl
 changes-same c d (suc n) same few =
@@ -74,17 +77,22 @@ module _ (j : Journal) (d c : List ℕ) (at n : ℕ) (image : IsImage j d) (torn
   cell_same : j.cells ≤ 64 → (i : ℕ) → i < j.cells → Agrees 592 c (cell_place i) d (cell_place i)
   cell_same few i less = go j.log refl image.log (whole) spares.cells_apart
     where
-      go : (log : LogGate) → j.log ≡ log → HasLog log j.cells d → (MayCount j.log → whole_bytes ≤ length d) → (j.log ≡ Shut) ⊎ Apart at n 2048 (592 * j.cells) → Agrees 592 c (cell_place i) d (cell_place i)
+      go : (log : LogGate) → j.log ≡ log → HasLog log j.cells d → (MayCount j.log → whole_bytes ≤ length d)
+          → (j.log ≡ Shut) ⊎ Apart at n 2048 (592 * j.cells) → Agrees 592 c (cell_place i) d (cell_place i)
       go Shut is h w apart = absurd (let z = h.1 in omega (arith, z, less))
       go Ready is h w apart = absurd (let z = h.1 in omega (arith, z, less))
       go Open is h w (inl shut) = absurd (cc)
-      go Open is h w (inr (inl before)) = unharmed at n (cell_place i) 592 d c torn (let l = h.1 in omega (arith, l, less, few)) (inl (omega (arith, before, less)))
-      go Open is h w (inr (inr behind)) = unharmed at n (cell_place i) 592 d c torn (let l = h.1 in omega (arith, l, less, few)) (inr (omega (arith, behind)))
+      go Open is h w (inr (inl before)) =
+          unharmed at n (cell_place i) 592 d c torn (let l = h.1 in omega (arith, l, less, few)) (inl (omega (arith, before, less)))
+      go Open is h w (inr (inr behind)) =
+          unharmed at n (cell_place i) 592 d c torn (let l = h.1 in omega (arith, l, less, few)) (inr (omega (arith, behind)))
 
   pub batch_kept : (may : MayCount j.log) → j.cells < 64 → Agrees 592 c (next_of j + 1) d (next_of j + 1) → HoldsBatch j d → HoldsBatch j c
   batch_kept may free same holds =
       record {
-        next_number = number-agrees 8 c (next_of j + 1) d (next_of j + 1) (sooner 592 c (next_of j + 1) d (next_of j + 1) 8 same (omega arith)) ∙ holds.next_number;
+        next_number =
+            number-agrees 8 c (next_of j + 1) d (next_of j + 1) (sooner 592 c (next_of j + 1) d (next_of j + 1) 8 same (omega arith)) ∙
+            holds.next_number;
         form = wrong_in_cell-same j.wide c d (next_of j) body ∙ holds.form;
         changes = cell_changes-body c (next_of j) d (next_of j) body (cell_in_form j.wide (next_of j) d holds.form).few ∙ holds.changes;
         after_shut = λ one. holds.after_shut (sym after ∙ one);
@@ -96,10 +104,12 @@ module _ (j : Journal) (d c : List ℕ) (at n : ℕ) (image : IsImage j d) (torn
       after : slice_index c (cell_place (j.cells + 1)) ≡ slice_index d (cell_place (j.cells + 1))
       after = subst (λ (k : ℕ). slice_index c k ≡ slice_index d k) (omega arith) (same.same 591 (omega arith))
 
-  pub copy_kept : Agrees 905 c (other_of j + 1) d (other_of j + 1) → retained_at j.wide (other_of j) c ≡ retained_at j.wide (other_of j) d → HoldsCopy j d → HoldsCopy j c
+  pub copy_kept : Agrees 905 c (other_of j + 1) d (other_of j + 1) → retained_at j.wide (other_of j) c ≡ retained_at j.wide (other_of j) d
+      → HoldsCopy j d → HoldsCopy j c
   copy_kept same state holds = record {
     all_cells = holds.all_cells;
-    copy_number = number-agrees 8 c (other_of j + 1) d (other_of j + 1) (sooner 905 c (other_of j + 1) d (other_of j + 1) 8 same (omega arith)) ∙ holds.copy_number;
+    copy_number = number-agrees 8 c (other_of j + 1) d (other_of j + 1) (sooner 905 c (other_of j + 1) d (other_of j + 1) 8 same (omega arith)) ∙
+        holds.copy_number;
     copy = state ∙ holds.copy;
   }
 
@@ -111,11 +121,18 @@ module _ (j : Journal) (d c : List ℕ) (at n : ℕ) (image : IsImage j d) (torn
     log = log_kept j.log refl image.log;
     gate = first_byte 906 c (chosen_of j) d (chosen_of j) slot_same (omega arith) ∙ image.gate;
     number = let e = slot_numbers in let m = image.number in omega (arith, e, m);
-    small = subst AreCounters (sym (numbers-agree c (chosen_of j + 458) d (chosen_of j + 458) (part 906 c (chosen_of j) d (chosen_of j) 458 32 slot_same (omega arith)))) image.small;
-    counts = λ i less. is_next-agrees _ c (cell_place i) d (cell_place i) (cell_same few i less) ∙ ap (λ (k : ℕ). is_next (k + 1 + i) (cell_place i) d) slot_numbers ∙ image.counts i less;
-    form = λ i less. wrong_in_cell-same j.wide c d (cell_place i) (cell_body c (cell_place i) d (cell_place i) (cell_same few i less)) ∙ image.form i less;
+    small =
+        subst AreCounters
+        (sym (numbers-agree c (chosen_of j + 458) d (chosen_of j + 458) (part 906 c (chosen_of j) d (chosen_of j) 458 32 slot_same (omega arith))))
+        image.small;
+    counts =
+        λ i less. is_next-agrees _ c (cell_place i) d (cell_place i) (cell_same few i less) ∙ ap (λ (k : ℕ). is_next (k + 1 + i) (cell_place i) d)
+        slot_numbers ∙ image.counts i less;
+    form = λ i less. wrong_in_cell-same j.wide c d (cell_place i) (cell_body c (cell_place i) d (cell_place i) (cell_same few i less)) ∙ image.form i
+        less;
     state =
-        ap (λ changes. changed_by changes (retained_at j.wide (chosen_of j) c)) (changes-same c d j.cells (cell_same few) (λ i less. (cell_in_form j.wide (cell_place i) d (image.form i less)).few))
+        ap (λ changes. changed_by changes (retained_at j.wide (chosen_of j) c))
+        (changes-same c d j.cells (cell_same few) (λ i less. (cell_in_form j.wide (cell_place i) d (image.form i less)).few))
         ∙ ap (changed_by (changes_of_cells d j.cells)) (retained-agrees j.wide c (chosen_of j) d (chosen_of j) slot_same)
         ∙ image.state;
     next = λ may free. next_kept may free j.cell_may_be_open (spares.next_apart may free) (image.next may free);
@@ -140,12 +157,17 @@ module _ (j : Journal) (d c : List ℕ) (at n : ℕ) (image : IsImage j d) (torn
       log_kept Ready is h = (let l = longer in let w = h.0 in omega (arith, l, w), h.1)
       log_kept Open is h = (gate_same (not_ready Open is (λ e. cc)) ∙ h.0, let l = longer in let w = h.1 in omega (arith, l, w))
 
-      next_kept : (may : MayCount j.log) → (free : j.cells < 64) → (b : Bool) → MatchBool b (Apart at n (next_of j + 1) 592) (Apart at n (next_of j) 1)
-          → MatchBool b ((number_at 8 (next_of j + 1) d ≢ j.number + 1) ⊎ HoldsBatch j d) (slice_index d (next_of j) ≢ 1) → MatchBool b ((number_at 8 (next_of j + 1) c ≢ j.number + 1) ⊎ HoldsBatch j c) (slice_index c (next_of j) ≢ 1)
+      next_kept : (may : MayCount j.log) → (free : j.cells < 64) → (b : Bool)
+          → MatchBool b (Apart at n (next_of j + 1) 592) (Apart at n (next_of j) 1)
+          → MatchBool b ((number_at 8 (next_of j + 1) d ≢ j.number + 1) ⊎ HoldsBatch j d) (slice_index d (next_of j) ≢ 1)
+          → MatchBool b ((number_at 8 (next_of j + 1) c ≢ j.number + 1) ⊎ HoldsBatch j c) (slice_index c (next_of j) ≢ 1)
       next_kept may free true apart (inl other) =
-          inl (λ same. other (sym (number-agrees 8 c (next_of j + 1) d (next_of j + 1) (sooner 592 c (next_of j + 1) d (next_of j + 1) 8 (unharmed at n (next_of j + 1) 592 d c torn (let w = whole may in omega (arith, w, free)) apart) (omega arith))) ∙ same))
-      next_kept may free true apart (inr holds) = inr (batch_kept may free (unharmed at n (next_of j + 1) 592 d c torn (let w = whole may in omega (arith, w, free)) apart) holds)
-      next_kept may free false apart shut = λ one. shut (sym (byte_unharmed at n (next_of j) d c torn (let w = whole may in omega (arith, w, free)) apart) ∙ one)
+          inl (λ same. other (sym (number-agrees 8 c (next_of j + 1) d (next_of j + 1) (sooner 592 c (next_of j + 1) d (next_of j + 1) 8
+          (unharmed at n (next_of j + 1) 592 d c torn (let w = whole may in omega (arith, w, free)) apart) (omega arith))) ∙ same))
+      next_kept may free true apart (inr holds) =
+          inr (batch_kept may free (unharmed at n (next_of j + 1) 592 d c torn (let w = whole may in omega (arith, w, free)) apart) holds)
+      next_kept may free false apart shut =
+          λ one. shut (sym (byte_unharmed at n (next_of j) d c torn (let w = whole may in omega (arith, w, free)) apart) ∙ one)
 
       other_size : other_of j + 906 ≤ length d
       other_size = let s = image.size in let o = other_place j.second in omega (arith, s, o)
@@ -154,11 +176,15 @@ module _ (j : Journal) (d c : List ℕ) (at n : ℕ) (image : IsImage j d) (torn
       other_body apart = unharmed at n (other_of j + 1) 905 d c torn (let s = other_size in omega (arith, s)) apart
 
       other_number : Apart at n (other_of j + 1) 905 → slot_number (other_of j) c ≡ slot_number (other_of j) d
-      other_number apart = number-agrees 8 c (other_of j + 1) d (other_of j + 1) (sooner 905 c (other_of j + 1) d (other_of j + 1) 8 (other_body apart) (omega arith))
+      other_number apart =
+          number-agrees 8 c (other_of j + 1) d (other_of j + 1) (sooner 905 c (other_of j + 1) d (other_of j + 1) 8 (other_body apart) (omega arith))
 
       other_kept : (b : Bool) → MatchBool b (Apart at n (other_of j + 1) 905) (Apart at n (other_of j) 1)
-          → MatchBool b (IsBehind j.second (slot_number (other_of j) d) (slot_number (chosen_of j) d) ⊎ ((j.moving ≡ true) × HoldsCopy j d)) (slice_index d (other_of j) ≢ 1)
-          → MatchBool b (IsBehind j.second (slot_number (other_of j) c) (slot_number (chosen_of j) c) ⊎ ((j.moving ≡ true) × HoldsCopy j c)) (slice_index c (other_of j) ≢ 1)
+          → MatchBool b (IsBehind j.second (slot_number (other_of j) d) (slot_number (chosen_of j) d) ⊎ ((j.moving ≡ true) × HoldsCopy j d))
+          (slice_index d (other_of j) ≢ 1)
+          → MatchBool b (IsBehind j.second (slot_number (other_of j) c) (slot_number (chosen_of j) c) ⊎ ((j.moving ≡ true) × HoldsCopy j c))
+          (slice_index c (other_of j) ≢ 1)
       other_kept true apart (inl behind) = inl (let e = other_number apart in let f = slot_numbers in rw (e, f) behind)
-      other_kept true apart (inr holds) = inr (holds.0, copy_kept (other_body apart) (retained-body j.wide c (other_of j) d (other_of j) (other_body apart)) holds.1)
+      other_kept true apart (inr holds) =
+          inr (holds.0, copy_kept (other_body apart) (retained-body j.wide c (other_of j) d (other_of j) (other_body apart)) holds.1)
       other_kept false apart shut = λ one. shut (sym (byte_unharmed at n (other_of j) d c torn (let s = other_size in omega (arith, s)) apart) ∙ one)

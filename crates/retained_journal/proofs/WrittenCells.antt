@@ -1,5 +1,6 @@
 -- What is read back of a written cell.
-use Rattle.std.proofs.Common.{inl, inr, ◌≡◌, ◌⊎◌, ◌+◌, ◌*◌, ◌<◌, ◌≤◌, ◌==◌, ℕ, zero, suc, Bool, true, false, List, [], ◌∷◌, slice_index, get_or, take, length, refl, sym, ap, ◌∙◌, subst, arith, zero-add}
+use Rattle.std.proofs.Common.{inl, inr, ◌≡◌, ◌⊎◌, ◌+◌, ◌*◌, ◌<◌, ◌≤◌, ◌==◌, ℕ, zero, suc, Bool, true, false, List, []}
+use Rattle.std.proofs.Common.{◌∷◌, slice_index, get_or, take, length, refl, sym, ap, ◌∙◌, subst, arith, zero-add}
 use Rattle.std.specs.Prelude.{None, nat_le}
 use Rattle.std.proofs.lemmas.Bool.Decides.{leb_tells, nat_tests}
 use Rattle.std.proofs.lemmas.List.{take_more}
@@ -42,8 +43,11 @@ within_is least most byte low high =
     rw (a, b) refl
 
 -- each of eight bytes is in its form
-eight : (wide : Bool) (file : List ℕ) → ((i : ℕ) → i < 8 → is_in_form wide (slice_index file 0) i (slice_index file i) ≡ true) → wrong_in_change wide 0 file ≡ None
-eight wide file each = none_below (wrong_byte wide 0 file) 8 (λ i less. right i (subst (λ (k : ℕ). is_in_form wide (slice_index file 0) i (slice_index file k) ≡ true) (sym (zero-add i)) (each i less)))
+eight : (wide : Bool) (file : List ℕ) → ((i : ℕ) → i < 8 → is_in_form wide (slice_index file 0) i (slice_index file i) ≡ true)
+    → wrong_in_change wide 0 file ≡ None
+eight wide file each =
+    none_below (wrong_byte wide 0 file) 8
+    (λ i less. right i (subst (λ (k : ℕ). is_in_form wide (slice_index file 0) i (slice_index file k) ≡ true) (sym (zero-add i)) (each i less)))
   where
     right : (i : ℕ) → is_in_form wide (slice_index file 0) i (slice_index file (0 + i)) ≡ true → wrong_byte wide 0 file i ≡ None
     right i is = rw is refl
@@ -90,42 +94,59 @@ pub reads_test : (panel number : ℕ) (on : Bool) → change_at 0 (setting_bytes
 unfolding change_at
 reads_test panel number on = ap (Test panel number) (is_on on)
 
-pub reads_count : (file : List ℕ) (panel entries : ℕ) → slice_index file 0 ≡ 5 → slice_index file 1 ≡ panel → number_at 4 4 file ≡ entries → change_at 0 file ≡ Count panel entries
+pub reads_count : (file : List ℕ) (panel entries : ℕ) → slice_index file 0 ≡ 5 → slice_index file 1 ≡ panel → number_at 4 4 file ≡ entries
+    → change_at 0 file ≡ Count panel entries
 unfolding change_at
 reads_count file panel entries kind p e = rw (kind, p, e) refl
 
-pub form_point : (wide : Bool) (panel line address : ℕ) (off : Bool) → CanKeep wide (Point panel line address off) → wrong_in_change wide 0 (setting_bytes 1 panel line address off) ≡ None
+pub form_point : (wide : Bool) (panel line address : ℕ) (off : Bool) → CanKeep wide (Point panel line address off)
+    → wrong_in_change wide 0 (setting_bytes 1 panel line address off) ≡ None
 unfolding is_in_form
-form_point true panel line address off can = eight true (setting_bytes 1 panel line address off) (below_eight (ByteOf true 1 panel line address off) refl (within_is 1 8 panel can.0.0.0 can.0.0.1) (within_is 1 4 line can.0.1.0 can.0.1.1) (within_is 1 192 address can.0.1.2 can.1) refl refl refl (on_byte off))
+form_point true panel line address off can =
+    eight true (setting_bytes 1 panel line address off)
+    (below_eight (ByteOf true 1 panel line address off) refl (within_is 1 8 panel can.0.0.0 can.0.0.1) (within_is 1 4 line can.0.1.0 can.0.1.1)
+    (within_is 1 192 address can.0.1.2 can.1) refl refl refl (on_byte off))
   where
     on_byte : (b : Bool) → ByteOf true 1 panel line address b 7
     on_byte true = refl
     on_byte false = refl
-form_point false panel line address off can = eight false (setting_bytes 1 panel line address off) (below_eight (ByteOf false 1 panel line address off) refl (within_is 1 8 panel can.0.0.0 can.0.0.1) (within_is 1 4 line can.0.1.0 can.0.1.1) (within_is 1 96 address can.0.1.2 can.1) refl refl refl (on_byte off))
+form_point false panel line address off can =
+    eight false (setting_bytes 1 panel line address off)
+    (below_eight (ByteOf false 1 panel line address off) refl (within_is 1 8 panel can.0.0.0 can.0.0.1) (within_is 1 4 line can.0.1.0 can.0.1.1)
+    (within_is 1 96 address can.0.1.2 can.1) refl refl refl (on_byte off))
   where
     on_byte : (b : Bool) → ByteOf false 1 panel line address b 7
     on_byte true = refl
     on_byte false = refl
 
-pub form_zone : (wide : Bool) (panel number : ℕ) (off : Bool) → CanKeep wide (Zone panel number off) → wrong_in_change wide 0 (setting_bytes 2 panel 0 number off) ≡ None
+pub form_zone : (wide : Bool) (panel number : ℕ) (off : Bool) → CanKeep wide (Zone panel number off)
+    → wrong_in_change wide 0 (setting_bytes 2 panel 0 number off) ≡ None
 unfolding is_in_form
-form_zone wide panel number off can = eight wide (setting_bytes 2 panel 0 number off) (below_eight (ByteOf wide 2 panel 0 number off) refl (within_is 1 8 panel can.0.0.0 can.0.0.1) refl (within_is 1 32 number can.0.1.0 can.0.1.1) refl refl refl (on_byte off))
+form_zone wide panel number off can =
+    eight wide (setting_bytes 2 panel 0 number off) (below_eight (ByteOf wide 2 panel 0 number off) refl (within_is 1 8 panel can.0.0.0 can.0.0.1)
+    refl (within_is 1 32 number can.0.1.0 can.0.1.1) refl refl refl (on_byte off))
   where
     on_byte : (b : Bool) → ByteOf wide 2 panel 0 number b 7
     on_byte true = refl
     on_byte false = refl
 
-pub form_output : (wide : Bool) (panel number : ℕ) (off : Bool) → CanKeep wide (Output panel number off) → wrong_in_change wide 0 (setting_bytes 3 panel 0 number off) ≡ None
+pub form_output : (wide : Bool) (panel number : ℕ) (off : Bool) → CanKeep wide (Output panel number off)
+    → wrong_in_change wide 0 (setting_bytes 3 panel 0 number off) ≡ None
 unfolding is_in_form
-form_output wide panel number off can = eight wide (setting_bytes 3 panel 0 number off) (below_eight (ByteOf wide 3 panel 0 number off) refl (within_is 1 8 panel can.0.0.0 can.0.0.1) refl (within_is 1 32 number can.0.1.0 can.0.1.1) refl refl refl (on_byte off))
+form_output wide panel number off can =
+    eight wide (setting_bytes 3 panel 0 number off) (below_eight (ByteOf wide 3 panel 0 number off) refl (within_is 1 8 panel can.0.0.0 can.0.0.1)
+    refl (within_is 1 32 number can.0.1.0 can.0.1.1) refl refl refl (on_byte off))
   where
     on_byte : (b : Bool) → ByteOf wide 3 panel 0 number b 7
     on_byte true = refl
     on_byte false = refl
 
-pub form_delays : (wide : Bool) (panel : ℕ) (off : Bool) → CanKeep wide (Delays panel off) → wrong_in_change wide 0 (setting_bytes 4 panel 0 0 off) ≡ None
+pub form_delays : (wide : Bool) (panel : ℕ) (off : Bool) → CanKeep wide (Delays panel off)
+    → wrong_in_change wide 0 (setting_bytes 4 panel 0 0 off) ≡ None
 unfolding is_in_form
-form_delays wide panel off can = eight wide (setting_bytes 4 panel 0 0 off) (below_eight (ByteOf wide 4 panel 0 0 off) refl (within_is 1 8 panel can.0.0 can.0.1) refl refl refl refl refl (on_byte off))
+form_delays wide panel off can =
+    eight wide (setting_bytes 4 panel 0 0 off) (below_eight (ByteOf wide 4 panel 0 0 off) refl (within_is 1 8 panel can.0.0 can.0.1) refl refl refl
+    refl refl (on_byte off))
   where
     on_byte : (b : Bool) → ByteOf wide 4 panel 0 0 b 7
     on_byte true = refl
@@ -133,17 +154,23 @@ form_delays wide panel off can = eight wide (setting_bytes 4 panel 0 0 off) (bel
 
 pub form_clear : (wide : Bool) (panel : ℕ) → CanKeep wide (Clear panel) → wrong_in_change wide 0 (setting_bytes 6 panel 0 0 false) ≡ None
 unfolding is_in_form
-form_clear wide panel can = eight wide (setting_bytes 6 panel 0 0 false) (below_eight (ByteOf wide 6 panel 0 0 false) refl (within_is 1 8 panel can.0.0 can.0.1) refl refl refl refl refl refl)
+form_clear wide panel can =
+    eight wide (setting_bytes 6 panel 0 0 false) (below_eight (ByteOf wide 6 panel 0 0 false) refl (within_is 1 8 panel can.0.0 can.0.1) refl refl
+    refl refl refl refl)
 
-pub form_test : (wide : Bool) (panel number : ℕ) (on : Bool) → CanKeep wide (Test panel number on) → wrong_in_change wide 0 (setting_bytes 7 panel 0 number on) ≡ None
+pub form_test : (wide : Bool) (panel number : ℕ) (on : Bool) → CanKeep wide (Test panel number on)
+    → wrong_in_change wide 0 (setting_bytes 7 panel 0 number on) ≡ None
 unfolding is_in_form
-form_test wide panel number on can = eight wide (setting_bytes 7 panel 0 number on) (below_eight (ByteOf wide 7 panel 0 number on) refl (within_is 1 8 panel can.0.0.0 can.0.0.1) refl (within_is 1 32 number can.0.1.0 can.0.1.1) refl refl refl (on_byte on))
+form_test wide panel number on can =
+    eight wide (setting_bytes 7 panel 0 number on) (below_eight (ByteOf wide 7 panel 0 number on) refl (within_is 1 8 panel can.0.0.0 can.0.0.1) refl
+    (within_is 1 32 number can.0.1.0 can.0.1.1) refl refl refl (on_byte on))
   where
     on_byte : (b : Bool) → ByteOf wide 7 panel 0 number b 7
     on_byte true = refl
     on_byte false = refl
 
-pub form_count : (wide : Bool) (file : List ℕ) (panel entries : ℕ) → slice_index file 0 ≡ 5 → slice_index file 1 ≡ panel → slice_index file 2 ≡ 0 → slice_index file 3 ≡ 0 → CanKeep wide (Count panel entries) → wrong_in_change wide 0 file ≡ None
+pub form_count : (wide : Bool) (file : List ℕ) (panel entries : ℕ) → slice_index file 0 ≡ 5 → slice_index file 1 ≡ panel → slice_index file 2 ≡ 0
+    → slice_index file 3 ≡ 0 → CanKeep wide (Count panel entries) → wrong_in_change wide 0 file ≡ None
 unfolding is_in_form
 form_count wide file panel entries kind p line number can =
     eight wide file (λ i less. subst (λ (k : ℕ). is_in_form wide k i (slice_index file i) ≡ true) (sym kind)
@@ -151,21 +178,28 @@ form_count wide file panel entries kind p line number can =
     (rw kind refl) (rw p (within_is 1 8 panel can.0.0 can.0.1)) (rw line refl) (rw number refl) refl refl refl refl i less))
 
 -- one change more was written
-pub written_more : (bytes old piece : List ℕ) (batch : List Change) (k : ℕ) (d : Change) → k < length batch → Agrees 8 bytes (10 + 8 * k) piece 0 → change_at 0 piece ≡ get_or batch k d
-    → ((i : ℕ) → (i < 10 + 8 * k) ⊎ (10 + 8 * k + 8 ≤ i) → slice_index bytes i ≡ slice_index old i) → changes_at k 10 old ≡ take k batch → changes_at (k + 1) 10 bytes ≡ take (k + 1) batch
+pub written_more : (bytes old piece : List ℕ) (batch : List Change) (k : ℕ) (d : Change) → k < length batch → Agrees 8 bytes (10 + 8 * k) piece 0
+    → change_at 0 piece ≡ get_or batch k d
+    → ((i : ℕ) → (i < 10 + 8 * k) ⊎ (10 + 8 * k + 8 ≤ i) → slice_index bytes i ≡ slice_index old i) → changes_at k 10 old ≡ take k batch
+    → changes_at (k + 1) 10 bytes ≡ take (k + 1) batch
 written_more bytes old piece batch k d less there reads outside before =
     let same = changes_at-agree k bytes 10 old 10 (record { same = λ i few. outside (10 + i) (inl (omega (arith, few))) }) in
     let here = change_at-agrees bytes (10 + 8 * k) piece 0 there ∙ reads in
     changes_at-more k 10 bytes ∙ rw (same, before, here) (sym (take_more batch k d less))
 
 pub form_more : (wide : Bool) (bytes old piece : List ℕ) (k : ℕ) → Agrees 8 bytes (10 + 8 * k) piece 0 → wrong_in_change wide 0 piece ≡ None
-    → ((i : ℕ) → (i < 10 + 8 * k) ⊎ (10 + 8 * k + 8 ≤ i) → slice_index bytes i ≡ slice_index old i) → ((i : ℕ) → i < k → wrong_in_change wide (10 + 8 * i) old ≡ None) → (i : ℕ) → i < k + 1 → wrong_in_change wide (10 + 8 * i) bytes ≡ None
+    → ((i : ℕ) → (i < 10 + 8 * k) ⊎ (10 + 8 * k + 8 ≤ i) → slice_index bytes i ≡ slice_index old i)
+    → ((i : ℕ) → i < k → wrong_in_change wide (10 + 8 * i) old ≡ None) → (i : ℕ) → i < k + 1 → wrong_in_change wide (10 + 8 * i) bytes ≡ None
 form_more wide bytes old piece k there form outside before i less = go (leb_tells k i)
   where
     go : ((nat_le k i ≡ true) × (k ≤ i)) ⊎ ((nat_le k i ≡ false) × (i < k)) → wrong_in_change wide (10 + 8 * i) bytes ≡ None
-    go (inl at) = subst (λ (n : ℕ). wrong_in_change wide (10 + 8 * n) bytes ≡ None) (let h = at.1 in omega (arith, h, less)) (wrong_in_change-moved wide (10 + 8 * k) bytes (10 + 8 * k) piece 0 (omega arith) there ∙ ap (moved (10 + 8 * k)) form)
+    go (inl at) =
+        subst (λ (n : ℕ). wrong_in_change wide (10 + 8 * n) bytes ≡ None) (let h = at.1 in
+        omega (arith, h, less)) (wrong_in_change-moved wide (10 + 8 * k) bytes (10 + 8 * k) piece 0 (omega arith) there ∙ ap (moved (10 + 8 * k))
+        form)
     go (inr below) =
-        wrong_in_change-moved wide 0 bytes (10 + 8 * i) old (10 + 8 * i) (sym (zero-add (10 + 8 * i))) (record { same = λ n few. outside (10 + 8 * i + n) (inl (let h = below.1 in omega (arith, h, few))) })
+        wrong_in_change-moved wide 0 bytes (10 + 8 * i) old (10 + 8 * i) (sym (zero-add (10 + 8 * i)))
+        (record { same = λ n few. outside (10 + 8 * i + n) (inl (let h = below.1 in omega (arith, h, few))) })
         ∙ ap (moved 0) (before i below.1)
 
 pub none_written : (file : List ℕ) → changes_at 0 10 file ≡ []
@@ -173,11 +207,15 @@ unfolding changes_at
 none_written file = refl
 
 -- one change more was made
-pub change_made : (batch : List Change) (k : ℕ) (d : Change) (initial was : Retained) → k < length batch → was ≡ changed_by (take k batch) initial → changed (get_or batch k d) was ≡ changed_by (take (k + 1) batch) initial
+pub change_made : (batch : List Change) (k : ℕ) (d : Change) (initial was : Retained) → k < length batch → was ≡ changed_by (take k batch) initial
+    → changed (get_or batch k d) was ≡ changed_by (take (k + 1) batch) initial
 change_made batch k d initial was less e = rw (e, take_more batch k d less) (sym (changed_by-append (take k batch) (get_or batch k d ∷ []) initial))
 
 -- the number of changes and the changes of a batch, as a cell
-pub whole_cell : (wide : Bool) (cell : List ℕ) (batch : List Change) → cell_count 0 cell ≡ length batch → IsBatch wide batch → ((k : ℕ) → k < length batch → wrong_in_change wide (10 + 8 * k) cell ≡ None) → wrong_in_cell wide 0 cell ≡ None
+pub whole_cell : (wide : Bool) (cell : List ℕ) (batch : List Change) → cell_count 0 cell ≡ length batch → IsBatch wide batch
+    → ((k : ℕ) → k < length batch → wrong_in_change wide (10 + 8 * k) cell ≡ None) → wrong_in_cell wide 0 cell ≡ None
 whole_cell wide cell batch count is each =
-    let within' : is_within 1 most_changes (cell_count 0 cell) ≡ true = within_is 1 72 (cell_count 0 cell) (let s = is.some in omega (arith, count, s)) (let f = is.few in omega (arith, count, f)) in
-    wrong_change wide 0 cell within' ∙ none_below (λ k. wrong_in_change wide (10 + 8 * k) cell) (cell_count 0 cell) (λ k less. each k (omega (arith, less, count)))
+    let within' : is_within 1 most_changes (cell_count 0 cell) ≡ true =
+    within_is 1 72 (cell_count 0 cell) (let s = is.some in omega (arith, count, s)) (let f = is.few in omega (arith, count, f)) in
+    wrong_change wide 0 cell within' ∙ none_below (λ k. wrong_in_change wide (10 + 8 * k) cell) (cell_count 0 cell)
+    (λ k less. each k (omega (arith, less, count)))

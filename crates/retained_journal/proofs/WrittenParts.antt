@@ -19,10 +19,12 @@ tail_size n bytes size = let t = length-take n (drop 1 bytes) in let d = length-
 -- all but the first of some bytes stand behind a place
 pub tail_written : (n at : ℕ) (bytes d c : List ℕ) → length bytes ≡ n + 1 → Holds (at + 1) (take n (drop 1 bytes)) d c → Agrees n c (at + 1) bytes 1
 tail_written n at bytes d c size holds = record {
-  same = λ i less. holds.inside i (let e = tail_size n bytes size in omega (arith, e, less)) ∙ get_or-take n (drop 1 bytes) i 0 less ∙ get_or-drop 1 bytes i 0;
+  same = λ i less. holds.inside i (let e = tail_size n bytes size in omega (arith, e, less)) ∙ get_or-take n (drop 1 bytes) i 0 less ∙ get_or-drop 1
+      bytes i 0;
 }
 
-pub slot_written : (j : Journal) (slot d c : List ℕ) (at : ℕ) → at ≡ other_of j → length slot ≡ 906 → Holds (at + 1) (take 905 (drop 1 slot)) d c → j.cells ≡ 64 → slot_number 0 slot ≡ j.number + 1 → retained_at j.wide 0 slot ≡ j.kept → HoldsCopy j c
+pub slot_written : (j : Journal) (slot d c : List ℕ) (at : ℕ) → at ≡ other_of j → length slot ≡ 906 → Holds (at + 1) (take 905 (drop 1 slot)) d c
+    → j.cells ≡ 64 → slot_number 0 slot ≡ j.number + 1 → retained_at j.wide 0 slot ≡ j.kept → HoldsCopy j c
 slot_written j slot d c at there size holds full number state = record {
   all_cells = full;
   copy_number = number-agrees 8 c (other_of j + 1) slot 1 (sooner 905 c (other_of j + 1) slot 1 8 body (omega arith)) ∙ number;
@@ -32,7 +34,8 @@ slot_written j slot d c at there size holds full number state = record {
     body : Agrees 905 c (other_of j + 1) slot 1
     body = subst (λ (k : ℕ). Agrees 905 c (k + 1) slot 1) there (tail_written 905 at slot d c size holds)
 
-pub cell_written : (j : Journal) (cell d c : List ℕ) (at : ℕ) → at ≡ next_of j → length cell ≡ 593 → Holds (at + 1) (take 592 (drop 1 cell)) d c → number_at 8 1 cell ≡ j.number + 1 → wrong_in_cell j.wide 0 cell ≡ None
+pub cell_written : (j : Journal) (cell d c : List ℕ) (at : ℕ) → at ≡ next_of j → length cell ≡ 593 → Holds (at + 1) (take 592 (drop 1 cell)) d c
+    → number_at 8 1 cell ≡ j.number + 1 → wrong_in_cell j.wide 0 cell ≡ None
     → cell_changes 0 cell ≡ j.attempt.items → slice_index cell 592 ≡ 0 → HoldsBatch j c
 cell_written j cell d c at there size holds number form changes shut = record {
   next_number = number-agrees 8 c (next_of j + 1) cell 1 (sooner 592 c (next_of j + 1) cell 1 8 body (omega arith)) ∙ number;
@@ -45,7 +48,12 @@ cell_written j cell d c at there size holds number form changes shut = record {
     body = subst (λ (k : ℕ). Agrees 592 c (k + 1) cell 1) there (tail_written 592 at cell d c size holds)
 
     behind : Agrees 583 c (next_of j + 9) cell 9
-    behind = record { same = λ i less. subst (λ (k : ℕ). slice_index c k ≡ slice_index cell (9 + i)) (omega arith) (subst (λ (k : ℕ). slice_index c (next_of j + 1 + (8 + i)) ≡ slice_index cell k) (omega arith) (body.same (8 + i) (omega (arith, less)))) }
+    behind =
+        record {
+          same =
+              λ i less. subst (λ (k : ℕ). slice_index c k ≡ slice_index cell (9 + i)) (omega arith)
+              (subst (λ (k : ℕ). slice_index c (next_of j + 1 + (8 + i)) ≡ slice_index cell k) (omega arith) (body.same (8 + i) (omega (arith, less))));
+        }
 
     after : slice_index c (cell_place (j.cells + 1)) ≡ slice_index cell 592
     after = subst (λ (k : ℕ). slice_index c k ≡ slice_index cell 592) (omega arith) (body.same 591 (omega arith))

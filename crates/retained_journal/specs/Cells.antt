@@ -1,5 +1,6 @@
 -- What a cell holds: a gate, a number and the changes of one batch.
-use Rattle.std.specs.Prelude.{ℕ, zero, suc, ◌+◌, ◌*◌, ◌==◌, ◌&&◌, ◌||◌, nat_le, not, Bool, List, [], ◌++◌, map, slice_index, Option, Some, None, if◌then◌else◌}
+use Rattle.std.specs.Prelude.{ℕ, zero, suc, ◌+◌, ◌*◌, ◌==◌, ◌&&◌, ◌||◌, nat_le, not, Bool, List, [], ◌++◌, map}
+use Rattle.std.specs.Prelude.{slice_index, Option, Some, None, if◌then◌else◌}
 use Rattle.std.specs.List.{range_with_len}
 use Rattle.site_types.specs.declared.change.Change.{Change}
 use Rattle.site_types.specs.declared.change.Change.TheVariants.{Point, Zone, Output, Delays, Count, Clear, Test}
@@ -20,7 +21,9 @@ change_by kind panel line number last entries =
 -- the change that stands at a place
 unfoldable pub change_at : ℕ → List ℕ → Change
 change_at at file =
-    change_by (slice_index file at) (slice_index file (at + 1)) (slice_index file (at + 2)) (slice_index file (at + 3)) (slice_index file (at + 7)) (number_at 4 (at + 4) file)
+    change_by (slice_index file at) (slice_index file (at + 1)) (slice_index file (at + 2))
+    (slice_index file (at + 3))
+    (slice_index file (at + 7)) (number_at 4 (at + 4) file)
 
 -- so many changes from a place on
 unfoldable pub changes_at : ℕ → ℕ → List ℕ → List Change
@@ -34,7 +37,8 @@ greatest_address wide = if wide then 192 else 96
 abbrev pub is_line : ℕ → ℕ → Bool
 is_line kind byte = if kind == 1 then is_within 1 4 byte else (byte == 0)
 
--- the address of a point; the number of a zone, an output or a zone in test is 1 to 32; no other change has one
+-- the address of a point; the number of a zone, an output or a zone in test is 1 to 32; no other change has
+-- one
 abbrev pub is_number : Bool → ℕ → ℕ → Bool
 is_number wide kind byte =
     if kind == 1 then is_within 1 (greatest_address wide) byte
@@ -43,7 +47,8 @@ is_number wide kind byte =
 
 -- the last four bytes: any for counted entries, 0 for a counter that is cleared, and 0 or 1 for the rest
 abbrev pub is_value : ℕ → ℕ → ℕ → Bool
-is_value kind place byte = (kind == 5) || (if (place == 7) && not (kind == 6) then nat_le byte 1 else (byte == 0))
+is_value kind place byte =
+    (kind == 5) || (if (place == 7) && not (kind == 6) then nat_le byte 1 else (byte == 0))
 
 -- whether a byte is in the form of a change of a kind, at one of its eight places
 unfoldable pub is_in_form : Bool → ℕ → ℕ → ℕ → Bool
@@ -56,7 +61,9 @@ is_in_form wide kind place byte =
 
 -- a byte of a change, where it is out of its form
 abbrev pub wrong_byte : Bool → ℕ → List ℕ → ℕ → Option ℕ
-wrong_byte wide at file place = if is_in_form wide (slice_index file at) place (slice_index file (at + place)) then None else Some (at + place)
+wrong_byte wide at file place =
+    if is_in_form wide (slice_index file at) place (slice_index file (at + place)) then None else Some
+    (at + place)
 
 -- the first byte of a change that is out of its form
 abbrev pub wrong_in_change : Bool → ℕ → List ℕ → Option ℕ
@@ -69,7 +76,9 @@ cell_count at file = slice_index file (at + 9)
 -- the first byte of a cell that is out of its form: the number of changes, then the changes in order
 unfoldable pub wrong_in_cell : Bool → ℕ → List ℕ → Option ℕ
 wrong_in_cell wide at file =
-    if is_within 1 most_changes (cell_count at file) then first_in (λ k. wrong_in_change wide (at + 10 + 8 * k) file) (cell_count at file) else Some (at + 9)
+    if is_within 1 most_changes (cell_count at file)
+    then first_in (λ k. wrong_in_change wide (at + 10 + 8 * k) file) (cell_count at file)
+    else Some (at + 9)
 
 -- the changes of a cell
 abbrev pub cell_changes : ℕ → List ℕ → List Change

@@ -1,7 +1,12 @@
 -- Bytes and numbers at places of a file. Where the file has no byte it is read as 0.
-use Rattle.std.specs.Prelude.{◌≡◌, ℕ, zero, suc, ◌+◌, ◌*◌, ◌<◌, ◌&&◌, nat_le, Bool, List, map, slice_index, Option, Some, None, if◌then◌else◌}
+use Rattle.std.specs.Prelude.{◌≡◌, ℕ, zero, suc, ◌+◌, ◌*◌, ◌<◌, ◌&&◌, nat_le, Bool, List, map, slice_index, Option}
+use Rattle.std.specs.Prelude.{Some, None, if◌then◌else◌}
 use Rattle.std.specs.List.{range_with_len}
 use Rattle.byteorder.specs.Endian.{big_from, little_from}
+
+-- each is a byte
+abbrev pub AreBytes : List ℕ → Type 0
+AreBytes file = (place : ℕ) → slice_index file place < 256
 
 -- these bytes of one file are those of another, from a place in each on
 pub record Agrees (n : ℕ) (file : List ℕ) (at : ℕ) (other : List ℕ) (from : ℕ) : Type 0 where

@@ -5,7 +5,9 @@ pub mod Fields
 pub mod Images
 pub mod Journals
 pub mod NewFiles
+pub mod OlderFiles
 pub mod Opening
+pub mod Outcomes
 pub mod Places
 pub mod Replays
 pub mod Slots

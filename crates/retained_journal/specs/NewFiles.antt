@@ -1,17 +1,33 @@
 -- What a new journal file holds.
-use Rattle.std.specs.Prelude.{◌≡◌, ℕ, Bool, List, length, slice_index}
+use Rattle.std.specs.Prelude.{◌≡◌, ◌⊎◌, ◌<◌, ◌≤◌, ℕ, Bool, List, length, slice_index}
 use Rattle.site_types.specs.declared.retained.Retained.{Retained}
-use Rattle.retained_journal.specs.Fields.{bytes_at}
-use Rattle.retained_journal.specs.Places.{digest_place, file_mark, log_gate}
+use Rattle.retained_journal.specs.Fields.{AreBytes, bytes_at}
+use Rattle.retained_journal.specs.Places.{digest_place, file_mark, front_bytes, log_gate}
 use Rattle.retained_journal.specs.Slots.{HasNarrowPoints, retained_at, slot_number}
 
--- The front alone: the mark, the digest of the site, and slot A, which is open, has number 1 and holds a state. The log gate and slot B are shut.
+-- a place between the digest and slot A, that of the log gate among them, or behind slot A
+abbrev pub IsBesideSlot : ℕ → Type 0
+IsBesideSlot place = ((log_gate ≤ place) × (place < 64)) ⊎ (970 ≤ place)
+
+-- The front alone: the mark, the digest of the site, and slot A, which is open, has number 1 and holds a
+-- state. All else is zero, so the log gate and slot B are shut.
 pub record IsNewFile (digest : List ℕ) (state : Retained) (file : List ℕ) : Type 0 where
-  pub size : length file ≡ 2048
+  pub size : length file ≡ front_bytes
+  pub bytes : AreBytes file
   pub mark : bytes_at 8 0 file ≡ file_mark
   pub digest_kept : bytes_at 32 digest_place file ≡ digest
-  pub log_shut : slice_index file log_gate ≡ 0
   pub slot_open : slice_index file 64 ≡ 1
   pub number : slot_number 64 file ≡ 1
   pub holds : (wide : Bool) → HasNarrowPoints wide state.points → retained_at wide 64 file ≡ state
-  pub other_shut : slice_index file 1024 ≡ 0
+  pub zeros : (place : ℕ) → IsBesideSlot place → slice_index file place ≡ 0
+
+-- an empty file became a new one
+pub record BecomesNew (digest : List ℕ) (state : Retained) (old new : List ℕ) : Type 0 where
+  pub empty : length old ≡ 0
+  pub made : IsNewFile digest state new
+
+-- there is one new file of a site and a state
+abbrev pub OneNewFile : Type 0
+OneNewFile =
+    (digest : List ℕ) (state : Retained) (file other : List ℕ)
+    → IsNewFile digest state file → IsNewFile digest state other → file ≡ other

@@ -5,7 +5,15 @@ use Rattle.std.specs.Prelude.{ℕ, ◌+◌, ◌*◌, Bool, List, [], ◌∷◌, 
 abbrev pub front_bytes : ℕ
 front_bytes = 2048
 
--- a whole file has this many bytes: the front, 64 cells of 592 bytes, and one byte behind the last cell
+-- a slot has this many bytes
+abbrev pub bytes_of_slot : ℕ
+bytes_of_slot = 906
+
+-- a cell has this many bytes
+abbrev pub bytes_of_cell : ℕ
+bytes_of_cell = 592
+
+-- a whole file has this many bytes: the front, 64 cells, and one byte behind the last cell
 abbrev pub whole_bytes : ℕ
 whole_bytes = 39937
 
@@ -27,7 +35,7 @@ slot_place second = if second then 1024 else 64
 
 -- where a cell begins, from cell 0 on
 abbrev pub cell_place : ℕ → ℕ
-cell_place cell = 2048 + 592 * cell
+cell_place cell = front_bytes + bytes_of_cell * cell
 
 -- how many cells there are
 abbrev pub most_cells : ℕ

@@ -1,5 +1,6 @@
 -- What a slot holds: a gate, a number and a state.
-use Rattle.std.specs.Prelude.{◌≡◌, ◌⊎◌, ℕ, ◌+◌, ◌*◌, ◌^◌, ◌<◌, ◌≤◌, Bool, true, false, List, [], ◌∷◌, map, slice_index, slice_index_or, if◌then◌else◌}
+use Rattle.std.specs.Prelude.{◌≡◌, ◌⊎◌, ℕ, ◌+◌, ◌*◌, ◌^◌, ◌<◌, ◌≤◌, Bool, true, false, List, [], ◌∷◌, map}
+use Rattle.std.specs.Prelude.{slice_index, slice_index_or, if◌then◌else◌}
 use Rattle.std.specs.List.{range_with_len}
 use Rattle.site_types.specs.declared.point_set.PointSet.{PointSet}
 use Rattle.site_types.specs.declared.retained.Retained.{Retained}
@@ -11,13 +12,16 @@ use Rattle.retained_journal.specs.Fields.{number_at, mask_at, numbers_at}
 abbrev pub slot_number : ℕ → List ℕ → ℕ
 slot_number at file = number_at 8 (at + 1) file
 
--- the disabled points of one of the 32 loops: those with addresses 1 to 96, and in a wide journal those with addresses 97 to 192
+-- the disabled points of one of the 32 loops: those with addresses 1 to 96, and in a wide journal those with
+-- addresses 97 to 192
 abbrev pub loop_at : Bool → ℕ → ℕ → List ℕ → List ℕ
-loop_at wide at loop file = mask_at 12 (at + 9 + 12 * loop) file ∷ (if wide then mask_at 12 (at + 490 + 12 * loop) file else 0) ∷ []
+loop_at wide at loop file =
+    mask_at 12 (at + 9 + 12 * loop) file ∷ (if wide then mask_at 12 (at + 490 + 12 * loop) file else 0) ∷ []
 
 -- the disabled points of a panel, which has four loops
 unfoldable pub panel_points : Bool → ℕ → ℕ → List ℕ → PointSet
-panel_points wide at panel file = record { loops = map (λ line. loop_at wide at (4 * panel + line) file) (range_with_len 0 4) }
+panel_points wide at panel file =
+    record { loops = map (λ line. loop_at wide at (4 * panel + line) file) (range_with_len 0 4) }
 
 -- the disabled points of the eight panels
 unfoldable pub points_at : Bool → ℕ → List ℕ → List PointSet
@@ -61,12 +65,15 @@ HasNarrowLoops wide loops = (line : ℕ) → line < 4 → AreNarrow wide (slice_
 
 -- the same of the points of all panels
 abbrev pub HasNarrowPoints : Bool → List PointSet → Type 0
-HasNarrowPoints wide points = (panel : ℕ) → panel < 8 → HasNarrowLoops wide (slice_index_or points panel no_points).loops
+HasNarrowPoints wide points =
+    (panel : ℕ) → panel < 8 → HasNarrowLoops wide (slice_index_or points panel no_points).loops
 
 -- all bytes of a slot are as they were but those of some loops, from one on
 abbrev pub SameButLoops : ℕ → ℕ → List ℕ → List ℕ → Type 0
 SameButLoops first count old new =
-    (i : ℕ) → (i < 9 + 12 * first) ⊎ (9 + 12 * (first + count) ≤ i) → (i < 490 + 12 * first) ⊎ (490 + 12 * (first + count) ≤ i) → slice_index new i ≡ slice_index old i
+    (i : ℕ) → (i < 9 + 12 * first) ⊎ (9 + 12 * (first + count) ≤ i)
+    → (i < 490 + 12 * first) ⊎ (490 + 12 * (first + count) ≤ i)
+    → slice_index new i ≡ slice_index old i
 
 -- A state that a slot can keep: its points have room, and no counter is past its end.
 pub record IsKeepable (wide : Bool) (state : Retained) : Type 0 where

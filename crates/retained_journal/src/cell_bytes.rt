@@ -6,6 +6,7 @@ ghost use Rattle.site_types.specs.Changes.{changed_by};
 ghost use Rattle.retained_journal.specs.Batches.{CanKeep, CanKeepAll, CanMakeAll, IsBatch};
 ghost use Rattle.retained_journal.specs.Cells.{cell_changes, change_at, changes_at, wrong_in_cell, wrong_in_change};
 ghost use Rattle.retained_journal.specs.Fields.{number_at};
+ghost use Rattle.retained_journal.specs.Places.{bytes_of_cell};
 
 use crate::fields::put;
 use byteorder::{BigEndian, ByteOrder};
@@ -20,7 +21,7 @@ pub(crate) fn cell_bytes(number: u64, batch: &[Change]) -> [u8; CELL_AND_GATE]
     ensures number { number_at 8 1 result ≡ number }
     ensures changes { cell_changes 0 result ≡ batch.now }
     ensures form { (wide : Bool) → IsBatch wide batch.now → wrong_in_cell wide 0 result ≡ None }
-    ensures shut { slice_index result 592 ≡ 0 }
+    ensures shut { slice_index result bytes_of_cell ≡ 0 }
 {
     let mut bytes = [0; CELL_AND_GATE];
     let mut number_bytes = [0; 8];
@@ -35,8 +36,10 @@ pub(crate) fn cell_bytes(number: u64, batch: &[Change]) -> [u8; CELL_AND_GATE]
 fn put_changes(bytes: &mut [u8; CELL_AND_GATE], batch: &[Change])
     requires { length batch.now ≤ 72 }
     ensures changes { changes_at (length batch.now) 10 bytes.new ≡ batch.now }
-    ensures form { (wide : Bool) → CanKeepAll wide batch.now → (k : ℕ) → k < length batch.now → wrong_in_change wide (10 + 8 * k) bytes.new ≡ None }
-    ensures outside { (i : ℕ) → (i < 10) ⊎ (10 + 8 * length batch.now ≤ i) → slice_index bytes.new i ≡ slice_index bytes.old i }
+    ensures form { (wide : Bool) → CanKeepAll wide batch.now → (k : ℕ) → k < length batch.now →
+        wrong_in_change wide (10 + 8 * k) bytes.new ≡ None }
+    ensures outside { (i : ℕ) → (i < 10) ⊎ (10 + 8 * length batch.now ≤ i) →
+        slice_index bytes.new i ≡ slice_index bytes.old i }
 {
     for place in 0..batch.len() {
         put(bytes, 10 + 8 * place, &change_bytes(&batch[place]));
@@ -73,7 +76,8 @@ fn setting(kind: u8, panel: u8, line: u8, number: u8, on: bool) -> [u8; 8]
 
 // The bytes of counted entries.
 fn counting(panel: u8, entries: u32) -> [u8; 8]
-    ensures front { (slice_index result 0 ≡ 5) × (slice_index result 1 ≡ panel) × (slice_index result 2 ≡ 0) × (slice_index result 3 ≡ 0) }
+    ensures front { (slice_index result 0 ≡ 5) × (slice_index result 1 ≡ panel)
+        × (slice_index result 2 ≡ 0) × (slice_index result 3 ≡ 0) }
     ensures entries { number_at 4 4 result ≡ entries }
 {
     let mut bytes = [5, panel, 0, 0, 0, 0, 0, 0];

@@ -2,7 +2,11 @@
 
 ghost use Rattle.std.specs.Prelude.{◌≡◌, ◌+◌, ◌*◌, ◌≤◌, ◌<◌, length, slice_index, None, Some, IfSome};
 ghost use Rattle.site_types.specs.Changes.{changed_by};
-ghost use Rattle.retained_journal.specs.Cells.{cell_changes, cell_count, change_at as change_in, is_in_form as in_form, is_line as line_in_form, is_number as number_in_form, is_value as value_in_form, wrong_in_change as wrong_byte, wrong_in_cell as wrong_byte_of_cell};
+ghost use Rattle.retained_journal.specs.Cells.{cell_changes, cell_count, change_at as change_in};
+ghost use Rattle.retained_journal.specs.Cells.{is_in_form as in_form, is_line as line_in_form};
+ghost use Rattle.retained_journal.specs.Cells.{is_number as number_in_form, is_value as value_in_form};
+ghost use Rattle.retained_journal.specs.Cells.{wrong_in_change as wrong_byte, wrong_in_cell as wrong_byte_of_cell};
+ghost use Rattle.retained_journal.specs.Places.{bytes_of_cell};
 
 use crate::fields::{is_within, short_number_at};
 use crate::layout::MOST_CHANGES;
@@ -70,9 +74,9 @@ fn wrong_in_change(wide: bool, at: usize, bytes: &[u8]) -> Option<usize>
 
 // The place of the first byte of a cell that is out of its form.
 pub(crate) fn wrong_in_cell(wide: bool, cell: &[u8]) -> Option<usize>
-    requires { length cell.now ≡ 592 }
+    requires { length cell.now ≡ bytes_of_cell }
     ensures value { result ≡ wrong_byte_of_cell wide 0 cell.now }
-    ensures bound { IfSome result (λ place. place < 592) }
+    ensures bound { IfSome result (λ place. place < bytes_of_cell) }
 {
     let count = cell[9];
     if !is_within(1, 72, count) {
@@ -89,7 +93,7 @@ pub(crate) fn wrong_in_cell(wide: bool, cell: &[u8]) -> Option<usize>
 
 // Makes the changes of a cell that is in its form.
 pub(crate) fn apply_changes(kept: &mut Retained, wide: bool, cell: &[u8])
-    requires size { length cell.now ≡ 592 }
+    requires size { length cell.now ≡ bytes_of_cell }
     requires form { wrong_byte_of_cell wide 0 cell.now ≡ None }
     ensures { kept.new ≡ changed_by (cell_changes 0 cell.now) kept.old }
 {

@@ -1,7 +1,8 @@
 //! Bytes and numbers at places of a file.
 
 ghost use Rattle.std.specs.Prelude.{◌≡◌, ◌⊎◌, ◌+◌, ◌<◌, ◌≤◌, ℕ, length, slice_index};
-ghost use Rattle.retained_journal.specs.Fields.{Agrees, bytes_at, mask_at, number_at as number_in, numbers_at, is_within as within};
+ghost use Rattle.retained_journal.specs.Fields.{Agrees, AreBytes, bytes_at, mask_at, number_at as number_in};
+ghost use Rattle.retained_journal.specs.Fields.{numbers_at, is_within as within};
 
 use byteorder::{BigEndian, ByteOrder, LittleEndian};
 
@@ -70,8 +71,10 @@ pub(crate) fn is_within(least: u8, most: u8, byte: u8) -> bool
 pub(crate) fn put(bytes: &mut [u8], at: usize, piece: &[u8])
     requires { at + length piece.now ≤ length bytes.old }
     ensures size { length bytes.new ≡ length bytes.old }
+    ensures are_bytes { AreBytes bytes.new }
     ensures inside { Agrees (length piece.now) bytes.new at piece.now 0 }
-    ensures outside { (i : ℕ) → (i < at) ⊎ (at + length piece.now ≤ i) → slice_index bytes.new i ≡ slice_index bytes.old i }
+    ensures outside { (i : ℕ) → (i < at) ⊎ (at + length piece.now ≤ i) →
+        slice_index bytes.new i ≡ slice_index bytes.old i }
 {
     bytes[at..at + piece.len()].copy_from_slice(piece);
 }

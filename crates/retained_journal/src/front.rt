@@ -1,10 +1,14 @@
 //! The first 2,048 bytes of a journal file, and why a file is refused by them.
 
 ghost use Rattle.std.specs.Prelude.{◌≡◌, ◌+◌, ◌≤◌, length, IfOk, IfSome, OnOk, ◌↔◌, ◌++◌, take, drop};
-ghost use Rattle.panel_edges.specs.Crashes.{LeavesOnly, Stays};
+ghost use Rattle.panel_edges.specs.Crashes.{Stays};
 ghost use Rattle.panel_edges.specs.Faults.{HasCause};
 ghost use Rattle.retained_journal.specs.Fields.{Agrees, first_in};
-ghost use Rattle.retained_journal.specs.Opening.{counter_too_great, cut_short, front_refusal, great_counter as great, is_second as second_counts, no_open_slot, not_a_journal, number_too_great, other_site, passes};
+ghost use Rattle.retained_journal.specs.Opening.{counter_too_great, cut_short, front_refusal, great_counter as great};
+ghost use Rattle.retained_journal.specs.Opening.{is_second as second_counts, no_open_slot, not_a_journal};
+ghost use Rattle.retained_journal.specs.Opening.{number_too_great, other_site, passes};
+ghost use Rattle.retained_journal.specs.Places.{bytes_of_slot, front_bytes};
+ghost use Rattle.retained_journal.specs.Outcomes.{LeavesAsItWas};
 
 use crate::fields::{digest_at, mark_of, number_at, short_number_at};
 use crate::layout::{
@@ -21,11 +25,13 @@ pub(crate) type Front = [u8; FRONT_BYTES];
 // Reads the front of a file of so many bytes.
 pub(crate) fn read_front<D: Disk>(disk: &mut D, len: u64) -> Result<Front, Failed>
     requires { IfSome (D.seen disk.old) (λ file. len ≡ length file) }
-    ensures ok { IfOk result (λ front. IfSome (D.seen disk.old) (λ file. Agrees 2048 front 0 file 0)) }
+    ensures ok { IfOk result (λ front.
+        IfSome (D.seen disk.old) (λ file. Agrees front_bytes front 0 file 0)) }
     ensures seen { D.seen disk.new ≡ D.seen disk.old }
     ensures honest { D.honest disk.new ↔ D.honest disk.old }
     ensures crash { D.honest disk.old → Stays (D.images disk.old) (D.images disk.new) }
-    ensures moments { D.honest disk.old → LeavesOnly D.moment D.left_since disk.old disk.new (D.images disk.old) }
+    ensures moments { D.honest disk.old →
+        LeavesAsItWas D.moment D.left_since D.images disk.old disk.new }
     ensures cause { HasCause (D.faults disk.old) (D.faults disk.new) result }
 {
     let mut front = [0; FRONT_BYTES];
@@ -37,11 +43,13 @@ pub(crate) fn read_front<D: Disk>(disk: &mut D, len: u64) -> Result<Front, Faile
 fn read_beginning<D: Disk>(disk: &mut D, into: &mut [u8], count: usize) -> Result<(), Failed>
     requires room { count ≤ length into.old }
     requires told { IfSome (D.seen disk.old) (λ file. count ≤ length file) }
-    ensures ok { OnOk result (IfSome (D.seen disk.old) (λ file. into.new ≡ take count file ++ drop count into.old)) }
+    ensures ok { OnOk result (IfSome (D.seen disk.old) (λ file.
+        into.new ≡ take count file ++ drop count into.old)) }
     ensures seen { D.seen disk.new ≡ D.seen disk.old }
     ensures honest { D.honest disk.new ↔ D.honest disk.old }
     ensures crash { D.honest disk.old → Stays (D.images disk.old) (D.images disk.new) }
-    ensures moments { D.honest disk.old → LeavesOnly D.moment D.left_since disk.old disk.new (D.images disk.old) }
+    ensures moments { D.honest disk.old →
+        LeavesAsItWas D.moment D.left_since D.images disk.old disk.new }
     ensures cause { HasCause (D.faults disk.old) (D.faults disk.new) result }
 {
     disk.read_at(0, &mut into[..count])
@@ -121,7 +129,7 @@ pub(crate) fn is_second(front: &Front) -> bool
 }
 
 fn check_number(front: &Front, at: usize) -> Result<(), OpenRefusal>
-    requires { at + 906 ≤ 2048 }
+    requires { at + bytes_of_slot ≤ front_bytes }
     ensures { result ≡ passes (number_too_great at front.now) }
 {
     if number_at(front, at + 1) > MOST_NUMBER {
@@ -135,7 +143,7 @@ fn check_number(front: &Front, at: usize) -> Result<(), OpenRefusal>
 }
 
 fn check_counters(front: &Front, at: usize) -> Result<(), OpenRefusal>
-    requires { at + 906 ≤ 2048 }
+    requires { at + bytes_of_slot ≤ front_bytes }
     ensures { result ≡ passes (counter_too_great at front.now) }
 {
     match great_counter(front, at) {
@@ -149,7 +157,7 @@ fn check_counters(front: &Front, at: usize) -> Result<(), OpenRefusal>
 
 // The place of the first counter that is too great.
 fn great_counter(front: &Front, at: usize) -> Option<usize>
-    requires { at + 906 ≤ 2048 }
+    requires { at + bytes_of_slot ≤ front_bytes }
     ensures value { result ≡ first_in (great at front.now) 8 }
     ensures bound { IfSome result (λ place. place ≤ at + 486) }
 {

@@ -1,4 +1,5 @@
-ghost use Rattle.std.specs.Prelude.{◌≡◌, ◌≢◌, ◌⊎◌, ◌+◌, ◌<◌, ◌≤◌, ◌^◌, None, Some, ℕ, List, length, not, IfErr, IfOk, IfSome, OnErr, OnOk, ◌↔◌, false, true, if◌then◌else◌};
+ghost use Rattle.std.specs.Prelude.{◌≡◌, ◌≢◌, ◌⊎◌, ◌+◌, ◌<◌, ◌≤◌, ◌^◌, None, Some, ℕ, List, length, not, IfErr, IfOk};
+ghost use Rattle.std.specs.Prelude.{IfSome, OnErr, OnOk, ◌↔◌, false, true, if◌then◌else◌};
 ghost use Rattle.panel_edges.specs.Crashes.{LeavesOnly, Stays};
 ghost use Rattle.panel_edges.specs.Faults.{HasCause};
 ghost use Rattle.panel_edges.specs.Disks.{Becomes};
@@ -6,12 +7,19 @@ ghost use Rattle.site_types.specs.Changes.{AreCounters, changed_by, nothing_reta
 ghost use Rattle.retained_journal.specs.Batches.{IsBatch};
 ghost use Rattle.retained_journal.specs.Creating.{HasCreateCause};
 ghost use Rattle.retained_journal.specs.Fields.{Agrees, first_in};
-ghost use Rattle.retained_journal.specs.Images.{HasRoom, HasRoomForTwo, IsEarly, IsSound, KeepsAll, LeavesInTurn, MayLeave, MayLeaveOr, OpensToKept, OpensToKeptOrWith, SameFront, Stands};
-ghost use Rattle.retained_journal.specs.Journals.{IsLong, IsNewJournal, IsOfFront, IsReadFrom, IsReplayOf};
-ghost use Rattle.retained_journal.specs.Opening.{Empty, Opens, Refuses, change_out_of_form, chosen_place, counted, great_counter, is_second as second_counts, opened, refusal_of};
-ghost use Rattle.retained_journal.specs.Places.{slot_place as place_of_slot};
-ghost use Rattle.retained_journal.specs.Replays.{HasRefusalCause};
-ghost use Rattle.retained_journal.specs.Slots.{FitPoints, HasNarrowPoints, IsKeepable, retained_at as state_at, slot_number};
+ghost use Rattle.retained_journal.specs.Images.{HasRoom, HasRoomForTwo, IsEarly, IsSound, KeepsAll, MayLeave};
+ghost use Rattle.retained_journal.specs.Images.{MayLeaveOr, SameFront, Stands};
+ghost use Rattle.retained_journal.specs.Journals.{IsFresh, IsLong, IsNewJournal, IsOpenedOn, IsOfFront, IsReadFrom};
+ghost use Rattle.retained_journal.specs.Journals.{IsReplayOf};
+ghost use Rattle.retained_journal.specs.NewFiles.{BecomesNew};
+ghost use Rattle.retained_journal.specs.Opening.{Opens, change_out_of_form, counted, great_counter};
+ghost use Rattle.retained_journal.specs.Opening.{is_second as second_counts, opened, refusal_of};
+ghost use Rattle.retained_journal.specs.Outcomes.{CountsItsCells, CountsUnlessTorn, EachMayBeLeft, EachOpens};
+ghost use Rattle.retained_journal.specs.Outcomes.{HasFailed, HasKept, HasTried, IsEarlyFor, IsKeptIn, IsLengthOf};
+ghost use Rattle.retained_journal.specs.Outcomes.{IsRefusalOf, LeavesAsItWas, LeavesEachInTurn, UnlessEmpty};
+ghost use Rattle.retained_journal.specs.Places.{bytes_of_slot, front_bytes, slot_place as place_of_slot};
+ghost use Rattle.retained_journal.specs.Replays.{BeginsReplay, HasRefusalCause};
+ghost use Rattle.retained_journal.specs.Slots.{FitPoints, HasNarrowPoints, IsKeepable, slot_number};
 
 use crate::batch::Batch;
 use crate::create_refusal::CreateRefusal;
@@ -56,8 +64,8 @@ pub struct Journal {
 }
 
 impl Journal {
-    /// Opens the journal of a site by the digest of its site file, and gives what it keeps. A file of no bytes becomes a
-    /// new journal; nothing is written to any other.
+    /// Opens the journal of a site by the digest of its site file, and gives what it keeps. A file of no bytes
+    /// becomes a new journal; nothing is written to any other.
     ///
     /// # Errors
     ///
@@ -68,17 +76,22 @@ impl Journal {
         wide: bool,
     ) -> Result<(Journal, Retained), OpenRefusal>
         ensures kept { IfOk result (λ r. r.0.kept ≡ r.1) }
-        ensures ok { IfOk result (λ r. IfSome (D.seen disk.old) (λ file. (opened wide digest file ≡ Opens r.1) ⊎ ((opened wide digest file ≡ Empty) × (r.1 ≡ nothing_retained)))) }
-        ensures err { IfErr result (λ e. e ≢ OpenRefusal.DiskFault → IfSome (D.seen disk.old) (λ file. opened wide digest file ≡ Refuses e)) }
+        ensures ok { IfOk result (λ r. IfSome (D.seen disk.old) (IsKeptIn wide digest r.1)) }
+        ensures err { IfErr result (IsRefusalOf wide digest (D.seen disk.old)) }
         ensures stands { IfOk result (λ r. Stands D.honest D.images disk.new r.0) }
-        ensures opens { D.honest disk.new → IfOk result (λ r. (file : List ℕ) → D.images disk.new file → OpensToKept r.0 file × (counted file ≡ r.0.cells)) }
-        ensures cells { IfOk result (λ r. IfSome (D.seen disk.new) (λ file. r.0.torn ≡ false → counted file ≡ r.0.cells)) }
-        ensures read { IfOk result (λ r. IfSome (D.seen disk.old) (λ file. 0 < length file → IsReadFrom wide digest file r.0)) }
-        ensures early { IfOk result (λ r. IfSome (D.seen disk.old) (λ file. slot_number (chosen_place file) file ≤ 2 ^ 62 → IsEarly r.0)) }
-        ensures fresh { IfOk result (λ r. (r.0.tried ≡ 0) × (r.0.wide ≡ wide) × (r.0.digest ≡ digest)) }
-        ensures unwritten { IfSome (D.seen disk.old) (λ file. 0 < length file → D.seen disk.new ≡ D.seen disk.old) }
-        // Nothing is written to a file that isn't empty: at each moment of the call a crash leaves what it might have left before.
-        ensures untouched { D.honest disk.old → IfSome (D.seen disk.old) (λ file. 0 < length file → LeavesOnly D.moment D.left_since disk.old disk.new (D.images disk.old)) }
+        ensures opens { D.honest disk.new → IfOk result (λ r. EachOpens (D.images disk.new) r.0) }
+        ensures cells { IfOk result (λ r. IfSome (D.seen disk.new) (CountsUnlessTorn r.0)) }
+        // The journal is that of the file as it then stands: that of an empty one, too, of which a new file was made.
+        ensures read { IfOk result (λ r.
+            Becomes (IsOpenedOn wide digest r.0) (D.seen disk.old) (D.seen disk.new)) }
+        ensures early { IfOk result (λ r. IfSome (D.seen disk.old) (IsEarlyFor r.0)) }
+        ensures fresh { IfOk result (λ r. IsFresh wide digest r.0) }
+        ensures unwritten { UnlessEmpty (D.seen disk.old) (D.seen disk.new ≡ D.seen disk.old) }
+        // Nothing is written to a file that isn't empty: at each moment of the call a crash leaves what it might have
+        // left before.
+        ensures untouched { D.honest disk.old →
+            UnlessEmpty (D.seen disk.old)
+            (LeavesAsItWas D.moment D.left_since D.images disk.old disk.new) }
         ensures honest { D.honest disk.new ↔ D.honest disk.old }
         ensures cause { HasRefusalCause (D.faults disk.old) (D.faults disk.new) result }
     {
@@ -94,12 +107,13 @@ impl Journal {
         Ok((journal, kept))
     }
 
-    /// Makes the journal of a site, by the digest of its site file, in an empty file, with the state that it is to keep.
+    /// Makes the journal of a site, by the digest of its site file, in an empty file, with the state that it is to
+    /// keep.
     ///
     /// # Errors
     ///
-    /// The file isn't empty, or the disk failed. Nothing is written to a file that isn't empty; an empty one may be written in
-    /// part where the disk failed.
+    /// The file isn't empty, or the disk failed. Nothing is written to a file that isn't empty; an empty one may be
+    /// written in part where the disk failed.
     pub fn create<D: Disk>(
         disk: &mut D,
         digest: [u8; 32],
@@ -109,13 +123,19 @@ impl Journal {
         requires counters { AreCounters state.now.counters }
         requires points { FitPoints state.now.points }
         requires narrow { HasNarrowPoints wide state.now.points }
-        ensures ok { D.honest disk.old → OnOk result ((file : List ℕ) → D.images disk.new file → opened wide digest file ≡ Opens state.now) }
-        ensures empty { OnOk result (IfSome (D.seen disk.old) (λ file. length file ≡ 0)) }
-        ensures err { IfErr result (λ e. e ≢ CreateRefusal.DiskFault → IfSome (D.seen disk.old) (λ file. (0 < length file) × (e ≡ CreateRefusal.NotEmpty (length file)))) }
-        ensures unwritten { IfErr result (λ e. e ≢ CreateRefusal.DiskFault → D.seen disk.new ≡ D.seen disk.old) }
-        ensures seen { IfSome (D.seen disk.old) (λ file. 0 < length file → D.seen disk.new ≡ D.seen disk.old) }
-        // Nothing is written to a file that isn't empty: at each moment of the call a crash leaves what it might have left before.
-        ensures untouched { D.honest disk.old → IfSome (D.seen disk.old) (λ file. 0 < length file → LeavesOnly D.moment D.left_since disk.old disk.new (D.images disk.old)) }
+        ensures ok { D.honest disk.old → OnOk result ((file : List ℕ) → D.images disk.new file →
+            opened wide digest file ≡ Opens state.now) }
+        ensures made { OnOk result (
+            Becomes (BecomesNew digest state.now) (D.seen disk.old) (D.seen disk.new)) }
+        ensures err { IfErr result (IsLengthOf (D.seen disk.old)) }
+        ensures unwritten { IfErr result (λ e. e ≢ CreateRefusal.DiskFault →
+            D.seen disk.new ≡ D.seen disk.old) }
+        ensures seen { UnlessEmpty (D.seen disk.old) (D.seen disk.new ≡ D.seen disk.old) }
+        // Nothing is written to a file that isn't empty: at each moment of the call a crash leaves what it might have
+        // left before.
+        ensures untouched { D.honest disk.old →
+            UnlessEmpty (D.seen disk.old)
+            (LeavesAsItWas D.moment D.left_since D.images disk.old disk.new) }
         ensures honest { D.honest disk.new ↔ D.honest disk.old }
         ensures cause { HasCreateCause (D.faults disk.old) (D.faults disk.new) result }
     {
@@ -148,10 +168,14 @@ impl Journal {
         ensures ok { OnOk result (self.new.torn ≡ false) }
         ensures err { OnErr result (self.new.torn ≡ true) }
         // After Ok each file that a crash may leave opens to what is kept, and all cells that count are known.
-        ensures opens { D.honest disk.new → HasRoom self.new → OnOk result ((file : List ℕ) → D.images disk.new file → OpensToKept self.new file × (counted file ≡ self.new.cells)) }
-        ensures cells { D.honest disk.new → OnOk result (IfSome (D.seen disk.new) (λ file. counted file ≡ self.new.cells)) }
-        ensures images { D.honest disk.new → HasRoom self.new → (file : List ℕ) → D.images disk.new file → MayLeave self.new file }
-        ensures moments { D.honest disk.old → HasRoom self.old → LeavesOnly D.moment D.left_since disk.old disk.new (MayLeave self.old) }
+        ensures opens { D.honest disk.new → HasRoom self.new →
+            OnOk result (EachOpens (D.images disk.new) self.new) }
+        ensures cells { D.honest disk.new →
+            OnOk result (IfSome (D.seen disk.new) (CountsItsCells self.new)) }
+        ensures images { D.honest disk.new → HasRoom self.new →
+            EachMayBeLeft (D.images disk.new) self.new }
+        ensures moments { D.honest disk.old → HasRoom self.old →
+            LeavesOnly D.moment D.left_since disk.old disk.new (MayLeave self.old) }
         ensures unwritten { self.old.torn ≡ false → D.seen disk.new ≡ D.seen disk.old }
         ensures honest { D.honest disk.new ↔ D.honest disk.old }
         ensures cause { HasCause (D.faults disk.old) (D.faults disk.new) result }
@@ -167,26 +191,33 @@ impl Journal {
     ///
     /// # Errors
     ///
-    /// A call of the disk failed. The journal is torn and keeps what it kept; a crash may leave the batch, until the journal
-    /// is mended.
+    /// A call of the disk failed. The journal is torn and keeps what it kept; a crash may leave the batch, until the
+    /// journal is mended.
     pub fn commit<D: Disk>(&mut self, disk: &mut D, batch: &Batch) -> Result<(), DiskFault>
         requires stands { Stands D.honest D.images disk.old self.old }
         requires batch { IsBatch self.old.wide batch.now.items }
         requires few { self.old.tried ≤ 1000000000 }
         ensures stands { Stands D.honest D.images disk.new self.new }
-        ensures ok { OnOk result ((self.new.kept ≡ changed_by batch.now.items self.old.kept) × (self.new.torn ≡ false) × (self.new.attempt.items ≡ batch.now.items)) }
-        ensures err { OnErr result ((self.new.kept ≡ self.old.kept) × (self.new.torn ≡ true) × ((self.new.attempt.items ≡ batch.now.items) ⊎ (self.new.attempt ≡ self.old.attempt))) }
+        ensures ok { OnOk result (HasKept batch.now.items self.old self.new) }
+        ensures err { OnErr result (HasFailed batch.now.items self.old self.new) }
         ensures early { IsEarly self.old → IsEarly self.new }
-        ensures same { (self.new.wide ≡ self.old.wide) × (self.new.digest ≡ self.old.digest) × (self.new.tried ≡ self.old.tried + 1) × (self.new.number ≤ self.old.number + 2) }
-        ensures opens { D.honest disk.new → HasRoom self.new → OnOk result ((file : List ℕ) → D.images disk.new file → OpensToKept self.new file × (counted file ≡ self.new.cells)) }
-        ensures cells { D.honest disk.new → OnOk result (IfSome (D.seen disk.new) (λ file. counted file ≡ self.new.cells)) }
-        ensures images { D.honest disk.new → HasRoom self.new → (file : List ℕ) → D.images disk.new file → MayLeave self.new file }
-        ensures moments { D.honest disk.old → HasRoomForTwo self.old → LeavesOnly D.moment D.left_since disk.old disk.new (MayLeaveOr self.old batch.now.items) }
-        // The earlier batch may be left until the mending has ended, and this one only from then on: the mending failed, or the call had both parts.
+        ensures same { HasTried self.old self.new }
+        ensures opens { D.honest disk.new → HasRoom self.new →
+            OnOk result (EachOpens (D.images disk.new) self.new) }
+        ensures cells { D.honest disk.new →
+            OnOk result (IfSome (D.seen disk.new) (CountsItsCells self.new)) }
+        ensures images { D.honest disk.new → HasRoom self.new →
+            EachMayBeLeft (D.images disk.new) self.new }
+        ensures moments { D.honest disk.old → HasRoomForTwo self.old →
+            LeavesOnly D.moment D.left_since disk.old disk.new
+            (MayLeaveOr self.old batch.now.items) }
+        // The earlier batch may be left until the mending has ended, and this one only from then on: the mending
+        // failed, or the call had both parts.
         ensures in_turn { D.honest disk.old → HasRoomForTwo self.old →
-            ((self.new.attempt ≡ self.old.attempt) × LeavesOnly D.moment D.left_since disk.old disk.new (MayLeave self.old))
-            ⊎ ((self.new.attempt.items ≡ batch.now.items) × LeavesInTurn D.moment D.left_since disk.old disk.new (MayLeave self.old) (OpensToKeptOrWith self.old batch.now.items)) }
-        ensures front { self.old.torn ≡ false → self.old.cells < 64 → Becomes SameFront (D.seen disk.old) (D.seen disk.new) }
+            LeavesEachInTurn D.moment D.left_since disk.old disk.new
+            self.old batch.now.items self.new }
+        ensures front { self.old.torn ≡ false → self.old.cells < 64 →
+            Becomes SameFront (D.seen disk.old) (D.seen disk.new) }
         ensures honest { D.honest disk.new ↔ D.honest disk.old }
         ensures cause { HasCause (D.faults disk.old) (D.faults disk.new) result }
     {
@@ -200,7 +231,8 @@ impl Journal {
 
     // The batch is the one last attempted from now on.
     fn begin(&mut self, batch: &Batch)
-        ensures { (self.new ≡ record self.old { torn = true; attempt = self.new.attempt }) × (self.new.attempt.items ≡ batch.now.items) }
+        ensures { (self.new ≡ record self.old { torn = true; attempt = self.new.attempt })
+            × (self.new.attempt.items ≡ batch.now.items) }
     {
         let mut attempt = Batch::new();
         match attempt.try_extend_from_slice(batch.as_slice()) {
@@ -294,13 +326,16 @@ fn read_journal<D: Disk>(
 ) -> Result<Journal, OpenRefusal>
     requires { IfSome (D.seen disk.old) (λ file. len ≡ length file) }
     ensures sound { IfOk result IsSound }
-    ensures fresh { IfOk result (λ journal. (journal.tried ≡ 0) × (journal.wide ≡ wide) × (journal.digest ≡ digest)) }
-    ensures ok { IfOk result (λ journal. IfSome (D.seen disk.old) (λ file. (refusal_of wide digest file ≡ None) × IsReadFrom wide digest file journal)) }
-    ensures err { IfErr result (λ e. e ≢ OpenRefusal.DiskFault → IfSome (D.seen disk.old) (λ file. refusal_of wide digest file ≡ Some e)) }
+    ensures fresh { IfOk result (IsFresh wide digest) }
+    ensures ok { IfOk result (λ journal. IfSome (D.seen disk.old) (λ file.
+        (refusal_of wide digest file ≡ None) × IsReadFrom wide digest file journal)) }
+    ensures err { IfErr result (λ e. e ≢ OpenRefusal.DiskFault →
+        IfSome (D.seen disk.old) (λ file. refusal_of wide digest file ≡ Some e)) }
     ensures seen { D.seen disk.new ≡ D.seen disk.old }
     ensures honest { D.honest disk.new ↔ D.honest disk.old }
     ensures crash { D.honest disk.old → Stays (D.images disk.old) (D.images disk.new) }
-    ensures moments { D.honest disk.old → LeavesOnly D.moment D.left_since disk.old disk.new (D.images disk.old) }
+    ensures moments { D.honest disk.old →
+        LeavesAsItWas D.moment D.left_since D.images disk.old disk.new }
     ensures cause { HasRefusalCause (D.faults disk.old) (D.faults disk.new) result }
 {
     let front = read_front(disk, len)?;
@@ -320,14 +355,19 @@ fn read_counted<D: Disk>(
     requires second { second ≡ second_counts front.now }
     requires number { slot_number (place_of_slot second) front.now ≤ 2 ^ 63 }
     requires counters { first_in (great_counter (place_of_slot second) front.now) 8 ≡ None }
-    requires told { IfSome (D.seen disk.old) (λ file. Agrees 2048 front.now 0 file 0 × IsLong front.now file) }
-    ensures keeps { IfOk result (λ replay. IsKeepable wide replay.kept × (replay.cells ≤ 64) × (replay.number ≤ 2 ^ 63 + 64)) }
-    ensures ok { IfOk result (λ replay. IfSome (D.seen disk.old) (λ file. (change_out_of_form wide file ≡ None) × IsReplayOf wide file replay)) }
-    ensures err { IfErr result (λ e. e ≢ OpenRefusal.DiskFault → IfSome (D.seen disk.old) (λ file. change_out_of_form wide file ≡ Some e)) }
+    requires told { IfSome (D.seen disk.old) (λ file.
+        Agrees front_bytes front.now 0 file 0 × IsLong front.now file) }
+    ensures keeps { IfOk result (λ replay.
+        IsKeepable wide replay.kept × (replay.cells ≤ 64) × (replay.number ≤ 2 ^ 63 + 64)) }
+    ensures ok { IfOk result (λ replay. IfSome (D.seen disk.old) (λ file.
+        (change_out_of_form wide file ≡ None) × IsReplayOf wide file replay)) }
+    ensures err { IfErr result (λ e. e ≢ OpenRefusal.DiskFault →
+        IfSome (D.seen disk.old) (λ file. change_out_of_form wide file ≡ Some e)) }
     ensures seen { D.seen disk.new ≡ D.seen disk.old }
     ensures honest { D.honest disk.new ↔ D.honest disk.old }
     ensures crash { D.honest disk.old → Stays (D.images disk.old) (D.images disk.new) }
-    ensures moments { D.honest disk.old → LeavesOnly D.moment D.left_since disk.old disk.new (D.images disk.old) }
+    ensures moments { D.honest disk.old →
+        LeavesAsItWas D.moment D.left_since D.images disk.old disk.new }
     ensures cause { HasRefusalCause (D.faults disk.old) (D.faults disk.new) result }
 {
     let mut replay = begin_replay(front, wide, slot_place(second));
@@ -339,8 +379,8 @@ fn read_counted<D: Disk>(
 
 // The state of a slot, before any cell.
 fn begin_replay(front: &Front, wide: bool, at: usize) -> Replay
-    requires { at + 906 ≤ 2048 }
-    ensures { result ≡ record { wide = wide; kept = state_at wide at front.now; number = slot_number at front.now; cells = 0; is_next_open = false } }
+    requires { at + bytes_of_slot ≤ front_bytes }
+    ensures { BeginsReplay wide at front.now result }
 {
     Replay {
         wide,

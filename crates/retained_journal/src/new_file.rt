@@ -1,9 +1,10 @@
 //! Writing a new journal file.
 
-ghost use Rattle.std.specs.Prelude.{◌≡◌, ◌⊎◌, ◌+◌, ◌<◌, ◌≤◌, ℕ, List, length, slice_index, OnOk, ◌↔◌};
+ghost use Rattle.std.specs.Prelude.{◌≡◌, ◌⊎◌, ◌+◌, ◌<◌, ◌≤◌, ℕ, List, length, slice_index, IfSome, OnOk, ◌↔◌};
+ghost use Rattle.panel_edges.specs.Disks.{Becomes};
 ghost use Rattle.panel_edges.specs.Faults.{HasCause};
 ghost use Rattle.retained_journal.specs.Fields.{Agrees};
-ghost use Rattle.retained_journal.specs.NewFiles.{IsNewFile};
+ghost use Rattle.retained_journal.specs.NewFiles.{BecomesNew, IsNewFile, OneNewFile};
 ghost use Rattle.retained_journal.specs.Slots.{FitPoints};
 
 use crate::fields::put;
@@ -32,10 +33,20 @@ pub(crate) fn write_new<D: Disk>(
     state: &Retained,
 ) -> Result<(), Failed>
     requires fits { FitPoints state.now.points }
-    requires empty { D.honest disk.old → (file : List ℕ) → D.images disk.old file → length file ≡ 0 }
-    ensures ok { D.honest disk.old → OnOk result ((file : List ℕ) → D.images disk.new file → IsNewFile digest.now state.now file) }
+    requires empty { D.honest disk.old →
+        (file : List ℕ) → D.images disk.old file → length file ≡ 0 }
+    requires told { IfSome (D.seen disk.old) (λ file. length file ≡ 0) }
+    ensures made { OnOk result (
+        Becomes (BecomesNew digest.now state.now) (D.seen disk.old) (D.seen disk.new)) }
+    ensures ok { D.honest disk.old → OnOk result (
+        (file : List ℕ) → D.images disk.new file → IsNewFile digest.now state.now file) }
     ensures honest { D.honest disk.new ↔ D.honest disk.old }
     ensures cause { HasCause (D.faults disk.old) (D.faults disk.new) result }
 {
     write_synced(disk, 0, &new_front(digest, state))
 }
+
+/// There is one new file of a site and a state: what is said of it leaves no byte open.
+pub fn one_new_file()
+    ensures { OneNewFile }
+{}

@@ -1,11 +1,13 @@
-ghost use Rattle.std.specs.Prelude.{◌≡◌, ◌≢◌, ◌+◌, ◌<◌, ◌≤◌, ◌^◌, ℕ, Ok, Err, None, Some, true, false, ◌==◌, length, slice_index, IfErr, IfOk, IfSome, OnOk, ◌↔◌};
-ghost use Rattle.panel_edges.specs.Crashes.{LeavesOnly, Stays};
+ghost use Rattle.std.specs.Prelude.{◌≡◌, ◌≢◌, ◌+◌, ◌<◌, ◌≤◌, ◌^◌, ℕ, Ok, Err, None, Some, true, false, ◌==◌, length};
+ghost use Rattle.std.specs.Prelude.{slice_index, IfErr, IfOk, IfSome, OnOk, ◌↔◌};
+ghost use Rattle.panel_edges.specs.Crashes.{Stays};
 ghost use Rattle.panel_edges.specs.Faults.{HasCause};
 ghost use Rattle.site_types.specs.Changes.{changed_by};
 ghost use Rattle.retained_journal.specs.declared.open_refusal.OpenRefusal.TheVariants.{Damaged};
 ghost use Rattle.retained_journal.specs.Cells.{cell_changes, is_next as counts_next, wrong_in_cell as wrong_byte};
 ghost use Rattle.retained_journal.specs.Fields.{Agrees};
-ghost use Rattle.retained_journal.specs.Places.{cell_place as place_of_cell, whole_bytes};
+ghost use Rattle.retained_journal.specs.Places.{bytes_of_cell, cell_place as place_of_cell, whole_bytes};
+ghost use Rattle.retained_journal.specs.Outcomes.{LeavesAsItWas};
 ghost use Rattle.retained_journal.specs.Slots.{IsKeepable};
 ghost use Rattle.retained_journal.specs.Replays.{EndsReplay, HasRefusalCause, RefusesReplay, TakesCell};
 
@@ -37,14 +39,18 @@ impl Replay {
         requires begun { (self.old.cells ≡ 0) × (self.old.is_next_open ≡ false) }
         requires number { self.old.number ≤ 2 ^ 63 }
         requires keeps { IsKeepable self.old.wide self.old.kept }
-        ensures ok { OnOk result (IfSome (D.seen disk.old) (λ file. EndsReplay file self.old self.new)) }
-        ensures err { IfErr result (λ e. e ≢ OpenRefusal.DiskFault → IfSome (D.seen disk.old) (λ file. RefusesReplay file self.old e)) }
-        ensures bound { OnOk result ((self.new.wide ≡ self.old.wide) × (self.new.number ≡ self.old.number + self.new.cells) × (self.new.cells ≤ 64)) }
+        ensures ok { OnOk result (
+            IfSome (D.seen disk.old) (λ file. EndsReplay file self.old self.new)) }
+        ensures err { IfErr result (λ e. e ≢ OpenRefusal.DiskFault →
+            IfSome (D.seen disk.old) (λ file. RefusesReplay file self.old e)) }
+        ensures bound { OnOk result ((self.new.wide ≡ self.old.wide)
+            × (self.new.number ≡ self.old.number + self.new.cells) × (self.new.cells ≤ 64)) }
         ensures keeps { OnOk result (IsKeepable self.new.wide self.new.kept) }
         ensures seen { D.seen disk.new ≡ D.seen disk.old }
         ensures honest { D.honest disk.new ↔ D.honest disk.old }
         ensures crash { D.honest disk.old → Stays (D.images disk.old) (D.images disk.new) }
-        ensures moments { D.honest disk.old → LeavesOnly D.moment D.left_since disk.old disk.new (D.images disk.old) }
+        ensures moments { D.honest disk.old →
+            LeavesAsItWas D.moment D.left_since D.images disk.old disk.new }
         ensures cause { HasRefusalCause (D.faults disk.old) (D.faults disk.new) result }
     {
         for cell in 0..MOST_CELLS {
@@ -90,11 +96,13 @@ fn is_next(number: u64, cell: &[u8; CELL_BYTES]) -> bool
 fn read_cell<D: Disk>(disk: &mut D, cell: u8) -> Result<[u8; CELL_BYTES], Failed>
     requires told { IfSome (D.seen disk.old) (λ file. whole_bytes ≤ length file) }
     requires cell { cell < 64 }
-    ensures ok { IfOk result (λ bytes. IfSome (D.seen disk.old) (λ file. Agrees 592 bytes 0 file (place_of_cell cell))) }
+    ensures ok { IfOk result (λ bytes.
+        IfSome (D.seen disk.old) (λ file. Agrees bytes_of_cell bytes 0 file (place_of_cell cell))) }
     ensures seen { D.seen disk.new ≡ D.seen disk.old }
     ensures honest { D.honest disk.new ↔ D.honest disk.old }
     ensures crash { D.honest disk.old → Stays (D.images disk.old) (D.images disk.new) }
-    ensures moments { D.honest disk.old → LeavesOnly D.moment D.left_since disk.old disk.new (D.images disk.old) }
+    ensures moments { D.honest disk.old →
+        LeavesAsItWas D.moment D.left_since D.images disk.old disk.new }
     ensures cause { HasCause (D.faults disk.old) (D.faults disk.new) result }
 {
     let mut bytes = [0; CELL_BYTES];

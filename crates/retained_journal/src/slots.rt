@@ -1,14 +1,16 @@
 //! Reading a slot.
 
 ghost use Rattle.std.specs.Prelude.{◌≡◌, ◌+◌, ◌<◌, ◌≤◌, length};
-ghost use Rattle.retained_journal.specs.Slots.{loop_at, panel_points as points_of_panel, points_at, retained_at as state_at};
+ghost use Rattle.retained_journal.specs.Slots.{loop_at, panel_points as points_of_panel, points_at};
+ghost use Rattle.retained_journal.specs.Slots.{retained_at as state_at};
+ghost use Rattle.retained_journal.specs.Places.{bytes_of_slot};
 
 use crate::fields::{panel_numbers_at, points_mask_at};
 use site_types::{PointSet, Retained};
 
 // The disabled points of one of the 32 loops.
 fn read_loop(wide: bool, at: usize, which: usize, bytes: &[u8]) -> [u128; 2]
-    requires fits { at + 906 ≤ length bytes.now }
+    requires fits { at + bytes_of_slot ≤ length bytes.now }
     requires which { which < 32 }
     ensures { result ≡ loop_at wide at which bytes.now }
 {
@@ -23,7 +25,7 @@ fn read_loop(wide: bool, at: usize, which: usize, bytes: &[u8]) -> [u128; 2]
 
 // The disabled points of a panel.
 fn panel_points(wide: bool, at: usize, panel: usize, bytes: &[u8]) -> PointSet
-    requires fits { at + 906 ≤ length bytes.now }
+    requires fits { at + bytes_of_slot ≤ length bytes.now }
     requires panel { panel < 8 }
     ensures { result ≡ points_of_panel wide at panel bytes.now }
 {
@@ -39,7 +41,7 @@ fn panel_points(wide: bool, at: usize, panel: usize, bytes: &[u8]) -> PointSet
 
 // The disabled points of the eight panels.
 fn read_points(wide: bool, at: usize, bytes: &[u8]) -> [PointSet; 8]
-    requires { at + 906 ≤ length bytes.now }
+    requires { at + bytes_of_slot ≤ length bytes.now }
     ensures { result ≡ points_at wide at bytes.now }
 {
     let mut points = [PointSet::default(); 8];
@@ -51,7 +53,7 @@ fn read_points(wide: bool, at: usize, bytes: &[u8]) -> [PointSet; 8]
 
 // The state that the slot at a place holds.
 pub(crate) fn retained_at(wide: bool, at: usize, bytes: &[u8]) -> Retained
-    requires { at + 906 ≤ length bytes.now }
+    requires { at + bytes_of_slot ≤ length bytes.now }
     ensures { result ≡ state_at wide at bytes.now }
 {
     Retained {

@@ -1,6 +1,6 @@
 //! The steps of a journal on its disk: one write with its sync each.
 
-ghost use Rattle.std.specs.Prelude.{◌≡◌, ◌+◌, ◌<◌, ◌≤◌, ℕ, List, true, false, not, IsTrue, OnErr, OnOk, ◌↔◌};
+ghost use Rattle.std.specs.Prelude.{◌≡◌, ◌+◌, ◌<◌, ◌≤◌, ℕ, List, true, false, IsTrue, OnErr, OnOk, ◌↔◌};
 ghost use Rattle.panel_edges.specs.Crashes.{LeavesOnly};
 ghost use Rattle.panel_edges.specs.Faults.{HasCause};
 
@@ -15,8 +15,12 @@ impl Journal {
     ghost use Rattle.std.specs.Prelude.{◌*◌, ◌^◌, IfSome};
     ghost use Rattle.panel_edges.specs.Disks.{Becomes};
     ghost use Rattle.site_types.specs.Changes.{changed_by};
-    ghost use Rattle.retained_journal.specs.Batches.{CanMakeAll, IsBatch};
-    ghost use Rattle.retained_journal.specs.Images.{HasRoom, HoldsBatch, HoldsCopy, MayCount, OpensToKeptOrAttempt, HasRoomForTwo, HasZeros, KeepsAll, SameFront, StaysKept, StaysSo, Stands, next_of, other_of};
+    ghost use Rattle.retained_journal.specs.Batches.{IsBatch};
+    ghost use Rattle.retained_journal.specs.Outcomes.{HasEndedMove, HasPreparedCells};
+    ghost use Rattle.retained_journal.specs.Images.{HasRoom, HasRoomForTwo, HasZeros, HoldsBatch, HoldsCopy, KeepsAll};
+    ghost use Rattle.retained_journal.specs.Images.{MayCount, OpensToKeptOrAttempt, SameFront, Stands, StaysKept};
+    ghost use Rattle.retained_journal.specs.Images.{StaysSo, other_of};
+    ghost use Rattle.retained_journal.specs.Outcomes.{HasAppended, HasMoved};
 
     // Where the other slot begins.
     fn other_at(&self) -> u64
@@ -38,7 +42,8 @@ impl Journal {
         ensures stands { Stands D.honest D.images disk.new self.new }
         ensures ok { OnOk result (self.new ≡ record self.old { slot_may_be_open = false }) }
         ensures err { OnErr result (self.new ≡ self.old) }
-        ensures moments { D.honest disk.old → HasRoom self.old → LeavesOnly D.moment D.left_since disk.old disk.new (OpensToKeptOrAttempt self.old) }
+        ensures moments { D.honest disk.old → HasRoom self.old →
+            LeavesOnly D.moment D.left_since disk.old disk.new (OpensToKeptOrAttempt self.old) }
         ensures honest { D.honest disk.new ↔ D.honest disk.old }
         ensures cause { HasCause (D.faults disk.old) (D.faults disk.new) result }
     {
@@ -56,8 +61,10 @@ impl Journal {
         requires full { self.now.cells ≡ 64 }
         requires number { self.now.number + 1 < 2 ^ 64 }
         ensures stands { Stands D.honest D.images disk.new self.now }
-        ensures ok { D.honest disk.old → OnOk result ((file : List ℕ) → D.images disk.new file → HoldsCopy self.now file) }
-        ensures moments { D.honest disk.old → HasRoom self.now → LeavesOnly D.moment D.left_since disk.old disk.new (OpensToKeptOrAttempt self.now) }
+        ensures ok { D.honest disk.old → OnOk result (
+            (file : List ℕ) → D.images disk.new file → HoldsCopy self.now file) }
+        ensures moments { D.honest disk.old → HasRoom self.now →
+            LeavesOnly D.moment D.left_since disk.old disk.new (OpensToKeptOrAttempt self.now) }
         ensures honest { D.honest disk.new ↔ D.honest disk.old }
         ensures cause { HasCause (D.faults disk.old) (D.faults disk.new) result }
     {
@@ -70,13 +77,15 @@ impl Journal {
         requires stands { Stands D.honest D.images disk.old self.old }
         requires torn { self.old.torn ≡ true }
         requires moving { self.old.moving ≡ true }
-        requires copy { D.honest disk.old → (file : List ℕ) → D.images disk.old file → HoldsCopy self.old file }
+        requires copy { D.honest disk.old →
+            (file : List ℕ) → D.images disk.old file → HoldsCopy self.old file }
         requires number { self.old.number + 1 ≤ 2 ^ 63 + 64 + 2 * self.old.tried }
         requires tried { self.old.tried ≤ 1000000001 }
         ensures stands { Stands D.honest D.images disk.new self.new }
-        ensures ok { OnOk result (self.new ≡ record self.old { slot_may_be_open = true; second = not self.old.second; number = self.old.number + 1; cells = 0; cell_may_be_open = true; moving = false }) }
+        ensures ok { OnOk result (HasMoved self.old self.new) }
         ensures err { OnErr result (self.new ≡ record self.old { slot_may_be_open = true }) }
-        ensures moments { D.honest disk.old → HasRoom self.old → LeavesOnly D.moment D.left_since disk.old disk.new (OpensToKeptOrAttempt self.old) }
+        ensures moments { D.honest disk.old → HasRoom self.old →
+            LeavesOnly D.moment D.left_since disk.old disk.new (OpensToKeptOrAttempt self.old) }
         ensures honest { D.honest disk.new ↔ D.honest disk.old }
         ensures cause { HasCause (D.faults disk.old) (D.faults disk.new) result }
     {
@@ -97,7 +106,8 @@ impl Journal {
         ensures stands { Stands D.honest D.images disk.new self.new }
         ensures ok { OnOk result (self.new ≡ record self.old { cell_may_be_open = false }) }
         ensures err { OnErr result (self.new ≡ self.old) }
-        ensures moments { D.honest disk.old → HasRoom self.old → LeavesOnly D.moment D.left_since disk.old disk.new (OpensToKeptOrAttempt self.old) }
+        ensures moments { D.honest disk.old → HasRoom self.old →
+            LeavesOnly D.moment D.left_since disk.old disk.new (OpensToKeptOrAttempt self.old) }
         ensures honest { D.honest disk.new ↔ D.honest disk.old }
         ensures cause { HasCause (D.faults disk.old) (D.faults disk.new) result }
     {
@@ -117,8 +127,10 @@ impl Journal {
         requires batch { IsBatch self.now.wide self.now.attempt.items }
         requires number { self.now.number + 1 < 2 ^ 64 }
         ensures stands { Stands D.honest D.images disk.new self.now }
-        ensures ok { D.honest disk.old → OnOk result ((file : List ℕ) → D.images disk.new file → HoldsBatch self.now file) }
-        ensures moments { D.honest disk.old → HasRoom self.now → LeavesOnly D.moment D.left_since disk.old disk.new (OpensToKeptOrAttempt self.now) }
+        ensures ok { D.honest disk.old → OnOk result (
+            (file : List ℕ) → D.images disk.new file → HoldsBatch self.now file) }
+        ensures moments { D.honest disk.old → HasRoom self.now →
+            LeavesOnly D.moment D.left_since disk.old disk.new (OpensToKeptOrAttempt self.now) }
         ensures front { Becomes SameFront (D.seen disk.old) (D.seen disk.new) }
         ensures honest { D.honest disk.new ↔ D.honest disk.old }
         ensures cause { HasCause (D.faults disk.old) (D.faults disk.new) result }
@@ -134,13 +146,15 @@ impl Journal {
         requires log { self.old.log ≡ LogGate.Open }
         requires free { self.old.cells < 64 }
         requires batch { IsBatch self.old.wide self.old.attempt.items }
-        requires holds { D.honest disk.old → (file : List ℕ) → D.images disk.old file → HoldsBatch self.old file }
+        requires holds { D.honest disk.old →
+            (file : List ℕ) → D.images disk.old file → HoldsBatch self.old file }
         requires number { self.old.number + 1 ≤ 2 ^ 63 + 64 + 2 * self.old.tried }
         requires tried { self.old.tried ≤ 1000000001 }
         ensures stands { Stands D.honest D.images disk.new self.new }
-        ensures ok { OnOk result (self.new ≡ record self.old { kept = changed_by self.old.attempt.items self.old.kept; number = self.old.number + 1; cells = self.old.cells + 1; cell_may_be_open = false }) }
+        ensures ok { OnOk result (HasAppended self.old self.new) }
         ensures err { OnErr result (self.new ≡ record self.old { cell_may_be_open = true }) }
-        ensures moments { D.honest disk.old → HasRoom self.old → LeavesOnly D.moment D.left_since disk.old disk.new (OpensToKeptOrAttempt self.old) }
+        ensures moments { D.honest disk.old → HasRoom self.old →
+            LeavesOnly D.moment D.left_since disk.old disk.new (OpensToKeptOrAttempt self.old) }
         ensures front { Becomes SameFront (D.seen disk.old) (D.seen disk.new) }
         ensures honest { D.honest disk.new ↔ D.honest disk.old }
         ensures cause { HasCause (D.faults disk.old) (D.faults disk.new) result }
@@ -161,7 +175,8 @@ impl Journal {
         ensures stands { Stands D.honest D.images disk.new self.new }
         ensures ok { OnOk result (self.new ≡ record self.old { log = LogGate.Open }) }
         ensures err { OnErr result (self.new ≡ self.old) }
-        ensures moments { D.honest disk.old → HasRoom self.old → LeavesOnly D.moment D.left_since disk.old disk.new (OpensToKeptOrAttempt self.old) }
+        ensures moments { D.honest disk.old → HasRoom self.old →
+            LeavesOnly D.moment D.left_since disk.old disk.new (OpensToKeptOrAttempt self.old) }
         ensures honest { D.honest disk.new ↔ D.honest disk.old }
         ensures cause { HasCause (D.faults disk.old) (D.faults disk.new) result }
     {
@@ -182,7 +197,8 @@ impl Journal {
         requires shut { self.now.log ≡ LogGate.Shut }
         ensures stands { Stands D.honest D.images disk.new self.now }
         ensures ok { D.honest disk.new → OnOk result (IfSome (D.seen disk.new) (HasZeros 64)) }
-        ensures moments { D.honest disk.old → HasRoom self.now → LeavesOnly D.moment D.left_since disk.old disk.new (OpensToKeptOrAttempt self.now) }
+        ensures moments { D.honest disk.old → HasRoom self.now →
+            LeavesOnly D.moment D.left_since disk.old disk.new (OpensToKeptOrAttempt self.now) }
         ensures honest { D.honest disk.new ↔ D.honest disk.old }
         ensures cause { HasCause (D.faults disk.old) (D.faults disk.new) result }
     {
@@ -197,9 +213,11 @@ impl Journal {
         requires stands { Stands D.honest D.images disk.old self.old }
         requires shut { self.old.log ≡ LogGate.Shut }
         ensures stands { Stands D.honest D.images disk.new self.new }
-        ensures ok { OnOk result (self.new ≡ record self.old { log = LogGate.Ready; cell_may_be_open = false }) }
+        ensures ok { OnOk result (
+            self.new ≡ record self.old { log = LogGate.Ready; cell_may_be_open = false }) }
         ensures err { OnErr result (self.new ≡ self.old) }
-        ensures moments { D.honest disk.old → HasRoom self.old → LeavesOnly D.moment D.left_since disk.old disk.new (OpensToKeptOrAttempt self.old) }
+        ensures moments { D.honest disk.old → HasRoom self.old →
+            LeavesOnly D.moment D.left_since disk.old disk.new (OpensToKeptOrAttempt self.old) }
         ensures honest { D.honest disk.new ↔ D.honest disk.old }
         ensures cause { HasCause (D.faults disk.old) (D.faults disk.new) result }
     {
@@ -214,9 +232,10 @@ impl Journal {
     pub(crate) fn prepare_cells<D: Disk>(&mut self, disk: &mut D) -> Result<(), Failed>
         requires { Stands D.honest D.images disk.old self.old }
         ensures stands { Stands D.honest D.images disk.new self.new }
-        ensures ok { OnOk result (MayCount self.new.log × (self.new ≡ record self.old { log = self.new.log; cell_may_be_open = self.new.cell_may_be_open })) }
+        ensures ok { OnOk result (HasPreparedCells self.old self.new) }
         ensures err { OnErr result (self.new ≡ self.old) }
-        ensures moments { D.honest disk.old → HasRoom self.old → LeavesOnly D.moment D.left_since disk.old disk.new (OpensToKeptOrAttempt self.old) }
+        ensures moments { D.honest disk.old → HasRoom self.old →
+            LeavesOnly D.moment D.left_since disk.old disk.new (OpensToKeptOrAttempt self.old) }
         ensures honest { D.honest disk.new ↔ D.honest disk.old }
         ensures cause { HasCause (D.faults disk.old) (D.faults disk.new) result }
     {
@@ -231,9 +250,10 @@ impl Journal {
     pub(crate) fn end_move<D: Disk>(&mut self, disk: &mut D) -> Result<(), Failed>
         requires { Stands D.honest D.images disk.old self.old }
         ensures stands { Stands D.honest D.images disk.new self.new }
-        ensures ok { OnOk result (self.new ≡ record self.old { slot_may_be_open = self.new.slot_may_be_open; moving = false }) }
+        ensures ok { OnOk result (HasEndedMove self.old self.new) }
         ensures err { OnErr result (self.new ≡ self.old) }
-        ensures moments { D.honest disk.old → HasRoom self.old → LeavesOnly D.moment D.left_since disk.old disk.new (OpensToKeptOrAttempt self.old) }
+        ensures moments { D.honest disk.old → HasRoom self.old →
+            LeavesOnly D.moment D.left_since disk.old disk.new (OpensToKeptOrAttempt self.old) }
         ensures honest { D.honest disk.new ↔ D.honest disk.old }
         ensures cause { HasCause (D.faults disk.old) (D.faults disk.new) result }
     {
@@ -249,8 +269,10 @@ impl Journal {
         requires { Stands D.honest D.images disk.old self.old }
         ensures stands { Stands D.honest D.images disk.new self.new }
         ensures same { KeepsAll self.old self.new × (self.new.torn ≡ self.old.torn) }
-        ensures ok { OnOk result ((self.new.log ≡ LogGate.Open) × (self.new.cell_may_be_open ≡ false) × (self.new.moving ≡ false)) }
-        ensures moments { D.honest disk.old → HasRoom self.old → LeavesOnly D.moment D.left_since disk.old disk.new (OpensToKeptOrAttempt self.old) }
+        ensures ok { OnOk result ((self.new.log ≡ LogGate.Open)
+            × (self.new.cell_may_be_open ≡ false) × (self.new.moving ≡ false)) }
+        ensures moments { D.honest disk.old → HasRoom self.old →
+            LeavesOnly D.moment D.left_since disk.old disk.new (OpensToKeptOrAttempt self.old) }
         ensures honest { D.honest disk.new ↔ D.honest disk.old }
         ensures cause { HasCause (D.faults disk.old) (D.faults disk.new) result }
     {
@@ -271,9 +293,13 @@ impl Journal {
         requires tried { self.old.tried ≤ 1000000001 }
         ensures stands { Stands D.honest D.images disk.new self.new }
         ensures same { StaysKept self.old self.new × (self.new.number ≤ self.old.number + 1) }
-        ensures ok { OnOk result ((self.new.log ≡ LogGate.Open) × (self.new.cell_may_be_open ≡ false) × (self.new.cells < 64) × (self.new.moving ≡ false)) }
-        ensures moments { D.honest disk.old → HasRoomForTwo self.old → LeavesOnly D.moment D.left_since disk.old disk.new (OpensToKeptOrAttempt self.old) }
-        ensures unwritten { self.old.cells < 64 → (D.seen disk.new ≡ D.seen disk.old) × (self.new ≡ self.old) }
+        ensures ok { OnOk result ((self.new.log ≡ LogGate.Open)
+            × (self.new.cell_may_be_open ≡ false) × (self.new.cells < 64)
+            × (self.new.moving ≡ false)) }
+        ensures moments { D.honest disk.old → HasRoomForTwo self.old →
+            LeavesOnly D.moment D.left_since disk.old disk.new (OpensToKeptOrAttempt self.old) }
+        ensures unwritten { self.old.cells < 64 →
+            (D.seen disk.new ≡ D.seen disk.old) × (self.new ≡ self.old) }
         ensures honest { D.honest disk.new ↔ D.honest disk.old }
         ensures cause { HasCause (D.faults disk.old) (D.faults disk.new) result }
     {
@@ -299,10 +325,14 @@ impl Journal {
         requires tried { self.old.tried ≤ 1000000001 }
         ensures stands { Stands D.honest D.images disk.new self.new }
         ensures same { StaysSo self.old self.new }
-        ensures ok { OnOk result ((self.new.kept ≡ changed_by self.old.attempt.items self.old.kept) × (self.new.log ≡ LogGate.Open) × (self.new.cell_may_be_open ≡ false) × (self.new.moving ≡ false)) }
+        ensures ok { OnOk result ((self.new.kept ≡ changed_by self.old.attempt.items self.old.kept)
+            × (self.new.log ≡ LogGate.Open) × (self.new.cell_may_be_open ≡ false)
+            × (self.new.moving ≡ false)) }
         ensures err { OnErr result (self.new.kept ≡ self.old.kept) }
-        ensures moments { D.honest disk.old → HasRoomForTwo self.old → LeavesOnly D.moment D.left_since disk.old disk.new (OpensToKeptOrAttempt self.old) }
-        ensures front { self.old.cells < 64 → Becomes SameFront (D.seen disk.old) (D.seen disk.new) }
+        ensures moments { D.honest disk.old → HasRoomForTwo self.old →
+            LeavesOnly D.moment D.left_since disk.old disk.new (OpensToKeptOrAttempt self.old) }
+        ensures front { self.old.cells < 64 →
+            Becomes SameFront (D.seen disk.old) (D.seen disk.new) }
         ensures honest { D.honest disk.new ↔ D.honest disk.old }
         ensures cause { HasCause (D.faults disk.old) (D.faults disk.new) result }
     {

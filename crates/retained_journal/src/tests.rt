@@ -205,8 +205,8 @@ fn a_cut_within_the_65th_commit_leaves_64_or_65(rt: HostRuntime) -> Result<(), F
     Ok(())
 }
 
-// Whether each file that a cut may leave after so many calls of the log, or after more, opens to one of two counters. Of
-// each write that wasn't synced nothing is left, its first byte, its first half or all.
+// Whether each file that a cut may leave after so many calls of the log, or after more, opens to one of two counters.
+// Of each write that wasn't synced nothing is left, its first byte, its first half or all.
 fn opens_to(
     alloc: Global,
     disk: &MemoryDisk,

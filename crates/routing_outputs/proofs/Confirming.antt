@@ -9,9 +9,10 @@ use Rattle.site_types.specs.Changes.{IsNumber}
 use Rattle.site_types.proofs.Masks.{mask_from_bits, mask_same}
 use Rattle.routing_outputs.specs.Confirmations.{Call, Turned, is_watched, with_confirmation, run_of, has_confirmation, ticks_of, spans, state_of}
 use Rattle.routing_outputs.specs.Lines.{is_late}
-use Rattle.routing_outputs.specs.Stands.{line_of, is_running, places}
+use Rattle.routing_outputs.specs.Stands.{line_of, is_running}
+use Rattle.site_types.specs.Limits.{output_bits}
 use Rattle.routing_outputs.proofs.Bits.{bit_is}
-use Rattle.routing_outputs.proofs.Listed.{any_at}
+use Rattle.tick_units.proofs.Listed.{any_at}
 use Rattle.routing_outputs.proofs.Runs.{confirmed_other, confirmed_on, confirmed_off, late_turned, line_place, state_by, state_is}
 
 module _ (site : Site) (panel limit : ℕ) (calls : List Call) where
@@ -27,8 +28,8 @@ module _ (site : Site) (panel limit : ℕ) (calls : List Call) where
 
   -- the bits of those that are late, by the list of lines
   pub late_lines : (now : Tick) (k : ℕ) → k < 32 → (before : List Call) (on : ℕ) → calls ≡ Turned now.0 on ∷ before →
-      list_any (λ line. (line.place == k) && is_late now limit line) (filter_map (line_of site panel calls) places) ≡ late_at k
-  unfolding places
+      list_any (λ line. (line.place == k) && is_late now limit line) (filter_map (line_of site panel calls) output_bits) ≡ late_at k
+  unfolding output_bits
   late_lines now k small before on is =
       any_at (line_of site panel calls) (λ line. line.place) (is_late now limit) (λ j line e. line_place site panel calls j line e) k 32 small
       ∙ rw is (late_turned site panel limit before now on k)
@@ -51,10 +52,12 @@ module _ (site : Site) (panel limit : ℕ) (calls : List Call) where
     pub state_bits : (on confirmed late : ℕ) → on ≡ mask_of 32 on_at → confirmed ≡ mask_of 32 confirmed_at → late ≡ mask_of 32 late_at →
         state_by (has_bit confirmed (number - 1)) (has_bit late (number - 1)) (has_bit on (number - 1)) ≡ state_of site panel limit number calls
     state_bits on confirmed late on_is confirmed_is late_is =
-        ap (λ b. state_by b (has_bit late (number - 1)) (has_bit on (number - 1))) (bit_is confirmed confirmed_at confirmed_is (number - 1) place_small)
+        ap (λ b. state_by b (has_bit late (number - 1)) (has_bit on (number - 1)))
+        (bit_is confirmed confirmed_at confirmed_is (number - 1) place_small)
         ∙ ap (λ b. state_by (confirmed_at (number - 1)) b (has_bit on (number - 1))) (bit_is late late_at late_is (number - 1) place_small)
         ∙ ap (state_by (confirmed_at (number - 1)) (late_at (number - 1))) (bit_is on on_at on_is (number - 1) place_small)
-        ∙ ap (λ n. state_by (is_watched site panel n && has_confirmation n (run_of n calls)) (is_watched site panel n && spans limit (ticks_of (run_of n calls))) (is_watched site panel n && is_running (run_of n calls))) number_is
+        ∙ ap (λ n. state_by (is_watched site panel n && has_confirmation n (run_of n calls)) (is_watched site panel n
+        && spans limit (ticks_of (run_of n calls))) (is_watched site panel n && is_running (run_of n calls))) number_is
         ∙ state_is (is_watched site panel number) limit number (run_of number calls)
 
     -- the tests after a confirmation of the output
@@ -65,12 +68,14 @@ module _ (site : Site) (panel limit : ℕ) (calls : List Call) where
     away k apart = ap (λ b. is_watched site panel (k + 1) && b) (sym (confirmed_other (k + 1) number (run_of (k + 1) calls) (other_number k apart)))
 
     -- the confirmation of an output that is on
-    pub confirmed_more : (on old new : ℕ) → on ≡ mask_of 32 on_at → old ≡ mask_of 32 confirmed_at → has_bit on (number - 1) ≡ true → has_bit new (number - 1) ≡ true →
+    pub confirmed_more : (on old new : ℕ) → on ≡ mask_of 32 on_at → old ≡ mask_of 32 confirmed_at → has_bit on (number - 1) ≡ true
+        → has_bit new (number - 1) ≡ true →
         ((k : ℕ) → k < 32 → k ≢ number - 1 → has_bit new k ≡ has_bit old k) → new < 2 ^ 32 → new ≡ mask_of 32 after_at
     confirmed_more on old new on_is old_is set this others below = mask_from_bits 32 new after_at below (λ k small. go k small)
       where
         running : (is_watched site panel number && is_running (run_of number calls)) ≡ true
-        running = sym (bit_is on on_at on_is (number - 1) place_small ∙ ap (λ n. is_watched site panel n && is_running (run_of n calls)) number_is) ∙ set
+        running = sym (bit_is on on_at on_is (number - 1) place_small ∙ ap (λ n. is_watched site panel n && is_running (run_of n calls)) number_is) ∙
+            set
 
         here : after_at (number - 1) ≡ true
         here = ap (λ n. is_watched site panel n && has_confirmation n (with_confirmation number (run_of n calls))) number_is
@@ -83,11 +88,13 @@ module _ (site : Site) (panel limit : ℕ) (calls : List Call) where
         ]
 
     -- the confirmation of one that isn't
-    pub confirmed_still : (on old : ℕ) → on ≡ mask_of 32 on_at → old ≡ mask_of 32 confirmed_at → has_bit on (number - 1) ≡ false → old ≡ mask_of 32 after_at
+    pub confirmed_still : (on old : ℕ) → on ≡ mask_of 32 on_at → old ≡ mask_of 32 confirmed_at → has_bit on (number - 1) ≡ false
+        → old ≡ mask_of 32 after_at
     confirmed_still on old on_is old_is clear = old_is ∙ mask_same 32 confirmed_at after_at (λ k small. go k small)
       where
         stopped : (is_watched site panel number && is_running (run_of number calls)) ≡ false
-        stopped = sym (bit_is on on_at on_is (number - 1) place_small ∙ ap (λ n. is_watched site panel n && is_running (run_of n calls)) number_is) ∙ clear
+        stopped = sym (bit_is on on_at on_is (number - 1) place_small ∙ ap (λ n. is_watched site panel n && is_running (run_of n calls)) number_is) ∙
+            clear
 
         here : confirmed_at (number - 1) ≡ after_at (number - 1)
         here =

@@ -1,5 +1,4 @@
 pub mod Bits
 pub mod Confirming
-pub mod Listed
 pub mod Runs
 pub mod Steps

@@ -1,29 +1,23 @@
 -- What a routing or protection output is at, over all turns and confirmations so far, the newest first.
-use Rattle.std.specs.Prelude.{ℕ, ◌-◌, ◌==◌, ◌&&◌, Bool, true, false, List, [], ◌∷◌, Option, Some, None, if◌then◌else◌, nat_le}
-use Rattle.std.specs.List.{find, list_any}
+use Rattle.std.specs.Prelude.{ℕ, ◌-◌, ◌==◌, Bool, true, false, List, [], ◌∷◌, Option, Some, None, if◌then◌else◌}
+use Rattle.std.specs.Prelude.{nat_le}
+use Rattle.std.specs.List.{list_any}
 use Rattle.site_types.specs.declared.output.Output.{Output}
-use Rattle.site_types.specs.declared.output_kind.OutputKind.{OutputKind}
-use Rattle.site_types.specs.declared.output_kind.OutputKind.TheVariants.{Sounder, Routing, Protection, Relay}
 use Rattle.site_types.specs.declared.site.Site.{Site}
 use Rattle.site_types.specs.Bits.{has_bit}
+use Rattle.site_types.specs.Events.{is_confirming}
+use Rattle.tick_units.specs.Earliest.{earliest}
+use Rattle.site_types.specs.Things.{numbered_output}
 use Rattle.routing_outputs.specs.declared.routing_state.RoutingState.{RoutingState}
-use Rattle.routing_outputs.specs.declared.routing_state.RoutingState.TheVariants.{Idle, Waiting, Confirmed as IsConfirmed, Unconfirmed}
+use Rattle.routing_outputs.specs.declared.routing_state.RoutingState.TheVariants.{Idle, Waiting}
+use Rattle.routing_outputs.specs.declared.routing_state.RoutingState.TheVariants.{Confirmed as IsConfirmed}
+use Rattle.routing_outputs.specs.declared.routing_state.RoutingState.TheVariants.{Unconfirmed}
 
--- what befell: a turn of a tick with the outputs that were on after it, or a confirmation of an output by its number
+-- what befell: a turn of a tick with the outputs that were on after it, or a confirmation of an output by its
+-- number
 pub data Call : Type 0 where
   Turned : ℕ → ℕ → Call
   Confirmed : ℕ → Call
-
--- the output of a panel with a number
-abbrev pub output_of : Site → ℕ → ℕ → Option Output
-output_of site panel number = find (λ output. (output.panel == panel) && (output.number == number)) site.outputs
-
--- the kinds of output that are confirmed
-abbrev pub is_confirming : OutputKind → Bool
-is_confirming Sounder = false
-is_confirming Routing = true
-is_confirming Protection = true
-is_confirming Relay = false
 
 abbrev pub is_confirming_output : Option Output → Bool
 is_confirming_output None = false
@@ -31,7 +25,7 @@ is_confirming_output (Some output) = is_confirming output.kind
 
 -- whether a panel has a routing or protection output with this number
 abbrev pub is_watched : Site → ℕ → ℕ → Bool
-is_watched site panel number = is_confirming_output (output_of site panel number)
+is_watched site panel number = is_confirming_output (numbered_output site panel number)
 
 -- whether an output was on after a turn: the bit of its number in the mask
 abbrev pub is_on : ℕ → ℕ → Bool
@@ -42,7 +36,8 @@ abbrev pub with_confirmation : ℕ → List Call → List Call
 with_confirmation number [] = []
 with_confirmation number (call ∷ calls) = Confirmed number ∷ call ∷ calls
 
--- the present run of an output: what befell from the turn at which it went on; nothing where it was off after the latest turn
+-- the present run of an output: what befell from the turn at which it went on; nothing where it was off after
+-- the latest turn
 abbrev pub run_of : ℕ → List Call → List Call
 run_of number [] = []
 run_of number (Turned tick on ∷ calls) = if is_on number on then Turned tick on ∷ run_of number calls else []
@@ -62,11 +57,6 @@ ticks_of [] = []
 ticks_of (Turned tick on ∷ calls) = tick ∷ ticks_of calls
 ticks_of (Confirmed other ∷ calls) = ticks_of calls
 
--- the earliest of the ticks that follow a tick, the latest first
-abbrev pub earliest : ℕ → List ℕ → ℕ
-earliest tick [] = tick
-earliest tick (before ∷ ticks) = earliest before ticks
-
 -- the latest of some ticks, the latest first, lies at least the limit after the earliest
 abbrev pub spans : ℕ → List ℕ → Bool
 spans limit [] = false
@@ -76,11 +66,13 @@ spans limit (latest ∷ ticks) = nat_le limit (latest - earliest latest ticks)
 abbrev pub state_in : ℕ → ℕ → List Call → RoutingState
 state_in limit number [] = Idle
 state_in limit number (call ∷ calls) =
-    if has_confirmation number (call ∷ calls) then IsConfirmed else (if spans limit (ticks_of (call ∷ calls)) then Unconfirmed else Waiting)
+    if has_confirmation number (call ∷ calls) then IsConfirmed else
+    (if spans limit (ticks_of (call ∷ calls)) then Unconfirmed else Waiting)
 
 -- what an output of a panel is at; one that isn't watched is idle
 abbrev pub state_of : Site → ℕ → ℕ → ℕ → List Call → RoutingState
-state_of site panel limit number calls = if is_watched site panel number then state_in limit number (run_of number calls) else Idle
+state_of site panel limit number calls =
+    if is_watched site panel number then state_in limit number (run_of number calls) else Idle
 
 abbrev pub is_confirmed : RoutingState → Bool
 is_confirmed Idle = false

@@ -7,7 +7,8 @@ ghost use Rattle.routing_outputs.specs.Confirmations.{is_watched};
 use site_types::{Output, OutputKind, Site};
 
 fn output_of(outputs: &[Output], panel: u8, number: u8) -> Option<&Output>
-    ensures { option_copied result ≡ find (λ output. (output.panel == panel) && (output.number == number)) outputs.now }
+    ensures { option_copied result ≡ find (λ output. (output.panel == panel)
+        && (output.number == number)) outputs.now }
 {
     outputs
         .iter()

@@ -36,7 +36,8 @@ pub struct Routing {
 impl Routing {
     ghost use Rattle.routing_outputs.specs.Stands.{StandsFor};
 
-    /// The routing and protection outputs of a panel, all off. An output that isn't confirmed for as many ticks as the limit is unconfirmed.
+    /// The routing and protection outputs of a panel, all off. An output that isn't confirmed for as many
+    /// ticks as the limit is unconfirmed.
     pub fn new(site: &Site, panel: u8, limit: u64) -> Routing
         ensures { StandsFor site.now panel limit [] result }
     {
@@ -61,7 +62,9 @@ impl Routing {
 
     /// Makes the turn of a tick with the outputs that are on after it, bit `number - 1` each.
     pub fn turn(&mut self, now: Tick, on: u32)
-        ensures { (site : SiteOf) (panel limit : ℕ) (calls : List Call) → StandsFor site panel limit calls self.old → StandsFor site panel limit (Turned now.0 on ∷ calls) self.new }
+        ensures { (site : SiteOf) (panel limit : ℕ) (calls : List Call)
+            → StandsFor site panel limit calls self.old
+            → StandsFor site panel limit (Turned now.0 on ∷ calls) self.new }
     {
         self.late = turn_lines(self.lines.as_mut_slice(), now, on, self.limit);
         self.on = common_32(self.watched, on);
@@ -71,7 +74,9 @@ impl Routing {
     /// Confirms an output, by its number.
     pub fn confirm(&mut self, number: u8)
         requires { IsNumber number }
-        ensures { (site : SiteOf) (panel limit : ℕ) (calls : List Call) → StandsFor site panel limit calls self.old → StandsFor site panel limit (Confirmed number ∷ calls) self.new }
+        ensures { (site : SiteOf) (panel limit : ℕ) (calls : List Call)
+            → StandsFor site panel limit calls self.old
+            → StandsFor site panel limit (Confirmed number ∷ calls) self.new }
     {
         if has_bit_32(self.on, number - 1) {
             self.confirmed = with_bit_32(self.confirmed, number - 1, true);
@@ -81,7 +86,9 @@ impl Routing {
     /// What an output is at, by its number.
     pub fn state(&self, number: u8) -> RoutingState
         requires { IsNumber number }
-        ensures { (site : SiteOf) (panel limit : ℕ) (calls : List Call) → StandsFor site panel limit calls self.now → result ≡ state_of site panel limit number calls }
+        ensures { (site : SiteOf) (panel limit : ℕ) (calls : List Call)
+            → StandsFor site panel limit calls self.now
+            → result ≡ state_of site panel limit number calls }
     {
         let place = number - 1;
         if has_bit_32(self.confirmed, place) {
@@ -97,14 +104,18 @@ impl Routing {
 
     /// The outputs that are confirmed, bit `number - 1` each.
     pub fn confirmed(&self) -> u32
-        ensures { (site : SiteOf) (panel limit : ℕ) (calls : List Call) → StandsFor site panel limit calls self.now → result ≡ mask_of 32 (λ k. is_confirmed (state_of site panel limit (k + 1) calls)) }
+        ensures { (site : SiteOf) (panel limit : ℕ) (calls : List Call)
+            → StandsFor site panel limit calls self.now
+            → result ≡ mask_of 32 (λ k. is_confirmed (state_of site panel limit (k + 1) calls)) }
     {
         self.confirmed
     }
 
     /// The outputs that are unconfirmed, bit `number - 1` each.
     pub fn unconfirmed(&self) -> u32
-        ensures { (site : SiteOf) (panel limit : ℕ) (calls : List Call) → StandsFor site panel limit calls self.now → result ≡ mask_of 32 (λ k. is_unconfirmed (state_of site panel limit (k + 1) calls)) }
+        ensures { (site : SiteOf) (panel limit : ℕ) (calls : List Call)
+            → StandsFor site panel limit calls self.now
+            → result ≡ mask_of 32 (λ k. is_unconfirmed (state_of site panel limit (k + 1) calls)) }
     {
         without_32(self.late, self.confirmed)
     }
@@ -114,7 +125,9 @@ impl Routing {
 fn turn_lines(lines: &mut [Line], now: Tick, on: u32, limit: u64) -> u32
     requires { AllByRecursion (λ line. line.place < 32) lines.old }
     ensures lines { lines.new ≡ map (turned_by now on) lines.old }
-    ensures late { result ≡ mask_of 32 (λ k. list_any (λ line. (line.place == k) && is_late now limit line) lines.new) }
+    ensures late { result
+        ≡ mask_of 32 (λ k. list_any (λ line. (line.place == k) && is_late now limit line)
+        lines.new) }
 {
     let mut late = 0;
     for line in lines.iter_mut() {

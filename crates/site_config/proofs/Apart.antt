@@ -1,5 +1,7 @@
 -- Sections of a site read hold points of one zone each.
-use Rattle.std.proofs.Common.{◌≡◌, ◌<◌, ◌≤◌, ℕ, zero, suc, List, [], ◌∷◌, Bool, true, false, not, ◌||◌, ◌&&◌, ◌==◌, nat_lt, nat_le, max, Option, Some, None, ◌⊎◌, inl, inr, map, refl, ap, sym, subst, ◌∙◌, arith, eqb-true, eq-eqb, if◌then◌else◌}
+use Rattle.std.proofs.Common.{◌≡◌, ◌<◌, ◌≤◌, ℕ, zero, suc, List, [], ◌∷◌, Bool, true, false, not, ◌||◌, ◌&&◌, ◌==◌}
+use Rattle.std.proofs.Common.{nat_lt, nat_le, max, Option, Some, None, ◌⊎◌, inl, inr, map, refl, ap, sym, subst, ◌∙◌}
+use Rattle.std.proofs.Common.{arith, eqb-true, eq-eqb, if◌then◌else◌}
 use Rattle.std.proofs.lemmas.Bool.{leb-true, leb-false}
 use Rattle.std.specs.List.{AllByRecursion, list_any}
 use Rattle.std.specs.Prelude.{slice_get, All, filter}
@@ -56,7 +58,8 @@ not_false : (b : Bool) → not b ≡ false → b ≡ true
 not_false true e = refl
 not_false false e = absurd (cc e)
 
-one_zone : (zone : ℕ) (xs : List SectionPoint) (x : SectionPoint) → list_any (λ (p : SectionPoint). not (p.zone == zone)) xs ≡ false → Among x xs → x.zone ≡ zone
+one_zone : (zone : ℕ) (xs : List SectionPoint) (x : SectionPoint) → list_any (λ (p : SectionPoint). not (p.zone == zone)) xs ≡ false → Among x xs
+    → x.zone ≡ zone
 one_zone zone [] x e is = absurd is
 one_zone zone (y ∷ ys) x e (inl same) =
     let parts = neither (not (y.zone == zone)) (list_any (λ (p : SectionPoint). not (p.zone == zone)) ys) e in
@@ -96,7 +99,8 @@ place_of_section (p ∷ rest) address = by_test (nat_lt p address) p rest (secti
 
 -- ---- the whole
 
-two_at : (plan : LoopPlan) (points : List SectionPoint) (place : ℕ) → crossing_at plan points place ≡ None → has_two_zones (in_section place points) ≡ false
+two_at : (plan : LoopPlan) (points : List SectionPoint) (place : ℕ) → crossing_at plan points place ≡ None
+    → has_two_zones (in_section place points) ≡ false
 unfolding crossing_at
 two_at plan points place e = not_failed (has_two_zones (in_section place points)) (section_crosses_zones plan.panel plan.line place) e
 
@@ -112,7 +116,8 @@ loop_clean_at spots plan place e is =
     clean_by plan (on_loop plan spots) place (none_first (crossing_at plan (on_loop plan spots) 0) _ e)
     (all_none (crossing_at plan (on_loop plan spots)) plan.isolators (none_later (crossing_at plan (on_loop plan spots) 0) _ e)) is
 
-loops_clean : (spots : List Spot) (loops : List LoopPlan) → crossing_in spots loops ≡ None → AllByRecursion (λ plan. loop_crossing spots plan ≡ None) loops
+loops_clean : (spots : List Spot) (loops : List LoopPlan) → crossing_in spots loops ≡ None
+    → AllByRecursion (λ plan. loop_crossing spots plan ≡ None) loops
 unfolding crossing_in
 loops_clean spots loops e = all_none (loop_crossing spots) loops e
 
@@ -125,11 +130,13 @@ unfolding on_loop
 stands_in plan spots spot is panel line place e =
     among_filter (λ (p : SectionPoint). p.section == place) (map (section_point plan) (filter (is_on plan) spots)) (section_point plan spot)
     (among_map (section_point plan) (filter (is_on plan) spots) spot
-    (among_filter (is_on plan) spots spot is (both (spot.panel == plan.panel) (spot.line == plan.line) (eq-eqb spot.panel plan.panel panel) (eq-eqb spot.line plan.line line))))
+    (among_filter (is_on plan) spots spot is (both (spot.panel == plan.panel) (spot.line == plan.line) (eq-eqb spot.panel plan.panel panel)
+    (eq-eqb spot.line plan.line line))))
     (eq-eqb (section_of plan.isolators spot.address) place e)
 
 zones_agree : (look : List ℕ → Option Thing) (draft : Draft) (site : Site) → SeenAs look draft site
-    → crossing_in (map (spot_of look) draft.points) draft.loops ≡ None → (i : ℕ) (plan : LoopPlan) → slice_get site.loops i ≡ Some plan → (j : ℕ) (p : PointOf)
+    → crossing_in (map (spot_of look) draft.points) draft.loops ≡ None → (i : ℕ) (plan : LoopPlan) → slice_get site.loops i ≡ Some plan
+    → (j : ℕ) (p : PointOf)
     → slice_get site.points j ≡ Some p → (k : ℕ) (q : PointOf) → slice_get site.points k ≡ Some q → AreOnLoop plan p q
     → section_of plan.isolators p.address ≡ section_of plan.isolators q.address → p.zone ≡ q.zone
 unfolding placed_point
@@ -159,5 +166,6 @@ sections look draft site seen clean =
     section_of plan.isolators p.address ≡ section_of plan.isolators q.address → p.zone ≡ q.zone) site.points) site.points) site.loops
     (λ i plan at. all_by_place (λ (p : PointOf). All (λ (q : PointOf). AreOnLoop plan p q →
     section_of plan.isolators p.address ≡ section_of plan.isolators q.address → p.zone ≡ q.zone) site.points) site.points
-    (λ j p pt. all_by_place (λ (q : PointOf). AreOnLoop plan p q → section_of plan.isolators p.address ≡ section_of plan.isolators q.address → p.zone ≡ q.zone) site.points
+    (λ j p pt. all_by_place (λ (q : PointOf). AreOnLoop plan p q → section_of plan.isolators p.address ≡ section_of plan.isolators q.address
+    → p.zone ≡ q.zone) site.points
     (λ k q qt on same. zones_agree look draft site seen clean i plan at j p pt k q qt on same)))

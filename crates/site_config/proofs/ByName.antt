@@ -35,8 +35,10 @@ references_said draft look e same clean said =
     let there = rw same at said in
     rw clean (still_said e (no_such_in (named_in draft) draft) _ there)
 
-pub nothing : (draft : Draft) (look : List ℕ → Option Thing) (spots : List Spot) → look ≡ named_in draft → twice_in draft ≡ None → no_such_in look draft ≡ None
-    → spots ≡ map (spot_of look) draft.points → crossing_in spots draft.loops ≡ None → unmutual_in look draft.zones ≡ None → draft_finding draft ≡ None
+pub nothing : (draft : Draft) (look : List ℕ → Option Thing) (spots : List Spot) → look ≡ named_in draft → twice_in draft ≡ None
+    → no_such_in look draft ≡ None
+    → spots ≡ map (spot_of look) draft.points → crossing_in spots draft.loops ≡ None → unmutual_in look draft.zones ≡ None
+    → draft_finding draft ≡ None
 unfolding draft_finding
 nothing draft look spots same clean there stand crossed paired =
     let there' = rw same at there in

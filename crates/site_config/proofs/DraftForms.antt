@@ -101,7 +101,8 @@ partner_allowed : (row : Members) → is_known kind.Zone row (key_word key.Partn
 unfolding is_known keys_of key_word is_allowed
 partner_allowed row e = or_false (is_b_or_c (type_at row)) e
 
-pub panel_clean : (top row : Members) (n : ℕ) → HasPanels top → InRange (from_to 1 (natural_at key.Panels top)) n → (1 ≤ byte_of n) × (byte_of n ≤ byte_at key.Panels top)
+pub panel_clean : (top row : Members) (n : ℕ) → HasPanels top → InRange (from_to 1 (natural_at key.Panels top)) n
+    → (1 ≤ byte_of n) × (byte_of n ≤ byte_at key.Panels top)
 panel_clean top row n panels is =
     let few : natural_at key.Panels top ≤ most_panels = panels.few.high in
     let low : 1 ≤ n = is.low in
@@ -122,7 +123,9 @@ zone_clean top panels n row clean =
       rule = rule_clean (type_at row) (format_at top) (natural_at key.Verify row) (natural_at key.Within row)
           (λ a. number_clean place top row key.Verify refl a m.1.1.1.1.1.0 w.1.1.1.1.1.0 o.1.1.1.1.1.0)
           (λ ab. number_clean place top row key.Within refl ab m.1.1.1.1.1.1.0 w.1.1.1.1.1.1.0 o.1.1.1.1.1.1.0) (format_small top).1;
-      partner = λ name is. may_have (type_at row) _ _ (partner_allowed row (known_at top place row (key_word key.Partner) clean (partner_there row name is)));
+      partner =
+          λ name is.
+          may_have (type_at row) _ _ (partner_allowed row (known_at top place row (key_word key.Partner) clean (partner_there row name is)));
     }
 
 -- ---- points and outputs

@@ -1,5 +1,6 @@
 -- The loops and markers of a draft whose document is clean, and what its table of the whole file says.
-use Rattle.std.proofs.Common.{◌≡◌, ◌≤◌, ◌<◌, ℕ, ℤ, pos, negsuc, ◌+◌, List, ◌++◌, Bool, true, false, nat_lt, nat_le, Option, Some, None, is_some, IsTrue, length, option_to_list, refl, arith, if◌then◌else◌}
+use Rattle.std.proofs.Common.{◌≡◌, ◌≤◌, ◌<◌, ℕ, ℤ, pos, negsuc, ◌+◌, List, ◌++◌, Bool, true, false, nat_lt, nat_le}
+use Rattle.std.proofs.Common.{Option, Some, None, is_some, IsTrue, length, option_to_list, refl, arith, if◌then◌else◌}
 use Rattle.std.proofs.lemmas.Bool.{and_parts, leb-true, ltb-true}
 use Rattle.toml.specs.Data.{Data, Items, no_items, item, Members, as_integer, as_str}
 use Rattle.site_types.specs.Limits.{most_panels, most_loops, most_codes, most_terms, most_markers}
@@ -19,7 +20,9 @@ use Rattle.site_document.specs.declared.terms.TermKind.{TermKind}
 use Rattle.site_document.specs.declared.terms.TermKind.TheVariants as term
 use Rattle.site_document.specs.declared.words.MarkerKind.{MarkerKind}
 use Rattle.site_document.specs.declared.words.MarkerKind.TheVariants as marker
-use Rattle.site_document.specs.Drafts.{byte_at, byte_of, collected, combine_as, fault_term, isolator_from, isolator_in, loop_of, marker_of, name_at, short_of, term_from, term_in, term_of_parts, waits_of}
+use Rattle.site_document.specs.Drafts.{byte_at, byte_of, collected, combine_as, fault_term, isolator_from}
+use Rattle.site_document.specs.Drafts.{isolator_in, loop_of, marker_of, name_at, short_of, term_from, term_in}
+use Rattle.site_document.specs.Drafts.{term_of_parts, waits_of}
 use Rattle.site_document.specs.Needs.{is_at_least, is_needed}
 use Rattle.site_document.specs.Ranges.{contains, fall_at, first_fall, from_to, is_between, length_out, length_range, next_before, out_at, range_of}
 use Rattle.site_document.specs.Refusals.{Refusal, out_of_range, wrong_kind}
@@ -52,8 +55,10 @@ isolators_clean : (place : Place) (before end n : ℕ) (items : Items) → end <
 unfolding isolator_from
 isolators_clean place before end n no_items small e = tt
 isolators_clean place before end n (item value items) small e =
-    isolators_step place before end n (as_integer value) (collected isolator_from items) small (none_first (fall_at place before end n (as_integer value)) _ e)
-    (isolators_clean place (next_before before (as_integer value)) end (n + 1) items small (none_later (fall_at place before end n (as_integer value)) _ e))
+    isolators_step place before end n (as_integer value) (collected isolator_from items) small
+    (none_first (fall_at place before end n (as_integer value)) _ e)
+    (isolators_clean place (next_before before (as_integer value)) end (n + 1) items small
+    (none_later (fall_at place before end n (as_integer value)) _ e))
 
 pub record IsDraftLoop (format panels : ℕ) (plan : LoopPlan) : Type 0 where
   pub panel : (1 ≤ plan.panel) × (plan.panel ≤ panels)
@@ -66,7 +71,8 @@ falls_at : (place : Place) (top row : Members) → out_at place top row key.Isol
 unfolding out_at form_of
 falls_at place top row e = e
 
-within_last : (place : Place) (format n : ℕ) (items : Items) → format ≤ 2 → InRange (from_to 1 (last_address_of format)) n → first_fall place 0 n 1 items ≡ None
+within_last : (place : Place) (format n : ℕ) (items : Items) → format ≤ 2 → InRange (from_to 1 (last_address_of format)) n
+    → first_fall place 0 n 1 items ≡ None
     → AreIsolators 0 (byte_of n) (collected isolator_from items)
 within_last place format n items few is e =
     let high : n ≤ last_address_of format = is.high in
@@ -84,7 +90,9 @@ loop_clean top panels n row clean =
       panel = panel_clean top row _ panels (number_clean place top row key.Panel refl refl m.1.1.1.0 w.1.1.1.0 o.1.1.1.0);
       line = byte_in 1 most_loops _ (number_clean place top row key.Loop refl refl m.1.1.0 w.1.1.0 o.1.1.0) (omega arith);
       last = last_in (format_at top) _ (format_small top).1 last;
-      isolators = within_last place (format_at top) (natural_at key.Last row) (items_at key.Isolators row) (format_small top).1 last (falls_at place top row o.0);
+      isolators =
+          within_last place (format_at top) (natural_at key.Last row) (items_at key.Isolators row) (format_small top).1 last
+          (falls_at place top row o.0);
     }
 
 -- ---- lengths of lists
@@ -165,7 +173,8 @@ combine_clean marker.All count terms few is = tt
 combine_clean marker.Any count terms few is = tt
 combine_clean marker.AtLeast count terms few is = byte_in 1 terms count (is refl) (omega arith)
 
-terms_at : (place : Place) (top row : Members) → out_at place top row key.Terms ≡ None → InRange (from_to 1 most_terms) (count_of (items_at key.Terms row))
+terms_at : (place : Place) (top row : Members) → out_at place top row key.Terms ≡ None
+    → InRange (from_to 1 most_terms) (count_of (items_at key.Terms row))
 unfolding out_at form_of length_range
 terms_at place top row e = length_clean (from_to 1 most_terms) (key_text place (key_word key.Terms)) _ e
 
@@ -184,7 +193,9 @@ marker_clean top n row clean =
     let size = sized _ _ many (terms_at place top row o.1.1.1.0) in record {
       name = name_clean place row key.Name refl refl m.1.1.0 w.1.1.0;
       terms = size;
-      combine = combine_clean (marker_kind_at row) (natural_at key.Count row) _ size.1 (λ a. rw many (number_clean place top row key.Count refl a m.0 w.0 o.0));
+      combine =
+          combine_clean (marker_kind_at row) (natural_at key.Count row) _ size.1
+          (λ a. rw many (number_clean place top row key.Count refl a m.0 w.0 o.0));
     }
 
 -- ---- the table of the whole file
@@ -237,8 +248,11 @@ top_clean top clean =
       panels = byte_in 1 most_panels _ (panels_clean top clean).few (omega arith);
       waits = record {
         mains = short_most _ (greatest_mains_wait_of (format_at top)) (number_most whole top top key.MainsWait refl o.1.1.1.1.1.1.0) (omega arith);
-        standby = short_most _ (greatest_standby_wait_of (format_at top)) (number_most whole top top key.StandbyWait refl o.1.1.1.1.1.1.1.1.1.1.1.1.0) (omega arith);
-        voltage = short_most _ (greatest_voltage_wait_of (format_at top)) (number_most whole top top key.VoltageWait refl o.1.1.1.1.1.1.1.1.1.1.1.1.1.0) (omega arith);
+        standby = short_most _ (greatest_standby_wait_of (format_at top)) (number_most whole top top key.StandbyWait refl o.1.1.1.1.1.1.1.1.1.1.1.1.0)
+            (omega arith);
+        voltage =
+            short_most _ (greatest_voltage_wait_of (format_at top)) (number_most whole top top key.VoltageWait refl o.1.1.1.1.1.1.1.1.1.1.1.1.1.0)
+            (omega arith);
         charger = short_most _ (greatest_charger_wait_of (format_at top)) (number_most whole top top key.ChargerWait refl o.0) (omega arith);
       };
       second = second_at whole top top o.1.1.0;

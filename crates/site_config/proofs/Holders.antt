@@ -1,5 +1,6 @@
 -- What a name or a number stands for among claims of which none is made twice.
-use Rattle.std.proofs.Common.{◌≡◌, ℕ, zero, suc, ◌+◌, List, [], ◌∷◌, ◌++◌, Bool, true, false, ◌||◌, Option, Some, None, is_some, ◌⊎◌, inl, inr, refl, ap, sym, subst, ◌∙◌, arith, add-zero, if◌then◌else◌}
+use Rattle.std.proofs.Common.{◌≡◌, ℕ, zero, suc, ◌+◌, List, [], ◌∷◌, ◌++◌, Bool, true, false, ◌||◌, Option, Some}
+use Rattle.std.proofs.Common.{None, is_some, ◌⊎◌, inl, inr, refl, ap, sym, subst, ◌∙◌, arith, add-zero, if◌then◌else◌}
 use Rattle.std.proofs.lemmas.Slice.Eq.{bytes_eq-Decides}
 use Rattle.std.specs.Prelude.{slice_get}
 use Rattle.std.specs.Str.{bytes_eq}
@@ -38,7 +39,8 @@ picked : (b : Bool) (x : Thing) (o : Option Thing) → b ≡ true → (if b then
 picked true x o e = refl
 picked false x o e = absurd (cc e)
 
-here_held : (test : Claim → List ℕ → Bool) (before : List Claim) (c x : Claim) (q : List ℕ) → c ≡ x → test c q ≡ true → holder test (x ∷ before) q ≡ Some c.thing
+here_held : (test : Claim → List ℕ → Bool) (before : List Claim) (c x : Claim) (q : List ℕ) → c ≡ x → test c q ≡ true
+    → holder test (x ∷ before) q ≡ Some c.thing
 here_held test before c x q same e =
     let P : Claim → Type 0 = λ y. holder test (y ∷ before) q ≡ Some c.thing in subst P same (picked (test c q) c.thing (holder test before q) e)
 
@@ -65,7 +67,8 @@ here_or_before : (test : Claim → List ℕ → Bool) (before rest : List Claim)
 here_or_before test before rest x q t (inl (p, e)) = inr (record { claim = x; made = inl refl; passes = p; holds = e })
 here_or_before test before rest x q t (inr e) = inl e
 
-later_held : (test : Claim → List ℕ → Bool) (rest : List Claim) (x : Claim) (q : List ℕ) (t : Thing) → IsHeld test rest q t → IsHeld test (x ∷ rest) q t
+later_held : (test : Claim → List ℕ → Bool) (rest : List Claim) (x : Claim) (q : List ℕ) (t : Thing) → IsHeld test rest q t
+    → IsHeld test (x ∷ rest) q t
 later_held test rest x q t h = record { claim = h.claim; made = inr h.made; passes = h.passes; holds = h.holds }
 
 either_way : (test : Claim → List ℕ → Bool) (before rest : List Claim) (x : Claim) (q : List ℕ) (t : Thing)
@@ -100,12 +103,14 @@ neither true b e = absurd (cc e)
 
 unclaimed : (before rest : List Claim) (c : Claim) → first_twice before (c ∷ rest) ≡ None → is_claimed before c ≡ false
 unclaimed before rest c e =
-    not_failed (is_claimed before c) (twice c.name) (none_first (if is_claimed before c then Some (twice c.name) else None) (first_twice (c ∷ before) rest) e)
+    not_failed (is_claimed before c) (twice c.name)
+    (none_first (if is_claimed before c then Some (twice c.name) else None) (first_twice (c ∷ before) rest) e)
 
 rest_clean : (before rest : List Claim) (c : Claim) → first_twice before (c ∷ rest) ≡ None → first_twice (c ∷ before) rest ≡ None
 rest_clean before rest c e = none_later (if is_claimed before c then Some (twice c.name) else None) (first_twice (c ∷ before) rest) e
 
-name_fresh : (before : List Claim) (c : Claim) → is_claimed before c ≡ false → (q : List ℕ) → name_test c q ≡ true → is_some (holder name_test before q) ≡ false
+name_fresh : (before : List Claim) (c : Claim) → is_claimed before c ≡ false → (q : List ℕ) → name_test c q ≡ true
+    → is_some (holder name_test before q) ≡ false
 name_fresh before c e q same =
     let P : List ℕ → Type 0 = λ n. is_some (holder name_test before n) ≡ false in
     subst P ((bytes_eq-Decides c.name q).0 same)
@@ -128,7 +133,8 @@ numbered : (cs : List Claim) (q : List ℕ) → has_number cs q ≡ is_some (hol
 numbered [] q = refl
 numbered (c ∷ cs) q = or_some (is_number_of c.number q) (has_number cs q) c.thing (holder number_test cs q) (numbered cs q)
 
-number_fresh_by : (before : List Claim) (number : Option (List ℕ)) → is_number_claimed before number ≡ false → (q : List ℕ) → is_number_of number q ≡ true
+number_fresh_by : (before : List Claim) (number : Option (List ℕ)) → is_number_claimed before number ≡ false → (q : List ℕ)
+    → is_number_of number q ≡ true
     → is_some (holder number_test before q) ≡ false
 number_fresh_by before None e q same = absurd (cc same)
 number_fresh_by before (Some n) e q same =
@@ -138,7 +144,9 @@ number_fresh_by before (Some n) e q same =
 pub fresh_numbers : (before cs : List Claim) → first_twice before cs ≡ None → Fresh number_test before cs
 fresh_numbers before [] e = tt
 fresh_numbers before (c ∷ rest) e = (
-  λ q same. number_fresh_by before c.number (neither (is_some (thing_named before c.name)) (is_number_claimed before c.number) (unclaimed before rest c e)).1 q same,
+  λ q same.
+      number_fresh_by before c.number
+      (neither (is_some (thing_named before c.name)) (is_number_claimed before c.number) (unclaimed before rest c e)).1 q same,
   fresh_numbers (c ∷ before) rest (rest_clean before rest c e),
 )
 
@@ -165,7 +173,8 @@ in_either c (x ∷ xs) ys (inr more) = further c x xs ys (in_either c xs ys more
 shifted : (n k : ℕ) → (n + 1) + k ≡ n + suc k
 shifted n k = omega arith
 
-pub in_from : {X : Type 0} (claim : ℕ → X → Claim) (n : ℕ) (xs : List X) (k : ℕ) (x : X) → slice_get xs k ≡ Some x → IsIn (claim (n + k) x) (claims_from claim n xs)
+pub in_from : {X : Type 0} (claim : ℕ → X → Claim) (n : ℕ) (xs : List X) (k : ℕ) (x : X) → slice_get xs k ≡ Some x
+    → IsIn (claim (n + k) x) (claims_from claim n xs)
 in_from claim n [] k x at = absurd (cc at)
 in_from claim n (y ∷ ys) zero x at = inl (ap (λ m. claim m x) (add-zero n) ∙ ap (claim n) (sym (inner y x at)))
 in_from claim n (y ∷ ys) (suc k) x at =

@@ -1,9 +1,12 @@
 pub mod Alike
 pub mod Apart
+pub mod CleanDrafts
 pub mod Couples
 pub mod DraftForms
 pub mod DraftLists
+pub mod FewParts
 pub mod Holders
+pub mod KeptClaims
 pub mod Later
 pub mod Listed
 pub mod ByName

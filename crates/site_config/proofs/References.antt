@@ -1,5 +1,7 @@
 -- What is named in a site read is there.
-use Rattle.std.proofs.Common.{◌≡◌, ◌≤◌, ◌<◌, ℕ, zero, suc, List, [], ◌∷◌, Bool, true, false, ◌&&◌, ◌||◌, ◌==◌, nat_le, Option, Some, None, is_some, option_map, map, length, refl, ap, sym, subst, ◌∙◌, arith, eqb-true, if◌then◌else◌}
+use Rattle.std.proofs.Common.{◌≡◌, ◌≤◌, ◌<◌, ℕ, zero, suc, List, [], ◌∷◌, Bool, true, false, ◌&&◌, ◌||◌, ◌==◌, nat_le}
+use Rattle.std.proofs.Common.{Option, Some, None, is_some, option_map, map, length, refl, ap, sym, subst, ◌∙◌, arith}
+use Rattle.std.proofs.Common.{eqb-true, if◌then◌else◌}
 use Rattle.std.proofs.lemmas.Bool.{and_parts, leb-true}
 use Rattle.std.proofs.lemmas.Option.{slice_get_within}
 use Rattle.std.specs.Fmt.{decimal}
@@ -27,7 +29,9 @@ use Rattle.site_document.specs.Refusals.{first_found, no_such}
 use Rattle.site_config.specs.Claims.{named_in, twice_in}
 use Rattle.site_config.specs.Crossing.{place_or_zero}
 use Rattle.site_config.specs.NoSuch.{is_loop_of, is_panel_of, is_zone_of, marker_fault, marker_place, no_such_in, output_fault, partner_fault, partner_missing, point_fault, term_fault, zone_place}
-use Rattle.site_config.specs.Placing.{SeenMarker, SeenOutput, SeenPoint, SeenZone, marker_view, output_view, partner_place, placed_marker, placed_output, placed_point, placed_term, placed_zone, point_view, zone_view}
+use Rattle.site_config.specs.Placing.{SeenMarker, SeenOutput, SeenPoint, SeenZone, marker_view, output_view}
+use Rattle.site_config.specs.Placing.{partner_place, placed_marker, placed_output, placed_point, placed_term}
+use Rattle.site_config.specs.Placing.{placed_zone, point_view, zone_view}
 use Rattle.site_config.proofs.Alike.{all_by_place, all_from, as_long, by_place, like_at}
 use Rattle.site_config.proofs.DraftForms.{byte_small}
 use Rattle.site_config.proofs.SiteForms.{HasDraftForms, SeenAs}
@@ -49,7 +53,9 @@ none_missing look draft e =
     let outputs = none_later (first_found (point_fault look draft.loops draft.zones) draft.points) _ points in
     let markers = none_later (first_found (output_fault look) draft.outputs) _ outputs in record {
       partners = all_none (partner_fault look draft.zones) draft.zones (none_first (first_found (partner_fault look draft.zones) draft.zones) _ e);
-      points = all_none (point_fault look draft.loops draft.zones) draft.points (none_first (first_found (point_fault look draft.loops draft.zones) draft.points) _ points);
+      points =
+          all_none (point_fault look draft.loops draft.zones) draft.points
+          (none_first (first_found (point_fault look draft.loops draft.zones) draft.points) _ points);
       outputs = all_none (output_fault look) draft.outputs (none_first (first_found (output_fault look) draft.outputs) _ outputs);
       markers = all_none (marker_fault look draft.panels) draft.markers markers;
     }
@@ -73,7 +79,8 @@ zone_there zones panel None e = absurd (cc e)
 zone_there zones panel (Some place) e = zone_here zones panel place (slice_get zones place) refl e
 
 -- the zone of the site at the place that a name stands for
-pub site_zone : (look : List ℕ → Option Thing) (draft : Draft) (site : Site) → SeenAs look draft site → (panel place : ℕ) (o : Option ℕ) → IsZoneAt draft.zones panel o
+pub site_zone : (look : List ℕ → Option Thing) (draft : Draft) (site : Site) → SeenAs look draft site → (panel place : ℕ) (o : Option ℕ)
+    → IsZoneAt draft.zones panel o
     → place ≡ place_or_zero o → HasZone site panel place
 unfolding placed_zone
 site_zone look draft site seen panel place o h e =
@@ -96,7 +103,8 @@ point_parts : (look : List ℕ → Option Thing) (loops : List LoopPlan) (zones 
     → (list_any (is_loop_of p) loops ≡ true) × (is_zone_of zones p.panel (zone_place (look p.zone)) ≡ true)
 unfolding point_fault
 point_parts look loops zones p e = (
-  passed (list_any (is_loop_of p) loops) None (no_such p.name) (none_first (if list_any (is_loop_of p) loops then None else Some (no_such p.name)) _ e),
+  passed (list_any (is_loop_of p) loops) None (no_such p.name)
+      (none_first (if list_any (is_loop_of p) loops then None else Some (no_such p.name)) _ e),
   passed (is_zone_of zones p.panel (zone_place (look p.zone))) None (no_such p.zone)
       (none_later (if list_any (is_loop_of p) loops then None else Some (no_such p.name)) _ e),
 )
@@ -107,7 +115,8 @@ IsSome test loops = (k : ℕ) × (plan : LoopPlan) × (slice_get loops k ≡ Som
 some_later : (test : LoopPlan → Bool) (plan : LoopPlan) (rest : List LoopPlan) → IsSome test rest → IsSome test (plan ∷ rest)
 some_later test plan rest (k, p, at, e) = (suc k, p, at, e)
 
-some_by : (test : LoopPlan → Bool) (plan : LoopPlan) (rest : List LoopPlan) (b : Bool) → test plan ≡ b → (b ≡ false → IsSome test rest) → IsSome test (plan ∷ rest)
+some_by : (test : LoopPlan → Bool) (plan : LoopPlan) (rest : List LoopPlan) (b : Bool) → test plan ≡ b → (b ≡ false → IsSome test rest)
+    → IsSome test (plan ∷ rest)
 some_by test plan rest true e later = (zero, plan, refl, e)
 some_by test plan rest false e later = some_later test plan rest (later refl)
 
@@ -125,7 +134,9 @@ point_zone : (look : List ℕ → Option Thing) (draft : Draft) (site : Site) �
 unfolding placed_point
 point_zone look draft site seen none k p at =
     let (d, there, same) = like_at point_view (placed_point look) site.points draft.points seen.points k p at in
-    let parts = point_parts look draft.loops draft.zones d (by_place (λ q. point_fault look draft.loops draft.zones q ≡ None) draft.points none.points k d there) in
+    let parts =
+    point_parts look draft.loops draft.zones d (by_place (λ q. point_fault look draft.loops draft.zones q ≡ None) draft.points none.points k d
+    there) in
     let panel : p.panel ≡ d.panel = ap (λ (s : SeenPoint). s.panel) same in
     let P : ℕ → Type 0 = λ n. HasZone site n p.zone in
     subst P (sym panel)
@@ -137,7 +148,9 @@ point_loop : (look : List ℕ → Option Thing) (draft : Draft) (site : Site) �
 unfolding placed_point
 point_loop look draft site seen none k p at =
     let (d, there, same) = like_at point_view (placed_point look) site.points draft.points seen.points k p at in
-    let parts = point_parts look draft.loops draft.zones d (by_place (λ q. point_fault look draft.loops draft.zones q ≡ None) draft.points none.points k d there) in
+    let parts =
+    point_parts look draft.loops draft.zones d (by_place (λ q. point_fault look draft.loops draft.zones q ≡ None) draft.points none.points k d
+    there) in
     let (n, plan, on, is) = some_place (is_loop_of d) draft.loops parts.0 in
     let ends = and_parts ((plan.panel == d.panel) && (plan.line == d.line)) (nat_le d.address plan.last) is in
     let keys = and_parts (plan.panel == d.panel) (plan.line == d.line) ends.0 in
@@ -160,7 +173,8 @@ partner_zone_by : (look : List ℕ → Option Thing) (draft : Draft) (site : Sit
 partner_zone_by look draft site seen panel None e place is = absurd (cc is)
 partner_zone_by look draft site seen panel (Some name) e place is =
     site_zone look draft site seen panel place (zone_place (look name))
-    (zone_there draft.zones panel (zone_place (look name)) (passed (is_zone_of draft.zones panel (zone_place (look name))) None (no_such name) e)) (cc is)
+    (zone_there draft.zones panel (zone_place (look name)) (passed (is_zone_of draft.zones panel (zone_place (look name))) None (no_such name) e))
+    (cc is)
 
 partner_at : (look : List ℕ → Option Thing) (zones : List DraftZone) (z : DraftZone) → partner_fault look zones z ≡ None
     → partner_missing look zones z.panel z.partner ≡ None
@@ -177,7 +191,8 @@ partner_zone look draft site seen none k z at place is =
     let P : ℕ → Type 0 = λ n. HasZone site n place in
     subst P (sym panel) (partner_zone_by look draft site seen d.panel d.partner clean place (ap (λ (s : SeenZone). s.partner) (sym same) ∙ is))
 
-there_by : {X : Type 0} (f : X → List ℕ) (xs : List X) (k : ℕ) (o : Option X) (name : List ℕ) → slice_get xs k ≡ o → option_map f o ≡ Some name → k < length xs
+there_by : {X : Type 0} (f : X → List ℕ) (xs : List X) (k : ℕ) (o : Option X) (name : List ℕ) → slice_get xs k ≡ o → option_map f o ≡ Some name
+    → k < length xs
 there_by f xs k None name at e = absurd (cc e)
 there_by f xs k (Some x) name at e = slice_get_within xs k x at
 
@@ -203,7 +218,8 @@ output_at : (look : List ℕ → Option Thing) (o : DraftOutput) → output_faul
 unfolding output_fault
 output_at look o e = passed (is_some (marker_place (look o.marker))) None (no_such o.marker) e
 
-output_marker : (draft : Draft) (site : Site) → SeenAs (named_in draft) draft site → twice_in draft ≡ None → NoneMissing (named_in draft) draft → (k : ℕ) (o : OutputOf)
+output_marker : (draft : Draft) (site : Site) → SeenAs (named_in draft) draft site → twice_in draft ≡ None → NoneMissing (named_in draft) draft
+    → (k : ℕ) (o : OutputOf)
     → slice_get site.outputs k ≡ Some o → o.marker < length site.markers
 unfolding placed_output
 output_marker draft site seen once none k o at =
@@ -227,7 +243,8 @@ term_there draft site seen once few (term.Manual name) e =
     below_so _ _ (length site.zones) (length draft.zones) refl long
     (zone_by draft name (named_in draft name) once refl (passed (is_some (zone_place (named_in draft name))) None (no_such name) e))
 term_there draft site seen once few (term.Marker name) e =
-    let long : length site.markers ≡ length draft.markers = as_long marker_view (placed_marker (named_in draft)) site.markers draft.markers seen.markers in
+    let long : length site.markers ≡ length draft.markers =
+    as_long marker_view (placed_marker (named_in draft)) site.markers draft.markers seen.markers in
     below_so _ _ (length site.markers) (length draft.markers) refl long
     (marker_by draft name (named_in draft name) once refl (passed (is_some (marker_place (named_in draft name))) None (no_such name) e))
 term_there draft site seen once few (term.Fault panel) e =
@@ -237,8 +254,10 @@ term_there draft site seen once few (term.Fault panel) e =
     let high : panel ≤ draft.panels = leb-true panel draft.panels parts.1 in
     rw (byte_small panel (omega arith), seen.panels) (low, high)
 
-terms_there : (draft : Draft) (site : Site) → SeenAs (named_in draft) draft site → twice_in draft ≡ None → draft.panels ≤ most_panels → (ts : List DraftTerm)
-    → AllByRecursion (λ t. term_fault (named_in draft) draft.panels t ≡ None) ts → AllByRecursion (IsTerm site) (map (placed_term (named_in draft)) ts)
+terms_there : (draft : Draft) (site : Site) → SeenAs (named_in draft) draft site → twice_in draft ≡ None → draft.panels ≤ most_panels
+    → (ts : List DraftTerm)
+    → AllByRecursion (λ t. term_fault (named_in draft) draft.panels t ≡ None) ts
+    → AllByRecursion (IsTerm site) (map (placed_term (named_in draft)) ts)
 terms_there draft site seen once few [] all = tt
 terms_there draft site seen once few (t ∷ ts) all = (term_there draft site seen once few t all.0, terms_there draft site seen once few ts all.1)
 
@@ -263,7 +282,8 @@ pub references : (draft : Draft) (site : Site) → SeenAs (named_in draft) draft
 references draft site seen once forms e =
     let none = none_missing (named_in draft) draft e in record {
       zone_of_point = all_by_place (λ (p : PointOf). HasZone site p.panel p.zone) site.points (point_zone (named_in draft) draft site seen none);
-      loop_of_point = all_by_place (λ (p : PointOf). HasAddress site p.panel p.line p.address) site.points (point_loop (named_in draft) draft site seen none);
+      loop_of_point =
+          all_by_place (λ (p : PointOf). HasAddress site p.panel p.line p.address) site.points (point_loop (named_in draft) draft site seen none);
       partner_of_zone = all_by_place (λ (z : ZoneOf). (place : ℕ) → z.partner ≡ Some place → HasZone site z.panel place) site.zones
           (partner_zone (named_in draft) draft site seen none);
       marker_of_output = all_by_place (λ (o : OutputOf). o.marker < length site.markers) site.outputs (output_marker draft site seen once none);

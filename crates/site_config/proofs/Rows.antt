@@ -41,7 +41,8 @@ pub record AreClean (top : Members) (kind : RowKind) (n : ℕ) (items : Items) :
   pub unknown : found_in_rows pass.Unknown kind top n items ≡ None
   pub out : found_in_rows pass.OutOfRange kind top n items ≡ None
 
-tail_clean : (top : Members) (kind : RowKind) (n : ℕ) (value : Data) (items : Items) → AreClean top kind n (item value items) → AreClean top kind (n + 1) items
+tail_clean : (top : Members) (kind : RowKind) (n : ℕ) (value : Data) (items : Items) → AreClean top kind n (item value items)
+    → AreClean top kind (n + 1) items
 tail_clean top kind n value items clean = record {
   missing = none_later (found_in_row pass.Missing (place_of kind n) top value) (found_in_rows pass.Missing kind top (n + 1) items) clean.missing;
   wrong = none_later (found_in_row pass.WrongKind (place_of kind n) top value) (found_in_rows pass.WrongKind kind top (n + 1) items) clean.wrong;
@@ -66,24 +67,33 @@ pub rows_all : {X : Type 0} (read : Members → X) (P : X → Type 0) (top : Mem
 rows_all read P top kind each n no_items clean = tt
 rows_all read P top kind each n (item (table row) items) clean =
     (each n row (head_clean top kind n row items clean), rows_all read P top kind each (n + 1) items (tail_clean top kind n (table row) items clean))
-rows_all read P top kind each n (item (string x) items) clean = rows_all read P top kind each (n + 1) items (tail_clean top kind n (string x) items clean)
-rows_all read P top kind each n (item (integer x) items) clean = rows_all read P top kind each (n + 1) items (tail_clean top kind n (integer x) items clean)
-rows_all read P top kind each n (item (float x) items) clean = rows_all read P top kind each (n + 1) items (tail_clean top kind n (float x) items clean)
-rows_all read P top kind each n (item (boolean x) items) clean = rows_all read P top kind each (n + 1) items (tail_clean top kind n (boolean x) items clean)
-rows_all read P top kind each n (item (datetime x) items) clean = rows_all read P top kind each (n + 1) items (tail_clean top kind n (datetime x) items clean)
-rows_all read P top kind each n (item (array x) items) clean = rows_all read P top kind each (n + 1) items (tail_clean top kind n (array x) items clean)
+rows_all read P top kind each n (item (string x) items) clean =
+    rows_all read P top kind each (n + 1) items (tail_clean top kind n (string x) items clean)
+rows_all read P top kind each n (item (integer x) items) clean =
+    rows_all read P top kind each (n + 1) items (tail_clean top kind n (integer x) items clean)
+rows_all read P top kind each n (item (float x) items) clean =
+    rows_all read P top kind each (n + 1) items (tail_clean top kind n (float x) items clean)
+rows_all read P top kind each n (item (boolean x) items) clean =
+    rows_all read P top kind each (n + 1) items (tail_clean top kind n (boolean x) items clean)
+rows_all read P top kind each n (item (datetime x) items) clean =
+    rows_all read P top kind each (n + 1) items (tail_clean top kind n (datetime x) items clean)
+rows_all read P top kind each n (item (array x) items) clean =
+    rows_all read P top kind each (n + 1) items (tail_clean top kind n (array x) items clean)
 
 -- ---- what each pass says at the keys of a table
 
-pub missing_keys : (top : Members) (place : Place) (row : Members) → IsClean top place row → AllByRecursion (λ k. missing_at place row k ≡ None) (keys_of place.kind)
+pub missing_keys : (top : Members) (place : Place) (row : Members) → IsClean top place row
+    → AllByRecursion (λ k. missing_at place row k ≡ None) (keys_of place.kind)
 unfolding found_in found_at
 missing_keys top place row clean = all_none (missing_at place row) (keys_of place.kind) clean.missing
 
-pub wrong_keys : (top : Members) (place : Place) (row : Members) → IsClean top place row → AllByRecursion (λ k. wrong_at place row k ≡ None) (keys_of place.kind)
+pub wrong_keys : (top : Members) (place : Place) (row : Members) → IsClean top place row
+    → AllByRecursion (λ k. wrong_at place row k ≡ None) (keys_of place.kind)
 unfolding found_in found_at
 wrong_keys top place row clean = all_none (wrong_at place row) (keys_of place.kind) clean.wrong
 
-pub out_keys : (top : Members) (place : Place) (row : Members) → IsClean top place row → AllByRecursion (λ k. out_at place top row k ≡ None) (keys_of place.kind)
+pub out_keys : (top : Members) (place : Place) (row : Members) → IsClean top place row
+    → AllByRecursion (λ k. out_at place top row k ≡ None) (keys_of place.kind)
 unfolding found_in found_at
 out_keys top place row clean = all_none (out_at place top row) (keys_of place.kind) clean.out
 
@@ -92,14 +102,16 @@ out_keys top place row clean = all_none (out_at place top row) (keys_of place.ki
 same_by : (name l : List ℕ) → slice_cmp nat_cmp name l ≡ Equal → name ≡ l
 same_by name l e = (bytes_eq-Decides name l).0 (sym (is_eq-slice_cmp name l) ∙ ap is_eq e)
 
-here_or_later : (o : Ordering) (d : Data) (rest : Option Data) → is_some (match_ordering o rest (Some d) rest) ≡ true → (o ≡ Equal) ⊎ (is_some rest ≡ true)
+here_or_later : (o : Ordering) (d : Data) (rest : Option Data) → is_some (match_ordering o rest (Some d) rest) ≡ true
+    → (o ≡ Equal) ⊎ (is_some rest ≡ true)
 here_or_later Less d rest e = inr e
 here_or_later Equal d rest e = inl refl
 here_or_later Greater d rest e = inr e
 
 known_by : (place : Place) (row rest : Members) (name l : List ℕ)
     → or_later (if is_known place.kind row l then None else Some (unknown (key_text place l))) (unknown_among place row rest) ≡ None
-    → (slice_cmp nat_cmp name l ≡ Equal) ⊎ (is_some (get_member name rest) ≡ true) → (is_some (get_member name rest) ≡ true → is_known place.kind row name ≡ true)
+    → (slice_cmp nat_cmp name l ≡ Equal) ⊎ (is_some (get_member name rest) ≡ true)
+    → (is_some (get_member name rest) ≡ true → is_known place.kind row name ≡ true)
     → is_known place.kind row name ≡ true
 known_by place row rest name l e (inl same) later =
     let P : List ℕ → Type 0 = λ n. is_known place.kind row n ≡ true in
@@ -136,7 +148,8 @@ clean_top top e =
 lists_of : (top : Members) (p : Pass) → found_by top p ≡ None
     → AllByRecursion (λ k. found_in_list p top k ≡ None) (kind.Loop ∷ kind.Zone ∷ kind.Point ∷ kind.Output ∷ kind.Marker ∷ [])
 unfolding found_by
-lists_of top p e = all_none (found_in_list p top) (kind.Loop ∷ kind.Zone ∷ kind.Point ∷ kind.Output ∷ kind.Marker ∷ []) (none_later (found_in p whole top top) _ e)
+lists_of top p e =
+    all_none (found_in_list p top) (kind.Loop ∷ kind.Zone ∷ kind.Point ∷ kind.Output ∷ kind.Marker ∷ []) (none_later (found_in p whole top top) _ e)
 
 pub record ListsAreClean (top : Members) : Type 0 where
   pub loops : AreClean top kind.Loop 1 (items_at key.Loops top)

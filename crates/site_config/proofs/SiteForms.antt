@@ -22,7 +22,9 @@ use Rattle.site_document.specs.declared.row_kind.RowKind.TheVariants as kind
 use Rattle.site_document.specs.Drafts.{byte_at, digest_from, draft_of, from_table, loop_of, marker_of, output_of, point_of, zone_of}
 use Rattle.site_document.specs.Tables.{format_at, items_at}
 use Rattle.site_document.specs.Walk.{finding}
-use Rattle.site_config.specs.Placing.{SeenMarker, SeenOutput, SeenPoint, SeenSite, SeenZone, marker_view, output_view, partner_place, placed_marker, placed_output, placed_point, placed_site, placed_term, placed_zone, point_view, site_view, zone_view}
+use Rattle.site_config.specs.Placing.{SeenMarker, SeenOutput, SeenPoint, SeenSite, SeenZone, marker_view, output_view}
+use Rattle.site_config.specs.Placing.{partner_place, placed_marker, placed_output, placed_point, placed_site}
+use Rattle.site_config.specs.Placing.{placed_term, placed_zone, point_view, site_view, zone_view}
 use Rattle.site_config.proofs.Alike.{all_by_place, all_from, as_long, by_place, like_at}
 use Rattle.site_config.proofs.DraftForms.{IsDraftOutput, IsDraftPoint, IsDraftZone, format_small, output_clean, point_clean, zone_clean}
 use Rattle.site_config.proofs.DraftLists.{IsDraftLoop, IsDraftMarker, collected_most, loop_clean, marker_clean, panels_clean, top_clean}
@@ -64,10 +66,16 @@ draft_forms doc e =
           (few_of _ _ most_codes (collected_most digest_from (items_at key.Level4 doc)) top.fourth, tt),
         ),
       );
-      loops = rows_all loop_of (IsDraftLoop (format_at doc) (byte_at key.Panels doc)) doc kind.Loop (loop_clean doc panels) 1 (items_at key.Loops doc) lists.loops;
-      zones = rows_all zone_of (IsDraftZone (format_at doc) (byte_at key.Panels doc)) doc kind.Zone (zone_clean doc panels) 1 (items_at key.Zones doc) lists.zones;
-      points = rows_all point_of (IsDraftPoint (format_at doc) (byte_at key.Panels doc)) doc kind.Point (point_clean doc panels) 1 (items_at key.Points doc) lists.points;
-      outputs = rows_all output_of (IsDraftOutput (format_at doc) (byte_at key.Panels doc)) doc kind.Output (output_clean doc panels) 1 (items_at key.Outputs doc)
+      loops = rows_all loop_of (IsDraftLoop (format_at doc) (byte_at key.Panels doc)) doc kind.Loop (loop_clean doc panels) 1 (items_at key.Loops doc)
+          lists.loops;
+      zones = rows_all zone_of (IsDraftZone (format_at doc) (byte_at key.Panels doc)) doc kind.Zone (zone_clean doc panels) 1 (items_at key.Zones doc)
+          lists.zones;
+      points =
+          rows_all point_of (IsDraftPoint (format_at doc) (byte_at key.Panels doc)) doc kind.Point (point_clean doc panels) 1
+          (items_at key.Points doc) lists.points;
+      outputs =
+          rows_all output_of (IsDraftOutput (format_at doc) (byte_at key.Panels doc)) doc kind.Output (output_clean doc panels) 1
+          (items_at key.Outputs doc)
           lists.outputs;
       markers = rows_all marker_of IsDraftMarker doc kind.Marker (marker_clean doc) 1 (items_at key.Markers doc) lists.markers;
       few_markers = few_of _ _ most_markers (collected_most (from_table marker_of) (items_at key.Markers doc)) top.markers;
@@ -102,7 +110,8 @@ seen_as look draft site e = record {
   markers = ap (λ (s : SeenSite). s.markers) e;
 }
 
-partner_stands : (look : List ℕ → Option Thing) (rule : Rule) (partner : Option (List ℕ)) → ((name : List ℕ) → partner ≡ Some name → IsTrue (may_have_partner rule))
+partner_stands : (look : List ℕ → Option Thing) (rule : Rule) (partner : Option (List ℕ))
+    → ((name : List ℕ) → partner ≡ Some name → IsTrue (may_have_partner rule))
     → (place : ℕ) → partner_place look partner ≡ Some place → IsTrue (may_have_partner rule)
 partner_stands look rule None may place e = absurd (cc e)
 partner_stands look rule (Some name) may place e = may name refl

@@ -136,12 +136,14 @@ marker_borne draft c h =
     let k : zero + h.place ≡ h.place = zero-add h.place in
     subst P (sym (h.is ∙ ap (λ n. marker_claim n h.what) k)) (ap (option_map (λ (m : DraftMarker). m.name)) h.at)
 
-two_borne : (draft : Draft) (c : Claim) → IsIn c (claims_from zone_claim 0 draft.zones) ⊎ IsIn c (claims_from point_claim 0 draft.points) → IsBorne draft c
+two_borne : (draft : Draft) (c : Claim) → IsIn c (claims_from zone_claim 0 draft.zones) ⊎ IsIn c (claims_from point_claim 0 draft.points)
+    → IsBorne draft c
 two_borne draft c (inl is) = zone_borne draft c (of_from zone_claim 0 draft.zones c is)
 two_borne draft c (inr is) = point_borne draft c (of_from point_claim 0 draft.points c is)
 
 three_borne : (draft : Draft) (c : Claim)
-    → IsIn c (claims_from zone_claim 0 draft.zones ++ claims_from point_claim 0 draft.points) ⊎ IsIn c (claims_from output_claim 0 draft.outputs) → IsBorne draft c
+    → IsIn c (claims_from zone_claim 0 draft.zones ++ claims_from point_claim 0 draft.points) ⊎ IsIn c (claims_from output_claim 0 draft.outputs)
+    → IsBorne draft c
 three_borne draft c (inl is) = two_borne draft c (in_either c (claims_from zone_claim 0 draft.zones) (claims_from point_claim 0 draft.points) is)
 three_borne draft c (inr is) = output_borne draft c (of_from output_claim 0 draft.outputs c is)
 
@@ -176,4 +178,5 @@ pub one_number : (draft : Draft) (c d : Claim) (q : List ℕ) → twice_in draft
     → number_test c q ≡ true → number_test d q ≡ true → c.thing ≡ d.thing
 one_number draft c d q once made_c made_d is_c is_d =
     let fresh = fresh_numbers [] (claims_of draft) (claims_once draft once) in
-    inner c.thing d.thing (sym (held number_test [] (claims_of draft) c q fresh made_c is_c) ∙ held number_test [] (claims_of draft) d q fresh made_d is_d)
+    inner c.thing d.thing (sym (held number_test [] (claims_of draft) c q fresh made_c is_c) ∙ held number_test [] (claims_of draft) d q fresh made_d
+    is_d)

@@ -1,5 +1,7 @@
 -- Nothing occurs twice in a site read, and its list of names is that of its things.
-use Rattle.std.proofs.Common.{◌≡◌, ◌<◌, ℕ, zero, suc, ◌+◌, List, [], ◌∷◌, ◌++◌, Bool, true, false, ◌||◌, ◌&&◌, ◌==◌, Option, Some, None, option_map, ◌⊎◌, inl, inr, Less, refl, ap, sym, subst, ◌∙◌, arith, map, eq-eqb, if◌then◌else◌}
+use Rattle.std.proofs.Common.{◌≡◌, ◌<◌, ℕ, zero, suc, ◌+◌, List, [], ◌∷◌, ◌++◌, Bool, true, false, ◌||◌, ◌&&◌, ◌==◌}
+use Rattle.std.proofs.Common.{Option, Some, None, option_map, ◌⊎◌, inl, inr, Less, refl, ap, sym, subst, ◌∙◌, arith}
+use Rattle.std.proofs.Common.{map, eq-eqb, if◌then◌else◌}
 use Rattle.std.proofs.lemmas.List.Folds.{list_any-append}
 use Rattle.std.proofs.lemmas.Map.Text.{is_eq-slice_cmp}
 use Rattle.std.proofs.lemmas.Option.{slice_get-map}
@@ -37,11 +39,13 @@ two_maps : {X V W : Type 0} (h : V → W) (f : X → V) (o : Option X) → optio
 two_maps h f None = refl
 two_maps h f (Some x) = refl
 
-map_at : {X Y V : Type 0} (f : X → V) (g : Y → V) (xs : List X) (ys : List Y) (k : ℕ) → map f xs ≡ map g ys → option_map f (slice_get xs k) ≡ option_map g (slice_get ys k)
+map_at : {X Y V : Type 0} (f : X → V) (g : Y → V) (xs : List X) (ys : List Y) (k : ℕ) → map f xs ≡ map g ys
+    → option_map f (slice_get xs k) ≡ option_map g (slice_get ys k)
 map_at f g xs ys k e = sym (slice_get-map f xs k) ∙ ap (λ l. slice_get l k) e ∙ slice_get-map g ys k
 
 -- a thing of the site has the name of the draft's
-pub same_name : (look : List ℕ → Option Thing) (draft : Draft) (site : Site) → SeenAs look draft site → (t : Thing) → name_at site t ≡ draft_name draft t
+pub same_name : (look : List ℕ → Option Thing) (draft : Draft) (site : Site) → SeenAs look draft site → (t : Thing)
+    → name_at site t ≡ draft_name draft t
 unfolding placed_point placed_zone placed_output placed_marker
 same_name look draft site seen (Point k) =
     sym (two_maps (λ (s : SeenPoint). s.name) point_view (slice_get site.points k))
@@ -60,7 +64,8 @@ same_name look draft site seen (Marker k) =
     ∙ ap (option_map (λ (s : SeenMarker). s.name)) (map_at marker_view (placed_marker look) site.markers draft.markers k seen.markers)
     ∙ two_maps (λ (s : SeenMarker). s.name) (placed_marker look) (slice_get draft.markers k)
 
-site_bears : (draft : Draft) (site : Site) → SeenAs (named_in draft) draft site → twice_in draft ≡ None → (t : Thing) (name : List ℕ) → name_at site t ≡ Some name
+site_bears : (draft : Draft) (site : Site) → SeenAs (named_in draft) draft site → twice_in draft ≡ None → (t : Thing) (name : List ℕ)
+    → name_at site t ≡ Some name
     → named_in draft name ≡ Some t
 site_bears draft site seen once t name e = bears draft t name once (sym (same_name (named_in draft) draft site seen t) ∙ e)
 
@@ -69,13 +74,15 @@ one_thing o s t e f = inner s t (sym e ∙ f)
 
 -- ---- numbers
 
-zone_number_of : (a b : DraftZone) → a.panel ∷ a.number ∷ [] ≡ b.panel ∷ b.number ∷ [] → 1 ∷ b.panel ∷ 0 ∷ b.number ∷ [] ≡ 1 ∷ a.panel ∷ 0 ∷ a.number ∷ []
+zone_number_of : (a b : DraftZone) → a.panel ∷ a.number ∷ [] ≡ b.panel ∷ b.number ∷ [] → 1 ∷ b.panel ∷ 0 ∷ b.number ∷ [] ≡ 1 ∷ a.panel ∷ 0 ∷ a.number
+    ∷ []
 zone_number_of a b e = cc e
 
 zone_places : (j k : ℕ) → Zone j ≡ Zone k → j ≡ k
 zone_places j k e = cc e
 
-zones_apart : (draft : Draft) → twice_in draft ≡ None → (j k : ℕ) (a b : DraftZone) → slice_get draft.zones j ≡ Some a → slice_get draft.zones k ≡ Some b
+pub zones_apart : (draft : Draft) → twice_in draft ≡ None → (j k : ℕ) (a b : DraftZone) → slice_get draft.zones j ≡ Some a
+    → slice_get draft.zones k ≡ Some b
     → a.panel ∷ a.number ∷ [] ≡ b.panel ∷ b.number ∷ [] → j ≡ k
 zones_apart draft once j k a b at bt e =
     let q : List ℕ = 1 ∷ a.panel ∷ 0 ∷ a.number ∷ [] in
@@ -90,7 +97,8 @@ point_number_of a b e = cc e
 point_places : (j k : ℕ) → Point j ≡ Point k → j ≡ k
 point_places j k e = cc e
 
-points_apart : (draft : Draft) → twice_in draft ≡ None → (j k : ℕ) (a b : DraftPoint) → slice_get draft.points j ≡ Some a → slice_get draft.points k ≡ Some b
+pub points_apart : (draft : Draft) → twice_in draft ≡ None → (j k : ℕ) (a b : DraftPoint) → slice_get draft.points j ≡ Some a
+    → slice_get draft.points k ≡ Some b
     → a.panel ∷ a.line ∷ a.address ∷ [] ≡ b.panel ∷ b.line ∷ b.address ∷ [] → j ≡ k
 points_apart draft once j k a b at bt e =
     let q : List ℕ = 2 ∷ a.panel ∷ a.line ∷ a.address ∷ [] in
@@ -98,18 +106,21 @@ points_apart draft once j k a b at bt e =
     (one_number draft (point_claim j a) (point_claim k b) q once (point_made draft j a at) (point_made draft k b bt) ((bytes_eq-Decides q q).1 refl)
     ((bytes_eq-Decides (2 ∷ b.panel ∷ b.line ∷ b.address ∷ []) q).1 (point_number_of a b e)))
 
-output_number_of : (a b : DraftOutput) → a.panel ∷ a.number ∷ [] ≡ b.panel ∷ b.number ∷ [] → 3 ∷ b.panel ∷ 0 ∷ b.number ∷ [] ≡ 3 ∷ a.panel ∷ 0 ∷ a.number ∷ []
+output_number_of : (a b : DraftOutput) → a.panel ∷ a.number ∷ [] ≡ b.panel ∷ b.number ∷ [] → 3 ∷ b.panel ∷ 0 ∷ b.number ∷ [] ≡ 3 ∷ a.panel ∷ 0
+    ∷ a.number ∷ []
 output_number_of a b e = cc e
 
 output_places : (j k : ℕ) → Output j ≡ Output k → j ≡ k
 output_places j k e = cc e
 
-outputs_apart : (draft : Draft) → twice_in draft ≡ None → (j k : ℕ) (a b : DraftOutput) → slice_get draft.outputs j ≡ Some a → slice_get draft.outputs k ≡ Some b
+pub outputs_apart : (draft : Draft) → twice_in draft ≡ None → (j k : ℕ) (a b : DraftOutput) → slice_get draft.outputs j ≡ Some a
+    → slice_get draft.outputs k ≡ Some b
     → a.panel ∷ a.number ∷ [] ≡ b.panel ∷ b.number ∷ [] → j ≡ k
 outputs_apart draft once j k a b at bt e =
     let q : List ℕ = 3 ∷ a.panel ∷ 0 ∷ a.number ∷ [] in
     output_places j k
-    (one_number draft (output_claim j a) (output_claim k b) q once (output_made draft j a at) (output_made draft k b bt) ((bytes_eq-Decides q q).1 refl)
+    (one_number draft (output_claim j a) (output_claim k b) q once (output_made draft j a at) (output_made draft k b bt)
+    ((bytes_eq-Decides q q).1 refl)
     ((bytes_eq-Decides (3 ∷ b.panel ∷ 0 ∷ b.number ∷ []) q).1 (output_number_of a b e)))
 
 -- a list that is seen as another has no more twins
@@ -138,9 +149,11 @@ either_false false b e = (refl, e)
 either_false true b e = absurd (cc e)
 
 abbrev loop_fault : List LoopPlan → ℕ → LoopPlan → Option Refusal
-loop_fault before n plan = if list_any (is_same_loop plan) before then Some (twice (key_text (record { kind = kind.Loop; number = n }) (codes "loop"))) else None
+loop_fault before n plan =
+    if list_any (is_same_loop plan) before then Some (twice (key_text (record { kind = kind.Loop; number = n }) (codes "loop"))) else None
 
-none_before : (before : List LoopPlan) (n : ℕ) (loops : List LoopPlan) → loop_twice before n loops ≡ None → (k : ℕ) (b : LoopPlan) → slice_get loops k ≡ Some b
+none_before : (before : List LoopPlan) (n : ℕ) (loops : List LoopPlan) → loop_twice before n loops ≡ None → (k : ℕ) (b : LoopPlan)
+    → slice_get loops k ≡ Some b
     → list_any (is_same_loop b) before ≡ false
 none_before before n [] e k b at = absurd (cc at)
 none_before before n (plan ∷ rest) e zero b at =
@@ -149,8 +162,11 @@ none_before before n (plan ∷ rest) e zero b at =
     (not_failed (list_any (is_same_loop plan) before) (twice (key_text (record { kind = kind.Loop; number = n }) (codes "loop")))
     (none_first (loop_fault before n plan) (loop_twice (before ++ plan ∷ []) (n + 1) rest) e))
 none_before before n (plan ∷ rest) e (suc k) b at =
-    let more = none_before (before ++ plan ∷ []) (n + 1) rest (none_later (loop_fault before n plan) (loop_twice (before ++ plan ∷ []) (n + 1) rest) e) k b at in
-    (either_false (list_any (is_same_loop b) before) (list_any (is_same_loop b) (plan ∷ [])) (sym (list_any-append (is_same_loop b) before (plan ∷ [])) ∙ more)).0
+    let more =
+    none_before (before ++ plan ∷ []) (n + 1) rest (none_later (loop_fault before n plan) (loop_twice (before ++ plan ∷ []) (n + 1) rest) e) k b
+    at in
+    (either_false (list_any (is_same_loop b) before) (list_any (is_same_loop b) (plan ∷ []))
+    (sym (list_any-append (is_same_loop b) before (plan ∷ [])) ∙ more)).0
 
 both : (x y : Bool) → x ≡ true → y ≡ true → (x && y) ≡ true
 both x y e f = rw (e, f)
@@ -161,20 +177,26 @@ keyed a b e = (cc e, cc e)
 same_plan : (a b : LoopPlan) → loop_key a ≡ loop_key b → is_same_loop b a ≡ true
 same_plan a b e = both (b.panel == a.panel) (b.line == a.line) (eq-eqb b.panel a.panel (keyed a b e).0) (eq-eqb b.line a.line (keyed a b e).1)
 
-in_order : (before : List LoopPlan) (n : ℕ) (loops : List LoopPlan) → loop_twice before n loops ≡ None → (j k : ℕ) (a b : LoopPlan) → slice_get loops j ≡ Some a
+in_order : (before : List LoopPlan) (n : ℕ) (loops : List LoopPlan) → loop_twice before n loops ≡ None → (j k : ℕ) (a b : LoopPlan)
+    → slice_get loops j ≡ Some a
     → slice_get loops k ≡ Some b → is_same_loop b a ≡ true → j < k → ⊥
 in_order before n [] e j k a b at bt same lt = cc at
 in_order before n (plan ∷ rest) e j zero a b at bt same lt = omega arith
 in_order before n (plan ∷ rest) e zero (suc k) a b at bt same lt =
-    let more = none_before (before ++ plan ∷ []) (n + 1) rest (none_later (loop_fault before n plan) (loop_twice (before ++ plan ∷ []) (n + 1) rest) e) k b bt in
+    let more =
+    none_before (before ++ plan ∷ []) (n + 1) rest (none_later (loop_fault before n plan) (loop_twice (before ++ plan ∷ []) (n + 1) rest) e) k b
+    bt in
     let apart =
-    either_false (list_any (is_same_loop b) before) (list_any (is_same_loop b) (plan ∷ [])) (sym (list_any-append (is_same_loop b) before (plan ∷ [])) ∙ more) in
+    either_false (list_any (is_same_loop b) before) (list_any (is_same_loop b) (plan ∷ []))
+    (sym (list_any-append (is_same_loop b) before (plan ∷ [])) ∙ more) in
     let here : is_same_loop b plan ≡ false = (either_false (is_same_loop b plan) false apart.1).0 in
     cc (ap (is_same_loop b) (sym (inner plan a at)), same, here)
 in_order before n (plan ∷ rest) e (suc j) (suc k) a b at bt same lt =
-    in_order (before ++ plan ∷ []) (n + 1) rest (none_later (loop_fault before n plan) (loop_twice (before ++ plan ∷ []) (n + 1) rest) e) j k a b at bt same (omega arith)
+    in_order (before ++ plan ∷ []) (n + 1) rest (none_later (loop_fault before n plan) (loop_twice (before ++ plan ∷ []) (n + 1) rest) e) j k a b at
+    bt same (omega arith)
 
-loops_by : (loops : List LoopPlan) → loop_twice [] 1 loops ≡ None → (j k : ℕ) (a b : LoopPlan) → slice_get loops j ≡ Some a → slice_get loops k ≡ Some b
+loops_by : (loops : List LoopPlan) → loop_twice [] 1 loops ≡ None → (j k : ℕ) (a b : LoopPlan) → slice_get loops j ≡ Some a
+    → slice_get loops k ≡ Some b
     → loop_key a ≡ loop_key b → (j < k) ⊎ ((j ≡ k) ⊎ (k < j)) → j ≡ k
 loops_by loops once j k a b at bt e (inl lt) = absurd (in_order [] 1 loops once j k a b at bt (same_plan a b e) lt)
 loops_by loops once j k a b at bt e (inr (inl is)) = is
@@ -191,23 +213,28 @@ no_twins draft site seen once = record {
   loops = λ j k a b at bt e.
       loops_by draft.loops (loops_once draft once) j k a b (ap (λ (ls : List LoopPlan). slice_get ls j) (sym seen.loops) ∙ at)
       (ap (λ (ls : List LoopPlan). slice_get ls k) (sym seen.loops) ∙ bt) e (order j k);
-  zones = unique_as zone_view (placed_zone (named_in draft)) (λ (s : SeenZone). s.panel ∷ s.number ∷ []) site.zones draft.zones seen.zones (zones_apart draft once);
-  points = unique_as point_view (placed_point (named_in draft)) (λ (s : SeenPoint). s.panel ∷ s.line ∷ s.address ∷ []) site.points draft.points seen.points
+  zones = unique_as zone_view (placed_zone (named_in draft)) (λ (s : SeenZone). s.panel ∷ s.number ∷ []) site.zones draft.zones seen.zones
+      (zones_apart draft once);
+  points = unique_as point_view (placed_point (named_in draft)) (λ (s : SeenPoint). s.panel ∷ s.line ∷ s.address ∷ []) site.points draft.points
+      seen.points
       (points_apart draft once);
-  outputs = unique_as output_view (placed_output (named_in draft)) (λ (s : SeenOutput). s.panel ∷ s.number ∷ []) site.outputs draft.outputs seen.outputs
+  outputs = unique_as output_view (placed_output (named_in draft)) (λ (s : SeenOutput). s.panel ∷ s.number ∷ []) site.outputs draft.outputs
+      seen.outputs
       (outputs_apart draft once);
 }
 
 -- ---- the list of names
 
-rise_at : (e : List ℕ × Thing) (names : List Named) → AllByRecursion (λ (o : List ℕ × Thing). slice_cmp nat_cmp e.0 o.0 ≡ Less) (map named_view names) → (k : ℕ)
+rise_at : (e : List ℕ × Thing) (names : List Named) → AllByRecursion (λ (o : List ℕ × Thing). slice_cmp nat_cmp e.0 o.0 ≡ Less) (map named_view names)
+    → (k : ℕ)
     (b : Named) → slice_get names k ≡ Some b → slice_cmp nat_cmp e.0 b.name.bytes ≡ Less
 rise_at e [] all k b at = absurd (cc at)
 rise_at e (n ∷ names) all zero b at =
     let P : Named → Type 0 = λ m. slice_cmp nat_cmp e.0 m.name.bytes ≡ Less in subst P (inner n b at) all.0
 rise_at e (n ∷ names) all (suc k) b at = rise_at e names all.1 k b at
 
-rising_by : (names : List Named) → Rise (map named_view names) → (j k : ℕ) (a b : Named) → j < k → slice_get names j ≡ Some a → slice_get names k ≡ Some b
+rising_by : (names : List Named) → Rise (map named_view names) → (j k : ℕ) (a b : Named) → j < k → slice_get names j ≡ Some a
+    → slice_get names k ≡ Some b
     → slice_cmp nat_cmp a.name.bytes b.name.bytes ≡ Less
 rising_by [] rise j k a b lt at bt = absurd (cc at)
 rising_by (n ∷ names) rise j zero a b lt at bt = absurd (omega arith)
@@ -247,7 +274,8 @@ IsListed names t = (k : ℕ) × (named : Named) × (slice_get names k ≡ Some n
 listed_next : (n : Named) (names : List Named) (t : Thing) → IsListed names t → IsListed (n ∷ names) t
 listed_next n names t (k, named, at, is) = (suc k, named, at, is)
 
-listed_or : (n : Named) (names : List Named) (t : Thing) (b : Bool) (o : Option Thing) → (if b then Some n.thing else o) ≡ Some t → (o ≡ Some t → IsListed names t)
+listed_or : (n : Named) (names : List Named) (t : Thing) (b : Bool) (o : Option Thing) → (if b then Some n.thing else o) ≡ Some t
+    → (o ≡ Some t → IsListed names t)
     → IsListed (n ∷ names) t
 listed_or n names t true o e later = (zero, n, refl, inner n.thing t e)
 listed_or n names t false o e later = listed_next n names t (later e)
@@ -257,7 +285,8 @@ listed_whole [] name t e = absurd (cc e)
 listed_whole (n ∷ names) name t e =
     listed_or n names t (bytes_eq name n.name.bytes) (thing_among (map named_view names) name) e (λ f. listed_whole names name t f)
 
-pub names_listed : (draft : Draft) (site : Site) → SeenAs (named_in draft) draft site → twice_in draft ≡ None → AreListed (named_in draft) site.names → AreNames site
+pub names_listed : (draft : Draft) (site : Site) → SeenAs (named_in draft) draft site → twice_in draft ≡ None → AreListed (named_in draft) site.names
+    → AreNames site
 names_listed draft site seen once listed = record {
   rising = λ j k a b lt at bt. rising_by site.names listed.rising j k a b lt at bt;
   right = all_by_place (λ (named : Named). name_at site named.thing ≡ Some named.name.bytes) site.names

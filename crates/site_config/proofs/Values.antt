@@ -71,7 +71,8 @@ needed_there : (b c : Bool) (r : Refusal) → b ≡ true → (if b && c then Som
 needed_there true c r e missing = not_failed c r missing
 needed_there false c r e missing = absurd (cc e)
 
-there_at : (place : Place) (row : Members) (key : Key) → is_needed key row ≡ true → missing_at place row key ≡ None → is_none (value_at key row) ≡ false
+there_at : (place : Place) (row : Members) (key : Key) → is_needed key row ≡ true → missing_at place row key ≡ None
+    → is_none (value_at key row) ≡ false
 unfolding missing_at
 there_at place row key needed missing = needed_there (is_needed key row) (is_none (value_at key row)) _ needed missing
 
@@ -93,7 +94,8 @@ unfolding natural_at integer_at
 natural_is key row = refl
 
 -- a needed number lies in its range
-pub number_clean : (place : Place) (top row : Members) (key : Key) → form_of key ≡ form.Number → is_needed key row ≡ true → missing_at place row key ≡ None
+pub number_clean : (place : Place) (top row : Members) (key : Key) → form_of key ≡ form.Number → is_needed key row ≡ true
+    → missing_at place row key ≡ None
     → wrong_at place row key ≡ None → out_at place top row key ≡ None → InRange (range_of key top row) (natural_at key row)
 number_clean place top row key is needed missing wrong out =
     rw (natural_is key row)

@@ -1,5 +1,7 @@
--- The names and numbers that the zones, points, outputs and markers of a draft claim, in the order of the page, and the first that is claimed twice.
-use Rattle.std.specs.Prelude.{ℕ, ◌+◌, ◌||◌, ◌&&◌, ◌==◌, List, [], ◌∷◌, ◌++◌, Bool, false, Option, Some, None, is_some, codes, if◌then◌else◌}
+-- The names and numbers that the zones, points, outputs and markers of a draft claim, in the order of the
+-- page, and the first that is claimed twice.
+use Rattle.std.specs.Prelude.{ℕ, ◌+◌, ◌||◌, ◌&&◌, ◌==◌, List, [], ◌∷◌, ◌++◌, min, Bool, false, Option, Some, None}
+use Rattle.std.specs.Prelude.{is_some, codes, if◌then◌else◌}
 use Rattle.std.specs.List.{list_any}
 use Rattle.std.specs.Str.{bytes_eq}
 use Rattle.site_types.specs.declared.loop_plan.LoopPlan.{LoopPlan}
@@ -17,13 +19,26 @@ use Rattle.site_config.specs.declared.claim.Claim.{Claim}
 
 -- what each claims: its name, and its number with its kind, panel and loop
 abbrev pub zone_claim : ℕ → DraftZone → Claim
-zone_claim place zone = record { name = zone.name; number = Some (1 ∷ zone.panel ∷ 0 ∷ zone.number ∷ []); thing = Zone place }
+zone_claim place zone =
+    record { name = zone.name; number = Some (1 ∷ zone.panel ∷ 0 ∷ zone.number ∷ []); thing = Zone place }
 
 abbrev pub point_claim : ℕ → DraftPoint → Claim
-point_claim place point = record { name = point.name; number = Some (2 ∷ point.panel ∷ point.line ∷ point.address ∷ []); thing = Point place }
+point_claim place point =
+    record {
+      name = point.name;
+      number = Some (2 ∷ point.panel ∷ point.line ∷ point.address ∷ []);
+      thing =
+          Point place;
+    }
 
 abbrev pub output_claim : ℕ → DraftOutput → Claim
-output_claim place output = record { name = output.name; number = Some (3 ∷ output.panel ∷ 0 ∷ output.number ∷ []); thing = Output place }
+output_claim place output =
+    record {
+      name = output.name;
+      number = Some (3 ∷ output.panel ∷ 0 ∷ output.number ∷ []);
+      thing =
+          Output place;
+    }
 
 abbrev pub marker_claim : ℕ → DraftMarker → Claim
 marker_claim place marker = record { name = marker.name; number = None; thing = Marker place }
@@ -33,15 +48,27 @@ abbrev pub claims_from : {X : Type 0} → (ℕ → X → Claim) → ℕ → List
 claims_from claim place [] = []
 claims_from claim place (x ∷ rest) = claim place x ∷ claims_from claim (place + 1) rest
 
--- the claims of a draft in the order of the page
+-- the claims of a draft in the order of the page, each with what is kept of its place
+abbrev pub claims_by : (ℕ → ℕ) → Draft → List Claim
+claims_by keep draft =
+    claims_from (λ place. zone_claim (keep place)) 0 draft.zones
+    ++ claims_from (λ place. point_claim (keep place)) 0 draft.points
+    ++ claims_from (λ place. output_claim (keep place)) 0 draft.outputs
+    ++ claims_from (λ place. marker_claim (keep place)) 0 draft.markers
+
+-- the claims of a draft, each with its place
 unfoldable pub claims_of : Draft → List Claim
-claims_of draft =
-    claims_from zone_claim 0 draft.zones ++ claims_from point_claim 0 draft.points ++ claims_from output_claim 0 draft.outputs ++ claims_from marker_claim 0 draft.markers
+claims_of draft = claims_by (λ place. place) draft
+
+-- what two bytes keep of a place: past the greatest number that they hold, that number
+abbrev pub kept_place : ℕ → ℕ
+kept_place place = min place 65535
 
 -- what a name stands for by the claims made, the latest first
 abbrev pub thing_named : List Claim → List ℕ → Option Thing
 thing_named [] name = None
-thing_named (claim ∷ before) name = if bytes_eq claim.name name then Some claim.thing else thing_named before name
+thing_named (claim ∷ before) name =
+    if bytes_eq claim.name name then Some claim.thing else thing_named before name
 
 abbrev pub is_number_of : Option (List ℕ) → List ℕ → Bool
 is_number_of None number = false
@@ -63,7 +90,9 @@ is_claimed before claim = is_some (thing_named before claim.name) || is_number_c
 -- the first claim that was made before, where these were made already
 abbrev pub first_twice : List Claim → List Claim → Option Refusal
 first_twice before [] = None
-first_twice before (claim ∷ rest) = or_later (if is_claimed before claim then Some (twice claim.name) else None) (first_twice (claim ∷ before) rest)
+first_twice before (claim ∷ rest) =
+    or_later (if is_claimed before claim then Some (twice claim.name) else None)
+    (first_twice (claim ∷ before) rest)
 
 -- all claims, the latest first
 abbrev pub onto : List Claim → List Claim → List Claim
@@ -81,7 +110,9 @@ is_same_loop a b = (a.panel == b.panel) && (a.line == b.line)
 abbrev pub loop_twice : List LoopPlan → ℕ → List LoopPlan → Option Refusal
 loop_twice before n [] = None
 loop_twice before n (plan ∷ rest) =
-    or_later (if list_any (is_same_loop plan) before then Some (twice (key_text (record { kind = kind.Loop; number = n }) (codes "loop"))) else None)
+    or_later
+    (if list_any (is_same_loop plan) before then Some
+    (twice (key_text (record { kind = kind.Loop; number = n }) (codes "loop"))) else None)
     (loop_twice (before ++ plan ∷ []) (n + 1) rest)
 
 -- a name or a number occurs a second time: the loops first, then zones, points, outputs and markers

@@ -7,6 +7,7 @@ use Rattle.site_config.specs.declared.claim.Claim.{Claim}
 use Rattle.site_config.specs.Claims.{thing_named, has_number}
 use Rattle.site_config.specs.NameMaps.{look_up, is_in}
 
-pub record Holds (before : List Claim) (by_name : BTreeMap (String Global) Thing) (by_number : BTreeMap (List ℕ) (Unit {0})) : Type 0 where
+pub record Holds (before : List Claim) (by_name : BTreeMap (String Global) Thing) (by_number :
+    BTreeMap (List ℕ) (Unit {0})) : Type 0 where
   pub names : (q : List ℕ) → look_up by_name q ≡ thing_named before q
   pub numbers : (q : List ℕ) → is_in by_number q ≡ has_number before q

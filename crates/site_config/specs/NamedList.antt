@@ -21,7 +21,8 @@ entries_view entries = map entry_view entries
 -- each name is below those after it, by their bytes
 abbrev pub Rise : List (List ℕ × Thing) → Type 0
 Rise [] = Unit {0}
-Rise (named ∷ rest) = AllByRecursion (λ (other : List ℕ × Thing). slice_cmp nat_cmp named.0 other.0 ≡ Less) rest × Rise rest
+Rise (named ∷ rest) =
+    AllByRecursion (λ (other : List ℕ × Thing). slice_cmp nat_cmp named.0 other.0 ≡ Less) rest × Rise rest
 
 -- what a name stands for in a list of names
 abbrev pub thing_among : List (List ℕ × Thing) → List ℕ → Option Thing

@@ -18,12 +18,15 @@ is_named name (Some other) = bytes_eq other name
 -- the partner is another zone, has this one as its partner, and is of the same type
 abbrev pub is_mutual : DraftZone → List ℕ → Option DraftZone → Bool
 is_mutual zone name None = false
-is_mutual zone name (Some partner) = not (bytes_eq name zone.name) && is_named zone.name partner.partner && is_partner_type zone.rule partner.rule
+is_mutual zone name (Some partner) = not (bytes_eq name zone.name) && is_named zone.name partner.partner
+    && is_partner_type zone.rule partner.rule
 
-abbrev pub mutual_missing : (List ℕ → Option Thing) → List DraftZone → DraftZone → Option (List ℕ) → Option Refusal
+abbrev pub mutual_missing : (List ℕ → Option Thing) → List DraftZone → DraftZone → Option (List ℕ)
+    → Option Refusal
 mutual_missing look zones zone None = None
 mutual_missing look zones zone (Some name) =
-    if is_mutual zone name (zone_at zones (zone_place (look name))) then None else Some (partner_not_mutual zone.name)
+    if is_mutual zone name (zone_at zones (zone_place (look name))) then None else Some
+    (partner_not_mutual zone.name)
 
 unfoldable pub mutual_fault : (List ℕ → Option Thing) → List DraftZone → DraftZone → Option Refusal
 mutual_fault look zones zone = mutual_missing look zones zone zone.partner

@@ -67,15 +67,38 @@ pub record SeenSite : Type 0 where
   pub markers : List SeenMarker
 
 abbrev pub zone_view : Zone → SeenZone
-zone_view zone = record { name = zone.name.bytes; panel = zone.panel; number = zone.number; rule = zone.rule; partner = zone.partner }
+zone_view zone = record {
+  name = zone.name.bytes;
+  panel = zone.panel;
+  number = zone.number;
+  rule =
+      zone.rule;
+  partner = zone.partner;
+}
 
 abbrev pub point_view : Point → SeenPoint
 point_view point =
-    record { name = point.name.bytes; panel = point.panel; line = point.line; address = point.address; zone = point.zone; manual = point.manual }
+    record {
+      name = point.name.bytes;
+      panel = point.panel;
+      line = point.line;
+      address = point.address;
+      zone =
+          point.zone;
+      manual = point.manual;
+    }
 
 abbrev pub output_view : Output → SeenOutput
 output_view output =
-    record { name = output.name.bytes; panel = output.panel; number = output.number; kind = output.kind; marker = output.marker; delay = output.delay }
+    record {
+      name = output.name.bytes;
+      panel = output.panel;
+      number = output.number;
+      kind =
+          output.kind;
+      marker = output.marker;
+      delay = output.delay;
+    }
 
 abbrev pub marker_view : Marker → SeenMarker
 marker_view marker = record { name = marker.name.bytes; combine = marker.combine; terms = marker.terms }
@@ -102,7 +125,14 @@ partner_place look (Some name) = Some (place_or_zero (zone_place (look name)))
 
 unfoldable pub placed_zone : (List ℕ → Option Thing) → DraftZone → SeenZone
 placed_zone look zone =
-    record { name = zone.name; panel = zone.panel; number = zone.number; rule = zone.rule; partner = partner_place look zone.partner }
+    record {
+      name = zone.name;
+      panel = zone.panel;
+      number = zone.number;
+      rule = zone.rule;
+      partner =
+          partner_place look zone.partner;
+    }
 
 unfoldable pub placed_point : (List ℕ → Option Thing) → DraftPoint → SeenPoint
 placed_point look point = record {
@@ -131,7 +161,8 @@ placed_term look (term.Fault panel) = placed.Fault (byte_of panel)
 placed_term look (term.Marker name) = placed.Marker (place_or_zero (marker_place (look name)))
 
 unfoldable pub placed_marker : (List ℕ → Option Thing) → DraftMarker → SeenMarker
-placed_marker look marker = record { name = marker.name; combine = marker.combine; terms = map (placed_term look) marker.terms }
+placed_marker look marker =
+    record { name = marker.name; combine = marker.combine; terms = map (placed_term look) marker.terms }
 
 unfoldable pub placed_site : (List ℕ → Option Thing) → Draft → SeenSite
 placed_site look draft = record {

@@ -1,7 +1,8 @@
-ghost use Rattle.std.specs.Prelude.{◌≡◌, ◌++◌, ◌<◌, ℕ, IfOk, OnOk, is_ok};
+ghost use Rattle.std.specs.Prelude.{◌≡◌, ◌++◌, ℕ, IfOk, OnOk};
 ghost use Rattle.site_config.specs.Claims.{
+  claims_by,
   claims_from,
-  claims_of as claims_in,
+  kept_place,
   marker_claim as marker_claim_of,
   output_claim as output_claim_of,
   point_claim as point_claim_of,
@@ -84,30 +85,25 @@ fn put_claims<T: Claimant>(
     claims: &mut Vec<Claim>,
     items: &[T],
 ) -> Result<(), AllocError>
-    ensures { OnOk result (claims.new.items ≡ claims.old.items ++ claims_from T.claims 0 items.now) }
+    ensures { OnOk result (claims.new.items ≡ claims.old.items
+        ++ claims_from (λ place. T.claims (kept_place place)) 0 items.now) }
 {
     'items: for (index, item) in items.iter().enumerate() {
-        let place = place_of(index)?;
-        claims.push(item.claim(alloc, place)?)?;
+        claims.push(item.claim(alloc, place_of(index))?)?;
     }
     Ok(())
 }
 
-/// A place as a site keeps it. No site file has so many tables that it would not fit; if one had, its lists would want too much memory.
-fn place_of(index: usize) -> Result<u16, AllocError>
-    ensures { IfOk result (λ place. place ≡ index) }
+// A place as a site keeps it. A list with more items than fit claims some number twice, and is refused for that.
+fn place_of(index: usize) -> u16
+    ensures { result ≡ kept_place index }
 {
-    if index < 65536 {
-        Ok(index as u16)
-    } else {
-        Err(AllocError)
-    }
+    index.min(65535) as u16
 }
 
 /// What the zones, points, outputs and markers of a draft claim, in this order.
-#[tactic(auto, unfolding(crate::specs::Claims::claims_of))]
 pub fn claims_of(alloc: Global, draft: &Draft) -> Result<Vec<Claim>, AllocError>
-    ensures { IfOk result (λ claims. claims.items ≡ claims_in draft.now) }
+    ensures { IfOk result (λ claims. claims.items ≡ claims_by kept_place draft.now) }
 {
     let mut claims = Vec::new(alloc);
     put_claims(alloc, &mut claims, draft.zones.as_slice())?;

@@ -1,8 +1,9 @@
 //! Reads a site file, and passes on the types of a site.
 //!
-//! Begin with `read_site`: it answers the site that the bytes of a file spell, which is valid, or the first thing that is wrong in them. A crate
-//! that takes sites may name this crate alone: all that `site_types` has is here under its own name, the code and the words of clauses
-//! (`Rattle.site_config.specs.Valid` is its `specs/Valid`, `Rattle.site_config.specs.Site` its struct `Site`).
+//! Begin with `read_site`: it answers the site that the bytes of a file spell, which is valid, or the first
+//! thing that is wrong in them. A crate that takes sites may name this crate alone: all that `site_types` has
+//! is here under its own name, the code and the words of clauses (`Rattle.site_config.specs.Valid` is its
+//! `specs/Valid`, `Rattle.site_config.specs.Site` its struct `Site`).
 //!
 //! Reading takes memory some times the file's length, and time about that length times its logarithm.
 #![tactic(auto)]

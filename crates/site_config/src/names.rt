@@ -26,7 +26,8 @@ pub fn put_name(
     name: &str,
     thing: Thing,
 ) -> Result<(), AllocError>
-    ensures { OnOk result ((q : List ℕ) → look_up names.new q ≡ (if bytes_eq name.now q then Some thing else look_up names.old q)) }
+    ensures { OnOk result ((q : List ℕ)
+        → look_up names.new q ≡ (if bytes_eq name.now q then Some thing else look_up names.old q)) }
 {
     let key = String::from_str(alloc, name)?;
     names.insert(key, thing)?;
@@ -42,7 +43,8 @@ pub fn has_number(numbers: &Numbers, number: [u8; 4]) -> bool
 
 /// Claims a number.
 pub fn put_number(numbers: &mut Numbers, number: [u8; 4]) -> Result<(), AllocError>
-    ensures { OnOk result ((q : List ℕ) → is_in numbers.new q ≡ (bytes_eq number q || is_in numbers.old q)) }
+    ensures { OnOk result ((q : List ℕ)
+        → is_in numbers.new q ≡ (bytes_eq number q || is_in numbers.old q)) }
 {
     numbers.insert(number, ())?;
     Ok(())

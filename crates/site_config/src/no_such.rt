@@ -82,7 +82,9 @@ fn is_zone_of(zones: &[DraftZone], panel: u8, place: Option<u16>) -> bool
 }
 
 fn check_points(alloc: Global, names: &Names, draft: &Draft) -> Result<(), SiteRefusal>
-    ensures { Tells result (first_found (point_fault (look_up names.now) draft.now.loops draft.now.zones) draft.now.points) }
+    ensures { Tells result
+        (first_found (point_fault (look_up names.now) draft.now.loops draft.now.zones)
+        draft.now.points) }
 {
     let points = draft.points.as_slice();
     let loops = draft.loops.as_slice();

@@ -3,7 +3,8 @@ ghost use Rattle.std.specs.Str.{bytes_eq};
 ghost use Rattle.site_types.specs.Valid.{is_partner_type as is_partner_type_of};
 ghost use Rattle.site_document.specs.Refusals.{IsSaid, Tells, first_found, partner_not_mutual};
 ghost use Rattle.site_config.specs.NameMaps.{look_up};
-ghost use Rattle.site_config.specs.Partners.{is_mutual as is_mutual_in, is_named as is_named_in, mutual_fault, unmutual_in, zone_at as zone_in};
+ghost use Rattle.site_config.specs.Partners.{is_mutual as is_mutual_in, is_named as is_named_in, mutual_fault};
+ghost use Rattle.site_config.specs.Partners.{unmutual_in, zone_at as zone_in};
 
 use crate::lookups::zone_place;
 use crate::names::{Names, thing_of};

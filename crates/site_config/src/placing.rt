@@ -72,7 +72,8 @@ fn place_zone(names: &Names, zone: &DraftZone) -> Result<Zone, AllocError>
 }
 
 fn place_zones(alloc: Global, names: &Names, zones: &[DraftZone]) -> Result<Items<Zone>, AllocError>
-    ensures { IfOk result (λ placed. map zone_view placed ≡ map (placed_zone (look_up names.now)) zones.now) }
+    ensures { IfOk result (λ placed. map zone_view placed ≡ map (placed_zone (look_up names.now))
+        zones.now) }
 {
     let mut placed = Vec::new(alloc);
     'zones: for zone in zones {
@@ -83,7 +84,8 @@ fn place_zones(alloc: Global, names: &Names, zones: &[DraftZone]) -> Result<Item
 
 #[tactic(auto, unfolding(crate::specs::Placing::placed_point))]
 fn place_point(names: &Names, point: &DraftPoint) -> Result<Point, AllocError>
-    ensures { IfOk result (λ placed. point_view placed ≡ placed_point (look_up names.now) point.now) }
+    ensures { IfOk result (λ placed. point_view placed ≡ placed_point (look_up names.now)
+        point.now) }
 {
     Ok(Point {
         name: label_of(point.name.as_str())?,
@@ -100,7 +102,8 @@ fn place_points(
     names: &Names,
     points: &[DraftPoint],
 ) -> Result<Items<Point>, AllocError>
-    ensures { IfOk result (λ placed. map point_view placed ≡ map (placed_point (look_up names.now)) points.now) }
+    ensures { IfOk result (λ placed. map point_view placed ≡ map (placed_point (look_up names.now))
+        points.now) }
 {
     let mut placed = Vec::new(alloc);
     'points: for point in points {
@@ -111,7 +114,8 @@ fn place_points(
 
 #[tactic(auto, unfolding(crate::specs::Placing::placed_output))]
 fn place_output(names: &Names, output: &DraftOutput) -> Result<Output, AllocError>
-    ensures { IfOk result (λ placed. output_view placed ≡ placed_output (look_up names.now) output.now) }
+    ensures { IfOk result (λ placed. output_view placed ≡ placed_output (look_up names.now)
+        output.now) }
 {
     Ok(Output {
         name: label_of(output.name.as_str())?,
@@ -128,7 +132,8 @@ fn place_outputs(
     names: &Names,
     outputs: &[DraftOutput],
 ) -> Result<Items<Output>, AllocError>
-    ensures { IfOk result (λ placed. map output_view placed ≡ map (placed_output (look_up names.now)) outputs.now) }
+    ensures { IfOk result
+        (λ placed. map output_view placed ≡ map (placed_output (look_up names.now)) outputs.now) }
 {
     let mut placed = Vec::new(alloc);
     'outputs: for output in outputs {
@@ -161,7 +166,8 @@ fn place_terms(alloc: Global, names: &Names, terms: &[DraftTerm]) -> Result<Item
 }
 
 fn terms_of(alloc: Global, names: &Names, terms: &[DraftTerm]) -> Result<Vec<Term>, AllocError>
-    ensures { IfOk result (λ placed. placed.items ≡ map (placed_term (look_up names.now)) terms.now) }
+    ensures { IfOk result (λ placed. placed.items ≡ map (placed_term (look_up names.now))
+        terms.now) }
 {
     terms
         .iter()
@@ -171,7 +177,8 @@ fn terms_of(alloc: Global, names: &Names, terms: &[DraftTerm]) -> Result<Vec<Ter
 
 #[tactic(auto, unfolding(crate::specs::Placing::placed_marker))]
 fn place_marker(alloc: Global, names: &Names, marker: &DraftMarker) -> Result<Marker, AllocError>
-    ensures { IfOk result (λ placed. marker_view placed ≡ placed_marker (look_up names.now) marker.now) }
+    ensures { IfOk result (λ placed. marker_view placed ≡ placed_marker (look_up names.now)
+        marker.now) }
 {
     Ok(Marker {
         name: label_of(marker.name.as_str())?,
@@ -185,7 +192,8 @@ fn place_markers(
     names: &Names,
     markers: &[DraftMarker],
 ) -> Result<Items<Marker>, AllocError>
-    ensures { IfOk result (λ placed. map marker_view placed ≡ map (placed_marker (look_up names.now)) markers.now) }
+    ensures { IfOk result
+        (λ placed. map marker_view placed ≡ map (placed_marker (look_up names.now)) markers.now) }
 {
     let mut placed = Vec::new(alloc);
     'markers: for marker in markers {

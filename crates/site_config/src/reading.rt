@@ -4,7 +4,7 @@ ghost use Rattle.site_document.specs.Documents.{IsRefusedBy};
 ghost use Rattle.site_document.specs.Refusals.{Tells};
 ghost use Rattle.site_config.specs.Claims.{named_in, twice_in};
 ghost use Rattle.site_config.specs.NameMaps.{look_up};
-ghost use Rattle.site_config.specs.Sites.{IsPlaced, IsSpelled, draft_finding, site_finding};
+ghost use Rattle.site_config.specs.Sites.{IsOfClean, IsPlaced, IsSpelled, draft_finding, site_finding};
 
 use crate::claims::claims_of;
 use crate::crossing::{check_sections, spots_of};
@@ -17,8 +17,8 @@ use site_document::{Draft, SiteRefusal, read_draft};
 use site_types::Site;
 use std::alloc::Global;
 
-/// Reads a site file of any bytes, or answers why it is refused. Takes memory some times the file's length, and time about that length
-/// times its logarithm.
+/// Reads a site file of any bytes, or answers why it is refused. Takes memory some times the file's length,
+/// and time about that length times its logarithm.
 pub fn read_site(alloc: Global, bytes: &[u8]) -> Result<Site, SiteRefusal>
     ensures site { IfOk result (IsSpelled bytes.now) }
     ensures valid { IfOk result IsValid }
@@ -31,6 +31,7 @@ pub fn read_site(alloc: Global, bytes: &[u8]) -> Result<Site, SiteRefusal>
 /// The site of a draft, or what is wrong in it.
 #[tactic(auto, unfolding(crate::specs::Sites::draft_finding))]
 fn finish(alloc: Global, draft: Draft) -> Result<Site, SiteRefusal>
+    requires { IsOfClean draft }
     ensures told { Tells result (draft_finding draft) }
     ensures site { IfOk result (IsPlaced draft) }
 {
@@ -45,6 +46,7 @@ fn finish(alloc: Global, draft: Draft) -> Result<Site, SiteRefusal>
 /// What each name of a draft stands for, or the first name or number that stands there twice.
 #[tactic(auto, unfolding(crate::specs::Claims::twice_in))]
 fn names_in(alloc: Global, draft: &Draft) -> Result<Names, SiteRefusal>
+    requires { IsOfClean draft.now }
     ensures told { Tells result (twice_in draft.now) }
     ensures named { IfOk result (λ names. look_up names ≡ named_in draft.now) }
 {

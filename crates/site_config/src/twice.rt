@@ -4,7 +4,8 @@ ghost use Rattle.site_document.specs.declared.row_kind.RowKind.TheVariants.{Loop
 ghost use Rattle.site_document.specs.Refusals.{IsSaid, Tells, twice as is_twice};
 ghost use Rattle.site_document.specs.Texts.{key_text};
 ghost use Rattle.site_config.specs.declared.claim.Claim.{Claim as ClaimOf};
-ghost use Rattle.site_config.specs.Claims.{first_twice, is_claimed as is_claimed_in, is_same_loop as is_same_loop_of, loop_twice, onto, thing_named};
+ghost use Rattle.site_config.specs.Claims.{first_twice, is_claimed as is_claimed_in, is_same_loop as is_same_loop_of};
+ghost use Rattle.site_config.specs.Claims.{loop_twice, onto, thing_named};
 ghost use Rattle.site_config.specs.Held.{Holds};
 ghost use Rattle.site_config.specs.NameMaps.{look_up};
 
@@ -40,7 +41,8 @@ fn is_same_loop(plan: &LoopPlan, other: &LoopPlan) -> bool
 }
 
 fn second_loop(alloc: Global, number: usize) -> SiteRefusal
-    ensures { IsSaid result (Some (is_twice (key_text (record { kind = Loop; number = number }) (codes "loop")))) }
+    ensures { IsSaid result
+        (Some (is_twice (key_text (record { kind = Loop; number = number }) (codes "loop")))) }
 {
     let place = Place {
         kind: RowKind::Loop,
@@ -55,7 +57,8 @@ fn second_loop(alloc: Global, number: usize) -> SiteRefusal
 /// Refuses the first claim that was made before, or answers what each name stands for.
 pub fn check_claims(alloc: Global, claims: &[Claim]) -> Result<Names, SiteRefusal>
     ensures told { Tells result (first_twice [] claims.now) }
-    ensures named { IfOk result (λ names. (q : List ℕ) → look_up names q ≡ thing_named (onto [] claims.now) q) }
+    ensures named { IfOk result (λ names. (q : List ℕ)
+        → look_up names q ≡ thing_named (onto [] claims.now) q) }
 {
     let mut names = BTreeMap::new(alloc);
     let mut numbers = BTreeMap::new(alloc);
@@ -69,7 +72,8 @@ pub fn check_claims(alloc: Global, claims: &[Claim]) -> Result<Names, SiteRefusa
 }
 
 fn is_claimed(names: &Names, numbers: &Numbers, claim: &Claim) -> bool
-    ensures { (before : List ClaimOf) → Holds before names.now numbers.now → result ≡ is_claimed_in before claim.now }
+    ensures { (before : List ClaimOf) → Holds before names.now numbers.now
+        → result ≡ is_claimed_in before claim.now }
 {
     if thing_of(names, claim.name.as_str()).is_some() {
         return true;
@@ -86,7 +90,8 @@ fn put_claim(
     numbers: &mut Numbers,
     claim: &Claim,
 ) -> Result<(), AllocError>
-    ensures { (before : List ClaimOf) → Holds before names.old numbers.old → OnOk result (Holds (claim.now ∷ before) names.new numbers.new) }
+    ensures { (before : List ClaimOf) → Holds before names.old numbers.old
+        → OnOk result (Holds (claim.now ∷ before) names.new numbers.new) }
 {
     put_name(alloc, names, claim.name.as_str(), claim.thing)?;
     if let Some(number) = claim.number {

@@ -21,7 +21,9 @@ pub stripped : (w s : List ℕ) (r : Option (Bor (List ℕ))) → MatchOption r 
     → option_map (λ (x : Bor (List ℕ)). x.now) r ≡ after w s
 stripped w s None lacks =
     none_there (bytes_eq (take (length w) s) w) (drop (length w) s)
-    (λ same. lacks (drop (length w) s) (sym (take-append-drop (length w) s) ∙ ap (λ t. t ++ drop (length w) s) ((bytes_eq-Decides (take (length w) s) w).0 same)))
+    (λ same.
+    lacks (drop (length w) s)
+    (sym (take-append-drop (length w) s) ∙ ap (λ t. t ++ drop (length w) s) ((bytes_eq-Decides (take (length w) s) w).0 same)))
 stripped w s (Some x) (n, found, is, more) =
     some_there (bytes_eq (take (length w) s) w) x.now (drop (length w) s) ((bytes_eq-Decides (take (length w) s) w).1 (begins w s (drop n s) found.1))
     (is ∙ ap (λ k. drop k s) found.0)

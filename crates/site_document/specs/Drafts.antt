@@ -1,6 +1,7 @@
--- The draft that a document spells: the records of a site with names where a site has places. It is the document's, field by field,
--- where nothing is absent, of a wrong kind, unknown or out of range.
-use Rattle.std.specs.Prelude.{ℕ, ℤ, List, [], ◌∷◌, ◌++◌, Option, Some, None, Bool, false, nat_lt, option_to_list, option_map, if◌then◌else◌}
+-- The draft that a document spells: the records of a site with names where a site has places. It is the
+-- document's, field by field, where nothing is absent, of a wrong kind, unknown or out of range.
+use Rattle.std.specs.Prelude.{ℕ, ℤ, List, [], ◌∷◌, ◌++◌, Option, Some, None, Bool, false, nat_lt, option_to_list}
+use Rattle.std.specs.Prelude.{option_map, if◌then◌else◌}
 use Rattle.std.specs.Result.{result_ok}
 use Rattle.hex.specs.Hex.{decode_sized}
 use Rattle.toml.specs.Data.{Data, Items, no_items, item, Members, as_integer, as_str, as_table}
@@ -188,7 +189,8 @@ draft_of top = record {
   name = name_at key.Site top;
   panels = byte_at key.Panels top;
   waits = waits_of top;
-  codes = collected digest_from (items_at key.Level2 top) ∷ collected digest_from (items_at key.Level3 top) ∷ collected digest_from (items_at key.Level4 top) ∷ [];
+  codes = collected digest_from (items_at key.Level2 top) ∷ collected digest_from (items_at key.Level3 top)
+      ∷ collected digest_from (items_at key.Level4 top) ∷ [];
   loops = collected (from_table loop_of) (items_at key.Loops top);
   zones = collected (from_table zone_of) (items_at key.Zones top);
   points = collected (from_table point_of) (items_at key.Points top);

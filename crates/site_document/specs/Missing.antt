@@ -9,4 +9,6 @@ use Rattle.site_document.specs.Tables.{value_at}
 use Rattle.site_document.specs.Texts.{key_text, key_word}
 
 unfoldable pub missing_at : Place → Members → Key → Option Refusal
-missing_at place row key = if is_needed key row && is_none (value_at key row) then Some (missing (key_text place (key_word key))) else None
+missing_at place row key =
+    if is_needed key row && is_none (value_at key row) then Some (missing (key_text place (key_word key)))
+    else None

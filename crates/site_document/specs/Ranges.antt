@@ -1,8 +1,13 @@
--- Fifth refusal of a site file: a number outside its range, an isolator that isn't above the one before, a list that is too long or empty.
-use Rattle.std.specs.Prelude.{ℕ, ℤ, List, pos, negsuc, ◌+◌, Bool, false, ◌&&◌, nat_le, nat_lt, Option, Some, None, if◌then◌else◌}
+-- Fifth refusal of a site file: a number outside its range, an isolator that isn't above the one before, a
+-- list that is too long or empty.
+use Rattle.std.specs.Prelude.{ℕ, ℤ, List, pos, negsuc, ◌+◌, Bool, false, ◌&&◌, nat_le, nat_lt, Option, Some, None}
+use Rattle.std.specs.Prelude.{if◌then◌else◌}
 use Rattle.toml.specs.Data.{Items, no_items, item, Members, as_integer}
 use Rattle.site_types.specs.Limits.{most_panels, most_loops, most_zones, most_markers, most_terms, most_codes}
-use Rattle.site_types.specs.Profile.{last_address_of, greatest_mains_wait_of, greatest_standby_wait_of, greatest_voltage_wait_of, greatest_charger_wait_of, greatest_delay_of, least_verify_of, greatest_verify_of, least_within_a_of, least_within_b_of, greatest_within_of}
+use Rattle.site_types.specs.Profile.{last_address_of, greatest_mains_wait_of, greatest_standby_wait_of}
+use Rattle.site_types.specs.Profile.{greatest_voltage_wait_of, greatest_charger_wait_of, greatest_delay_of}
+use Rattle.site_types.specs.Profile.{least_verify_of, greatest_verify_of, least_within_a_of, least_within_b_of}
+use Rattle.site_types.specs.Profile.{greatest_within_of}
 use Rattle.site_document.specs.declared.form.Form.{Form}
 use Rattle.site_document.specs.declared.form.Form.TheVariants as form
 use Rattle.site_document.specs.declared.key.Key.{Key}
@@ -122,7 +127,9 @@ is_between before end (negsuc n) = false
 -- an isolator that isn't above the one before and below the end
 abbrev pub fall_at : Place → ℕ → ℕ → ℕ → Option ℤ → Option Refusal
 fall_at place before end n None = None
-fall_at place before end n (Some z) = if is_between before end z then None else Some (out_of_range (item_text place (key_word key.Isolators) n) z)
+fall_at place before end n (Some z) =
+    if is_between before end z then None else Some
+    (out_of_range (item_text place (key_word key.Isolators) n) z)
 
 -- the isolator that the next one has to be above
 abbrev pub next_before : ℕ → Option ℤ → ℕ
@@ -133,14 +140,19 @@ next_before before (Some z) = natural_in (Some z)
 abbrev pub first_fall : Place → ℕ → ℕ → ℕ → Items → Option Refusal
 first_fall place before end n no_items = None
 first_fall place before end n (item value items) =
-    or_later (fall_at place before end n (as_integer value)) (first_fall place (next_before before (as_integer value)) end (n + 1) items)
+    or_later (fall_at place before end n (as_integer value))
+    (first_fall place (next_before before (as_integer value)) end (n + 1) items)
 
 abbrev pub out_by : Form → Place → Members → Members → Key → Option Refusal
-out_by form.Number place top row k = number_out (range_of k top row) (key_text place (key_word k)) (integer_at k row)
+out_by form.Number place top row k =
+    number_out (range_of k top row) (key_text place (key_word k)) (integer_at k row)
 out_by form.Numbers place top row k = first_fall place 0 (natural_at key.Last row) 1 (items_at k row)
-out_by form.Digests place top row k = length_out (length_range k) (key_text place (key_word k)) (count_of (items_at k row))
-out_by form.Terms place top row k = length_out (length_range k) (key_text place (key_word k)) (count_of (items_at k row))
-out_by form.Tables place top row k = length_out (length_range k) (key_text place (key_word k)) (count_of (items_at k row))
+out_by form.Digests place top row k =
+    length_out (length_range k) (key_text place (key_word k)) (count_of (items_at k row))
+out_by form.Terms place top row k =
+    length_out (length_range k) (key_text place (key_word k)) (count_of (items_at k row))
+out_by form.Tables place top row k =
+    length_out (length_range k) (key_text place (key_word k)) (count_of (items_at k row))
 out_by form.Name place top row k = None
 out_by form.ZoneType place top row k = None
 out_by form.PointKind place top row k = None

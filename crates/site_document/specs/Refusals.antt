@@ -46,7 +46,8 @@ is_of_bytes code.NoMemory = false
 abbrev pub IsSaid : SiteRefusal → Option Refusal → Type 0
 IsSaid refusal found = (is_of_bytes refusal ≡ false) × IfSome (refusal_of refusal) (λ r. found ≡ Some r)
 
--- an answer agrees with what is found: a refusal is the finding or want of memory, and all else comes where nothing is found
+-- an answer agrees with what is found: a refusal is the finding or want of memory, and all else comes where
+-- nothing is found
 abbrev pub Tells : {A : Type 0} → Result A SiteRefusal → Option Refusal → Type 0
 Tells (Ok _) found = found ≡ None
 Tells (Err refusal) found = IsSaid refusal found

@@ -9,7 +9,9 @@ use Rattle.site_document.specs.declared.row_kind.RowKind.TheVariants as kind
 
 -- the keys of a table
 unfoldable pub keys_of : RowKind → List Key
-keys_of kind.Top = key.ChargerWait ∷ key.Format ∷ key.Level2 ∷ key.Level3 ∷ key.Level4 ∷ key.Loops ∷ key.MainsWait ∷ key.Markers ∷ key.Outputs ∷ key.Panels ∷ key.Points ∷ key.Site ∷ key.StandbyWait ∷ key.VoltageWait ∷ key.Zones ∷ []
+keys_of kind.Top = key.ChargerWait ∷ key.Format ∷ key.Level2 ∷ key.Level3 ∷ key.Level4 ∷ key.Loops
+    ∷ key.MainsWait ∷ key.Markers ∷ key.Outputs ∷ key.Panels ∷ key.Points ∷ key.Site ∷ key.StandbyWait
+    ∷ key.VoltageWait ∷ key.Zones ∷ []
 keys_of kind.Loop = key.Isolators ∷ key.Last ∷ key.Loop ∷ key.Panel ∷ []
 keys_of kind.Zone = key.Name ∷ key.Number ∷ key.Panel ∷ key.Partner ∷ key.Type ∷ key.Verify ∷ key.Within ∷ []
 keys_of kind.Point = key.Address ∷ key.PointKind ∷ key.Loop ∷ key.Name ∷ key.Panel ∷ key.Zone ∷ []

@@ -1,6 +1,7 @@
 -- What a table of a site file says at its keys.
 use Rattle.std.specs.Prelude.{ℕ, ℤ, pos, negsuc, ◌+◌, ◌==◌, List, Option, Some, None, if◌then◌else◌}
-use Rattle.toml.specs.Data.{Data, string, integer, float, boolean, datetime, array, table, Items, no_items, item, Members, get_member, as_integer, as_str}
+use Rattle.toml.specs.Data.{Data, string, integer, float, boolean, datetime, array, table, Items, no_items, item}
+use Rattle.toml.specs.Data.{Members, get_member, as_integer, as_str}
 use Rattle.site_document.specs.declared.key.Key.{Key}
 use Rattle.site_document.specs.declared.key.Key.TheVariants as key
 use Rattle.site_document.specs.declared.row_kind.RowKind.{RowKind}

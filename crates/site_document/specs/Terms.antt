@@ -1,5 +1,6 @@
 -- The terms of a marker, and digests, as texts.
-use Rattle.std.specs.Prelude.{ℕ, ◌==◌, List, Bool, false, ◌&&◌, ◌||◌, nat_le, Option, Some, None, is_some, codes, length, take, drop, if◌then◌else◌}
+use Rattle.std.specs.Prelude.{ℕ, ◌==◌, List, Bool, false, ◌&&◌, ◌||◌, nat_le, Option, Some, None, is_some, codes}
+use Rattle.std.specs.Prelude.{length, take, drop, if◌then◌else◌}
 use Rattle.std.specs.List.{list_all}
 use Rattle.std.specs.Str.{bytes_eq}
 use Rattle.site_types.specs.Names.{is_name}
@@ -19,7 +20,9 @@ split_as kind None otherwise = otherwise
 unfoldable pub split_term : List ℕ → Option (TermKind × List ℕ)
 split_term text =
     split_as kind.Zone (after (codes "zone:") text)
-    (split_as kind.Manual (after (codes "manual:") text) (split_as kind.Fault (after (codes "fault:") text) (split_as kind.Marker (after (codes "marker:") text) None)))
+    (split_as kind.Manual (after (codes "manual:") text)
+    (split_as kind.Fault (after (codes "fault:") text)
+    (split_as kind.Marker (after (codes "marker:") text) None)))
 
 -- a term names a zone or a marker by its name, and a panel by its number
 abbrev pub is_operand : TermKind → List ℕ → Bool

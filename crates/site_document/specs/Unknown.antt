@@ -1,4 +1,5 @@
--- Fourth refusal of a site file: a key that isn't one of its table, or isn't one for the table's type or kind.
+-- Fourth refusal of a site file: a key that isn't one of its table, or isn't one for the table's type or
+-- kind.
 use Rattle.std.specs.Prelude.{ℕ, List, Bool, ◌&&◌, Option, Some, None, if◌then◌else◌}
 use Rattle.std.specs.List.{list_any}
 use Rattle.std.specs.Str.{bytes_eq}
@@ -18,7 +19,8 @@ is_known kind row name = list_any (λ key. bytes_eq (key_word key) name && is_al
 abbrev pub unknown_among : Place → Members → Members → Option Refusal
 unknown_among place row no_members = None
 unknown_among place row (member name value rest) =
-    or_later (if is_known place.kind row name then None else Some (unknown (key_text place name))) (unknown_among place row rest)
+    or_later (if is_known place.kind row name then None else Some (unknown (key_text place name)))
+    (unknown_among place row rest)
 
 unfoldable pub unknown_in : Place → Members → Option Refusal
 unknown_in place row = unknown_among place row row

@@ -1,7 +1,9 @@
--- A site file looked at in passes: each pass looks at the table of the whole file first, then at loops, zones, points, outputs and markers,
--- each list in its order and the keys of each table in alphabetical order.
+-- A site file looked at in passes: each pass looks at the table of the whole file first, then at loops,
+-- zones, points, outputs and markers, each list in its order and the keys of each table in alphabetical
+-- order.
 use Rattle.std.specs.Prelude.{ℕ, ◌+◌, List, [], ◌∷◌, Option, Some, None}
-use Rattle.toml.specs.Data.{Data, string, integer, float, boolean, datetime, array, table, Items, no_items, item, Members}
+use Rattle.toml.specs.Data.{Data, string, integer, float, boolean, datetime, array, table, Items, no_items, item}
+use Rattle.toml.specs.Data.{Members}
 use Rattle.site_document.specs.declared.key.Key.{Key}
 use Rattle.site_document.specs.declared.place.Place.{Place}
 use Rattle.site_document.specs.declared.row_kind.RowKind.{RowKind}
@@ -55,7 +57,8 @@ found_in_row pass place top (array _) = found_stray pass place
 abbrev pub found_in_rows : Pass → RowKind → Members → ℕ → Items → Option Refusal
 found_in_rows pass kind top n no_items = None
 found_in_rows pass kind top n (item value items) =
-    or_later (found_in_row pass (record { kind = kind; number = n }) top value) (found_in_rows pass kind top (n + 1) items)
+    or_later (found_in_row pass (record { kind = kind; number = n }) top value)
+    (found_in_rows pass kind top (n + 1) items)
 
 unfoldable pub found_in_list : Pass → Members → RowKind → Option Refusal
 found_in_list pass top kind = found_in_rows pass kind top 1 (items_at (list_key kind) top)

@@ -17,7 +17,9 @@ zone_type_of s =
 
 -- whether a point is a manual call point
 unfoldable pub is_manual_of : List ℕ → Option Bool
-is_manual_of s = if bytes_eq s (codes "detector") then Some false else (if bytes_eq s (codes "manual") then Some true else None)
+is_manual_of s =
+    if bytes_eq s (codes "detector") then Some false else
+    (if bytes_eq s (codes "manual") then Some true else None)
 
 -- the kind of an output
 unfoldable pub output_kind_of : List ℕ → Option OutputKind
@@ -26,7 +28,8 @@ output_kind_of s =
     then Some output.Sounder
     else (if bytes_eq s (codes "routing")
     then Some output.Routing
-    else (if bytes_eq s (codes "protection") then Some output.Protection else (if bytes_eq s (codes "relay") then Some output.Relay else None)))
+    else (if bytes_eq s (codes "protection") then Some output.Protection else
+    (if bytes_eq s (codes "relay") then Some output.Relay else None)))
 
 -- the kind of a marker
 unfoldable pub marker_kind_of : List ℕ → Option MarkerKind

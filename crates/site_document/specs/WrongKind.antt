@@ -47,7 +47,8 @@ item_fits form.Tables value = true
 -- the place of the first item that hasn't its form, the first of these items having place n
 abbrev pub first_misfit : Form → ℕ → Items → Option ℕ
 first_misfit form n no_items = None
-first_misfit form n (item value items) = if item_fits form value then first_misfit form (n + 1) items else Some n
+first_misfit form n (item value items) =
+    if item_fits form value then first_misfit form (n + 1) items else Some n
 
 abbrev pub wrong_item : Place → Key → Option ℕ → Option Refusal
 wrong_item place key None = None
@@ -56,7 +57,9 @@ wrong_item place key (Some n) = Some (wrong_kind (item_text place (key_word key)
 abbrev pub wrong_value : Place → Key → Option Data → Option Refusal
 wrong_value place key None = None
 wrong_value place key (Some value) =
-    if fits (form_of key) value then wrong_item place key (first_misfit (form_of key) 1 (items_in (Some value))) else Some (wrong_kind (key_text place (key_word key)))
+    if fits (form_of key) value then wrong_item place key
+    (first_misfit (form_of key) 1 (items_in (Some value))) else Some
+    (wrong_kind (key_text place (key_word key)))
 
 unfoldable pub wrong_at : Place → Members → Key → Option Refusal
 wrong_at place row key = wrong_value place key (value_at key row)

@@ -1,11 +1,13 @@
 //! Reads the bytes of a site file into a draft: every key is there, of its kind, known and in its range.
 //!
-//! Begin with [`read_draft`]. A refusal is a function of the document that the bytes spell: four passes look at the whole file, one
-//! after the other, for absent keys, values of a wrong kind, unknown keys, and numbers and lists out of their range. Each looks at the
-//! table of the whole file first, then at the lists of loops, zones, points, outputs and markers in their order, and in each table at
-//! the keys in alphabetical order; the first finding is answered. What a table may say stands as data: which keys it has, what each
-//! asks for, and which numbers it may have. A file without a finding becomes a [`Draft`], in which names still stand where a site has
-//! places. The time is about that of reading the TOML document, and the memory some times the file's length.
+//! Begin with [`read_draft`]. A refusal is a function of the document that the bytes spell: four passes look
+//! at the whole file, one after the other, for absent keys, values of a wrong kind, unknown keys, and numbers
+//! and lists out of their range. Each looks at the table of the whole file first, then at the lists of loops,
+//! zones, points, outputs and markers in their order, and in each table at the keys in alphabetical order;
+//! the first finding is answered. What a table may say stands as data: which keys it has, what each asks for,
+//! and which numbers it may have. A file without a finding becomes a [`Draft`], in which names still stand
+//! where a site has places. The time is about that of reading the TOML document, and the memory some times
+//! the file's length.
 #![tactic(auto)]
 
 mod collect;

@@ -1,6 +1,7 @@
 ghost use Rattle.std.specs.Prelude.{◌≡◌, pos};
 ghost use Rattle.toml.specs.View.{items_view, table_view};
-ghost use Rattle.site_document.specs.Ranges.{first_fall, is_between as is_between_in, length_out, number_out, out_at, range_of as range_in, length_range as length_range_of};
+ghost use Rattle.site_document.specs.Ranges.{first_fall, is_between as is_between_in, length_out, number_out, out_at};
+ghost use Rattle.site_document.specs.Ranges.{range_of as range_in, length_range as length_range_of};
 ghost use Rattle.site_document.specs.Refusals.{Tells};
 ghost use Rattle.site_document.specs.Tables.{count_of, integer_at as integer_in, items_at as items_in};
 ghost use Rattle.site_document.specs.Texts.{key_text, key_word};
@@ -53,7 +54,8 @@ fn check_number(
     table: &Table,
     key: Key,
 ) -> Result<(), SiteRefusal>
-    ensures { Tells result (number_out (range_in key (table_view top.now) (table_view table.now)) (key_text place.now (key_word key))
+    ensures { Tells result (number_out (range_in key (table_view top.now) (table_view table.now))
+        (key_text place.now (key_word key))
         (integer_in key (table_view table.now))) }
 {
     match integer_at(table, key) {
@@ -69,7 +71,8 @@ fn check_number(
 }
 
 fn check_length(alloc: Global, place: &Place, table: &Table, key: Key) -> Result<(), SiteRefusal>
-    ensures { Tells result (length_out (length_range_of key) (key_text place.now (key_word key)) (count_of (items_in key (table_view table.now)))) }
+    ensures { Tells result (length_out (length_range_of key) (key_text place.now (key_word key))
+        (count_of (items_in key (table_view table.now)))) }
 {
     let count = count(items_at(table, key));
     match length_range(key) {

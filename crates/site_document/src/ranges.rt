@@ -1,6 +1,7 @@
 ghost use Rattle.std.specs.Prelude.{◌≡◌, ◌<◌, ◌^◌};
 ghost use Rattle.toml.specs.View.{table_view};
-ghost use Rattle.site_document.specs.Ranges.{contains as contains_in, length_range as length_range_of, range_of as range_in, within_range as within_range_of};
+ghost use Rattle.site_document.specs.Ranges.{contains as contains_in, length_range as length_range_of};
+ghost use Rattle.site_document.specs.Ranges.{range_of as range_in, within_range as within_range_of};
 
 use crate::key::Key;
 use crate::tables::{format_at, items_at, natural_at, type_at};

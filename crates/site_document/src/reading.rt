@@ -14,10 +14,12 @@ use site_types::SITE_BYTES;
 use std::alloc::Global;
 use toml::Table;
 
-/// Reads a site file of any bytes into its draft, or answers the first fault: too many bytes, no TOML document, then the first
-/// finding of the first pass that finds anything. Takes memory for the document and the draft, some times the file's length.
+/// Reads a site file of any bytes into its draft, or answers the first fault: too many bytes, no TOML
+/// document, then the first finding of the first pass that finds anything. Takes memory for the document and
+/// the draft, some times the file's length.
 pub fn read_draft(alloc: Global, bytes: &[u8]) -> Result<Draft, SiteRefusal>
-    ensures draft { IfOk result (λ draft. (doc : Members) × IsAccepted finding bytes.now doc × (draft ≡ draft_of doc)) }
+    ensures draft { IfOk result (λ draft. (doc : Members) × IsAccepted finding bytes.now doc
+        × (draft ≡ draft_of doc)) }
     ensures refused { IfErr result (IsRefusedBy finding bytes.now) }
 {
     if bytes.len() > SITE_BYTES {

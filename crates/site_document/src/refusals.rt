@@ -1,7 +1,8 @@
 //! Refusals with the key at which something was found; want of memory in their place where memory runs out.
 
 ghost use Rattle.std.specs.Prelude.{Some};
-ghost use Rattle.site_document.specs.Refusals.{IsSaid, missing as is_missing, out_of_range as is_out_of_range, unknown as is_unknown, wrong_kind as is_wrong_kind};
+ghost use Rattle.site_document.specs.Refusals.{IsSaid, missing as is_missing, out_of_range as is_out_of_range};
+ghost use Rattle.site_document.specs.Refusals.{unknown as is_unknown, wrong_kind as is_wrong_kind};
 ghost use Rattle.site_document.specs.Texts.{item_text, key_text, key_word, row_text};
 
 use crate::key::Key;
@@ -77,7 +78,8 @@ pub fn item_out_of_range(
     item: usize,
     number: i64,
 ) -> SiteRefusal
-    ensures { IsSaid result (Some (is_out_of_range (item_text place.now (key_word key) item) number)) }
+    ensures { IsSaid result
+        (Some (is_out_of_range (item_text place.now (key_word key) item) number)) }
 {
     match place.item_text(alloc, key.word(), item) {
         Ok(text) => SiteRefusal::OutOfRange(text, number),

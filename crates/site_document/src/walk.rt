@@ -159,7 +159,8 @@ fn check_keys(
     top: &Table,
     table: &Table,
 ) -> Result<(), SiteRefusal>
-    ensures { Tells result (found_at_keys pass place.now (table_view top.now) (table_view table.now)) }
+    ensures { Tells result
+        (found_at_keys pass place.now (table_view top.now) (table_view table.now)) }
 {
     let keys = keys_of(place.kind);
     'keys: for key in keys {
@@ -177,7 +178,8 @@ fn check_key(
     table: &Table,
     key: Key,
 ) -> Result<(), SiteRefusal>
-    ensures { Tells result (found_at pass place.now (table_view top.now) (table_view table.now) key) }
+    ensures { Tells result (found_at pass place.now (table_view top.now) (table_view table.now)
+        key) }
 {
     match pass {
         Pass::Missing => check_missing(alloc, place, table, key),

@@ -1,7 +1,8 @@
 ghost use Rattle.std.specs.Prelude.{◌≡◌};
 ghost use Rattle.toml.specs.View.{items_view, table_view, view};
 ghost use Rattle.site_document.specs.Refusals.{Tells};
-ghost use Rattle.site_document.specs.WrongKind.{first_misfit as first_misfit_in, fits as fits_form, item_fits as item_fits_form, wrong_at};
+ghost use Rattle.site_document.specs.WrongKind.{first_misfit as first_misfit_in, fits as fits_form};
+ghost use Rattle.site_document.specs.WrongKind.{item_fits as item_fits_form, wrong_at};
 
 use crate::form::Form;
 use crate::key::Key;

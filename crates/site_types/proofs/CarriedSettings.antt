@@ -1,5 +1,7 @@
 -- What is carried of each setting of the new site.
-use Rattle.std.proofs.Common.{◌≡◌, ℕ, zero, suc, ◌+◌, ◌-◌, ◌/◌, ◌%◌, ◌<◌, Bool, true, false, List, [], ◌∷◌, ◌++◌, length, get_or, map, Option, Some, None, slice_get, replicate, ◌==◌, ◌&&◌, ◌||◌, nat_lt, if◌then◌else◌, refl, sym, ◌∙◌, ap, subst, arith}
+use Rattle.std.proofs.Common.{◌≡◌, ℕ, zero, suc, ◌+◌, ◌-◌, ◌/◌, ◌%◌, ◌<◌, Bool, true, false, List, [], ◌∷◌, ◌++◌}
+use Rattle.std.proofs.Common.{length, get_or, map, Option, Some, None, slice_get, replicate, ◌==◌, ◌&&◌, ◌||◌, nat_lt}
+use Rattle.std.proofs.Common.{if◌then◌else◌, refl, sym, ◌∙◌, ap, subst, arith}
 use Rattle.std.specs.List.{filter}
 use Rattle.std.proofs.lemmas.Bool.Decides.{nat_tests}
 use Rattle.std.proofs.lemmas.List.{get_or-replicate, length-replicate}
@@ -27,7 +29,8 @@ is_among mk test setting (x ∷ rest) place = (same_setting setting (mk place) &
 
 -- what a list of things makes of a setting
 record Sets {X : Type 0} (site : Site) (change : X → Change) (mk : ℕ → Setting) (all : List X) : Type 0 where
-  at : (i : ℕ) (x : X) → slice_get all i ≡ Some x → (kept : Retained) → IsSized kept → (setting : Setting) → at_opening site (changed (change x) kept) setting ≡ (if same_setting setting (mk i) then true else at_opening site kept setting)
+  at : (i : ℕ) (x : X) → slice_get all i ≡ Some x → (kept : Retained) → IsSized kept → (setting : Setting)
+      → at_opening site (changed (change x) kept) setting ≡ (if same_setting setting (mk i) then true else at_opening site kept setting)
   can : (i : ℕ) (x : X) → slice_get all i ≡ Some x → CanApply (change x)
 
 either : (s t n k : Bool) → t ≡ true → (n || (if s then true else k)) ≡ (((s && t) || n) || k)
@@ -42,8 +45,11 @@ neither s true n k e = absurd (cc)
 neither true false n k e = refl
 neither false false n k e = refl
 
-sets_all : {X : Type 0} (site : Site) (change : X → Change) (mk : ℕ → Setting) (test : X → Bool) (all : List X) → Sets site change mk all → (xs : List X) (place : ℕ) → ((k : ℕ) (x : X) → slice_get xs k ≡ Some x → slice_get all (place + k) ≡ Some x)
-    → (kept : Retained) → IsSized kept → (setting : Setting) → at_opening site (changed_by (map change (filter test xs)) kept) setting ≡ (is_among mk test setting xs place || at_opening site kept setting)
+sets_all : {X : Type 0} (site : Site) (change : X → Change) (mk : ℕ → Setting) (test : X → Bool) (all : List X) → Sets site change mk all
+    → (xs : List X) (place : ℕ) → ((k : ℕ) (x : X) → slice_get xs k ≡ Some x → slice_get all (place + k) ≡ Some x)
+    → (kept : Retained) → IsSized kept → (setting : Setting)
+    → at_opening site (changed_by (map change (filter test xs)) kept) setting
+    ≡ (is_among mk test setting xs place || at_opening site kept setting)
 unfolding is_among
 sets_all site change mk test all sets [] place inside kept sized setting = refl
 sets_all {X = X} site change mk test all sets (x ∷ rest) place inside kept sized setting =
@@ -55,8 +61,12 @@ sets_all {X = X} site change mk test all sets (x ∷ rest) place inside kept siz
     later : (k : ℕ) (y : X) → slice_get rest k ≡ Some y → slice_get all (suc place + k) ≡ Some y
     later k y is = let e : place + suc k ≡ suc place + k = omega arith in subst (λ j. slice_get all j ≡ Some y) e (inside (suc k) y is)
 
-    by : (b : Bool) → test x ≡ b → ((k : Retained) → IsSized k → at_opening site (changed_by (map change (filter test rest)) k) setting ≡ (is_among mk test setting rest (suc place) || at_opening site k setting))
-        → at_opening site (changed_by (map change (filter test (x ∷ rest))) kept) setting ≡ (((same_setting setting (mk place) && test x) || is_among mk test setting rest (suc place)) || at_opening site kept setting)
+    by : (b : Bool) → test x ≡ b
+        → ((k : Retained) → IsSized k
+        → at_opening site (changed_by (map change (filter test rest)) k) setting ≡ (is_among mk test setting rest (suc place)
+        || at_opening site k setting))
+        → at_opening site (changed_by (map change (filter test (x ∷ rest))) kept) setting
+        ≡ (((same_setting setting (mk place) && test x) || is_among mk test setting rest (suc place)) || at_opening site kept setting)
     by true e ih =
         ap (λ b. at_opening site (changed_by (map change (if b then x ∷ filter test rest else filter test rest)) kept) setting) e
         ∙ ih (changed (change x) kept) (sized-changed (change x) kept (sets.can place x here) sized)
@@ -68,21 +78,26 @@ sets_all {X = X} site change mk test all sets (x ∷ rest) place inside kept siz
         ∙ neither (same_setting setting (mk place)) (test x) (is_among mk test setting rest (suc place)) (at_opening site kept setting) e
 
 -- a setting of another kind, and one of a place before, is not among them
-among_none : {X : Type 0} (mk : ℕ → Setting) (test : X → Bool) (setting : Setting) → ((j : ℕ) → same_setting setting (mk j) ≡ false) → (xs : List X) (place : ℕ) → is_among mk test setting xs place ≡ false
+among_none : {X : Type 0} (mk : ℕ → Setting) (test : X → Bool) (setting : Setting) → ((j : ℕ) → same_setting setting (mk j) ≡ false)
+    → (xs : List X) (place : ℕ) → is_among mk test setting xs place ≡ false
 unfolding is_among
 among_none mk test setting none [] place = refl
-among_none mk test setting none (x ∷ rest) place = ap (λ b. (b && test x) || is_among mk test setting rest (suc place)) (none place) ∙ among_none mk test setting none rest (suc place)
+among_none mk test setting none (x ∷ rest) place =
+    ap (λ b. (b && test x) || is_among mk test setting rest (suc place)) (none place) ∙ among_none mk test setting none rest (suc place)
 
-among_past : {X : Type 0} (mk : ℕ → Setting) (test : X → Bool) (i : ℕ) → ((j k : ℕ) → same_setting (mk j) (mk k) ≡ (j == k)) → (xs : List X) (place : ℕ) → i < place → is_among mk test (mk i) xs place ≡ false
+among_past : {X : Type 0} (mk : ℕ → Setting) (test : X → Bool) (i : ℕ) → ((j k : ℕ) → same_setting (mk j) (mk k) ≡ (j == k))
+    → (xs : List X) (place : ℕ) → i < place → is_among mk test (mk i) xs place ≡ false
 unfolding is_among
 among_past mk test i tells [] place past = refl
 among_past mk test i tells (x ∷ rest) place past =
-    ap (λ b. (b && test x) || is_among mk test (mk i) rest (suc place)) (tells i place ∙ apart i place past) ∙ among_past mk test i tells rest (suc place) (omega (arith, past))
+    ap (λ b. (b && test x) || is_among mk test (mk i) rest (suc place)) (tells i place ∙ apart i place past) ∙ among_past mk test i tells rest
+    (suc place) (omega (arith, past))
   where
     apart : (a b : ℕ) → a < b → (a == b) ≡ false
     apart a b h = grind (arith, nat_tests, h)
 
-among_at : {X : Type 0} (mk : ℕ → Setting) (test : X → Bool) (i : ℕ) → ((j k : ℕ) → same_setting (mk j) (mk k) ≡ (j == k)) → (xs : List X) (place k : ℕ) (p : X) → slice_get xs k ≡ Some p → i ≡ place + k → is_among mk test (mk i) xs place ≡ test p
+among_at : {X : Type 0} (mk : ℕ → Setting) (test : X → Bool) (i : ℕ) → ((j k : ℕ) → same_setting (mk j) (mk k) ≡ (j == k))
+    → (xs : List X) (place k : ℕ) (p : X) → slice_get xs k ≡ Some p → i ≡ place + k → is_among mk test (mk i) xs place ≡ test p
 unfolding is_among
 among_at mk test i tells [] place k p is e = absurd (cc)
 among_at mk test i tells (x ∷ rest) place zero p is e =
@@ -112,12 +127,17 @@ zone_sets : (site : Site) → HasOwnPlaces site → Sets site (λ (z : ZonePlan)
 zone_sets site own = record { at = λ i z is kept sized setting. at_zone site kept i z true own sized is setting; can = λ i z is. own.zone i z is }
 
 output_sets : (site : Site) → HasOwnPlaces site → Sets site (λ (o : OutputPlan). Output o.panel o.number true) OutputOff site.outputs
-output_sets site own = record { at = λ i o is kept sized setting. at_output site kept i o true own sized is setting; can = λ i o is. own.output i o is }
+output_sets site own = record {
+  at = λ i o is kept sized setting. at_output site kept i o true own sized is setting;
+  can =
+      λ i o is. own.output i o is;
+}
 
 test_sets : (site : Site) → HasOwnPlaces site → Sets site (λ (z : ZonePlan). Test z.panel z.number true) InTest site.zones
 test_sets site own = record { at = λ i z is kept sized setting. at_test site kept i z true own sized is setting; can = λ i z is. own.zone i z is }
 
-sized_list : {X : Type 0} (site : Site) (change : X → Change) (mk : ℕ → Setting) (test : X → Bool) (all : List X) → Sets site change mk all → (xs : List X) (place : ℕ) → ((k : ℕ) (x : X) → slice_get xs k ≡ Some x → slice_get all (place + k) ≡ Some x)
+sized_list : {X : Type 0} (site : Site) (change : X → Change) (mk : ℕ → Setting) (test : X → Bool) (all : List X) → Sets site change mk all
+    → (xs : List X) (place : ℕ) → ((k : ℕ) (x : X) → slice_get xs k ≡ Some x → slice_get all (place + k) ≡ Some x)
     → (kept : Retained) → IsSized kept → IsSized (changed_by (map change (filter test xs)) kept)
 sized_list site change mk test all sets [] place inside kept sized = sized
 sized_list {X = X} site change mk test all sets (x ∷ rest) place inside kept sized =
@@ -129,8 +149,11 @@ sized_list {X = X} site change mk test all sets (x ∷ rest) place inside kept s
     later : (k : ℕ) (y : X) → slice_get rest k ≡ Some y → slice_get all (suc place + k) ≡ Some y
     later k y is = let e : place + suc k ≡ suc place + k = omega arith in subst (λ j. slice_get all j ≡ Some y) e (inside (suc k) y is)
 
-    by : (b : Bool) → test x ≡ b → ((k : Retained) → IsSized k → IsSized (changed_by (map change (filter test rest)) k)) → IsSized (changed_by (map change (filter test (x ∷ rest))) kept)
-    by true e ih = subst (λ b. IsSized (changed_by (map change (if b then x ∷ filter test rest else filter test rest)) kept)) (sym e) (ih (changed (change x) kept) (sized-changed (change x) kept (sets.can place x here) sized))
+    by : (b : Bool) → test x ≡ b → ((k : Retained) → IsSized k → IsSized (changed_by (map change (filter test rest)) k))
+        → IsSized (changed_by (map change (filter test (x ∷ rest))) kept)
+    by true e ih =
+        subst (λ b. IsSized (changed_by (map change (if b then x ∷ filter test rest else filter test rest)) kept)) (sym e)
+        (ih (changed (change x) kept) (sized-changed (change x) kept (sets.can place x here) sized))
     by false e ih = subst (λ b. IsSized (changed_by (map change (if b then x ∷ filter test rest else filter test rest)) kept)) (sym e) (ih kept sized)
 
 from_first : {X : Type 0} (xs : List X) (k : ℕ) (x : X) → slice_get xs k ≡ Some x → slice_get xs (0 + k) ≡ Some x
@@ -167,31 +190,38 @@ nothing_set site own (PointOff i) = by (slice_get site.points i) refl
     by None is = refl
     by (Some p) is =
         let place = own.point i p is in
-        ap (λ s. has_point s p.line p.address) (get_or-replicate 8 (p.panel - 1) (record { loops = replicate 4 (replicate 2 0) }) no_points (let one = place.0.0 in let all = place.0.1 in omega (arith, one, all)))
-        ∙ ap (λ h. has_bit (get_or h ((p.address - 1) / 96) 0) ((p.address - 1) % 96)) (get_or-replicate 4 (p.line - 1) (replicate 2 0) [] (let one = place.1.0 in let all = place.1.1 in omega (arith, one, all)))
+        ap (λ s. has_point s p.line p.address) (get_or-replicate 8 (p.panel - 1) (record { loops = replicate 4 (replicate 2 0) }) no_points (let one =
+        place.0.0 in let all = place.0.1 in omega (arith, one, all)))
+        ∙ ap (λ h. has_bit (get_or h ((p.address - 1) / 96) 0) ((p.address - 1) % 96)) (get_or-replicate 4 (p.line - 1) (replicate 2 0) [] (let one =
+        place.1.0 in let all = place.1.1 in omega (arith, one, all)))
         ∙ ap (λ m. has_bit m ((p.address - 1) % 96)) (get_or-replicate 2 ((p.address - 1) / 96) 0 0 (half_small p.address place.1.3))
         ∙ has_bit-zero ((p.address - 1) % 96)
 nothing_set site own (ZoneOff i) = by (slice_get site.zones i) refl
   where
     by : (o : Option ZonePlan) → slice_get site.zones i ≡ o → kept_zone nothing_retained o ≡ false
     by None is = refl
-    by (Some z) is = let place = own.zone i z is in none_of_masks (z.panel - 1) (z.number - 1) (let one = place.0.0 in let all = place.0.1 in omega (arith, one, all))
+    by (Some z) is = let place = own.zone i z is in
+        none_of_masks (z.panel - 1) (z.number - 1) (let one = place.0.0 in let all = place.0.1 in omega (arith, one, all))
 nothing_set site own (OutputOff i) = by (slice_get site.outputs i) refl
   where
     by : (o : Option OutputPlan) → slice_get site.outputs i ≡ o → kept_output nothing_retained o ≡ false
     by None is = refl
-    by (Some z) is = let place = own.output i z is in none_of_masks (z.panel - 1) (z.number - 1) (let one = place.0.0 in let all = place.0.1 in omega (arith, one, all))
+    by (Some z) is = let place = own.output i z is in none_of_masks (z.panel - 1) (z.number - 1) (let one = place.0.0 in let all = place.0.1 in
+        omega (arith, one, all))
 nothing_set site own (InTest i) = by (slice_get site.zones i) refl
   where
     by : (o : Option ZonePlan) → slice_get site.zones i ≡ o → kept_test nothing_retained o ≡ false
     by None is = refl
-    by (Some z) is = let place = own.zone i z is in none_of_masks (z.panel - 1) (z.number - 1) (let one = place.0.0 in let all = place.0.1 in omega (arith, one, all))
+    by (Some z) is = let place = own.zone i z is in
+        none_of_masks (z.panel - 1) (z.number - 1) (let one = place.0.0 in let all = place.0.1 in omega (arith, one, all))
 nothing_set site own (DelaysOff panel) = has_bit-zero (panel - 1)
 nothing_set site own (Counter panel) = refl
 
 -- the four lists together
 all_sets : (old new : Site) (state : Retained) → HasOwnPlaces new → (setting : Setting)
-    → at_opening new (changed_by (point_changes old new state ++ zone_changes old new state ++ output_changes old new state ++ test_changes old new state) nothing_retained) setting
+    → at_opening new
+    (changed_by (point_changes old new state ++ zone_changes old new state ++ output_changes old new state ++ test_changes old new state)
+    nothing_retained) setting
     ≡ (is_among InTest (λ (z : ZonePlan). zone_was_tested old state z.name.bytes) setting new.zones 0
     || (is_among OutputOff (λ (o : OutputPlan). output_was_off old state o.name.bytes) setting new.outputs 0
     || (is_among ZoneOff (λ (z : ZonePlan). zone_was_off old state z.name.bytes) setting new.zones 0
@@ -204,17 +234,28 @@ all_sets old new state own setting =
     let one = changed_by points nothing_retained in
     let two = changed_by zones one in
     let three = changed_by outputs two in
-    let sized_one = sized_list new (λ (p : PointPlan). Point p.panel p.line p.address true) PointOff (λ (p : PointPlan). point_was_off old state p.name.bytes) new.points (point_sets new own) new.points 0 (from_first new.points) nothing_retained sized_nothing in
-    let sized_two = sized_list new (λ (z : ZonePlan). Zone z.panel z.number true) ZoneOff (λ (z : ZonePlan). zone_was_off old state z.name.bytes) new.zones (zone_sets new own) new.zones 0 (from_first new.zones) one sized_one in
-    let sized_three = sized_list new (λ (o : OutputPlan). Output o.panel o.number true) OutputOff (λ (o : OutputPlan). output_was_off old state o.name.bytes) new.outputs (output_sets new own) new.outputs 0 (from_first new.outputs) two sized_two in
-    ap (λ k. at_opening new k setting) (changed_by-append (points ++ zones ++ outputs) tests nothing_retained ∙ ap (changed_by tests) (changed_by-append (points ++ zones) outputs nothing_retained ∙ ap (changed_by outputs) (changed_by-append points zones nothing_retained)))
-    ∙ sets_all new (λ (z : ZonePlan). Test z.panel z.number true) InTest (λ (z : ZonePlan). zone_was_tested old state z.name.bytes) new.zones (test_sets new own) new.zones 0 (from_first new.zones) three sized_three setting
+    let sized_one =
+    sized_list new (λ (p : PointPlan). Point p.panel p.line p.address true) PointOff (λ (p : PointPlan). point_was_off old state p.name.bytes)
+    new.points (point_sets new own) new.points 0 (from_first new.points) nothing_retained sized_nothing in
+    let sized_two =
+    sized_list new (λ (z : ZonePlan). Zone z.panel z.number true) ZoneOff (λ (z : ZonePlan). zone_was_off old state z.name.bytes) new.zones
+    (zone_sets new own) new.zones 0 (from_first new.zones) one sized_one in
+    let sized_three =
+    sized_list new (λ (o : OutputPlan). Output o.panel o.number true) OutputOff (λ (o : OutputPlan). output_was_off old state o.name.bytes)
+    new.outputs (output_sets new own) new.outputs 0 (from_first new.outputs) two sized_two in
+    ap (λ k. at_opening new k setting) (changed_by-append (points ++ zones ++ outputs) tests nothing_retained ∙ ap (changed_by tests)
+    (changed_by-append (points ++ zones) outputs nothing_retained ∙ ap (changed_by outputs) (changed_by-append points zones nothing_retained)))
+    ∙ sets_all new (λ (z : ZonePlan). Test z.panel z.number true) InTest (λ (z : ZonePlan). zone_was_tested old state z.name.bytes) new.zones
+    (test_sets new own) new.zones 0 (from_first new.zones) three sized_three setting
     ∙ ap (λ b. is_among InTest (λ (z : ZonePlan). zone_was_tested old state z.name.bytes) setting new.zones 0 || b)
-    (sets_all new (λ (o : OutputPlan). Output o.panel o.number true) OutputOff (λ (o : OutputPlan). output_was_off old state o.name.bytes) new.outputs (output_sets new own) new.outputs 0 (from_first new.outputs) two sized_two setting
+    (sets_all new (λ (o : OutputPlan). Output o.panel o.number true) OutputOff (λ (o : OutputPlan). output_was_off old state o.name.bytes) new.outputs
+    (output_sets new own) new.outputs 0 (from_first new.outputs) two sized_two setting
     ∙ ap (λ b. is_among OutputOff (λ (o : OutputPlan). output_was_off old state o.name.bytes) setting new.outputs 0 || b)
-    (sets_all new (λ (z : ZonePlan). Zone z.panel z.number true) ZoneOff (λ (z : ZonePlan). zone_was_off old state z.name.bytes) new.zones (zone_sets new own) new.zones 0 (from_first new.zones) one sized_one setting
+    (sets_all new (λ (z : ZonePlan). Zone z.panel z.number true) ZoneOff (λ (z : ZonePlan). zone_was_off old state z.name.bytes) new.zones
+    (zone_sets new own) new.zones 0 (from_first new.zones) one sized_one setting
     ∙ ap (λ b. is_among ZoneOff (λ (z : ZonePlan). zone_was_off old state z.name.bytes) setting new.zones 0 || b)
-    (sets_all new (λ (p : PointPlan). Point p.panel p.line p.address true) PointOff (λ (p : PointPlan). point_was_off old state p.name.bytes) new.points (point_sets new own) new.points 0 (from_first new.points) nothing_retained sized_nothing setting
+    (sets_all new (λ (p : PointPlan). Point p.panel p.line p.address true) PointOff (λ (p : PointPlan). point_was_off old state p.name.bytes)
+    new.points (point_sets new own) new.points 0 (from_first new.points) nothing_retained sized_nothing setting
     ∙ ap (λ b. is_among PointOff (λ (p : PointPlan). point_was_off old state p.name.bytes) setting new.points 0 || b) (nothing_set new own setting))))
 
 -- of four tests one may hold
@@ -246,55 +287,94 @@ only_point true b c d e f g = absurd (cc)
 only_point false true c d e f g = absurd (cc)
 only_point false false true d e f g = absurd (cc)
 
-kept_point-rest : (kept : Retained) (delays : ℕ) (counters : List ℕ) (o : Option PointPlan) → kept_point (record kept { delays_off = delays; counters = counters }) o ≡ kept_point kept o
+kept_point-rest : (kept : Retained) (delays : ℕ) (counters : List ℕ) (o : Option PointPlan)
+    → kept_point (record kept { delays_off = delays; counters = counters }) o ≡ kept_point kept o
 kept_point-rest kept delays counters None = refl
 kept_point-rest kept delays counters (Some x) = refl
 
--- a point of the new site begins disabled exactly where a point of its name was disabled in the old one; likewise a zone, an output, and a zone in test
-pub carried-point : (old new : Site) (state : Retained) → HasOwnPlaces new → (i : ℕ) (x : PointPlan) → slice_get new.points i ≡ Some x → at_opening new (carried old new state) (PointOff i) ≡ point_was_off old state x.name.bytes
+-- a point of the new site begins disabled exactly where a point of its name was disabled in the old one;
+-- likewise a zone, an output, and a zone in test
+pub carried-point : (old new : Site) (state : Retained) → HasOwnPlaces new → (i : ℕ) (x : PointPlan) → slice_get new.points i ≡ Some x
+    → at_opening new (carried old new state) (PointOff i) ≡ point_was_off old state x.name.bytes
 carried-point old new state own i x is =
-    kept_point-rest (changed_by (point_changes old new state ++ zone_changes old new state ++ output_changes old new state ++ test_changes old new state) nothing_retained) (carried_delays new.panels state.delays_off) (carried_counters new.panels state.counters) (slice_get new.points i)
+    kept_point-rest
+    (changed_by (point_changes old new state ++ zone_changes old new state ++ output_changes old new state ++ test_changes old new state)
+    nothing_retained) (carried_delays new.panels state.delays_off) (carried_counters new.panels state.counters) (slice_get new.points i)
     ∙ all_sets old new state own (PointOff i)
-    ∙ only_point (is_among InTest (λ (x : ZonePlan). zone_was_tested old state x.name.bytes) (PointOff i) new.zones 0) (is_among OutputOff (λ (x : OutputPlan). output_was_off old state x.name.bytes) (PointOff i) new.outputs 0) (is_among ZoneOff (λ (x : ZonePlan). zone_was_off old state x.name.bytes) (PointOff i) new.zones 0) (is_among PointOff (λ (x : PointPlan). point_was_off old state x.name.bytes) (PointOff i) new.points 0)
-    (among_none InTest (λ (x : ZonePlan). zone_was_tested old state x.name.bytes) (PointOff i) (λ j. refl) new.zones 0) (among_none OutputOff (λ (x : OutputPlan). output_was_off old state x.name.bytes) (PointOff i) (λ j. refl) new.outputs 0) (among_none ZoneOff (λ (x : ZonePlan). zone_was_off old state x.name.bytes) (PointOff i) (λ j. refl) new.zones 0)
+    ∙ only_point (is_among InTest (λ (x : ZonePlan). zone_was_tested old state x.name.bytes) (PointOff i) new.zones 0)
+    (is_among OutputOff (λ (x : OutputPlan). output_was_off old state x.name.bytes) (PointOff i) new.outputs 0)
+    (is_among ZoneOff (λ (x : ZonePlan). zone_was_off old state x.name.bytes) (PointOff i) new.zones 0)
+    (is_among PointOff (λ (x : PointPlan). point_was_off old state x.name.bytes) (PointOff i) new.points 0)
+    (among_none InTest (λ (x : ZonePlan). zone_was_tested old state x.name.bytes) (PointOff i) (λ j. refl) new.zones 0)
+    (among_none OutputOff (λ (x : OutputPlan). output_was_off old state x.name.bytes) (PointOff i) (λ j. refl) new.outputs 0)
+    (among_none ZoneOff (λ (x : ZonePlan). zone_was_off old state x.name.bytes) (PointOff i) (λ j. refl) new.zones 0)
     ∙ among_at PointOff (λ (y : PointPlan). point_was_off old state y.name.bytes) i (λ j k. refl) new.points 0 i x is (omega arith)
 
-kept_zone-rest : (kept : Retained) (delays : ℕ) (counters : List ℕ) (o : Option ZonePlan) → kept_zone (record kept { delays_off = delays; counters = counters }) o ≡ kept_zone kept o
+kept_zone-rest : (kept : Retained) (delays : ℕ) (counters : List ℕ) (o : Option ZonePlan)
+    → kept_zone (record kept { delays_off = delays; counters = counters }) o ≡ kept_zone kept o
 kept_zone-rest kept delays counters None = refl
 kept_zone-rest kept delays counters (Some x) = refl
 
-pub carried-zone : (old new : Site) (state : Retained) → HasOwnPlaces new → (i : ℕ) (x : ZonePlan) → slice_get new.zones i ≡ Some x → at_opening new (carried old new state) (ZoneOff i) ≡ zone_was_off old state x.name.bytes
+pub carried-zone : (old new : Site) (state : Retained) → HasOwnPlaces new → (i : ℕ) (x : ZonePlan) → slice_get new.zones i ≡ Some x
+    → at_opening new (carried old new state) (ZoneOff i) ≡ zone_was_off old state x.name.bytes
 carried-zone old new state own i x is =
-    kept_zone-rest (changed_by (point_changes old new state ++ zone_changes old new state ++ output_changes old new state ++ test_changes old new state) nothing_retained) (carried_delays new.panels state.delays_off) (carried_counters new.panels state.counters) (slice_get new.zones i)
+    kept_zone-rest
+    (changed_by (point_changes old new state ++ zone_changes old new state ++ output_changes old new state ++ test_changes old new state)
+    nothing_retained) (carried_delays new.panels state.delays_off) (carried_counters new.panels state.counters) (slice_get new.zones i)
     ∙ all_sets old new state own (ZoneOff i)
-    ∙ only_zone (is_among InTest (λ (x : ZonePlan). zone_was_tested old state x.name.bytes) (ZoneOff i) new.zones 0) (is_among OutputOff (λ (x : OutputPlan). output_was_off old state x.name.bytes) (ZoneOff i) new.outputs 0) (is_among ZoneOff (λ (x : ZonePlan). zone_was_off old state x.name.bytes) (ZoneOff i) new.zones 0) (is_among PointOff (λ (x : PointPlan). point_was_off old state x.name.bytes) (ZoneOff i) new.points 0)
-    (among_none InTest (λ (x : ZonePlan). zone_was_tested old state x.name.bytes) (ZoneOff i) (λ j. refl) new.zones 0) (among_none OutputOff (λ (x : OutputPlan). output_was_off old state x.name.bytes) (ZoneOff i) (λ j. refl) new.outputs 0) (among_none PointOff (λ (x : PointPlan). point_was_off old state x.name.bytes) (ZoneOff i) (λ j. refl) new.points 0)
+    ∙ only_zone (is_among InTest (λ (x : ZonePlan). zone_was_tested old state x.name.bytes) (ZoneOff i) new.zones 0)
+    (is_among OutputOff (λ (x : OutputPlan). output_was_off old state x.name.bytes) (ZoneOff i) new.outputs 0)
+    (is_among ZoneOff (λ (x : ZonePlan). zone_was_off old state x.name.bytes) (ZoneOff i) new.zones 0)
+    (is_among PointOff (λ (x : PointPlan). point_was_off old state x.name.bytes) (ZoneOff i) new.points 0)
+    (among_none InTest (λ (x : ZonePlan). zone_was_tested old state x.name.bytes) (ZoneOff i) (λ j. refl) new.zones 0)
+    (among_none OutputOff (λ (x : OutputPlan). output_was_off old state x.name.bytes) (ZoneOff i) (λ j. refl) new.outputs 0)
+    (among_none PointOff (λ (x : PointPlan). point_was_off old state x.name.bytes) (ZoneOff i) (λ j. refl) new.points 0)
     ∙ among_at ZoneOff (λ (y : ZonePlan). zone_was_off old state y.name.bytes) i (λ j k. refl) new.zones 0 i x is (omega arith)
 
-kept_output-rest : (kept : Retained) (delays : ℕ) (counters : List ℕ) (o : Option OutputPlan) → kept_output (record kept { delays_off = delays; counters = counters }) o ≡ kept_output kept o
+kept_output-rest : (kept : Retained) (delays : ℕ) (counters : List ℕ) (o : Option OutputPlan)
+    → kept_output (record kept { delays_off = delays; counters = counters }) o ≡ kept_output kept o
 kept_output-rest kept delays counters None = refl
 kept_output-rest kept delays counters (Some x) = refl
 
-pub carried-output : (old new : Site) (state : Retained) → HasOwnPlaces new → (i : ℕ) (x : OutputPlan) → slice_get new.outputs i ≡ Some x → at_opening new (carried old new state) (OutputOff i) ≡ output_was_off old state x.name.bytes
+pub carried-output : (old new : Site) (state : Retained) → HasOwnPlaces new → (i : ℕ) (x : OutputPlan) → slice_get new.outputs i ≡ Some x
+    → at_opening new (carried old new state) (OutputOff i) ≡ output_was_off old state x.name.bytes
 carried-output old new state own i x is =
-    kept_output-rest (changed_by (point_changes old new state ++ zone_changes old new state ++ output_changes old new state ++ test_changes old new state) nothing_retained) (carried_delays new.panels state.delays_off) (carried_counters new.panels state.counters) (slice_get new.outputs i)
+    kept_output-rest
+    (changed_by (point_changes old new state ++ zone_changes old new state ++ output_changes old new state ++ test_changes old new state)
+    nothing_retained) (carried_delays new.panels state.delays_off) (carried_counters new.panels state.counters) (slice_get new.outputs i)
     ∙ all_sets old new state own (OutputOff i)
-    ∙ only_output (is_among InTest (λ (x : ZonePlan). zone_was_tested old state x.name.bytes) (OutputOff i) new.zones 0) (is_among OutputOff (λ (x : OutputPlan). output_was_off old state x.name.bytes) (OutputOff i) new.outputs 0) (is_among ZoneOff (λ (x : ZonePlan). zone_was_off old state x.name.bytes) (OutputOff i) new.zones 0) (is_among PointOff (λ (x : PointPlan). point_was_off old state x.name.bytes) (OutputOff i) new.points 0)
-    (among_none InTest (λ (x : ZonePlan). zone_was_tested old state x.name.bytes) (OutputOff i) (λ j. refl) new.zones 0) (among_none ZoneOff (λ (x : ZonePlan). zone_was_off old state x.name.bytes) (OutputOff i) (λ j. refl) new.zones 0) (among_none PointOff (λ (x : PointPlan). point_was_off old state x.name.bytes) (OutputOff i) (λ j. refl) new.points 0)
+    ∙ only_output (is_among InTest (λ (x : ZonePlan). zone_was_tested old state x.name.bytes) (OutputOff i) new.zones 0)
+    (is_among OutputOff (λ (x : OutputPlan). output_was_off old state x.name.bytes) (OutputOff i) new.outputs 0)
+    (is_among ZoneOff (λ (x : ZonePlan). zone_was_off old state x.name.bytes) (OutputOff i) new.zones 0)
+    (is_among PointOff (λ (x : PointPlan). point_was_off old state x.name.bytes) (OutputOff i) new.points 0)
+    (among_none InTest (λ (x : ZonePlan). zone_was_tested old state x.name.bytes) (OutputOff i) (λ j. refl) new.zones 0)
+    (among_none ZoneOff (λ (x : ZonePlan). zone_was_off old state x.name.bytes) (OutputOff i) (λ j. refl) new.zones 0)
+    (among_none PointOff (λ (x : PointPlan). point_was_off old state x.name.bytes) (OutputOff i) (λ j. refl) new.points 0)
     ∙ among_at OutputOff (λ (y : OutputPlan). output_was_off old state y.name.bytes) i (λ j k. refl) new.outputs 0 i x is (omega arith)
 
-kept_test-rest : (kept : Retained) (delays : ℕ) (counters : List ℕ) (o : Option ZonePlan) → kept_test (record kept { delays_off = delays; counters = counters }) o ≡ kept_test kept o
+kept_test-rest : (kept : Retained) (delays : ℕ) (counters : List ℕ) (o : Option ZonePlan)
+    → kept_test (record kept { delays_off = delays; counters = counters }) o ≡ kept_test kept o
 kept_test-rest kept delays counters None = refl
 kept_test-rest kept delays counters (Some x) = refl
 
-pub carried-test : (old new : Site) (state : Retained) → HasOwnPlaces new → (i : ℕ) (x : ZonePlan) → slice_get new.zones i ≡ Some x → at_opening new (carried old new state) (InTest i) ≡ zone_was_tested old state x.name.bytes
+pub carried-test : (old new : Site) (state : Retained) → HasOwnPlaces new → (i : ℕ) (x : ZonePlan) → slice_get new.zones i ≡ Some x
+    → at_opening new (carried old new state) (InTest i) ≡ zone_was_tested old state x.name.bytes
 carried-test old new state own i x is =
-    kept_test-rest (changed_by (point_changes old new state ++ zone_changes old new state ++ output_changes old new state ++ test_changes old new state) nothing_retained) (carried_delays new.panels state.delays_off) (carried_counters new.panels state.counters) (slice_get new.zones i)
+    kept_test-rest
+    (changed_by (point_changes old new state ++ zone_changes old new state ++ output_changes old new state ++ test_changes old new state)
+    nothing_retained) (carried_delays new.panels state.delays_off) (carried_counters new.panels state.counters) (slice_get new.zones i)
     ∙ all_sets old new state own (InTest i)
-    ∙ only_test (is_among InTest (λ (x : ZonePlan). zone_was_tested old state x.name.bytes) (InTest i) new.zones 0) (is_among OutputOff (λ (x : OutputPlan). output_was_off old state x.name.bytes) (InTest i) new.outputs 0) (is_among ZoneOff (λ (x : ZonePlan). zone_was_off old state x.name.bytes) (InTest i) new.zones 0) (is_among PointOff (λ (x : PointPlan). point_was_off old state x.name.bytes) (InTest i) new.points 0)
-    (among_none OutputOff (λ (x : OutputPlan). output_was_off old state x.name.bytes) (InTest i) (λ j. refl) new.outputs 0) (among_none ZoneOff (λ (x : ZonePlan). zone_was_off old state x.name.bytes) (InTest i) (λ j. refl) new.zones 0) (among_none PointOff (λ (x : PointPlan). point_was_off old state x.name.bytes) (InTest i) (λ j. refl) new.points 0)
+    ∙ only_test (is_among InTest (λ (x : ZonePlan). zone_was_tested old state x.name.bytes) (InTest i) new.zones 0)
+    (is_among OutputOff (λ (x : OutputPlan). output_was_off old state x.name.bytes) (InTest i) new.outputs 0)
+    (is_among ZoneOff (λ (x : ZonePlan). zone_was_off old state x.name.bytes) (InTest i) new.zones 0)
+    (is_among PointOff (λ (x : PointPlan). point_was_off old state x.name.bytes) (InTest i) new.points 0)
+    (among_none OutputOff (λ (x : OutputPlan). output_was_off old state x.name.bytes) (InTest i) (λ j. refl) new.outputs 0)
+    (among_none ZoneOff (λ (x : ZonePlan). zone_was_off old state x.name.bytes) (InTest i) (λ j. refl) new.zones 0)
+    (among_none PointOff (λ (x : PointPlan). point_was_off old state x.name.bytes) (InTest i) (λ j. refl) new.points 0)
     ∙ among_at InTest (λ (y : ZonePlan). zone_was_tested old state y.name.bytes) i (λ j k. refl) new.zones 0 i x is (omega arith)
 
 -- delays begin off exactly where they were off and the new site has the panel
-pub carried-delays : (old new : Site) (state : Retained) (panel : ℕ) → IsSetting (DelaysOff panel) → at_opening new (carried old new state) (DelaysOff panel) ≡ (nat_lt (panel - 1) new.panels && at_opening old state (DelaysOff panel))
-carried-delays old new state panel here = has_bit-mask 8 (λ k. nat_lt k new.panels && has_bit state.delays_off k) (panel - 1) (omega (arith, here.0, here.1))
+pub carried-delays : (old new : Site) (state : Retained) (panel : ℕ) → IsSetting (DelaysOff panel)
+    → at_opening new (carried old new state) (DelaysOff panel) ≡ (nat_lt (panel - 1) new.panels && at_opening old state (DelaysOff panel))
+carried-delays old new state panel here =
+    has_bit-mask 8 (λ k. nat_lt k new.panels && has_bit state.delays_off k) (panel - 1) (omega (arith, here.0, here.1))

@@ -1,5 +1,8 @@
 -- What a change makes of each setting that is kept, and what it leaves.
-use Rattle.std.proofs.Common.{◌≡◌, ◌≢◌, ◌⊎◌, inl, inr, ℕ, zero, suc, ◌+◌, ◌-◌, ◌<◌, ◌≤◌, min, Bool, true, false, not, List, [], ◌∷◌, ◌++◌, length, set, get_or, Option, Some, None, slice_get, ◌==◌, if◌then◌else◌, refl, sym, ◌∙◌, ap, subst, arith, get_or-set_same, get_or-set_other, length-set}
+use Rattle.std.proofs.Common.{◌≡◌, ◌≢◌, ◌⊎◌, inl, inr, ℕ, zero, suc, ◌+◌, ◌-◌, ◌<◌, ◌≤◌, min, Bool, true, false, not}
+use Rattle.std.proofs.Common.{List, [], ◌∷◌, ◌++◌, length, set, get_or, Option, Some, None, slice_get, ◌==◌}
+use Rattle.std.proofs.Common.{if◌then◌else◌, refl, sym, ◌∙◌, ap, subst, arith, get_or-set_same, get_or-set_other}
+use Rattle.std.proofs.Common.{length-set}
 use Rattle.std.specs.Int.{w8}
 use Rattle.std.proofs.lemmas.Bool.Decides.{eqb_tells}
 use Rattle.site_types.specs.declared.site.Site.{Site}
@@ -13,10 +16,17 @@ use Rattle.site_types.specs.declared.change.Change.TheVariants.{Point, Zone, Out
 use Rattle.site_types.specs.declared.item.Item.{Item}
 use Rattle.site_types.specs.declared.item.Item.TheVariants.{Point as ThePoint, Zone as TheZone, Output as TheOutput}
 use Rattle.site_types.specs.declared.operation.Operation.{Operation}
-use Rattle.site_types.specs.declared.operation.Operation.TheVariants.{Mute, Override, Silence, Resound, Reset, Cancel, Disable, Enable, Test as SetTest, Untest, Delays as SetDelays, Clear as ClearCounter}
+use Rattle.site_types.specs.declared.operation.Operation.TheVariants.{Mute, Override, Silence, Resound, Reset, Cancel}
+use Rattle.site_types.specs.declared.operation.Operation.TheVariants.{Disable, Enable, Test as SetTest, Untest}
+use Rattle.site_types.specs.declared.operation.Operation.TheVariants.{Delays as SetDelays, Clear as ClearCounter}
 use Rattle.site_types.specs.Bits.{IsPlace, has_bit, with_bit, with_point}
-use Rattle.site_types.specs.Done.{Done, Setting, PointOff, ZoneOff, OutputOff, InTest, DelaysOff, Counter, no_points, same_setting, IsSetting, is_setting, is_on, operation_setting, value_set, at_opening, kept_point, kept_zone, kept_output, kept_test, is_kept_operation}
-use Rattle.site_types.specs.Changes.{IsPanelNumber, CanApply, item_change, changed, changed_by, point_change, zone_change, output_change, test_change, operation_change, change_of, IsSized, AreCounters, HasOwnPlaces}
+use Rattle.site_types.specs.Done.{Done, Setting, PointOff, ZoneOff, OutputOff, InTest, DelaysOff, Counter, no_points}
+use Rattle.site_types.specs.Done.{same_setting, IsSetting, is_setting, is_on, operation_setting, value_set}
+use Rattle.site_types.specs.Done.{at_opening, kept_point, kept_zone, kept_output, kept_test, is_kept_operation}
+use Rattle.site_types.specs.Changes.{IsPanelNumber, CanApply, item_change, changed, changed_by, point_change}
+use Rattle.site_types.specs.Changes.{zone_change, output_change, test_change, operation_change, IsSized, AreCounters}
+use Rattle.site_types.specs.Changes.{HasOwnPlaces}
+use Rattle.site_types.proofs.Keeping.{change_of}
 use Rattle.site_types.specs.Limits.{greatest_count}
 use Rattle.site_types.proofs.Masks.{with_bit-same, with_bit-other}
 use Rattle.site_types.proofs.ChangedBits.{number-same, number-other, point-same, point-other}
@@ -29,11 +39,14 @@ not_there : {X : Type 0} (xs : List X) (i j : ℕ) (x : X) → i ≡ j → slice
 not_there xs i j x e f g = let h : slice_get xs j ≡ Some x = subst (λ k. slice_get xs k ≡ Some x) e f in cc (h, g)
 
 -- what the change of a point makes of each setting; likewise those of a zone, an output, a test and delays
-pub at_point : (site : Site) (kept : Retained) (i : ℕ) (p : PointPlan) (off : Bool) → HasOwnPlaces site → IsSized kept → slice_get site.points i ≡ Some p → (setting : Setting)
-    → at_opening site (changed (Point p.panel p.line p.address off) kept) setting ≡ (if same_setting setting (PointOff i) then off else at_opening site kept setting)
+pub at_point : (site : Site) (kept : Retained) (i : ℕ) (p : PointPlan) (off : Bool) → HasOwnPlaces site → IsSized kept
+    → slice_get site.points i ≡ Some p → (setting : Setting)
+    → at_opening site (changed (Point p.panel p.line p.address off) kept) setting
+    ≡ (if same_setting setting (PointOff i) then off else at_opening site kept setting)
 at_point site kept i p off own sized is (PointOff j) = go (eqb_tells j i) (slice_get site.points j) refl
   where
-    go : (((j == i) ≡ true) × (j ≡ i)) ⊎ (((j == i) ≡ false) × (j ≢ i)) → (o : Option PointPlan) → slice_get site.points j ≡ o → kept_point (changed (Point p.panel p.line p.address off) kept) o ≡ (if j == i then off else kept_point kept o)
+    go : (((j == i) ≡ true) × (j ≡ i)) ⊎ (((j == i) ≡ false) × (j ≢ i)) → (o : Option PointPlan) → slice_get site.points j ≡ o
+        → kept_point (changed (Point p.panel p.line p.address off) kept) o ≡ (if j == i then off else kept_point kept o)
     go (inl same) None e = absurd (not_there site.points i j p (sym same.1) is e)
     go (inl same) (Some q) e =
         let q_is : q ≡ p = same_thing site.points j i q p same.1 e is in
@@ -45,7 +58,8 @@ at_point site kept i p off own sized is (PointOff j) = go (eqb_tells j i) (slice
     go (inr other) (Some q) e =
         let places = own.point i p is in
         let places' = own.point j q e in
-        point-other kept p.panel p.line p.address off sized places.0 places.1 q.panel q.line q.address places'.0 places'.1 (λ a b c. other.1 (own.points_apart j i q p e is a b c))
+        point-other kept p.panel p.line p.address off sized places.0 places.1 q.panel q.line q.address places'.0 places'.1
+        (λ a b c. other.1 (own.points_apart j i q p e is a b c))
         ∙ sym (ap (λ b. if b then off else kept_point kept (Some q)) other.0)
 at_point site kept i p off own sized is (ZoneOff j) = refl
 at_point site kept i p off own sized is (OutputOff j) = refl
@@ -53,12 +67,15 @@ at_point site kept i p off own sized is (InTest j) = refl
 at_point site kept i p off own sized is (DelaysOff j) = refl
 at_point site kept i p off own sized is (Counter j) = refl
 
-pub at_zone : (site : Site) (kept : Retained) (i : ℕ) (p : ZonePlan) (off : Bool) → HasOwnPlaces site → IsSized kept → slice_get site.zones i ≡ Some p → (setting : Setting)
-    → at_opening site (changed (Zone p.panel p.number off) kept) setting ≡ (if same_setting setting (ZoneOff i) then off else at_opening site kept setting)
+pub at_zone : (site : Site) (kept : Retained) (i : ℕ) (p : ZonePlan) (off : Bool) → HasOwnPlaces site → IsSized kept → slice_get site.zones i ≡ Some p
+    → (setting : Setting)
+    → at_opening site (changed (Zone p.panel p.number off) kept) setting
+    ≡ (if same_setting setting (ZoneOff i) then off else at_opening site kept setting)
 at_zone site kept i p off own sized is (PointOff j) = refl
 at_zone site kept i p off own sized is (ZoneOff j) = go (eqb_tells j i) (slice_get site.zones j) refl
   where
-    go : (((j == i) ≡ true) × (j ≡ i)) ⊎ (((j == i) ≡ false) × (j ≢ i)) → (o : Option ZonePlan) → slice_get site.zones j ≡ o → kept_zone (changed (Zone p.panel p.number off) kept) o ≡ (if j == i then off else kept_zone kept o)
+    go : (((j == i) ≡ true) × (j ≡ i)) ⊎ (((j == i) ≡ false) × (j ≢ i)) → (o : Option ZonePlan) → slice_get site.zones j ≡ o
+        → kept_zone (changed (Zone p.panel p.number off) kept) o ≡ (if j == i then off else kept_zone kept o)
     go (inl same) None e = absurd (not_there site.zones i j p (sym same.1) is e)
     go (inl same) (Some q) e =
         let q_is : q ≡ p = same_thing site.zones j i q p same.1 e is in
@@ -70,20 +87,24 @@ at_zone site kept i p off own sized is (ZoneOff j) = go (eqb_tells j i) (slice_g
     go (inr other) (Some q) e =
         let places = own.zone i p is in
         let places' = own.zone j q e in
-        number-other kept.zones p.panel p.number off sized.zones places.0 places.1 q.panel q.number places'.0 places'.1 (λ a b. other.1 (own.zones_apart j i q p e is a b))
+        number-other kept.zones p.panel p.number off sized.zones places.0 places.1 q.panel q.number places'.0 places'.1
+        (λ a b. other.1 (own.zones_apart j i q p e is a b))
         ∙ sym (ap (λ b. if b then off else kept_zone kept (Some q)) other.0)
 at_zone site kept i p off own sized is (OutputOff j) = refl
 at_zone site kept i p off own sized is (InTest j) = refl
 at_zone site kept i p off own sized is (DelaysOff j) = refl
 at_zone site kept i p off own sized is (Counter j) = refl
 
-pub at_output : (site : Site) (kept : Retained) (i : ℕ) (p : OutputPlan) (off : Bool) → HasOwnPlaces site → IsSized kept → slice_get site.outputs i ≡ Some p → (setting : Setting)
-    → at_opening site (changed (Output p.panel p.number off) kept) setting ≡ (if same_setting setting (OutputOff i) then off else at_opening site kept setting)
+pub at_output : (site : Site) (kept : Retained) (i : ℕ) (p : OutputPlan) (off : Bool) → HasOwnPlaces site → IsSized kept
+    → slice_get site.outputs i ≡ Some p → (setting : Setting)
+    → at_opening site (changed (Output p.panel p.number off) kept) setting
+    ≡ (if same_setting setting (OutputOff i) then off else at_opening site kept setting)
 at_output site kept i p off own sized is (PointOff j) = refl
 at_output site kept i p off own sized is (ZoneOff j) = refl
 at_output site kept i p off own sized is (OutputOff j) = go (eqb_tells j i) (slice_get site.outputs j) refl
   where
-    go : (((j == i) ≡ true) × (j ≡ i)) ⊎ (((j == i) ≡ false) × (j ≢ i)) → (o : Option OutputPlan) → slice_get site.outputs j ≡ o → kept_output (changed (Output p.panel p.number off) kept) o ≡ (if j == i then off else kept_output kept o)
+    go : (((j == i) ≡ true) × (j ≡ i)) ⊎ (((j == i) ≡ false) × (j ≢ i)) → (o : Option OutputPlan) → slice_get site.outputs j ≡ o
+        → kept_output (changed (Output p.panel p.number off) kept) o ≡ (if j == i then off else kept_output kept o)
     go (inl same) None e = absurd (not_there site.outputs i j p (sym same.1) is e)
     go (inl same) (Some q) e =
         let q_is : q ≡ p = same_thing site.outputs j i q p same.1 e is in
@@ -95,20 +116,24 @@ at_output site kept i p off own sized is (OutputOff j) = go (eqb_tells j i) (sli
     go (inr other) (Some q) e =
         let places = own.output i p is in
         let places' = own.output j q e in
-        number-other kept.outputs p.panel p.number off sized.outputs places.0 places.1 q.panel q.number places'.0 places'.1 (λ a b. other.1 (own.outputs_apart j i q p e is a b))
+        number-other kept.outputs p.panel p.number off sized.outputs places.0 places.1 q.panel q.number places'.0 places'.1
+        (λ a b. other.1 (own.outputs_apart j i q p e is a b))
         ∙ sym (ap (λ b. if b then off else kept_output kept (Some q)) other.0)
 at_output site kept i p off own sized is (InTest j) = refl
 at_output site kept i p off own sized is (DelaysOff j) = refl
 at_output site kept i p off own sized is (Counter j) = refl
 
-pub at_test : (site : Site) (kept : Retained) (i : ℕ) (p : ZonePlan) (on : Bool) → HasOwnPlaces site → IsSized kept → slice_get site.zones i ≡ Some p → (setting : Setting)
-    → at_opening site (changed (Test p.panel p.number on) kept) setting ≡ (if same_setting setting (InTest i) then on else at_opening site kept setting)
+pub at_test : (site : Site) (kept : Retained) (i : ℕ) (p : ZonePlan) (on : Bool) → HasOwnPlaces site → IsSized kept → slice_get site.zones i ≡ Some p
+    → (setting : Setting)
+    → at_opening site (changed (Test p.panel p.number on) kept) setting
+    ≡ (if same_setting setting (InTest i) then on else at_opening site kept setting)
 at_test site kept i p on own sized is (PointOff j) = refl
 at_test site kept i p on own sized is (ZoneOff j) = refl
 at_test site kept i p on own sized is (OutputOff j) = refl
 at_test site kept i p on own sized is (InTest j) = go (eqb_tells j i) (slice_get site.zones j) refl
   where
-    go : (((j == i) ≡ true) × (j ≡ i)) ⊎ (((j == i) ≡ false) × (j ≢ i)) → (o : Option ZonePlan) → slice_get site.zones j ≡ o → kept_test (changed (Test p.panel p.number on) kept) o ≡ (if j == i then on else kept_test kept o)
+    go : (((j == i) ≡ true) × (j ≡ i)) ⊎ (((j == i) ≡ false) × (j ≢ i)) → (o : Option ZonePlan) → slice_get site.zones j ≡ o
+        → kept_test (changed (Test p.panel p.number on) kept) o ≡ (if j == i then on else kept_test kept o)
     go (inl same) None e = absurd (not_there site.zones i j p (sym same.1) is e)
     go (inl same) (Some q) e =
         let q_is : q ≡ p = same_thing site.zones j i q p same.1 e is in
@@ -120,20 +145,23 @@ at_test site kept i p on own sized is (InTest j) = go (eqb_tells j i) (slice_get
     go (inr other) (Some q) e =
         let places = own.zone i p is in
         let places' = own.zone j q e in
-        number-other kept.tests p.panel p.number on sized.tests places.0 places.1 q.panel q.number places'.0 places'.1 (λ a b. other.1 (own.zones_apart j i q p e is a b))
+        number-other kept.tests p.panel p.number on sized.tests places.0 places.1 q.panel q.number places'.0 places'.1
+        (λ a b. other.1 (own.zones_apart j i q p e is a b))
         ∙ sym (ap (λ b. if b then on else kept_test kept (Some q)) other.0)
 at_test site kept i p on own sized is (DelaysOff j) = refl
 at_test site kept i p on own sized is (Counter j) = refl
 
 at_delays : (site : Site) (kept : Retained) (panel : ℕ) (off : Bool) → IsPanelNumber panel → (setting : Setting) → IsSetting setting
-    → at_opening site (changed (Delays panel off) kept) setting ≡ (if same_setting setting (DelaysOff panel) then off else at_opening site kept setting)
+    → at_opening site (changed (Delays panel off) kept) setting
+    ≡ (if same_setting setting (DelaysOff panel) then off else at_opening site kept setting)
 at_delays site kept panel off here (PointOff j) place = refl
 at_delays site kept panel off here (ZoneOff j) place = refl
 at_delays site kept panel off here (OutputOff j) place = refl
 at_delays site kept panel off here (InTest j) place = refl
 at_delays site kept panel off here (DelaysOff j) place = go (eqb_tells j panel)
   where
-    go : (((j == panel) ≡ true) × (j ≡ panel)) ⊎ (((j == panel) ≡ false) × (j ≢ panel)) → has_bit (with_bit w8 kept.delays_off (panel - 1) off) (j - 1) ≡ (if j == panel then off else has_bit kept.delays_off (j - 1))
+    go : (((j == panel) ≡ true) × (j ≡ panel)) ⊎ (((j == panel) ≡ false) × (j ≢ panel))
+        → has_bit (with_bit w8 kept.delays_off (panel - 1) off) (j - 1) ≡ (if j == panel then off else has_bit kept.delays_off (j - 1))
     go (inl same) =
         ap (λ k. has_bit (with_bit w8 kept.delays_off (panel - 1) off) (k - 1)) same.1
         ∙ with_bit-same w8 kept.delays_off (panel - 1) off (omega (arith, here.0, here.1))
@@ -159,7 +187,8 @@ at_clear site kept panel (Counter j) = go (j == panel)
     go true = refl
     go false = refl
 
-pub counted-setting : (site : Site) (kept : Retained) (panel entries : ℕ) (setting : Setting) → at_opening site (changed (Count panel entries) kept) setting ≡ at_opening site kept setting
+pub counted-setting : (site : Site) (kept : Retained) (panel entries : ℕ) (setting : Setting)
+    → at_opening site (changed (Count panel entries) kept) setting ≡ at_opening site kept setting
 counted-setting site kept panel entries (PointOff j) = refl
 counted-setting site kept panel entries (ZoneOff j) = refl
 counted-setting site kept panel entries (OutputOff j) = refl
@@ -172,33 +201,43 @@ some_is x y e = cc
 
 -- what an operation makes of a setting of a site
 abbrev then_set : Site → Retained → ℕ → Operation → Setting → Bool
-then_set site kept panel operation setting = if is_setting setting (operation_setting panel operation) then value_set operation else at_opening site kept setting
+then_set site kept panel operation setting =
+    if is_setting setting (operation_setting panel operation) then value_set operation else at_opening site kept setting
 
-point_set' : (site : Site) (kept : Retained) (i : ℕ) (off : Bool) (change : Change) → HasOwnPlaces site → IsSized kept → (o : Option PointPlan) → slice_get site.points i ≡ o → point_change o off ≡ Some change → (setting : Setting)
+point_set' : (site : Site) (kept : Retained) (i : ℕ) (off : Bool) (change : Change) → HasOwnPlaces site → IsSized kept → (o : Option PointPlan)
+    → slice_get site.points i ≡ o → point_change o off ≡ Some change → (setting : Setting)
     → at_opening site (changed change kept) setting ≡ (if same_setting setting (PointOff i) then off else at_opening site kept setting)
 point_set' site kept i off change own sized None is e setting = absurd (cc)
 point_set' site kept i off change own sized (Some p) is e setting =
-    ap (λ c. at_opening site (changed c kept) setting) (sym (some_is (Point p.panel p.line p.address off) change e)) ∙ at_point site kept i p off own sized is setting
+    ap (λ c. at_opening site (changed c kept) setting) (sym (some_is (Point p.panel p.line p.address off) change e)) ∙ at_point site kept i p off own
+    sized is setting
 
-zone_set : (site : Site) (kept : Retained) (i : ℕ) (off : Bool) (change : Change) → HasOwnPlaces site → IsSized kept → (o : Option ZonePlan) → slice_get site.zones i ≡ o → zone_change o off ≡ Some change → (setting : Setting)
+zone_set : (site : Site) (kept : Retained) (i : ℕ) (off : Bool) (change : Change) → HasOwnPlaces site → IsSized kept → (o : Option ZonePlan)
+    → slice_get site.zones i ≡ o → zone_change o off ≡ Some change → (setting : Setting)
     → at_opening site (changed change kept) setting ≡ (if same_setting setting (ZoneOff i) then off else at_opening site kept setting)
 zone_set site kept i off change own sized None is e setting = absurd (cc)
 zone_set site kept i off change own sized (Some p) is e setting =
-    ap (λ c. at_opening site (changed c kept) setting) (sym (some_is (Zone p.panel p.number off) change e)) ∙ at_zone site kept i p off own sized is setting
+    ap (λ c. at_opening site (changed c kept) setting) (sym (some_is (Zone p.panel p.number off) change e)) ∙ at_zone site kept i p off own sized is
+    setting
 
-output_set : (site : Site) (kept : Retained) (i : ℕ) (off : Bool) (change : Change) → HasOwnPlaces site → IsSized kept → (o : Option OutputPlan) → slice_get site.outputs i ≡ o → output_change o off ≡ Some change → (setting : Setting)
+output_set : (site : Site) (kept : Retained) (i : ℕ) (off : Bool) (change : Change) → HasOwnPlaces site → IsSized kept → (o : Option OutputPlan)
+    → slice_get site.outputs i ≡ o → output_change o off ≡ Some change → (setting : Setting)
     → at_opening site (changed change kept) setting ≡ (if same_setting setting (OutputOff i) then off else at_opening site kept setting)
 output_set site kept i off change own sized None is e setting = absurd (cc)
 output_set site kept i off change own sized (Some p) is e setting =
-    ap (λ c. at_opening site (changed c kept) setting) (sym (some_is (Output p.panel p.number off) change e)) ∙ at_output site kept i p off own sized is setting
+    ap (λ c. at_opening site (changed c kept) setting) (sym (some_is (Output p.panel p.number off) change e)) ∙ at_output site kept i p off own sized
+    is setting
 
-test_set : (site : Site) (kept : Retained) (i : ℕ) (on : Bool) (change : Change) → HasOwnPlaces site → IsSized kept → (o : Option ZonePlan) → slice_get site.zones i ≡ o → test_change o on ≡ Some change → (setting : Setting)
+test_set : (site : Site) (kept : Retained) (i : ℕ) (on : Bool) (change : Change) → HasOwnPlaces site → IsSized kept → (o : Option ZonePlan)
+    → slice_get site.zones i ≡ o → test_change o on ≡ Some change → (setting : Setting)
     → at_opening site (changed change kept) setting ≡ (if same_setting setting (InTest i) then on else at_opening site kept setting)
 test_set site kept i on change own sized None is e setting = absurd (cc)
 test_set site kept i on change own sized (Some p) is e setting =
-    ap (λ c. at_opening site (changed c kept) setting) (sym (some_is (Test p.panel p.number on) change e)) ∙ at_test site kept i p on own sized is setting
+    ap (λ c. at_opening site (changed c kept) setting) (sym (some_is (Test p.panel p.number on) change e)) ∙ at_test site kept i p on own sized is
+    setting
 
-by_operation : (site : Site) (kept : Retained) (panel : ℕ) (operation : Operation) (change : Change) → HasOwnPlaces site → IsSized kept → IsPanelNumber panel → operation_change site panel operation ≡ Some change → (setting : Setting) → IsSetting setting
+by_operation : (site : Site) (kept : Retained) (panel : ℕ) (operation : Operation) (change : Change) → HasOwnPlaces site → IsSized kept
+    → IsPanelNumber panel → operation_change site panel operation ≡ Some change → (setting : Setting) → IsSetting setting
     → at_opening site (changed change kept) setting ≡ then_set site kept panel operation setting
 by_operation site kept panel Mute change own sized here e setting place = absurd (cc)
 by_operation site kept panel Override change own sized here e setting place = absurd (cc)
@@ -206,42 +245,59 @@ by_operation site kept panel Silence change own sized here e setting place = abs
 by_operation site kept panel Resound change own sized here e setting place = absurd (cc)
 by_operation site kept panel Reset change own sized here e setting place = absurd (cc)
 by_operation site kept panel (Cancel zone) change own sized here e setting place = absurd (cc)
-by_operation site kept panel (Disable (ThePoint i)) change own sized here e setting place = point_set' site kept i true change own sized (slice_get site.points i) refl e setting
-by_operation site kept panel (Disable (TheZone i)) change own sized here e setting place = zone_set site kept i true change own sized (slice_get site.zones i) refl e setting
-by_operation site kept panel (Disable (TheOutput i)) change own sized here e setting place = output_set site kept i true change own sized (slice_get site.outputs i) refl e setting
-by_operation site kept panel (Enable (ThePoint i)) change own sized here e setting place = point_set' site kept i false change own sized (slice_get site.points i) refl e setting
-by_operation site kept panel (Enable (TheZone i)) change own sized here e setting place = zone_set site kept i false change own sized (slice_get site.zones i) refl e setting
-by_operation site kept panel (Enable (TheOutput i)) change own sized here e setting place = output_set site kept i false change own sized (slice_get site.outputs i) refl e setting
-by_operation site kept panel (SetTest i) change own sized here e setting place = test_set site kept i true change own sized (slice_get site.zones i) refl e setting
-by_operation site kept panel (Untest i) change own sized here e setting place = test_set site kept i false change own sized (slice_get site.zones i) refl e setting
+by_operation site kept panel (Disable (ThePoint i)) change own sized here e setting place =
+    point_set' site kept i true change own sized (slice_get site.points i) refl e setting
+by_operation site kept panel (Disable (TheZone i)) change own sized here e setting place =
+    zone_set site kept i true change own sized (slice_get site.zones i) refl e setting
+by_operation site kept panel (Disable (TheOutput i)) change own sized here e setting place =
+    output_set site kept i true change own sized (slice_get site.outputs i) refl e setting
+by_operation site kept panel (Enable (ThePoint i)) change own sized here e setting place =
+    point_set' site kept i false change own sized (slice_get site.points i) refl e setting
+by_operation site kept panel (Enable (TheZone i)) change own sized here e setting place =
+    zone_set site kept i false change own sized (slice_get site.zones i) refl e setting
+by_operation site kept panel (Enable (TheOutput i)) change own sized here e setting place =
+    output_set site kept i false change own sized (slice_get site.outputs i) refl e setting
+by_operation site kept panel (SetTest i) change own sized here e setting place =
+    test_set site kept i true change own sized (slice_get site.zones i) refl e setting
+by_operation site kept panel (Untest i) change own sized here e setting place =
+    test_set site kept i false change own sized (slice_get site.zones i) refl e setting
 by_operation site kept panel (SetDelays on) change own sized here e setting place =
-    ap (λ c. at_opening site (changed c kept) setting) (sym (some_is (Delays panel (not on)) change e)) ∙ at_delays site kept panel (not on) here setting place
+    ap (λ c. at_opening site (changed c kept) setting) (sym (some_is (Delays panel (not on)) change e)) ∙ at_delays site kept panel (not on) here
+    setting place
 by_operation site kept panel ClearCounter change own sized here e setting place =
     ap (λ c. at_opening site (changed c kept) setting) (sym (some_is (Clear panel) change e)) ∙ at_clear site kept panel setting
 
 -- after the change of an operation its setting is kept as the operation sets it, and all others as they were
-pub kept-change : (site : Site) (kept : Retained) (d : Done) (change : Change) → HasOwnPlaces site → IsSized kept → IsPanelNumber d.panel → change_of site d ≡ Some change → (setting : Setting) → IsSetting setting
+pub kept-change : (site : Site) (kept : Retained) (d : Done) (change : Change) → HasOwnPlaces site → IsSized kept → IsPanelNumber d.panel
+    → change_of site d ≡ Some change → (setting : Setting) → IsSetting setting
     → at_opening site (changed change kept) setting ≡ (if is_on setting d then value_set d.operation else at_opening site kept setting)
 kept-change site kept d change own sized here e setting place = by_operation site kept d.panel d.operation change own sized here e setting place
 
 -- what holds of each item of a list holds after one is set to another of which it holds
-each_set : {X : Type 0} (P : X → Type 0) (xs : List X) (n i : ℕ) (y d : X) → length xs ≡ n → P y → ((k : ℕ) → k < n → P (get_or xs k d)) → (k : ℕ) → k < n → P (get_or (set xs i y) k d)
+each_set : {X : Type 0} (P : X → Type 0) (xs : List X) (n i : ℕ) (y d : X) → length xs ≡ n → P y → ((k : ℕ) → k < n → P (get_or xs k d)) → (k : ℕ)
+    → k < n → P (get_or (set xs i y) k d)
 each_set P xs n i y d size new old k small = go (eqb_tells k i)
   where
     go : (((k == i) ≡ true) × (k ≡ i)) ⊎ (((k == i) ≡ false) × (k ≢ i)) → P (get_or (set xs i y) k d)
-    go (inl same) = subst P (sym (ap (λ j. get_or (set xs i y) j d) same.1 ∙ get_or-set_same xs i y d (let e = same.1 in omega (arith, small, size, e)))) new
+    go (inl same) =
+        subst P (sym (ap (λ j. get_or (set xs i y) j d) same.1 ∙ get_or-set_same xs i y d (let e = same.1 in omega (arith, small, size, e)))) new
     go (inr other) = subst P (sym (get_or-set_other xs i k y d other.1)) (old k small)
 
 -- a change leaves each list as long as it was
-sized_points : (kept : Retained) (panel line address : ℕ) (off : Bool) → IsSized kept → IsPanelNumber panel → IsPlace line address → IsSized (changed (Point panel line address off) kept)
+sized_points : (kept : Retained) (panel line address : ℕ) (off : Bool) → IsSized kept → IsPanelNumber panel → IsPlace line address
+    → IsSized (changed (Point panel line address off) kept)
 sized_points kept panel line address off sized here place = record {
   points = length-set kept.points (panel - 1) (with_point (get_or kept.points (panel - 1) no_points) line address off) ∙ sized.points;
   loops =
-      each_set (λ (s : PointSet). length s.loops ≡ 4) kept.points 8 (panel - 1) (with_point (get_or kept.points (panel - 1) no_points) line address off) no_points sized.points
+      each_set (λ (s : PointSet). length s.loops ≡ 4) kept.points 8 (panel - 1)
+      (with_point (get_or kept.points (panel - 1) no_points) line address off) no_points sized.points
       (length-set (get_or kept.points (panel - 1) no_points).loops (line - 1) _ ∙ loops) sized.loops;
   halves = λ k l small small'.
-      each_set (λ (s : PointSet). (j : ℕ) → j < 4 → length (get_or s.loops j []) ≡ 2) kept.points 8 (panel - 1) (with_point (get_or kept.points (panel - 1) no_points) line address off) no_points sized.points
-      (each_set (λ (h : List ℕ). length h ≡ 2) (get_or kept.points (panel - 1) no_points).loops 4 (line - 1) _ [] loops (length-set (get_or (get_or kept.points (panel - 1) no_points).loops (line - 1) []) _ _ ∙ halves (line - 1) (omega (arith, place.0, place.1))) halves)
+      each_set (λ (s : PointSet). (j : ℕ) → j < 4 → length (get_or s.loops j []) ≡ 2) kept.points 8 (panel - 1)
+      (with_point (get_or kept.points (panel - 1) no_points) line address off) no_points sized.points
+      (each_set (λ (h : List ℕ). length h ≡ 2) (get_or kept.points (panel - 1) no_points).loops 4 (line - 1) _ [] loops
+      (length-set (get_or (get_or kept.points (panel - 1) no_points).loops (line - 1) []) _ _ ∙ halves (line - 1)
+      (omega (arith, place.0, place.1))) halves)
       (λ j near i near'. sized.halves j i near near') k small l small';
   zones = sized.zones;
   outputs = sized.outputs;
@@ -257,12 +313,72 @@ sized_points kept panel line address off sized here place = record {
 
 pub sized-changed : (change : Change) (kept : Retained) → CanApply change → IsSized kept → IsSized (changed change kept)
 sized-changed (Point panel line address off) kept can sized = sized_points kept panel line address off sized can.0 can.1
-sized-changed (Zone panel number off) kept can sized = record { points = sized.points; loops = sized.loops; halves = sized.halves; zones = length-set kept.zones (panel - 1) _ ∙ sized.zones; outputs = sized.outputs; counters = sized.counters; tests = sized.tests }
-sized-changed (Output panel number off) kept can sized = record { points = sized.points; loops = sized.loops; halves = sized.halves; zones = sized.zones; outputs = length-set kept.outputs (panel - 1) _ ∙ sized.outputs; counters = sized.counters; tests = sized.tests }
-sized-changed (Delays panel off) kept can sized = record { points = sized.points; loops = sized.loops; halves = sized.halves; zones = sized.zones; outputs = sized.outputs; counters = sized.counters; tests = sized.tests }
-sized-changed (Count panel entries) kept can sized = record { points = sized.points; loops = sized.loops; halves = sized.halves; zones = sized.zones; outputs = sized.outputs; counters = length-set kept.counters (panel - 1) _ ∙ sized.counters; tests = sized.tests }
-sized-changed (Clear panel) kept can sized = record { points = sized.points; loops = sized.loops; halves = sized.halves; zones = sized.zones; outputs = sized.outputs; counters = length-set kept.counters (panel - 1) _ ∙ sized.counters; tests = sized.tests }
-sized-changed (Test panel number on) kept can sized = record { points = sized.points; loops = sized.loops; halves = sized.halves; zones = sized.zones; outputs = sized.outputs; counters = sized.counters; tests = length-set kept.tests (panel - 1) _ ∙ sized.tests }
+sized-changed (Zone panel number off) kept can sized =
+    record {
+      points = sized.points;
+      loops = sized.loops;
+      halves = sized.halves;
+      zones = length-set kept.zones (panel - 1) _ ∙ sized.zones;
+      outputs =
+          sized.outputs;
+      counters = sized.counters;
+      tests = sized.tests;
+    }
+sized-changed (Output panel number off) kept can sized =
+    record {
+      points = sized.points;
+      loops = sized.loops;
+      halves = sized.halves;
+      zones = sized.zones;
+      outputs =
+          length-set kept.outputs (panel - 1) _ ∙ sized.outputs;
+      counters = sized.counters;
+      tests = sized.tests;
+    }
+sized-changed (Delays panel off) kept can sized =
+    record {
+      points = sized.points;
+      loops = sized.loops;
+      halves = sized.halves;
+      zones = sized.zones;
+      outputs = sized.outputs;
+      counters =
+          sized.counters;
+      tests = sized.tests;
+    }
+sized-changed (Count panel entries) kept can sized =
+    record {
+      points = sized.points;
+      loops = sized.loops;
+      halves = sized.halves;
+      zones = sized.zones;
+      outputs = sized.outputs;
+      counters =
+          length-set kept.counters (panel - 1) _ ∙ sized.counters;
+      tests = sized.tests;
+    }
+sized-changed (Clear panel) kept can sized =
+    record {
+      points = sized.points;
+      loops = sized.loops;
+      halves = sized.halves;
+      zones = sized.zones;
+      outputs = sized.outputs;
+      counters =
+          length-set kept.counters (panel - 1) _ ∙ sized.counters;
+      tests = sized.tests;
+    }
+sized-changed (Test panel number on) kept can sized =
+    record {
+      points = sized.points;
+      loops = sized.loops;
+      halves = sized.halves;
+      zones = sized.zones;
+      outputs = sized.outputs;
+      counters =
+          sized.counters;
+      tests = length-set kept.tests (panel - 1) _ ∙ sized.tests;
+    }
 
 set_below : (xs : List ℕ) (i n : ℕ) → n ≤ greatest_count → AreCounters xs → AreCounters (set xs i n)
 set_below xs i n le all k = go (eqb_tells k i)
@@ -282,7 +398,8 @@ counters-changed (Point panel line address off) kept all = all
 counters-changed (Zone panel number off) kept all = all
 counters-changed (Output panel number off) kept all = all
 counters-changed (Delays panel off) kept all = all
-counters-changed (Count panel entries) kept all = set_below kept.counters (panel - 1) (min (get_or kept.counters (panel - 1) 0 + entries) greatest_count) (omega arith) all
+counters-changed (Count panel entries) kept all =
+    set_below kept.counters (panel - 1) (min (get_or kept.counters (panel - 1) 0 + entries) greatest_count) (omega arith) all
 counters-changed (Clear panel) kept all = set_below kept.counters (panel - 1) 0 (omega arith) all
 counters-changed (Test panel number on) kept all = all
 
@@ -292,7 +409,8 @@ changed_by-append [] ys kept = refl
 changed_by-append (x ∷ xs) ys kept = changed_by-append xs ys (changed x kept)
 
 -- an operation on a setting of the site makes a change that has a place, and no other operation makes one
-can_item : (site : Site) (panel : ℕ) (item : Item) (off : Bool) (change : Change) → HasOwnPlaces site → item_change site item off ≡ Some change → CanApply change
+can_item : (site : Site) (panel : ℕ) (item : Item) (off : Bool) (change : Change) → HasOwnPlaces site → item_change site item off ≡ Some change
+    → CanApply change
 can_item site panel (ThePoint i) off change own e = go (slice_get site.points i) refl e
   where
     go : (o : Option PointPlan) → slice_get site.points i ≡ o → point_change o off ≡ Some change → CanApply change
@@ -309,14 +427,16 @@ can_item site panel (TheOutput i) off change own e = go (slice_get site.outputs 
     go None is e = absurd (cc)
     go (Some z) is e = subst CanApply (some_is _ change e) (let h = own.output i z is in (h.0, h.1))
 
-can_test : (site : Site) (zone : ℕ) (on : Bool) (change : Change) → HasOwnPlaces site → test_change (slice_get site.zones zone) on ≡ Some change → CanApply change
+can_test : (site : Site) (zone : ℕ) (on : Bool) (change : Change) → HasOwnPlaces site → test_change (slice_get site.zones zone) on ≡ Some change
+    → CanApply change
 can_test site zone on change own e = go (slice_get site.zones zone) refl e
   where
     go : (o : Option ZonePlan) → slice_get site.zones zone ≡ o → test_change o on ≡ Some change → CanApply change
     go None is e = absurd (cc)
     go (Some z) is e = subst CanApply (some_is _ change e) (let h = own.zone zone z is in (h.0, h.1))
 
-pub can_apply : (site : Site) (panel : ℕ) (operation : Operation) (change : Change) → HasOwnPlaces site → IsPanelNumber panel → operation_change site panel operation ≡ Some change → CanApply change
+pub can_apply : (site : Site) (panel : ℕ) (operation : Operation) (change : Change) → HasOwnPlaces site → IsPanelNumber panel
+    → operation_change site panel operation ≡ Some change → CanApply change
 can_apply site panel Mute change own here e = absurd (cc)
 can_apply site panel Override change own here e = absurd (cc)
 can_apply site panel Silence change own here e = absurd (cc)
@@ -331,7 +451,8 @@ can_apply site panel (SetDelays on) change own here e = subst CanApply (some_is 
 can_apply site panel ClearCounter change own here e = subst CanApply (some_is _ change e) here
 
 -- an operation that is not kept is on no setting and makes no change
-pub not_kept : (site : Site) (panel : ℕ) (operation : Operation) → is_kept_operation operation ≡ false → (operation_setting panel operation ≡ None) × (operation_change site panel operation ≡ None)
+pub not_kept : (site : Site) (panel : ℕ) (operation : Operation) → is_kept_operation operation ≡ false → (operation_setting panel operation ≡ None)
+    × (operation_change site panel operation ≡ None)
 not_kept site panel Mute e = (refl, refl)
 not_kept site panel Override e = (refl, refl)
 not_kept site panel Silence e = (refl, refl)

@@ -1,5 +1,6 @@
 -- Reading a number digit by digit.
-use Rattle.std.proofs.Common.{◌≡◌, inl, inr, ℕ, suc, ◌+◌, ◌-◌, ◌*◌, ◌<◌, ◌≤◌, ◌^◌, ◌&&◌, Bool, true, false, List, [], ◌∷◌, Option, Some, None, if◌then◌else◌, refl, ◌∙◌, length, drop, get_or, arith, add-one}
+use Rattle.std.proofs.Common.{◌≡◌, inl, inr, ℕ, suc, ◌+◌, ◌-◌, ◌*◌, ◌<◌, ◌≤◌, ◌^◌, ◌&&◌, Bool, true, false, List, []}
+use Rattle.std.proofs.Common.{◌∷◌, Option, Some, None, if◌then◌else◌, refl, ◌∙◌, length, drop, get_or, arith, add-one}
 use Rattle.std.specs.Prelude.{nat_lt}
 use Rattle.std.proofs.Math.ListN.{drop_of_length-le}
 use Rattle.std.proofs.Math.Seq.{drop-cons}
@@ -20,7 +21,8 @@ none_read text = record { digits = refl; value = refl; small = omega arith }
 abbrev pub spelt : List ℕ → Option ℕ
 spelt text = if all_digits text && nat_lt (value_after 0 text) (2 ^ 64) then Some (value_after 0 text) else None
 
-pub one_read : (text : List ℕ) (number k digit : ℕ) → k < length text → is_digit (get_or text k 0) ≡ true → digit ≡ get_or text k 0 - 48 → 10 * number + digit < 2 ^ 64 →
+pub one_read : (text : List ℕ) (number k digit : ℕ) → k < length text → is_digit (get_or text k 0) ≡ true → digit ≡ get_or text k 0 - 48
+    → 10 * number + digit < 2 ^ 64 →
     IsRead text number k → IsRead text (10 * number + digit) (k + 1)
 one_read text number k digit small is_one d fits_in read = record {
   digits = read.digits ∙ rw (drop-cons text k 0 small, is_one, add-one) refl;

@@ -33,11 +33,13 @@ pub thing_at : (names : List Named) → IsRising names → (name : List ℕ) (k 
 thing_at [] up name k named at same = cc
 thing_at (first ∷ rest) up name zero named at same =
     let is : first ≡ named = same_Some first named at in
-    let test : bytes_eq first.name.bytes name ≡ true = ap (λ (n : Named). bytes_eq n.name.bytes name) is ∙ same_bytes named.name.bytes name Equal same in
+    let test : bytes_eq first.name.bytes name ≡ true =
+    ap (λ (n : Named). bytes_eq n.name.bytes name) is ∙ same_bytes named.name.bytes name Equal same in
     rw test (ap (λ (n : Named). Some n.thing) is)
 thing_at (first ∷ rest) up name (suc k) named at same =
     let less = up 0 (suc k) first named (omega arith) refl at in
-    let far : slice_cmp nat_cmp first.name.bytes name ≡ Less = sym (alike_right nat_list_cmp_total named.name.bytes name first.name.bytes same) ∙ less in
+    let far : slice_cmp nat_cmp first.name.bytes name ≡ Less =
+    sym (alike_right nat_list_cmp_total named.name.bytes name first.name.bytes same) ∙ less in
     let test : bytes_eq first.name.bytes name ≡ false = same_bytes first.name.bytes name Less far in
     rw test (thing_at rest (rising_rest first rest up) name k named at same)
 
@@ -58,7 +60,8 @@ pub record IsEntry (names : List Named) (name : List ℕ) (thing : Thing) : Type
   pub thing_is : named.thing ≡ thing
 
 found_first : (first : Named) (rest : List Named) (name : List ℕ) (thing : Thing) (b : Bool) → bytes_eq first.name.bytes name ≡ b →
-    (if b then Some first.thing else thing_in rest name) ≡ Some thing → (thing_in rest name ≡ Some thing → IsEntry rest name thing) → IsEntry (first ∷ rest) name thing
+    (if b then Some first.thing else thing_in rest name) ≡ Some thing → (thing_in rest name ≡ Some thing → IsEntry rest name thing)
+    → IsEntry (first ∷ rest) name thing
 found_first first rest name thing true test found later =
     record { place = 0; named = first; is = refl; same = test; thing_is = same_Some first.thing thing found }
 found_first first rest name thing false test found later =
@@ -90,7 +93,8 @@ search_found names up name place d small holds =
 
 pub search_none : (names : List Named) → IsRising names → (name : List ℕ) (place : ℕ) →
     (IsNonDecreasingBy (λ (n : Named). ordering_index (slice_cmp nat_cmp n.name.bytes name)) names →
-    IsPartitionPoint (λ (n : Named). slice_cmp nat_cmp n.name.bytes name ≡ Less) (λ (n : Named). slice_cmp nat_cmp n.name.bytes name ≡ Greater) names place) →
+    IsPartitionPoint (λ (n : Named). slice_cmp nat_cmp n.name.bytes name ≡ Less) (λ (n : Named). slice_cmp nat_cmp n.name.bytes name ≡ Greater) names
+    place) →
     None ≡ thing_in names name
 search_none names up name place parts =
     let point = parts (searchable names up name) in
@@ -98,8 +102,12 @@ search_none names up name place parts =
     let within = slice_get_within names k named at in
     let here : get_or names k named ≡ named = get_or_from_slice_get names k named named at in
     elim (cases_lt k place) [
-      | inl less ↦ same_bytes named.name.bytes name Less (subst (λ (n : Named). slice_cmp nat_cmp n.name.bytes name ≡ Less) here (point.0 k named (omega arith) less))
-      | inr more ↦ same_bytes named.name.bytes name Greater (subst (λ (n : Named). slice_cmp nat_cmp n.name.bytes name ≡ Greater) here (point.1 k named more within))
+      | inl less ↦
+          same_bytes named.name.bytes name Less
+          (subst (λ (n : Named). slice_cmp nat_cmp n.name.bytes name ≡ Less) here (point.0 k named (omega arith) less))
+      | inr more ↦
+          same_bytes named.name.bytes name Greater
+          (subst (λ (n : Named). slice_cmp nat_cmp n.name.bytes name ≡ Greater) here (point.1 k named more within))
     ]))
 
 equal_bytes : (a b : List ℕ) → bytes_eq a b ≡ true → a ≡ b
@@ -124,7 +132,8 @@ has_found site names name thing has =
     (names.right k named (slice_get_within site.names k named at)) in
     let right_here = subst (λ (t : Thing). name_at site t ≡ Some named.name.bytes) is right in
     let bytes : named.name.bytes ≡ name = same_Some named.name.bytes name (sym right_here ∙ has) in
-    let same : slice_cmp nat_cmp named.name.bytes name ≡ Equal = subst (λ (b : List ℕ). slice_cmp nat_cmp named.name.bytes b ≡ Equal) bytes (tied_itself nat_list_cmp_total named.name.bytes) in
+    let same : slice_cmp nat_cmp named.name.bytes name ≡ Equal =
+    subst (λ (b : List ℕ). slice_cmp nat_cmp named.name.bytes b ≡ Equal) bytes (tied_itself nat_list_cmp_total named.name.bytes) in
     thing_at site.names names.rising name k named at same ∙ ap (λ (t : Thing). Some t) is
 
 -- a name is found exactly where a thing of the site has it

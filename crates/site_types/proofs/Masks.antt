@@ -1,5 +1,7 @@
 -- Masks and their bits, at any width.
-use Rattle.std.proofs.Common.{◌-◌, ◌&&◌, ◌||◌, max, min, bit_and, add-one, add-zero, ◌≡◌, ◌≢◌, inl, inr, ℕ, zero, suc, ◌+◌, ◌*◌, ◌/◌, ◌%◌, ◌^◌, ◌<◌, ◌≤◌, ◌==◌, Bool, true, false, if◌then◌else◌, refl, sym, ◌∙◌, ap, arith, pow-suc}
+use Rattle.std.proofs.Common.{◌-◌, ◌&&◌, ◌||◌, max, min, bit_and, add-one, add-zero, ◌≡◌, ◌≢◌, inl, inr, ℕ, zero, suc}
+use Rattle.std.proofs.Common.{◌+◌, ◌*◌, ◌/◌, ◌%◌, ◌^◌, ◌<◌, ◌≤◌, ◌==◌, Bool, true, false, if◌then◌else◌, refl, sym}
+use Rattle.std.proofs.Common.{◌∙◌, ap, arith, pow-suc}
 use Rattle.std.specs.Prelude.{not}
 use Rattle.std.specs.Int.{Width, bit_at, bit_not}
 use Rattle.std.specs.Int.Bits.{bit_or, or_zero_r}
@@ -7,7 +9,9 @@ use mir.Val.{bits}
 use Rattle.std.proofs.Math.Nat.{div-eq_of_lt, mod-eq_of_lt}
 use Rattle.std.proofs.Math.Pow.{pow_mono}
 use Rattle.std.proofs.lemmas.Nat.{or_block, pow_below}
-use Rattle.std.proofs.lemmas.Nat.Bits.{bit_at_or, bit_at_and, bit_at_not, bit_at-pow_same, bit_at-pow_other, bit_at-lt, bit_at-zero, bit_at_above, bit_at_set_same, bit_at_set_other, bit_at_clear_same, bit_at_clear_other, same_from_bits_below}
+use Rattle.std.proofs.lemmas.Nat.Bits.{bit_at_or, bit_at_and, bit_at_not, bit_at-pow_same, bit_at-pow_other}
+use Rattle.std.proofs.lemmas.Nat.Bits.{bit_at-lt, bit_at-zero, bit_at_above, bit_at_set_same, bit_at_set_other}
+use Rattle.std.proofs.lemmas.Nat.Bits.{bit_at_clear_same, bit_at_clear_other, same_from_bits_below}
 use Rattle.std.proofs.lemmas.Bool.Decides.{eqb_tells}
 use Rattle.site_types.specs.Bits.{has_bit, mask_of, with_bit}
 
@@ -49,19 +53,23 @@ unfolding mask_of
 bit_at-mask zero test k small = absurd (omega arith)
 bit_at-mask (suc n) test k small = go (test n) refl (bit_at-mask n test k) (mask_below n test)
   where
-    go : (b : Bool) → test n ≡ b → (k < n → bit_at (mask_of n test) k ≡ (if test k then 1 else 0)) → mask_of n test < 2 ^ n → bit_at (mask_of n test + (if b then 2 ^ n else 0)) k ≡ (if test k then 1 else 0)
+    go : (b : Bool) → test n ≡ b → (k < n → bit_at (mask_of n test) k ≡ (if test k then 1 else 0)) → mask_of n test < 2 ^ n
+        → bit_at (mask_of n test + (if b then 2 ^ n else 0)) k ≡ (if test k then 1 else 0)
     go true e ih below =
         let m = mask_of n test in
         let bits = ap (λ x. bit_at x k) (sym (joined n m below)) ∙ bit_at_or m (2 ^ n) k in
         elim (eqb_tells k n) [
-          | inl same ↦ (let this : bit_at (2 ^ n) k ≡ 1 = ap (bit_at (2 ^ n)) same.1 ∙ bit_at-pow_same n in bits ∙ omega (arith, this, bit_at-lt m k) ∙ ap (λ t. if t then 1 else 0) (sym (ap test same.1 ∙ e)))
-          | inr other ↦ (let this : bit_at (2 ^ n) k ≡ 0 = bit_at-pow_other n k other.1 in let apart = other.1 in bits ∙ omega (arith, this) ∙ ih (omega (arith, small, apart)))
+          | inl same ↦ (let this : bit_at (2 ^ n) k ≡ 1 = ap (bit_at (2 ^ n)) same.1 ∙ bit_at-pow_same n in
+              bits ∙ omega (arith, this, bit_at-lt m k) ∙ ap (λ t. if t then 1 else 0) (sym (ap test same.1 ∙ e)))
+          | inr other ↦ (let this : bit_at (2 ^ n) k ≡ 0 = bit_at-pow_other n k other.1 in let apart = other.1 in
+              bits ∙ omega (arith, this) ∙ ih (omega (arith, small, apart)))
         ]
     go false e ih below =
         let m = mask_of n test in
         let same : m + 0 ≡ m = omega arith in
         elim (eqb_tells k n) [
-          | inl here ↦ (let none : m / 2 ^ n ≡ 0 = div-eq_of_lt below in let bit : bit_at m n ≡ 0 = rw none refl in ap (λ x. bit_at x k) same ∙ ap (bit_at m) here.1 ∙ bit ∙ ap (λ t. if t then 1 else 0) (sym (ap test here.1 ∙ e)))
+          | inl here ↦ (let none : m / 2 ^ n ≡ 0 = div-eq_of_lt below in let bit : bit_at m n ≡ 0 = rw none refl in
+              ap (λ x. bit_at x k) same ∙ ap (bit_at m) here.1 ∙ bit ∙ ap (λ t. if t then 1 else 0) (sym (ap test here.1 ∙ e)))
           | inr other ↦ (let apart = other.1 in ap (λ x. bit_at x k) same ∙ ih (omega (arith, small, apart)))
         ]
 
@@ -124,7 +132,8 @@ with_bit-same w mask k true within = rw (bit_at_set_same w mask k within) refl
 with_bit-same w mask k false within = rw (bit_at_clear_same w mask k within) refl
 
 -- every other bit
-pub with_bit-other : (w : Width) (mask k : ℕ) (on : Bool) → k < bits w → (i : ℕ) → i < bits w → i ≢ k → has_bit (with_bit w mask k on) i ≡ has_bit mask i
+pub with_bit-other : (w : Width) (mask k : ℕ) (on : Bool) → k < bits w → (i : ℕ) → i < bits w → i ≢ k
+    → has_bit (with_bit w mask k on) i ≡ has_bit mask i
 with_bit-other w mask k true within i small apart = rw (bit_at_set_other w mask k within i apart) refl
 with_bit-other w mask k false within i small apart = rw (bit_at_clear_other w mask k within i small apart) refl
 

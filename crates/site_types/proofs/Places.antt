@@ -33,7 +33,9 @@ places_of site valid = record {
       let panels = valid.forms.panels in
       let panel = at.panel in
       ((panel.0, omega (arith, panels.1, panel.1)), at.number);
-  points_apart = λ i j p q is is' panel line address. valid.twins.points i j p q is is' (three p.panel q.panel p.line q.line p.address q.address panel line address);
+  points_apart =
+      λ i j p q is is' panel line address.
+      valid.twins.points i j p q is is' (three p.panel q.panel p.line q.line p.address q.address panel line address);
   zones_apart = λ i j y z is is' panel number. valid.twins.zones i j y z is is' (two y.panel z.panel y.number z.number panel number);
   outputs_apart = λ i j n o is is' panel number. valid.twins.outputs i j n o is is' (two n.panel o.panel n.number o.number panel number);
 }

@@ -50,7 +50,8 @@ same_loop points line address on shaped place a there apart (inr other) =
     ap (λ h. has_bit (get_or h (half_of a) 0) (bit_of a)) (written points line address on shaped place)
     ∙ ap (λ m. has_bit m (bit_of a)) (get_or-set_other halves (half_of address) (half_of a) mask 0 other)
 
-on_line : (points : PointSet) (line address : ℕ) (on : Bool) → IsShaped points → IsPlace line address → (l a : ℕ) → IsPlace l a → (l ≢ line) ⊎ (a ≢ address) →
+on_line : (points : PointSet) (line address : ℕ) (on : Bool) → IsShaped points → IsPlace line address → (l a : ℕ) → IsPlace l a
+    → (l ≢ line) ⊎ (a ≢ address) →
     (l ≡ line) ⊎ (l ≢ line) → has_point (with_point points line address on) l a ≡ has_point points l a
 on_line points line address on shaped place l a there (inl other) (inl same) = absurd (other same)
 on_line points line address on shaped place l a there (inr apart) (inl same) =

@@ -1,6 +1,8 @@
 -- The constants of the code are the limits.
 use Rattle.std.proofs.Common.{◌≡◌, refl}
-use Rattle.site_types.specs.declared.limits.TheConstants.{MOST_PANELS, MOST_LOOPS, MOST_ZONES, MOST_OUTPUTS, MOST_MARKERS, MOST_TERMS, MOST_CODES, MOST_OPERATIONS, NAME_BYTES, LINE_BYTES, SITE_BYTES, GREATEST_COUNT}
+use Rattle.site_types.specs.declared.limits.TheConstants.{MOST_PANELS, MOST_LOOPS, MOST_ZONES, MOST_OUTPUTS}
+use Rattle.site_types.specs.declared.limits.TheConstants.{MOST_MARKERS, MOST_TERMS, MOST_CODES, MOST_OPERATIONS}
+use Rattle.site_types.specs.declared.limits.TheConstants.{NAME_BYTES, LINE_BYTES, SITE_BYTES, GREATEST_COUNT}
 use Rattle.site_types.specs.Limits.{most_panels, most_loops, most_zones, most_outputs, most_markers, most_terms, most_codes, most_operations, name_bytes, line_bytes, site_bytes, greatest_count}
 
 pub of_panels : MOST_PANELS ≡ most_panels

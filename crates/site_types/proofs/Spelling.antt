@@ -30,7 +30,8 @@ decimal_begins : (n : ℕ) → n < 2 ^ 64 → begins_as_number (decimal n) ≡ t
 decimal_begins zero small = rw (decimal_digit 0 (omega arith)) refl
 decimal_begins (suc n) small = begins_above (decimal (suc n)) (first_decimal (suc n) (omega arith) small)
 
-spells : (text : List ℕ) (n : ℕ) → begins_as_number text ≡ true → all_digits text ≡ true → value_after 0 text ≡ n → n < 2 ^ 64 → number_of text ≡ Some n
+spells : (text : List ℕ) (n : ℕ) → begins_as_number text ≡ true → all_digits text ≡ true → value_after 0 text ≡ n → n < 2 ^ 64
+    → number_of text ≡ Some n
 spells text n begins digits value small = sym (begun text begins) ∙ rw (digits, value, lt-ltb n (2 ^ 64) small) refl
 
 -- the text that is written for a number spells it

@@ -70,20 +70,26 @@ point_numbers site valid k point at =
 
 -- ---- references
 
-pub zone_of_point : (site : Site) → IsValid site → (k : ℕ) (point : Point) → slice_get site.points k ≡ Some point → HasZone site point.panel point.zone
+pub zone_of_point : (site : Site) → IsValid site → (k : ℕ) (point : Point) → slice_get site.points k ≡ Some point
+    → HasZone site point.panel point.zone
 zone_of_point site valid k point at = all_at (λ (p : Point). HasZone site p.panel p.zone) site.points k point valid.references.zone_of_point at
 
 pub loop_of_point : (site : Site) → IsValid site → (k : ℕ) (point : Point) → slice_get site.points k ≡ Some point →
     HasAddress site point.panel point.line point.address
-loop_of_point site valid k point at = all_at (λ (p : Point). HasAddress site p.panel p.line p.address) site.points k point valid.references.loop_of_point at
+loop_of_point site valid k point at =
+    all_at (λ (p : Point). HasAddress site p.panel p.line p.address) site.points k point valid.references.loop_of_point at
 
-pub partner_of_zone : (site : Site) → IsValid site → (k : ℕ) (zone : Zone) (other : ℕ) → slice_get site.zones k ≡ Some zone → zone.partner ≡ Some other →
+pub partner_of_zone : (site : Site) → IsValid site → (k : ℕ) (zone : Zone) (other : ℕ) → slice_get site.zones k ≡ Some zone
+    → zone.partner ≡ Some other →
     HasZone site zone.panel other
 partner_of_zone site valid k zone other at has =
-    all_at (λ (z : Zone). (place : ℕ) → z.partner ≡ Some place → HasZone site z.panel place) site.zones k zone valid.references.partner_of_zone at other has
+    all_at (λ (z : Zone). (place : ℕ) → z.partner ≡ Some place → HasZone site z.panel place) site.zones k zone valid.references.partner_of_zone at
+    other has
 
-pub marker_of_output : (site : Site) → IsValid site → (k : ℕ) (output : Output) → slice_get site.outputs k ≡ Some output → output.marker < length site.markers
-marker_of_output site valid k output at = all_at (λ (o : Output). o.marker < length site.markers) site.outputs k output valid.references.marker_of_output at
+pub marker_of_output : (site : Site) → IsValid site → (k : ℕ) (output : Output) → slice_get site.outputs k ≡ Some output
+    → output.marker < length site.markers
+marker_of_output site valid k output at =
+    all_at (λ (o : Output). o.marker < length site.markers) site.outputs k output valid.references.marker_of_output at
 
 pub term_of_marker : (site : Site) → IsValid site → (k : ℕ) (marker : Marker) (i : ℕ) (term : Term) → slice_get site.markers k ≡ Some marker →
     slice_get marker.terms i ≡ Some term → IsTerm site term
@@ -95,11 +101,18 @@ pub zone_of_section : (site : Site) → IsValid site → (k i j : ℕ) (plan : L
     slice_get site.points i ≡ Some p → slice_get site.points j ≡ Some q → AreOnLoop plan p q →
     section_of plan.isolators p.address ≡ section_of plan.isolators q.address → p.zone ≡ q.zone
 zone_of_section site valid k i j plan p q at ap aq on same =
-    let whole = all_at (λ (l : LoopPlan). All (λ (a : Point). All (λ (b : Point). AreOnLoop l a b → section_of l.isolators a.address ≡ section_of l.isolators b.address → a.zone ≡ b.zone) site.points) site.points)
+    let whole =
+    all_at
+    (λ (l : LoopPlan).
+    All (λ (a : Point). All (λ (b : Point). AreOnLoop l a b → section_of l.isolators a.address ≡ section_of l.isolators b.address
+    → a.zone ≡ b.zone) site.points) site.points)
     site.loops k plan valid.sections at in
-    let one = all_at (λ (a : Point). All (λ (b : Point). AreOnLoop plan a b → section_of plan.isolators a.address ≡ section_of plan.isolators b.address → a.zone ≡ b.zone) site.points)
+    let one =
+    all_at (λ (a : Point). All (λ (b : Point). AreOnLoop plan a b → section_of plan.isolators a.address ≡ section_of plan.isolators b.address
+    → a.zone ≡ b.zone) site.points)
     site.points i p whole ap in
-    all_at (λ (b : Point). AreOnLoop plan p b → section_of plan.isolators p.address ≡ section_of plan.isolators b.address → p.zone ≡ b.zone) site.points j q one aq on same
+    all_at (λ (b : Point). AreOnLoop plan p b → section_of plan.isolators p.address ≡ section_of plan.isolators b.address
+    → p.zone ≡ b.zone) site.points j q one aq on same
 
 -- ---- how many parts there are, at most
 
@@ -126,7 +139,8 @@ few_zones site valid = few (λ (z : Zone). 32 * (z.panel - 1) + (z.number - 1)) 
 pub few_outputs : (site : Site) → IsValid site → length site.outputs ≤ 256
 few_outputs site valid = few (λ (z : Output). 32 * (z.panel - 1) + (z.number - 1)) 256 site.outputs
     (All-weaker (IsOutput site) (λ (z : Output). 32 * (z.panel - 1) + (z.number - 1) < 256)
-    (λ z is. let most = valid.forms.panels.1 in let p = is.panel.1 in let n = is.number in omega (arith, most, p, n)) site.outputs valid.forms.outputs)
+    (λ z is. let most = valid.forms.panels.1 in let p = is.panel.1 in let n = is.number in omega (arith, most, p, n)) site.outputs
+    valid.forms.outputs)
     (λ j k a b p q same.
     let x = output_numbers site valid j a p in
     let y = output_numbers site valid k b q in
@@ -156,7 +170,8 @@ apart_points p l a q m b p1 q1 x y same =
 pub few_points : (site : Site) → IsValid site → length site.points ≤ 6144
 few_points site valid = few (λ (z : Point). 768 * (z.panel - 1) + (192 * (z.line - 1) + (z.address - 1))) 6144 site.points
     (All-weaker (IsPoint site) (λ (z : Point). 768 * (z.panel - 1) + (192 * (z.line - 1) + (z.address - 1)) < 6144)
-    (λ z is. let most = valid.forms.panels.1 in let f = valid.forms.format.1 in let p = is.panel.1 in let l = is.line in let a = is.address in omega (arith, most, f, p, l, a)) site.points valid.forms.points)
+    (λ z is. let most = valid.forms.panels.1 in let f = valid.forms.format.1 in let p = is.panel.1 in let l = is.line in let a = is.address in
+    omega (arith, most, f, p, l, a)) site.points valid.forms.points)
     (λ j k a b p q same.
     let x = point_numbers site valid j a p in
     let y = point_numbers site valid k b q in

@@ -1,5 +1,6 @@
 -- Masks: numbers whose bits are tests, and sets of points made of them.
-use Rattle.std.specs.Prelude.{◌≤◌, ◌+◌, ◌-◌, ◌*◌, ◌/◌, ◌%◌, ◌^◌, ◌==◌, ℕ, zero, suc, Bool, [], slice_index, slice_index_or, slice_set, bit_or, bit_and, if◌then◌else◌}
+use Rattle.std.specs.Prelude.{◌≤◌, ◌+◌, ◌-◌, ◌*◌, ◌/◌, ◌%◌, ◌^◌, ◌==◌, ◌||◌, ℕ, zero, suc, Bool, false, [], replicate}
+use Rattle.std.specs.Prelude.{slice_index, slice_index_or, slice_set, bit_or, bit_and, if◌then◌else◌}
 use Rattle.std.specs.Int.{Width, w128, bit_at, bit_not}
 use mir.Val.{bits}
 use Rattle.site_types.specs.declared.point_set.PointSet.{PointSet}
@@ -12,6 +13,11 @@ has_bit mask k = bit_at mask k == 1
 unfoldable pub mask_of : ℕ → (ℕ → Bool) → ℕ
 mask_of zero test = 0
 mask_of (suc n) test = mask_of n test + (if test n then 2 ^ n else 0)
+
+-- some number below a bound passes the test
+unfoldable pub any_below : ℕ → (ℕ → Bool) → Bool
+any_below zero test = false
+any_below (suc n) test = any_below n test || test n
 
 -- the mask of a width with one bit set or cleared
 abbrev pub with_bit : Width → ℕ → ℕ → Bool → ℕ
@@ -31,12 +37,20 @@ IsPlace line address = (1 ≤ line) × (line ≤ 4) × (1 ≤ address) × (addre
 
 -- whether a set of points has the point of a line and an address
 abbrev pub has_point : PointSet → ℕ → ℕ → Bool
-has_point set line address = has_bit (slice_index (slice_index_or set.loops (line - 1) []) (half_of address)) (bit_of address)
+has_point set line address =
+    has_bit (slice_index (slice_index_or set.loops (line - 1) []) (half_of address)) (bit_of address)
+
+-- the set without a point
+abbrev pub no_set : PointSet
+no_set = record { loops = replicate 4 (replicate 2 0) }
 
 -- the set with one point put in or taken out
 abbrev pub with_point : PointSet → ℕ → ℕ → Bool → PointSet
 with_point set line address on =
     let halves = slice_index_or set.loops (line - 1) [] in
     record set {
-      loops = slice_set set.loops (line - 1) (slice_set halves (half_of address) (with_bit w128 (slice_index halves (half_of address)) (bit_of address) on));
+      loops =
+          slice_set set.loops (line - 1)
+          (slice_set halves (half_of address)
+          (with_bit w128 (slice_index halves (half_of address)) (bit_of address) on));
     }

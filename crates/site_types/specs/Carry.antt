@@ -1,4 +1,5 @@
--- What a changed site keeps of what was retained for the site before: by name and kind; delays and counters by panel.
+-- What a changed site keeps of what was retained for the site before: by name and kind; delays and counters
+-- by panel.
 use Rattle.std.specs.Prelude.{ℕ, ◌-◌, Bool, true, List, ◌++◌, Some, map, take, replicate, nat_lt, ◌&&◌}
 use Rattle.std.specs.List.{list_any, filter}
 use Rattle.std.specs.Str.{bytes_eq}
@@ -13,31 +14,44 @@ use Rattle.site_types.specs.Bits.{has_bit, mask_of}
 use Rattle.site_types.specs.Done.{kept_point, kept_zone, kept_output, kept_test}
 use Rattle.site_types.specs.Changes.{changed_by, nothing_retained}
 
--- whether the old site has a point of this name that is disabled; likewise a zone, an output, and a zone in test
+-- whether the old site has a point of this name that is disabled; likewise a zone, an output, and a zone in
+-- test
 abbrev pub point_was_off : Site → Retained → List ℕ → Bool
-point_was_off old state name = list_any (λ (p : PointPlan). bytes_eq p.name.bytes name && kept_point state (Some p)) old.points
+point_was_off old state name =
+    list_any (λ (p : PointPlan). bytes_eq p.name.bytes name && kept_point state (Some p)) old.points
 
 abbrev pub zone_was_off : Site → Retained → List ℕ → Bool
-zone_was_off old state name = list_any (λ (z : ZonePlan). bytes_eq z.name.bytes name && kept_zone state (Some z)) old.zones
+zone_was_off old state name =
+    list_any (λ (z : ZonePlan). bytes_eq z.name.bytes name && kept_zone state (Some z)) old.zones
 
 abbrev pub output_was_off : Site → Retained → List ℕ → Bool
-output_was_off old state name = list_any (λ (o : OutputPlan). bytes_eq o.name.bytes name && kept_output state (Some o)) old.outputs
+output_was_off old state name =
+    list_any (λ (o : OutputPlan). bytes_eq o.name.bytes name && kept_output state (Some o)) old.outputs
 
 abbrev pub zone_was_tested : Site → Retained → List ℕ → Bool
-zone_was_tested old state name = list_any (λ (z : ZonePlan). bytes_eq z.name.bytes name && kept_test state (Some z)) old.zones
+zone_was_tested old state name =
+    list_any (λ (z : ZonePlan). bytes_eq z.name.bytes name && kept_test state (Some z)) old.zones
 
 -- the disablements and tests of the new site that come from the old one
 abbrev pub point_changes : Site → Site → Retained → List Change
-point_changes old new state = map (λ (p : PointPlan). Point p.panel p.line p.address true) (filter (λ (p : PointPlan). point_was_off old state p.name.bytes) new.points)
+point_changes old new state =
+    map (λ (p : PointPlan). Point p.panel p.line p.address true)
+    (filter (λ (p : PointPlan). point_was_off old state p.name.bytes) new.points)
 
 abbrev pub zone_changes : Site → Site → Retained → List Change
-zone_changes old new state = map (λ (z : ZonePlan). Zone z.panel z.number true) (filter (λ (z : ZonePlan). zone_was_off old state z.name.bytes) new.zones)
+zone_changes old new state =
+    map (λ (z : ZonePlan). Zone z.panel z.number true)
+    (filter (λ (z : ZonePlan). zone_was_off old state z.name.bytes) new.zones)
 
 abbrev pub output_changes : Site → Site → Retained → List Change
-output_changes old new state = map (λ (o : OutputPlan). Output o.panel o.number true) (filter (λ (o : OutputPlan). output_was_off old state o.name.bytes) new.outputs)
+output_changes old new state =
+    map (λ (o : OutputPlan). Output o.panel o.number true)
+    (filter (λ (o : OutputPlan). output_was_off old state o.name.bytes) new.outputs)
 
 abbrev pub test_changes : Site → Site → Retained → List Change
-test_changes old new state = map (λ (z : ZonePlan). Test z.panel z.number true) (filter (λ (z : ZonePlan). zone_was_tested old state z.name.bytes) new.zones)
+test_changes old new state =
+    map (λ (z : ZonePlan). Test z.panel z.number true)
+    (filter (λ (z : ZonePlan). zone_was_tested old state z.name.bytes) new.zones)
 
 -- the delays and the counters of the panels that the new site has
 abbrev pub carried_delays : ℕ → ℕ → ℕ
@@ -49,7 +63,9 @@ carried_counters panels counters = take panels counters ++ replicate (8 - panels
 -- what the new site begins with; what is named nowhere here is dropped
 abbrev pub carried : Site → Site → Retained → Retained
 carried old new state =
-    record (changed_by (point_changes old new state ++ zone_changes old new state ++ output_changes old new state ++ test_changes old new state) nothing_retained) {
+    record
+    (changed_by (point_changes old new state ++ zone_changes old new state ++ output_changes old new state
+    ++ test_changes old new state) nothing_retained) {
       delays_off = carried_delays new.panels state.delays_off;
       counters = carried_counters new.panels state.counters;
     }

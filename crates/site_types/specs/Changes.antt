@@ -1,5 +1,6 @@
 -- What a change makes of what is retained, and the change that an operation makes.
-use Rattle.std.specs.Prelude.{◌≡◌, ◌<◌, length, replicate, ℕ, ◌+◌, ◌-◌, ◌≤◌, min, Bool, true, false, not, List, [], ◌∷◌, Option, Some, None, slice_get, slice_index, slice_index_or, slice_set}
+use Rattle.std.specs.Prelude.{◌≡◌, ◌<◌, length, replicate, ℕ, ◌+◌, ◌-◌, ◌≤◌, min, Bool, true, false, not, List, []}
+use Rattle.std.specs.Prelude.{◌∷◌, Option, Some, None, is_some, slice_get, slice_index, slice_index_or, slice_set}
 use Rattle.std.specs.Int.{w8, w32}
 use Rattle.site_types.specs.declared.site.Site.{Site}
 use Rattle.site_types.specs.declared.point.Point.{Point as PointPlan}
@@ -11,9 +12,11 @@ use Rattle.site_types.specs.declared.change.Change.TheVariants.{Point, Zone, Out
 use Rattle.site_types.specs.declared.item.Item.{Item}
 use Rattle.site_types.specs.declared.item.Item.TheVariants.{Point as ThePoint, Zone as TheZone, Output as TheOutput}
 use Rattle.site_types.specs.declared.operation.Operation.{Operation}
-use Rattle.site_types.specs.declared.operation.Operation.TheVariants.{Disable, Enable, Test as SetTest, Untest, Delays as SetDelays, Clear as ClearCounter}
+use Rattle.site_types.specs.declared.operation.Operation.TheVariants.{Disable, Enable, Test as SetTest, Untest}
+use Rattle.site_types.specs.declared.operation.Operation.TheVariants.{Delays as SetDelays, Clear as ClearCounter}
 use Rattle.site_types.specs.Bits.{IsPlace, with_bit, with_point}
-use Rattle.site_types.specs.Done.{Done, Setting, IsSetting, at_opening, in_force, no_points}
+use Rattle.site_types.specs.Done.{is_kept_operation, no_points, operation_setting}
+use Rattle.site_types.specs.Events.{has_operands}
 use Rattle.site_types.specs.Limits.{greatest_count}
 
 -- a panel that has a place in what is retained
@@ -36,17 +39,26 @@ CanApply (Test panel number on) = IsPanelNumber panel × IsNumber number
 
 -- of masks by panel, the one of a panel with the bit of a number set or cleared
 abbrev pub with_number : List ℕ → ℕ → ℕ → Bool → List ℕ
-with_number masks panel number on = slice_set masks (panel - 1) (with_bit w32 (slice_index masks (panel - 1)) (number - 1) on)
+with_number masks panel number on =
+    slice_set masks (panel - 1) (with_bit w32 (slice_index masks (panel - 1)) (number - 1) on)
 
 -- what a change makes of what is retained
 abbrev pub changed : Change → Retained → Retained
 changed (Point panel line address off) kept =
-    record kept { points = slice_set kept.points (panel - 1) (with_point (slice_index_or kept.points (panel - 1) no_points) line address off) }
+    record kept {
+      points =
+          slice_set kept.points (panel - 1) (with_point (slice_index_or kept.points (panel - 1) no_points) line
+          address off);
+    }
 changed (Zone panel number off) kept = record kept { zones = with_number kept.zones panel number off }
 changed (Output panel number off) kept = record kept { outputs = with_number kept.outputs panel number off }
 changed (Delays panel off) kept = record kept { delays_off = with_bit w8 kept.delays_off (panel - 1) off }
 changed (Count panel entries) kept =
-    record kept { counters = slice_set kept.counters (panel - 1) (min (slice_index kept.counters (panel - 1) + entries) greatest_count) }
+    record kept {
+      counters =
+          slice_set kept.counters (panel - 1)
+          (min (slice_index kept.counters (panel - 1) + entries) greatest_count);
+    }
 changed (Clear panel) kept = record kept { counters = slice_set kept.counters (panel - 1) 0 }
 changed (Test panel number on) kept = record kept { tests = with_number kept.tests panel number on }
 
@@ -97,14 +109,20 @@ operation_change site panel (SetDelays on) = Some (Delays panel (not on))
 operation_change site panel ClearCounter = Some (Clear panel)
 operation_change site panel _ = None
 
-abbrev pub change_of : Site → Done → Option Change
-change_of site d = operation_change site d.panel d.operation
+-- what is kept over a power cut: an operation of a panel changes what is retained, and is on a setting,
+-- exactly where it is one of those that are kept
+pub record KeptAreChanges : Type 0 where
+  pub changes : (site : Site) (panel : ℕ) (operation : Operation) → has_operands site panel operation ≡ true
+      → is_kept_operation operation ≡ is_some (operation_change site panel operation)
+  pub settings : (panel : ℕ) (operation : Operation)
+      → is_kept_operation operation ≡ is_some (operation_setting panel operation)
 
 -- each list of what is retained is as long as in the data
 pub record IsSized (kept : Retained) : Type 0 where
   pub points : length kept.points ≡ 8
   pub loops : (k : ℕ) → k < 8 → length (slice_index_or kept.points k no_points).loops ≡ 4
-  pub halves : (k l : ℕ) → k < 8 → l < 4 → length (slice_index_or (slice_index_or kept.points k no_points).loops l []) ≡ 2
+  pub halves : (k l : ℕ) → k < 8 → l < 4
+      → length (slice_index_or (slice_index_or kept.points k no_points).loops l []) ≡ 2
   pub zones : length kept.zones ≡ 8
   pub outputs : length kept.outputs ≡ 8
   pub counters : length kept.counters ≡ 8
@@ -116,13 +134,15 @@ AreCounters counters = (k : ℕ) → slice_index counters k ≤ greatest_count
 
 -- each point, zone and output of a site has a place of its own in what is retained
 pub record HasOwnPlaces (site : Site) : Type 0 where
-  pub point : (i : ℕ) (p : PointPlan) → slice_get site.points i ≡ Some p → IsPanelNumber p.panel × IsPlace p.line p.address
-  pub zone : (i : ℕ) (z : ZonePlan) → slice_get site.zones i ≡ Some z → IsPanelNumber z.panel × IsNumber z.number
-  pub output : (i : ℕ) (o : OutputPlan) → slice_get site.outputs i ≡ Some o → IsPanelNumber o.panel × IsNumber o.number
-  pub points_apart : (i j : ℕ) (p q : PointPlan) → slice_get site.points i ≡ Some p → slice_get site.points j ≡ Some q → p.panel ≡ q.panel → p.line ≡ q.line → p.address ≡ q.address → i ≡ j
-  pub zones_apart : (i j : ℕ) (y z : ZonePlan) → slice_get site.zones i ≡ Some y → slice_get site.zones j ≡ Some z → y.panel ≡ z.panel → y.number ≡ z.number → i ≡ j
-  pub outputs_apart : (i j : ℕ) (n o : OutputPlan) → slice_get site.outputs i ≡ Some n → slice_get site.outputs j ≡ Some o → n.panel ≡ o.panel → n.number ≡ o.number → i ≡ j
-
--- each setting is kept with the value that is in force at x, after what was done since a site was opened
-abbrev pub KeepsInForce : Site → Retained → List Done → ℕ → Retained → Type 0
-KeepsInForce site opened done x kept = (setting : Setting) → IsSetting setting → at_opening site kept setting ≡ in_force site opened setting x done
+  pub point : (i : ℕ) (p : PointPlan) → slice_get site.points i ≡ Some p
+      → IsPanelNumber p.panel × IsPlace p.line p.address
+  pub zone : (i : ℕ) (z : ZonePlan) → slice_get site.zones i ≡ Some z
+      → IsPanelNumber z.panel × IsNumber z.number
+  pub output : (i : ℕ) (o : OutputPlan) → slice_get site.outputs i ≡ Some o
+      → IsPanelNumber o.panel × IsNumber o.number
+  pub points_apart : (i j : ℕ) (p q : PointPlan) → slice_get site.points i ≡ Some p
+      → slice_get site.points j ≡ Some q → p.panel ≡ q.panel → p.line ≡ q.line → p.address ≡ q.address → i ≡ j
+  pub zones_apart : (i j : ℕ) (y z : ZonePlan) → slice_get site.zones i ≡ Some y
+      → slice_get site.zones j ≡ Some z → y.panel ≡ z.panel → y.number ≡ z.number → i ≡ j
+  pub outputs_apart : (i j : ℕ) (n o : OutputPlan) → slice_get site.outputs i ≡ Some n
+      → slice_get site.outputs j ≡ Some o → n.panel ≡ o.panel → n.number ≡ o.number → i ≡ j

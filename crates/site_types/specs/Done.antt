@@ -1,5 +1,7 @@
--- What the operations that were done make of settings, floors and cancellings. An operation is in force from the tick after its own.
-use Rattle.std.specs.Prelude.{ℕ, ◌-◌, ◌≤◌, max, Bool, true, false, not, List, [], ◌∷◌, Option, Some, None, slice_get, slice_index, slice_index_or, if◌then◌else◌, ◌==◌, ◌&&◌, ◌||◌, nat_lt, nat_le}
+-- What the operations that were done make of settings, floors and cancellings. An operation is in force from
+-- the tick after its own.
+use Rattle.std.specs.Prelude.{ℕ, ◌-◌, ◌≤◌, max, Bool, true, false, not, List, [], ◌∷◌, Option, Some, None, slice_get}
+use Rattle.std.specs.Prelude.{slice_index, slice_index_or, if◌then◌else◌, ◌==◌, ◌&&◌, ◌||◌, nat_lt, nat_le}
 use Rattle.site_types.specs.declared.site.Site.{Site}
 use Rattle.site_types.specs.declared.point.Point.{Point as PointPlan}
 use Rattle.site_types.specs.declared.zone.Zone.{Zone as ZonePlan}
@@ -9,7 +11,8 @@ use Rattle.site_types.specs.declared.retained.Retained.{Retained}
 use Rattle.site_types.specs.declared.item.Item.{Item}
 use Rattle.site_types.specs.declared.item.Item.TheVariants.{Point, Zone, Output}
 use Rattle.site_types.specs.declared.operation.Operation.{Operation}
-use Rattle.site_types.specs.declared.operation.Operation.TheVariants.{Mute, Override, Silence, Resound, Reset, Cancel, Disable, Enable, Test, Untest, Delays, Clear}
+use Rattle.site_types.specs.declared.operation.Operation.TheVariants.{Mute, Override, Silence, Resound, Reset, Cancel}
+use Rattle.site_types.specs.declared.operation.Operation.TheVariants.{Disable, Enable, Test, Untest, Delays, Clear}
 use Rattle.site_types.specs.Bits.{has_bit, has_point}
 
 -- an operation that was done: in which tick, at which panel; lists of these have the newest first
@@ -18,7 +21,8 @@ pub record Done : Type 0 where
   pub panel : ℕ
   pub operation : Operation
 
--- what an operation may set until another sets it anew: a point, zone or output is disabled, a zone is in test, a panel's delays are off, a panel's counter
+-- what an operation may set until another sets it anew: a point, zone or output is disabled, a zone is in
+-- test, a panel's delays are off, a panel's counter
 pub data Setting : Type 0 where
   PointOff : (point : ℕ) → Setting
   ZoneOff : (zone : ℕ) → Setting
@@ -72,6 +76,7 @@ is_kept_operation (Delays on) = true
 is_kept_operation Clear = true
 is_kept_operation _ = false
 
+-- no point by default
 abbrev pub no_points : PointSet
 no_points = record { loops = [] }
 
@@ -115,15 +120,18 @@ is_setting setting (Some other) = same_setting setting other
 abbrev pub is_on : Setting → Done → Bool
 is_on setting d = is_setting setting (setting_of d)
 
--- the value of a setting at x: by the latest operation on it that was done in a tick before x, else the one at opening
+-- the value of a setting at x: by the latest operation on it that was done in a tick before x, else the one
+-- at opening
 abbrev pub in_force : Site → Retained → Setting → ℕ → List Done → Bool
 in_force site kept setting x [] = at_opening site kept setting
-in_force site kept setting x (d ∷ ds) = if is_on setting d && nat_lt d.tick x then value_set d.operation else in_force site kept setting x ds
+in_force site kept setting x (d ∷ ds) =
+    if is_on setting d && nat_lt d.tick x then value_set d.operation else in_force site kept setting x ds
 
 -- the latest tick before x with an operation of a kind, else 0
 abbrev pub latest_before : (Done → Bool) → ℕ → List Done → ℕ
 latest_before test x [] = 0
-latest_before test x (d ∷ ds) = if test d && nat_lt d.tick x then max d.tick (latest_before test x ds) else latest_before test x ds
+latest_before test x (d ∷ ds) =
+    if test d && nat_lt d.tick x then max d.tick (latest_before test x ds) else latest_before test x ds
 
 abbrev pub is_of_panel : ℕ → Option ZonePlan → Bool
 is_of_panel panel None = false
@@ -172,7 +180,9 @@ is_override _ = false
 -- whether an override was done at a panel in one of the ticks from the first on, and before x
 abbrev pub override_done_in : ℕ → ℕ → ℕ → List Done → Bool
 override_done_in panel first x [] = false
-override_done_in panel first x (d ∷ ds) = (d.panel == panel && is_override d.operation && nat_le first d.tick && nat_lt d.tick x) || override_done_in panel first x ds
+override_done_in panel first x (d ∷ ds) =
+    (d.panel == panel && is_override d.operation && nat_le first d.tick && nat_lt d.tick x)
+    || override_done_in panel first x ds
 
 -- for a silence its tick, for a resound none, for others what was
 abbrev pub silence_then : Operation → ℕ → Option ℕ → Option ℕ
@@ -183,21 +193,20 @@ silence_then _ tick before = before
 -- the tick of the silence that is the last silence or resound of a panel before x, if it is one
 abbrev pub silence_before : ℕ → ℕ → List Done → Option ℕ
 silence_before panel x [] = None
-silence_before panel x (d ∷ ds) = if d.panel == panel && nat_lt d.tick x then silence_then d.operation d.tick (silence_before panel x ds) else silence_before panel x ds
+silence_before panel x (d ∷ ds) =
+    if d.panel == panel && nat_lt d.tick x then silence_then d.operation d.tick (silence_before panel x ds)
+    else silence_before panel x ds
 
 -- whether the zone of a point is disabled or in test at x
 abbrev pub is_zone_blocked : Site → Retained → List Done → Option PointPlan → ℕ → Bool
 is_zone_blocked site kept done None x = false
-is_zone_blocked site kept done (Some p) x = in_force site kept (ZoneOff p.zone) x done || in_force site kept (InTest p.zone) x done
+is_zone_blocked site kept done (Some p) x = in_force site kept (ZoneOff p.zone) x done
+    || in_force site kept (InTest p.zone) x done
 
 -- whether at x a point is disabled, or its zone is disabled or in test
 abbrev pub is_blocked : Site → Retained → List Done → ℕ → ℕ → Bool
-is_blocked site kept done point x = in_force site kept (PointOff point) x done || is_zone_blocked site kept done (slice_get site.points point) x
-
--- each was done at x or later
-abbrev pub AreFrom : ℕ → List Done → Type 0
-AreFrom x [] = Unit {0}
-AreFrom x (d ∷ ds) = (x ≤ d.tick) × AreFrom x ds
+is_blocked site kept done point x = in_force site kept (PointOff point) x done
+    || is_zone_blocked site kept done (slice_get site.points point) x
 
 -- each was done by this tick
 abbrev pub AreBy : ℕ → List Done → Type 0

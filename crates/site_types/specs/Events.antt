@@ -11,7 +11,8 @@ use Rattle.site_types.specs.declared.output_kind.OutputKind.TheVariants.{Sounder
 use Rattle.site_types.specs.declared.item.Item.{Item}
 use Rattle.site_types.specs.declared.item.Item.TheVariants.{Point as PointItem, Zone as ZoneItem, Output as OutputItem}
 use Rattle.site_types.specs.declared.operation.Operation.{Operation}
-use Rattle.site_types.specs.declared.operation.Operation.TheVariants.{Mute, Override, Silence, Resound, Reset, Cancel, Disable, Enable, Test, Untest, Delays, Clear}
+use Rattle.site_types.specs.declared.operation.Operation.TheVariants.{Mute, Override, Silence, Resound, Reset, Cancel}
+use Rattle.site_types.specs.declared.operation.Operation.TheVariants.{Disable, Enable, Test, Untest, Delays, Clear}
 use Rattle.site_types.specs.declared.event.Event.{Event}
 use Rattle.site_types.specs.declared.event.Event.TheVariants.{Point, Cable, Supply, Link, Confirmed, Op}
 
@@ -30,7 +31,8 @@ is_link site link = nat_le 2 site.panels && nat_le 1 link && nat_le link site.pa
 -- a listed loop of the panel has the piece of cable, 0 to its last address
 abbrev pub has_piece : Site → ℕ → ℕ → ℕ → Bool
 has_piece site panel line piece =
-    list_any (λ (plan : LoopPlan). (plan.panel == panel) && (plan.line == line) && nat_le piece plan.last) site.loops
+    list_any (λ (plan : LoopPlan). (plan.panel == panel) && (plan.line == line) && nat_le piece plan.last)
+    site.loops
 
 -- the outputs that a confirmation from outside is asked of
 abbrev pub is_confirming : OutputKind → Bool
@@ -44,9 +46,11 @@ abbrev pub has_zone : Site → ℕ → ℕ → Bool
 has_zone site panel place = is_some_with (λ (zone : ZoneOf). zone.panel == panel) (slice_get site.zones place)
 
 abbrev pub has_item : Site → ℕ → Item → Bool
-has_item site panel (PointItem place) = is_some_with (λ (point : PointOf). point.panel == panel) (slice_get site.points place)
+has_item site panel (PointItem place) =
+    is_some_with (λ (point : PointOf). point.panel == panel) (slice_get site.points place)
 has_item site panel (ZoneItem place) = has_zone site panel place
-has_item site panel (OutputItem place) = is_some_with (λ (output : OutputOf). output.panel == panel) (slice_get site.outputs place)
+has_item site panel (OutputItem place) =
+    is_some_with (λ (output : OutputOf). output.panel == panel) (slice_get site.outputs place)
 
 -- what an operation names is of the panel
 abbrev pub has_operands : Site → ℕ → Operation → Bool
@@ -68,5 +72,6 @@ has_event site (Point point state) = nat_lt point (length site.points)
 has_event site (Cable panel line piece state) = has_piece site panel line piece
 has_event site (Supply panel kind bad) = is_panel site panel
 has_event site (Link link up) = is_link site link
-has_event site (Confirmed output) = is_some_with (λ (o : OutputOf). is_confirming o.kind) (slice_get site.outputs output)
+has_event site (Confirmed output) =
+    is_some_with (λ (o : OutputOf). is_confirming o.kind) (slice_get site.outputs output)
 has_event site (Op panel code operation) = is_panel site panel && has_operands site panel operation

@@ -1,5 +1,6 @@
 -- The limits of a site and of what speaks of it, apart from those that go by its format.
-use Rattle.std.specs.Prelude.{ℕ}
+use Rattle.std.specs.Prelude.{ℕ, List}
+use Rattle.std.specs.List.{range_with_len}
 
 -- panels of a site
 abbrev pub most_panels : ℕ
@@ -14,6 +15,10 @@ most_zones = 32
 
 abbrev pub most_outputs : ℕ
 most_outputs = 32
+
+-- the bits of the outputs that a panel may have
+unfoldable pub output_bits : List ℕ
+output_bits = range_with_len 0 most_outputs
 
 -- markers of a site, and terms of a marker
 abbrev pub most_markers : ℕ

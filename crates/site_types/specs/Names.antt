@@ -1,6 +1,8 @@
 -- The form of a name and of a code.
-use Rattle.std.specs.Prelude.{◌&&◌, ◌||◌, ◌==◌, ℕ, Bool, false, nat_le, List, [], ◌∷◌, length, Option, Some, None, if◌then◌else◌}
+use Rattle.std.specs.Prelude.{◌&&◌, ◌||◌, ◌==◌, ℕ, Bool, false, nat_le, List, [], ◌∷◌, length, Option, Some, None}
+use Rattle.std.specs.Prelude.{if◌then◌else◌}
 use Rattle.std.specs.List.{list_all}
+use Rattle.site_types.specs.Limits.{name_bytes}
 use Rattle.site_types.specs.Numbers.{is_digit}
 
 -- a letter, `a` to `z`
@@ -17,7 +19,7 @@ begins_with_letter (byte ∷ rest) = is_letter byte
 
 -- 1 to 16 of these, beginning with a letter
 abbrev pub is_name : List ℕ → Bool
-is_name text = begins_with_letter text && nat_le (length text) 16 && list_all is_name_byte text
+is_name text = begins_with_letter text && nat_le (length text) name_bytes && list_all is_name_byte text
 
 -- a letter or a digit
 abbrev pub is_code_byte : ℕ → Bool

@@ -1,5 +1,6 @@
 -- The form of a number of a record, and the number that a text of this form spells.
-use Rattle.std.specs.Prelude.{◌+◌, ◌-◌, ◌*◌, ◌^◌, ◌&&◌, ◌==◌, ℕ, Bool, true, false, not, nat_le, nat_lt, List, [], ◌∷◌, Option, Some, None, if◌then◌else◌}
+use Rattle.std.specs.Prelude.{◌+◌, ◌-◌, ◌*◌, ◌^◌, ◌&&◌, ◌==◌, ℕ, Bool, true, false, not, nat_le, nat_lt, List, []}
+use Rattle.std.specs.Prelude.{◌∷◌, Option, Some, None, if◌then◌else◌}
 
 -- a digit, `0` to `9`
 abbrev pub is_digit : ℕ → Bool
@@ -26,4 +27,5 @@ has_number_form text = begins_as_number text && all_digits text
 
 -- the number of a text, if it has the form and lies below 2 ^ 64
 unfoldable pub number_of : List ℕ → Option ℕ
-number_of text = if has_number_form text && nat_lt (value_after 0 text) (2 ^ 64) then Some (value_after 0 text) else None
+number_of text =
+    if has_number_form text && nat_lt (value_after 0 text) (2 ^ 64) then Some (value_after 0 text) else None

@@ -1,4 +1,5 @@
--- The numbers of ticks that a site's format, 1 or 2, gives: in format 2 a tick is half as long, so each number is twice as great.
+-- The numbers of ticks that a site's format, 1 or 2, gives: in format 2 a tick is half as long, so each
+-- number is twice as great.
 use Rattle.std.specs.Prelude.{ℕ, ◌+◌, ◌*◌}
 
 -- a round of asking: each address is asked once in it

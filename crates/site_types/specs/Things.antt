@@ -16,8 +16,10 @@ use Rattle.site_types.specs.declared.named.Thing.TheVariants.{Point, Zone, Outpu
 abbrev pub name_at : Site → Thing → Option (List ℕ)
 name_at site (Point place) = option_map (λ (point : PointOf). point.name.bytes) (slice_get site.points place)
 name_at site (Zone place) = option_map (λ (zone : ZoneOf). zone.name.bytes) (slice_get site.zones place)
-name_at site (Output place) = option_map (λ (output : OutputOf). output.name.bytes) (slice_get site.outputs place)
-name_at site (Marker place) = option_map (λ (marker : MarkerOf). marker.name.bytes) (slice_get site.markers place)
+name_at site (Output place) =
+    option_map (λ (output : OutputOf). output.name.bytes) (slice_get site.outputs place)
+name_at site (Marker place) =
+    option_map (λ (marker : MarkerOf). marker.name.bytes) (slice_get site.markers place)
 
 -- the thing that a name stands for in a list of names
 abbrev pub thing_in : List Named → List ℕ → Option Thing
@@ -27,6 +29,11 @@ thing_in (named ∷ rest) name = if bytes_eq named.name.bytes name then Some nam
 -- the thing of the site with a name
 abbrev pub thing_named : Site → List ℕ → Option Thing
 thing_named site name = thing_in site.names name
+
+-- the output of a panel with a number
+abbrev pub numbered_output : Site → ℕ → ℕ → Option OutputOf
+numbered_output site panel number =
+    find (λ (output : OutputOf). (output.panel == panel) && (output.number == number)) site.outputs
 
 -- the loop of a panel with a number
 abbrev pub loop_of : Site → ℕ → ℕ → Option LoopPlan

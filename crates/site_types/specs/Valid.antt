@@ -1,11 +1,15 @@
 -- A site is valid: it is one that a site file can spell.
-use Rattle.std.specs.Prelude.{◌≡◌, ◌≢◌, ◌≤◌, ◌<◌, ℕ, Bool, true, false, List, [], ◌∷◌, length, Some, slice_get, All, IsTrue}
+use Rattle.std.specs.Prelude.{◌≡◌, ◌≢◌, ◌≤◌, ◌<◌, ℕ, Bool, true, false, List, [], ◌∷◌, length, Some, slice_get, All}
+use Rattle.std.specs.Prelude.{IsTrue}
 use Rattle.std.specs.Cmp.Lexicographic.{slice_cmp}
 use Rattle.std.specs.Ordering.{nat_cmp}
 use Rattle.std.specs.declared.cmp.Ordering.TheVariants.{Less}
 use Rattle.site_types.specs.Names.{is_name}
-use Rattle.site_types.specs.Limits.{most_panels, most_loops, most_zones, most_outputs, most_markers, most_terms, most_codes}
-use Rattle.site_types.specs.Profile.{greatest_mains_wait_of, greatest_standby_wait_of, greatest_voltage_wait_of, greatest_charger_wait_of, greatest_delay_of, least_verify_of, greatest_verify_of, least_within_a_of, least_within_b_of, greatest_within_of, last_address_of}
+use Rattle.site_types.specs.Limits.{most_panels, most_loops, most_zones, most_outputs, most_markers, most_terms}
+use Rattle.site_types.specs.Limits.{most_codes}
+use Rattle.site_types.specs.Profile.{greatest_mains_wait_of, greatest_standby_wait_of, greatest_voltage_wait_of}
+use Rattle.site_types.specs.Profile.{greatest_charger_wait_of, greatest_delay_of, least_verify_of, greatest_verify_of}
+use Rattle.site_types.specs.Profile.{least_within_a_of, least_within_b_of, greatest_within_of, last_address_of}
 use Rattle.site_types.specs.Sections.{section_of}
 use Rattle.site_types.specs.Things.{name_at}
 use Rattle.site_types.specs.declared.site.Site.{Site}
@@ -51,7 +55,8 @@ pub record IsLoop (site : Site) (plan : LoopPlan) : Type 0 where
 abbrev pub IsRule : ℕ → Rule → Type 0
 IsRule format Plain = Unit {0}
 IsRule format (A verify within) =
-    (least_verify_of format ≤ verify) × (verify ≤ greatest_verify_of format) × (least_within_a_of format verify ≤ within) × (within ≤ greatest_within_of format)
+    (least_verify_of format ≤ verify) × (verify ≤ greatest_verify_of format)
+    × (least_within_a_of format verify ≤ within) × (within ≤ greatest_within_of format)
 IsRule format (B within) = (least_within_b_of format ≤ within) × (within ≤ greatest_within_of format)
 IsRule format C = Unit {0}
 
@@ -110,7 +115,8 @@ pub record HasForms (site : Site) : Type 0 where
 
 -- no two places of a list have the same key
 abbrev pub IsUniqueBy : {X : Type 0} → (X → List ℕ) → List X → Type 0
-IsUniqueBy {X} key xs = (j k : ℕ) (a b : X) → slice_get xs j ≡ Some a → slice_get xs k ≡ Some b → key a ≡ key b → j ≡ k
+IsUniqueBy {X} key xs = (j k : ℕ) (a b : X) → slice_get xs j ≡ Some a → slice_get xs k ≡ Some b
+    → key a ≡ key b → j ≡ k
 
 abbrev pub loop_key : LoopPlan → List ℕ
 loop_key plan = plan.panel ∷ plan.line ∷ []
@@ -157,8 +163,10 @@ IsTerm site (MarkerTerm place) = place < length site.markers
 
 pub record HasReferences (site : Site) : Type 0 where
   pub zone_of_point : All (λ (point : Point). HasZone site point.panel point.zone) site.points
-  pub loop_of_point : All (λ (point : Point). HasAddress site point.panel point.line point.address) site.points
-  pub partner_of_zone : All (λ (zone : Zone). (place : ℕ) → zone.partner ≡ Some place → HasZone site zone.panel place) site.zones
+  pub loop_of_point : All (λ (point : Point). HasAddress site point.panel point.line point.address)
+      site.points
+  pub partner_of_zone : All (λ (zone : Zone). (place : ℕ) → zone.partner ≡ Some place
+      → HasZone site zone.panel place) site.zones
   pub marker_of_output : All (λ (output : Output). output.marker < length site.markers) site.outputs
   pub terms : All (λ (marker : Marker). All (IsTerm site) marker.terms) site.markers
 
@@ -173,7 +181,8 @@ pub record AreOnLoop (plan : LoopPlan) (p q : Point) : Type 0 where
 abbrev pub SectionsCrossNoZones : Site → Type 0
 SectionsCrossNoZones site =
     All (λ (plan : LoopPlan). All (λ (p : Point). All (λ (q : Point). AreOnLoop plan p q →
-    section_of plan.isolators p.address ≡ section_of plan.isolators q.address → p.zone ≡ q.zone) site.points) site.points) site.loops
+    section_of plan.isolators p.address ≡ section_of plan.isolators q.address → p.zone ≡ q.zone) site.points)
+    site.points) site.loops
 
 -- both zones are of type B, or both of type C
 abbrev pub is_partner_type : Rule → Rule → Bool
@@ -189,7 +198,8 @@ pub record IsMutual (place : ℕ) (zone : Zone) (other : ℕ) (partner : Zone) :
 
 abbrev pub PartnersAreMutual : Site → Type 0
 PartnersAreMutual site = (place other : ℕ) (zone partner : Zone) →
-    slice_get site.zones place ≡ Some zone → zone.partner ≡ Some other → slice_get site.zones other ≡ Some partner → IsMutual place zone other partner
+    slice_get site.zones place ≡ Some zone → zone.partner ≡ Some other
+    → slice_get site.zones other ≡ Some partner → IsMutual place zone other partner
 
 -- ---- the list of names
 

@@ -1,5 +1,7 @@
 ghost use Rattle.std.specs.Prelude.{◌≡◌, ◌≤◌, Some};
-ghost use Rattle.site_types.specs.Carry.{carried, carried_counters, carried_delays, output_changes, output_was_off, point_changes, point_was_off, test_changes, zone_changes, zone_was_off, zone_was_tested};
+ghost use Rattle.site_types.specs.Carry.{carried, carried_counters, carried_delays, output_changes, output_was_off};
+ghost use Rattle.site_types.specs.Carry.{point_changes, point_was_off, test_changes, zone_changes, zone_was_off};
+ghost use Rattle.site_types.specs.Carry.{zone_was_tested};
 ghost use Rattle.site_types.specs.Valid.{IsValid};
 ghost use Rattle.site_types.specs.Changes.{changed_by};
 
@@ -10,8 +12,9 @@ use crate::named::Thing;
 use crate::retained::Retained;
 use crate::site::Site;
 
-/// What a changed site keeps of what was retained for the site before: disablements and tests of the points, zones and outputs whose name is of
-/// the same kind in both, delays and counters of the panels that it has. All else is dropped.
+/// What a changed site keeps of what was retained for the site before: disablements and tests of the points,
+/// zones and outputs whose name is of the same kind in both, delays and counters of the panels that it has.
+/// All else is dropped.
 pub fn carry(old: &Site, new: &Site, state: &Retained) -> Retained
     requires old_valid { IsValid old.now }
     requires new_valid { IsValid new.now }

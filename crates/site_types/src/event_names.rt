@@ -19,7 +19,8 @@ use crate::output_kind::OutputKind;
 use crate::site::Site;
 
 impl Site {
-    /// Whether the site has all that an event names, at the panel that it names. A confirmed output is a routing or protection output.
+    /// Whether the site has all that an event names, at the panel that it names. A confirmed output is a
+    /// routing or protection output.
     pub fn has_event(&self, event: &Event) -> bool
         ensures { result ≡ holds_event self.now event.now }
     {

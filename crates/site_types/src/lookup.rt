@@ -13,7 +13,8 @@ use crate::site::Site;
 use std::cmp::Ordering;
 
 impl Site {
-    /// The point, zone, output or marker with a name, found in steps that grow with the logarithm of the number of names.
+    /// The point, zone, output or marker with a name, found in steps that grow with the logarithm of the
+    /// number of names.
     pub fn find(&self, name: &[u8]) -> Option<Thing>
         requires { IsValid self.now }
         ensures { result ≡ thing_named self.now name.now }
@@ -46,7 +47,8 @@ fn find_in(names: &[Named], name: &[u8]) -> Option<Thing>
 /// The place of a name, or where it would stand.
 fn search(names: &[Named], name: &[u8]) -> Result<usize, usize>
     ensures bound { IsSearchInRange result (length names.now) }
-    ensures position { IsBinarySearchResult (λ named. slice_cmp nat_cmp named.name.bytes name.now) names.now result }
+    ensures position { IsBinarySearchResult (λ named. slice_cmp nat_cmp named.name.bytes name.now)
+        names.now result }
 {
     names.binary_search_by(|named| order(named, name))
 }

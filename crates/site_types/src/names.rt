@@ -3,7 +3,8 @@
 ghost use Rattle.std.specs.Prelude.{◌≡◌, ◌≤◌, Some, length, option_map};
 ghost use Rattle.std.specs.List.{list_all};
 ghost use Rattle.std.specs.Str.{IsUtf8};
-ghost use Rattle.site_types.specs.Names.{begins_with_letter, code_of, is_code, is_code_byte, is_name, is_name_byte, name_of};
+ghost use Rattle.site_types.specs.Names.{begins_with_letter, code_of, is_code, is_code_byte, is_name, is_name_byte};
+ghost use Rattle.site_types.specs.Names.{name_of};
 
 use crate::label::Label;
 use crate::limits::NAME_BYTES;
@@ -77,7 +78,8 @@ fn may_be_in_code(byte: u8) -> bool
 
 /// A label of a short text.
 fn copy(text: &[u8]) -> Option<Label>
-    ensures { IsUtf8 text.now → length text.now ≤ 16 → option_map (λ label. label.bytes) result ≡ Some text.now }
+    ensures { IsUtf8 text.now → length text.now ≤ 16
+        → option_map (λ label. label.bytes) result ≡ Some text.now }
 {
     match str::from_utf8(text) {
         Ok(text) => match Label::from(text) {

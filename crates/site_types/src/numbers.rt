@@ -26,7 +26,8 @@ fn has_number_start(text: &[u8]) -> bool
 
 /// The number that these digits spell.
 fn read_digits(text: &[u8]) -> Option<u64>
-    ensures { result ≡ (if all_digits text.now && nat_lt (value_after 0 text.now) (2 ^ 64) then Some (value_after 0 text.now) else None) }
+    ensures { result ≡ (if all_digits text.now && nat_lt (value_after 0 text.now) (2 ^ 64) then Some
+        (value_after 0 text.now) else None) }
 {
     let mut number: u64 = 0;
     for byte in text {
@@ -42,7 +43,8 @@ fn read_digits(text: &[u8]) -> Option<u64>
 /// The number with one more digit.
 fn next_number(number: u64, digit: u64) -> Option<u64>
     requires { digit < 10 }
-    ensures { result ≡ (if nat_lt (10 * number + digit) (2 ^ 64) then Some (10 * number + digit) else None) }
+    ensures { result
+        ≡ (if nat_lt (10 * number + digit) (2 ^ 64) then Some (10 * number + digit) else None) }
 {
     number.checked_mul(10)?.checked_add(digit)
 }

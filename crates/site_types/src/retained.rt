@@ -38,7 +38,8 @@ impl Retained {
         }
     }
 
-    /// Makes a change. What it names has a place here: panels 1 to 8, loops 1 to 4, addresses 1 to 192, numbers 1 to 32.
+    /// Makes a change. What it names has a place here: panels 1 to 8, loops 1 to 4, addresses 1 to 192,
+    /// numbers 1 to 32.
     pub fn apply(&mut self, change: &Change)
         requires { CanApply change.now }
         ensures { self.new ≡ changed change.now self.old }

@@ -1,6 +1,7 @@
 use tick_units::Tick;
 
-/// What a panel tells the others of itself: its own zones and whether it shows a fault. Masks have bit `number - 1` for each zone.
+/// What a panel tells the others of itself: its own zones and whether it shows a fault. Masks have bit
+/// `number - 1` for each zone.
 #[derive(Clone, Copy, Debug, Default, PartialEq, Eq)]
 pub struct Word {
     /// The tick of the turn that made it; 0 before the first.

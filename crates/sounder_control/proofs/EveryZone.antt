@@ -12,7 +12,8 @@ all_in_range test a zero each = refl
 all_in_range test a (suc n) each =
     let at : a ≡ a + 0 = omega arith in
     let here : test a ≡ true = ap test at ∙ each 0 (omega arith) in
-    let rest : list_all test (range_with_len (a + 1) n) ≡ true = all_in_range test (a + 1) n (λ k small. ap test (omega arith) ∙ each (k + 1) (omega arith)) in
+    let rest : list_all test (range_with_len (a + 1) n) ≡ true =
+    all_in_range test (a + 1) n (λ k small. ap test (omega arith) ∙ each (k + 1) (omega arith)) in
     rw here rest
 
 both : (a b : Bool) → (a && b) ≡ true → (a ≡ true) × (b ≡ true)
@@ -39,14 +40,16 @@ not_in_range test a n k small fails = go (list_all test (range_with_len a n)) re
     go true e = let no_way : false ≡ true = sym fails ∙ range_at test a n e k small in cc
 
 -- a test of the zones of one panel, which asks that the bits of a mask are clear
-pub row_clear : (test : ℕ → Bool) (mask : ℕ) → ((k : ℕ) → k < 32 → test (1 + k) ≡ not (has_bit mask k)) → mask ≡ 0 → list_all test (range_with_len 1 32) ≡ true
+pub row_clear : (test : ℕ → Bool) (mask : ℕ) → ((k : ℕ) → k < 32 → test (1 + k) ≡ not (has_bit mask k)) → mask ≡ 0
+    → list_all test (range_with_len 1 32) ≡ true
 row_clear test mask bits clear = all_in_range test 1 32 (λ k small. bits k small ∙ ap not (ap (λ m. has_bit m k) clear ∙ has_bit-zero k))
 
 flipped : (b : Bool) → not b ≡ true → b ≡ false
 flipped true e = cc
 flipped false e = refl
 
-pub row_set : (test : ℕ → Bool) (mask : ℕ) → ((k : ℕ) → k < 32 → test (1 + k) ≡ not (has_bit mask k)) → mask < 2 ^ 32 → mask ≢ 0 → list_all test (range_with_len 1 32) ≡ false
+pub row_set : (test : ℕ → Bool) (mask : ℕ) → ((k : ℕ) → k < 32 → test (1 + k) ≡ not (has_bit mask k)) → mask < 2 ^ 32 → mask ≢ 0
+    → list_all test (range_with_len 1 32) ≡ false
 row_set test mask bits below set = go (list_all test (range_with_len 1 32)) refl
   where
     go : (b : Bool) → list_all test (range_with_len 1 32) ≡ b → list_all test (range_with_len 1 32) ≡ false
@@ -104,7 +107,8 @@ inside_at zones others p k within =
 pub all_within : (zones others : List ℕ) → ((p : ℕ) → p < 8 → outside (get_or zones p 0) (get_or others p 0) ≡ 0) → is_within zones others ≡ true
 all_within zones others clear =
     every_row (λ panel number. not (has_zone zones panel number) || has_zone others panel number)
-    (λ p small. row_clear (λ number. not (has_zone zones (1 + p) number) || has_zone others (1 + p) number) (outside (get_or zones p 0) (get_or others p 0))
+    (λ p small. row_clear (λ number. not (has_zone zones (1 + p) number) || has_zone others (1 + p) number)
+    (outside (get_or zones p 0) (get_or others p 0))
     (λ k within. inside_at zones others p k within) (clear p small))
 
 pub one_outside : (zones others : List ℕ) (p : ℕ) → p < 8 → outside (get_or zones p 0) (get_or others p 0) ≢ 0 → is_within zones others ≡ false

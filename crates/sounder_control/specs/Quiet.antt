@@ -1,5 +1,6 @@
 -- When the sounders of a panel are quiet, over all silences, resounds and turns so far, the newest first.
-use Rattle.std.specs.Prelude.{ℕ, ◌-◌, ◌&&◌, ◌||◌, Bool, false, not, List, [], ◌∷◌, Option, Some, None, replicate, slice_index_or}
+use Rattle.std.specs.Prelude.{ℕ, ◌-◌, ◌&&◌, ◌||◌, Bool, false, not, List, [], ◌∷◌, Option, Some, None, replicate}
+use Rattle.std.specs.Prelude.{slice_index_or}
 use Rattle.std.specs.List.{list_all, range_with_len}
 use Rattle.site_types.specs.Bits.{has_bit}
 use Rattle.site_types.specs.Limits.{most_panels, most_zones}
@@ -16,7 +17,8 @@ has_zone zones panel number = has_bit (slice_index_or zones (panel - 1) 0) (numb
 
 -- whether a test holds of every zone that there may be, by its panel and its number
 unfoldable pub every_zone : (ℕ → ℕ → Bool) → Bool
-every_zone test = list_all (λ panel. list_all (test panel) (range_with_len 1 most_zones)) (range_with_len 1 most_panels)
+every_zone test =
+    list_all (λ panel. list_all (test panel) (range_with_len 1 most_zones)) (range_with_len 1 most_panels)
 
 -- the set has no zone
 abbrev pub is_empty : List ℕ → Bool
@@ -24,7 +26,8 @@ is_empty zones = every_zone (λ panel number. not (has_zone zones panel number))
 
 -- each zone of a set is in another set
 abbrev pub is_within : List ℕ → List ℕ → Bool
-is_within zones others = every_zone (λ panel number. not (has_zone zones panel number) || has_zone others panel number)
+is_within zones others =
+    every_zone (λ panel number. not (has_zone zones panel number) || has_zone others panel number)
 
 -- a silence that took a set holds at a turn: some zone is released, and each released zone is in the set
 abbrev pub keeps_quiet : List ℕ → List ℕ → Bool
@@ -56,6 +59,7 @@ abbrev pub held_at_each : Option (List ℕ) → List (List ℕ) → Bool
 held_at_each None sets = false
 held_at_each (Some taken) sets = list_all (keeps_quiet taken) sets
 
--- the sounders are quiet: the last silence or resound is a silence, and it held at each turn since, the latest one included
+-- the sounders are quiet: the last silence or resound is a silence, and it held at each turn since, the
+-- latest one included
 abbrev pub is_quiet : List Call → Bool
 is_quiet calls = held_at_each (silenced_set calls) (sets_since calls)

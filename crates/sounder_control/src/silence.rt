@@ -25,25 +25,30 @@ impl Silence {
         }
     }
 
-    /// Silences the sounders, with the zones that the latest turn found. Before any turn there are none, and such a silence holds at no turn.
+    /// Silences the sounders, with the zones that the latest turn found. Before any turn there are none, and
+    /// such a silence holds at no turn.
     pub fn silence(&mut self)
-        ensures { (calls : List Call) → StandsFor calls self.old → StandsFor (Silenced ∷ calls) self.new }
+        ensures { (calls : List Call) → StandsFor calls self.old
+            → StandsFor (Silenced ∷ calls) self.new }
     {
         self.taken = Some(self.latest);
     }
 
     /// Ends the silence, if there is one.
     pub fn resound(&mut self)
-        ensures { (calls : List Call) → StandsFor calls self.old → StandsFor (Resounded ∷ calls) self.new }
+        ensures { (calls : List Call) → StandsFor calls self.old
+            → StandsFor (Resounded ∷ calls) self.new }
     {
         self.taken = None;
     }
 
-    /// Makes the turn of a tick with the zones that are released in it, bit `number - 1` in the mask of each panel, and tells whether the
-    /// sounders are quiet.
+    /// Makes the turn of a tick with the zones that are released in it, bit `number - 1` in the mask of each
+    /// panel, and tells whether the sounders are quiet.
     pub fn quiet(&mut self, zones: &[u32; 8]) -> bool
-        ensures stands { (calls : List Call) → StandsFor calls self.old → StandsFor (Drove zones.now ∷ calls) self.new }
-        ensures value { (calls : List Call) → StandsFor calls self.old → result ≡ is_quiet (Drove zones.now ∷ calls) }
+        ensures stands { (calls : List Call) → StandsFor calls self.old
+            → StandsFor (Drove zones.now ∷ calls) self.new }
+        ensures value { (calls : List Call) → StandsFor calls self.old
+            → result ≡ is_quiet (Drove zones.now ∷ calls) }
     {
         self.latest = *zones;
         self.taken = self.taken.filter(|taken| keeps_quiet(taken, zones));

@@ -5,8 +5,8 @@ fn zones(first: u32, last: u32) -> [u32; 8] {
     [first, 0, 0, 0, 0, 0, 0, last]
 }
 
-// One zone is released from tick 1 on, a second one from tick 14. A silence comes in ticks 3 and 20, a resound in tick 30, each after
-// the turn of its tick.
+// One zone is released from tick 1 on, a second one from tick 14. A silence comes in ticks 3 and 20, a
+// resound in tick 30, each after the turn of its tick.
 #[test]
 fn bells_are_quiet_until_a_new_zone(rt: HostRuntime) {
     let mut silence = Silence::new();
@@ -22,8 +22,8 @@ fn bells_are_quiet_until_a_new_zone(rt: HostRuntime) {
     }
 }
 
-// What a turn after a silence finds, then the turn after that: what was released at the silence, at the two turns, and whether the
-// sounders are quiet at these.
+// What a turn after a silence finds, then the turn after that: what was released at the silence, at the two
+// turns, and whether the sounders are quiet at these.
 #[test]
 fn a_silence_holds_while_its_zones_do(rt: HostRuntime) {
     let last = 0x8000_0000;

@@ -1,24 +1,18 @@
 -- What a turn does to what is kept of a supply.
-use Rattle.std.proofs.Common.{◌≡◌, ℕ, ◌+◌, ◌-◌, ◌<◌, ◌≤◌, List, [], ◌∷◌, Bool, true, false, nat_le, Option, Some, None, unwrap_or, if◌then◌else◌, refl, sym, ◌∙◌, ap, arith, rules}
+use Rattle.std.proofs.Common.{◌≡◌, ℕ, ◌-◌, ◌≤◌, List, [], ◌∷◌, true, false, nat_le, Some, None, unwrap_or, if◌then◌else◌, refl, sym, ◌∙◌, ap, arith}
 use Rattle.std.specs.List.{list_any, AllByRecursion}
 use Rattle.std.proofs.lemmas.Bool.Decides.{nat_tests}
 use Rattle.tick_units.specs.declared.tick.Tick.{Tick}
 use Rattle.site_types.specs.declared.supply_kind.SupplyKind.{SupplyKind}
+use Rattle.tick_units.proofs.Earliest.{earliest_more}
 use Rattle.supply_monitor.specs.declared.watch.Watch.{Watch}
-use Rattle.supply_monitor.specs.Supply.{Call, Reported, Turned, is_bad, bad_turns, lasts, AllBefore}
-use Rattle.supply_monitor.specs.Stands.{earliest, IsFalling, Keeps}
-
-earliest_some : (turn : ℕ) (now : Tick) (turns : List ℕ) → Some (unwrap_or (earliest (turn ∷ turns)) now) ≡ earliest (turn ∷ turns)
-earliest_some turn now [] = refl
-earliest_some turn now (next ∷ turns) = earliest_some next now turns
-
--- the earliest turn stays, and the first one is its own
-pub earliest_more : (now : Tick) (turns : List ℕ) → Some (unwrap_or (earliest turns) now) ≡ earliest (now.0 ∷ turns)
-earliest_more now [] = refl
-earliest_more now (turn ∷ turns) = earliest_some turn now turns
+use Rattle.supply_monitor.specs.Supply.{Call, Reported, Turned, is_bad, bad_turns, AllBefore}
+use Rattle.supply_monitor.specs.Stands.{Keeps}
+use Rattle.tick_units.specs.Earliest.{IsFalling, earliest_of}
 
 -- where turns fall, the earliest lies farthest back
-pub any_earliest : (wait latest turn : ℕ) (first : Tick) (turns : List ℕ) → IsFalling (turn ∷ turns) → earliest (turn ∷ turns) ≡ Some first → (first.0 ≤ turn) × (list_any (λ tick. nat_le wait (latest - tick)) (turn ∷ turns) ≡ nat_le wait (latest - first.0))
+pub any_earliest : (wait latest turn : ℕ) (first : Tick) (turns : List ℕ) → IsFalling (turn ∷ turns) → earliest_of (turn ∷ turns) ≡ Some first
+    → (first.0 ≤ turn) × (list_any (λ tick. nat_le wait (latest - tick)) (turn ∷ turns) ≡ nat_le wait (latest - first.0))
 any_earliest wait latest turn first [] f e = let same : turn ≡ first.0 = cc in (omega arith, rw same (grind (arith, nat_tests)))
 any_earliest wait latest turn first (next ∷ turns) f e =
     let rest = any_earliest wait latest next first turns f.1 e in
@@ -35,11 +29,14 @@ below_now now kind (Turned tick ∷ calls) h =
     ]
 
 -- a turn that finds the supply bad
-pub turned_bad : (wait : ℕ) (now since : Tick) (kind : SupplyKind) (calls : List Call) (watch : Watch) → Keeps wait kind calls watch → AllBefore now.0 calls → watch.bad ≡ true → since ≡ unwrap_or watch.since now → Keeps wait kind (Turned now.0 ∷ calls) (record { bad = true; since = Some since; shown = nat_le wait (now.0 - since.0) })
+pub turned_bad : (wait : ℕ) (now since : Tick) (kind : SupplyKind) (calls : List Call) (watch : Watch) → Keeps wait kind calls watch
+    → AllBefore now.0 calls → watch.bad ≡ true → since ≡ unwrap_or watch.since now
+    → Keeps wait kind (Turned now.0 ∷ calls) (record { bad = true; since = Some since; shown = nat_le wait (now.0 - since.0) })
 turned_bad wait now since kind calls watch k before bad from =
     let still : is_bad kind calls ≡ true = sym k.bad ∙ bad in
     let falls : IsFalling (now.0 ∷ bad_turns kind calls) = (below_now now.0 kind calls before, k.falling) in
-    let first : earliest (now.0 ∷ bad_turns kind calls) ≡ Some since = sym (ap Some (from ∙ ap (λ s. unwrap_or s now) k.since) ∙ earliest_more now (bad_turns kind calls)) in
+    let first : earliest_of (now.0 ∷ bad_turns kind calls) ≡ Some since =
+    sym (ap Some (from ∙ ap (λ s. unwrap_or s now) k.since) ∙ earliest_more now (bad_turns kind calls)) in
     record {
       bad = sym still;
       since = rw still (sym first);
@@ -48,7 +45,8 @@ turned_bad wait now since kind calls watch k before bad from =
     }
 
 -- a turn that finds the supply sound
-pub turned_sound : (wait now : ℕ) (kind : SupplyKind) (calls : List Call) (watch : Watch) → Keeps wait kind calls watch → watch.bad ≡ false → Keeps wait kind (Turned now ∷ calls) (record { bad = false; since = None; shown = false })
+pub turned_sound : (wait now : ℕ) (kind : SupplyKind) (calls : List Call) (watch : Watch) → Keeps wait kind calls watch → watch.bad ≡ false
+    → Keeps wait kind (Turned now ∷ calls) (record { bad = false; since = None; shown = false })
 turned_sound wait now kind calls watch k sound =
     let still : is_bad kind calls ≡ false = sym k.bad ∙ sound in
     record { bad = sym still; since = rw still refl; shown = rw still refl; falling = rw still tt }

@@ -1,29 +1,17 @@
 -- What a monitor keeps of the reports and turns so far.
-use Rattle.std.specs.Prelude.{◌≡◌, ℕ, ◌≤◌, List, [], ◌∷◌, Option, Some, None}
-use Rattle.std.specs.List.{AllByRecursion}
-use Rattle.tick_units.specs.declared.tick.Tick.{Tick}
+use Rattle.std.specs.Prelude.{◌≡◌, ℕ, List}
 use Rattle.site_types.specs.declared.supply_kind.SupplyKind.{SupplyKind}
 use Rattle.site_types.specs.declared.supply_kind.SupplyKind.TheVariants.{Mains, Standby, Voltage, Charger}
 use Rattle.site_types.specs.declared.waits.Waits.{Waits}
+use Rattle.tick_units.specs.Earliest.{IsFalling, earliest_of}
 use Rattle.supply_monitor.specs.declared.watch.Watch.{Watch}
 use Rattle.supply_monitor.specs.declared.supply.Supply.{Supply}
 use Rattle.supply_monitor.specs.Supply.{Call, is_bad, bad_turns, lasts}
 
--- the earliest of these turns, the latest first
-abbrev pub earliest : List ℕ → Option Tick
-earliest [] = None
-earliest (turn ∷ []) = Some (record { 0 = turn })
-earliest (later ∷ turn ∷ turns) = earliest (turn ∷ turns)
-
--- each turn was before those that stand ahead of it
-abbrev pub IsFalling : List ℕ → Type 0
-IsFalling [] = Unit {0}
-IsFalling (turn ∷ turns) = AllByRecursion (λ t. t ≤ turn) turns × IsFalling turns
-
 -- what is kept of one supply
 pub record Keeps (wait : ℕ) (kind : SupplyKind) (calls : List Call) (watch : Watch) : Type 0 where
   pub bad : watch.bad ≡ is_bad kind calls
-  pub since : watch.since ≡ earliest (bad_turns kind calls)
+  pub since : watch.since ≡ earliest_of (bad_turns kind calls)
   pub shown : watch.shown ≡ lasts wait (bad_turns kind calls)
   pub falling : IsFalling (bad_turns kind calls)
 

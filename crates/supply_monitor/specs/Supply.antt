@@ -28,7 +28,8 @@ is_bad kind [] = false
 is_bad kind (Reported other bad ∷ calls) = if is_same_kind kind other then bad else is_bad kind calls
 is_bad kind (Turned tick ∷ calls) = is_bad kind calls
 
--- the ticks of the present unbroken run of turns at which the supply was bad, the latest first; none where it was sound at the latest turn
+-- the ticks of the present unbroken run of turns at which the supply was bad, the latest first; none where it
+-- was sound at the latest turn
 abbrev pub bad_turns : SupplyKind → List Call → List ℕ
 bad_turns kind [] = []
 bad_turns kind (Reported other bad ∷ calls) = bad_turns kind calls
@@ -46,7 +47,8 @@ wait_of Standby waits = waits.standby
 wait_of Voltage waits = waits.voltage
 wait_of Charger waits = waits.charger
 
--- the fault is shown: the supply was bad at each turn from some turn to the latest one, and these lie at least the wait apart
+-- the fault is shown: the supply was bad at each turn from some turn to the latest one, and these lie at
+-- least the wait apart
 abbrev pub is_shown : Waits → SupplyKind → List Call → Bool
 is_shown waits kind calls = lasts (wait_of kind waits) (bad_turns kind calls)
 

@@ -33,7 +33,8 @@ impl Supply {
 
     /// Takes a report. The next turn is the first that finds it.
     pub fn read(&mut self, kind: SupplyKind, bad: bool)
-        ensures { (waits : WaitsOf) (calls : List Call) → StandsFor waits calls self.old → StandsFor waits (Reported kind bad ∷ calls) self.new }
+        ensures { (waits : WaitsOf) (calls : List Call) → StandsFor waits calls self.old
+            → StandsFor waits (Reported kind bad ∷ calls) self.new }
     {
         match kind {
             SupplyKind::Mains => self.mains.bad = bad,
@@ -45,7 +46,8 @@ impl Supply {
 
     /// Looks at the supplies in a tick, which is later than those of the turns before.
     pub fn turn(&mut self, now: Tick)
-        ensures { (waits : WaitsOf) (calls : List Call) → StandsFor waits calls self.old → AllBefore now.0 calls → StandsFor waits (Turned now.0 ∷ calls) self.new }
+        ensures { (waits : WaitsOf) (calls : List Call) → StandsFor waits calls self.old
+            → AllBefore now.0 calls → StandsFor waits (Turned now.0 ∷ calls) self.new }
     {
         self.mains = self.mains.turn(now, self.waits.mains);
         self.standby = self.standby.turn(now, self.waits.standby);
@@ -55,7 +57,8 @@ impl Supply {
 
     /// The faults that the latest turn showed, a bit for each supply in the order of [`SupplyKind`].
     pub fn faults(&self) -> u8
-        ensures { (waits : WaitsOf) (calls : List Call) → StandsFor waits calls self.now → result ≡ shown_mask waits calls }
+        ensures { (waits : WaitsOf) (calls : List Call) → StandsFor waits calls self.now
+            → result ≡ shown_mask waits calls }
     {
         mask_from_8(&[
             self.mains.shown,

@@ -26,7 +26,8 @@ impl Watch {
 
     /// Looks at the supply in a tick.
     pub fn turn(self, tick: Tick, wait: u16) -> Watch
-        ensures { (kind : Kind) (calls : List Call) → Keeps wait kind calls self → AllBefore tick.0 calls → Keeps wait kind (Turned tick.0 ∷ calls) result }
+        ensures { (kind : Kind) (calls : List Call) → Keeps wait kind calls self
+            → AllBefore tick.0 calls → Keeps wait kind (Turned tick.0 ∷ calls) result }
     {
         if !self.bad {
             return Watch::SOUND;

@@ -1,50 +1,37 @@
-//! A plain program that finds the first bad line of a text. It goes by the words of lines alone: it knows of a site only its first line and what
-//! may stand on each panel's page, in its order.
+//! A plain program that finds the first bad line of a text. It goes by the words of lines alone: it knows of a site
+//! only a page, which has the first line of its texts, and then what each panel may tell, in the order of its page and
+//! with what it is at before anything was told.
 
-use std::alloc::Global;
-use std::test::Fail;
-
-/// What the texts of a site may tell.
-pub(crate) struct Pages {
-    pub(crate) opening: &'static str,
-    /// Of each panel its things in the order of its page, parted by bars, without the panel's number.
-    pub(crate) panels: &'static [&'static str],
-}
+use std::alloc::{AllocError, Global};
 
 // What may be told, and what it is at.
-#[derive(Drop)]
-struct Slot {
-    words: String,
-    state: String,
+#[derive(Clone, Copy)]
+struct Slot<'a> {
+    words: &'a str,
+    state: &'a str,
 }
 
 #[derive(Drop)]
-pub(crate) struct PlainReader {
-    slots: Vec<Slot>,
-    panels: u64,
+struct PlainReader<'a> {
+    slots: Vec<Slot<'a>>,
     tick: u64,
-    // The part of a tick's lines in which the last one stands (none, pages, answers, busy panels, the store), and its place there.
+    // The part of a tick's lines in which the last one stands (none, pages, answers, busy panels, the store), and its
+    // place there.
     part: u8,
     place: u64,
     answers: u64,
 }
 
-impl PlainReader {
-    fn new(alloc: Global, pages: &Pages) -> Result<PlainReader, Fail> {
+impl<'a> PlainReader<'a> {
+    fn new(alloc: Global, page: &'a str) -> Result<PlainReader<'a>, AllocError> {
         let mut slots = Vec::new(alloc);
-        let mut panel = 0u64;
-        for page in pages.panels {
-            panel = panel.saturating_add(1);
-            for words in page.split('|') {
-                slots.push(slot_of_panel(alloc, panel, words, "off")?)?;
+        for line in page.lines().skip(1) {
+            if let Some((words, state)) = line.rsplit_once(' ') {
+                slots.push(Slot { words, state })?;
             }
-            slots.push(slot_of_panel(alloc, panel, "delays", "on")?)?;
-            slots.push(slot_of_panel(alloc, panel, "buzzer", "off")?)?;
-            slots.push(slot_of_panel(alloc, panel, "counter", "0")?)?;
         }
         Ok(PlainReader {
             slots,
-            panels: panel,
             tick: 0,
             part: 0,
             place: 0,
@@ -53,28 +40,28 @@ impl PlainReader {
     }
 
     // Takes a line, unless it may not stand there.
-    fn take(&mut self, alloc: Global, line: &str) -> Result<bool, Fail> {
+    fn take(&mut self, line: &'a str) -> bool {
         if let Some(rest) = line.strip_prefix("tick ") {
-            return self.begin(alloc, rest);
+            return self.begin(rest);
         }
         if let Some(rest) = line.strip_prefix("end ") {
-            return match number(alloc, rest)? {
-                Some(last) => Ok(self.may_close() && self.tick <= last),
-                None => Ok(false),
+            return match number(rest) {
+                Some(last) => self.may_close() && self.tick <= last,
+                None => false,
             };
         }
         if line == "store failed" {
-            return Ok(self.follows(4, 0));
+            return self.follows(4, 0);
         }
         if let Some(rest) = line.strip_prefix("op ") {
-            return self.answer(alloc, rest);
+            return self.answer(rest);
         }
         if let Some((panel, count)) = line.split_once(" busy ") {
-            return self.busy(alloc, panel, count);
+            return self.busy(panel, count);
         }
         match line.rsplit_once(' ') {
-            Some((words, state)) => self.change(alloc, words, state),
-            None => Ok(false),
+            Some((words, state)) => self.change(words, state),
+            None => false,
         }
     }
 
@@ -82,16 +69,16 @@ impl PlainReader {
         self.tick == 0 || self.part > 0
     }
 
-    fn begin(&mut self, alloc: Global, rest: &str) -> Result<bool, Fail> {
-        match number(alloc, rest)? {
+    fn begin(&mut self, rest: &str) -> bool {
+        match number(rest) {
             Some(tick) if self.may_close() && tick > self.tick => {
                 self.tick = tick;
                 self.part = 0;
                 self.place = 0;
                 self.answers = 0;
-                Ok(true)
+                true
             }
-            _ => Ok(false),
+            _ => false,
         }
     }
 
@@ -106,61 +93,52 @@ impl PlainReader {
         true
     }
 
-    fn answer(&mut self, alloc: Global, rest: &str) -> Result<bool, Fail> {
+    fn answer(&mut self, rest: &str) -> bool {
         let Some((op, reply)) = rest.split_once(' ') else {
-            return Ok(false);
+            return false;
         };
-        let Some(op) = number(alloc, op)? else {
-            return Ok(false);
+        let Some(op) = number(op) else {
+            return false;
         };
-        if !is_reply(alloc, reply)?
-            || self.answers == 64
-            || !self.follows(2, op.saturating_add(1))
-        {
-            return Ok(false);
+        if !is_reply(reply) || self.answers == 64 || !self.follows(2, op.saturating_add(1)) {
+            return false;
         }
         self.answers = self.answers.saturating_add(1);
-        Ok(true)
+        true
     }
 
-    fn busy(&mut self, alloc: Global, panel: &str, count: &str) -> Result<bool, Fail> {
-        match (number(alloc, panel)?, number(alloc, count)?) {
-            (Some(panel), Some(count)) if 0 < panel && panel <= self.panels && 0 < count => {
-                Ok(self.follows(3, panel))
-            }
-            _ => Ok(false),
+    // A panel that the site has has a counter.
+    fn busy(&mut self, panel: &str, count: &str) -> bool {
+        let has_panel = self.slots.iter().any(|slot| {
+            slot.words.strip_suffix(" counter") == Some(panel)
+        });
+        match (number(panel), number(count)) {
+            (Some(panel), Some(count)) if has_panel && 0 < count => self.follows(3, panel),
+            _ => false,
         }
     }
 
-    fn change(&mut self, alloc: Global, words: &str, state: &str) -> Result<bool, Fail> {
-        let Some(place) = self
-            .slots
-            .iter()
-            .position(|slot| slot.words.as_str() == words)
-        else {
-            return Ok(false);
+    fn change(&mut self, words: &str, state: &'a str) -> bool {
+        let Some(place) = self.slots.iter().position(|slot| slot.words == words) else {
+            return false;
         };
         let stands = match self.slots.get(place) {
-            Some(slot) => slot.state.as_str() == state,
+            Some(slot) => slot.state == state,
             None => true,
         };
-        if stands
-            || !is_state(alloc, words, state)?
-            || !self.follows(1, (place as u64).saturating_add(1))
-        {
-            return Ok(false);
+        if stands || !is_state(words, state) || !self.follows(1, (place as u64).saturating_add(1)) {
+            return false;
         }
-        let told = slot_with(alloc, words, state)?;
         if let Some(slot) = self.slots.get_mut(place) {
-            *slot = told;
+            slot.state = state;
         }
-        Ok(true)
+        true
     }
 }
 
 /// The first bad line of a text, if it has one.
-pub(crate) fn bad_line(alloc: Global, pages: &Pages, text: &str) -> Result<Option<u64>, Fail> {
-    let mut reader = PlainReader::new(alloc, pages)?;
+pub(crate) fn bad_line(alloc: Global, page: &str, text: &str) -> Result<Option<u64>, AllocError> {
+    let mut reader = PlainReader::new(alloc, page)?;
     let mut count = 0u64;
     let mut over = false;
     // What stands behind the last line end so far.
@@ -169,9 +147,9 @@ pub(crate) fn bad_line(alloc: Global, pages: &Pages, text: &str) -> Result<Optio
         if let Some(line) = rest {
             count = count.saturating_add(1);
             let stands = if count == 1 {
-                line == pages.opening
+                page.lines().next() == Some(line)
             } else {
-                !over && reader.take(alloc, line)?
+                !over && reader.take(line)
             };
             if !stands {
                 return Ok(Some(count));
@@ -187,61 +165,42 @@ pub(crate) fn bad_line(alloc: Global, pages: &Pages, text: &str) -> Result<Optio
     }
 }
 
-fn slot_of_panel(alloc: Global, panel: u64, words: &str, state: &str) -> Result<Slot, Fail> {
-    let words = format!(in alloc; "{panel} {words}")?;
-    slot_with(alloc, words.as_str(), state)
-}
-
-fn slot_with(alloc: Global, words: &str, state: &str) -> Result<Slot, Fail> {
-    Ok(Slot {
-        words: String::from_str(alloc, words)?,
-        state: String::from_str(alloc, state)?,
-    })
-}
-
 // A number as it is written: without sign and without a 0 in front.
-fn number(alloc: Global, text: &str) -> Result<Option<u64>, Fail> {
-    match text.parse::<u64>() {
-        Ok(found) => {
-            let written = format!(in alloc; "{found}")?;
-            Ok(if written.as_str() == text {
-                Some(found)
-            } else {
-                None
-            })
-        }
-        Err(_) => Ok(None),
+fn number(text: &str) -> Option<u64> {
+    if text.starts_with('+') || (text.starts_with('0') && text != "0") {
+        return None;
     }
+    text.parse().ok()
 }
 
-fn is_reply(alloc: Global, reply: &str) -> Result<bool, Fail> {
+fn is_reply(reply: &str) -> bool {
     if ["done", "waiting", "already", "store"]
         .iter()
         .any(|word| *word == reply)
     {
-        return Ok(true);
+        return true;
     }
-    let Some(levels) = reply.strip_prefix("denied needs ") else {
-        return Ok(false);
+    let levels = reply
+        .strip_prefix("denied needs ")
+        .and_then(|levels| levels.split_once(" has "));
+    let Some((needs, has)) = levels else {
+        return false;
     };
-    let Some((needs, has)) = levels.split_once(" has ") else {
-        return Ok(false);
-    };
-    match (number(alloc, needs)?, number(alloc, has)?) {
-        (Some(needs), Some(has)) => Ok(2 <= needs && needs <= 4 && has < needs),
-        _ => Ok(false),
+    match (number(needs), number(has)) {
+        (Some(needs), Some(has)) => 2 <= needs && needs <= 4 && has < needs,
+        _ => false,
     }
 }
 
-fn is_state(alloc: Global, words: &str, state: &str) -> Result<bool, Fail> {
+fn is_state(words: &str, state: &str) -> bool {
     if words.ends_with(" counter") {
-        return match number(alloc, state)? {
-            Some(count) => Ok(count <= 999_999),
-            None => Ok(false),
+        return match number(state) {
+            Some(count) => count <= 999_999,
+            None => false,
         };
     }
     if words.ends_with(" buzzer") {
-        return Ok(state == "off" || state == "fault" || state == "fire");
+        return state == "off" || state == "fault" || state == "fire";
     }
-    Ok(state == "on" || state == "off")
+    state == "on" || state == "off"
 }

@@ -3,7 +3,9 @@ use Rattle.std.proofs.Common.{◌≡◌, ◌≢◌, ◌+◌, ◌*◌, ◌≤◌,
 use Rattle.std.specs.Prelude.{◌⊎◌, ◌↔◌}
 use Rattle.std.specs.List.{All, AllByRecursion, Contains, IsDistinct}
 use Rattle.std.proofs.lemmas.Bool.{and_right, ne_eqb, cases_lt}
-use Rattle.std.proofs.lemmas.List.Elements.{All-from_recursion, recursion_from_All, All-append, All-weaker, All-nil, All-head, All-tail, All-contains, Contains-push_cases, Contains-append_left, Contains-append_right, Contains-push}
+use Rattle.std.proofs.lemmas.List.Elements.{All-from_recursion, recursion_from_All, All-append, All-weaker, All-nil}
+use Rattle.std.proofs.lemmas.List.Elements.{All-head, All-tail, All-contains, Contains-push_cases}
+use Rattle.std.proofs.lemmas.List.Elements.{Contains-append_left, Contains-append_right, Contains-push}
 use Rattle.std.proofs.lemmas.Map.Keys.{IsDistinct-cons, IsDistinct-head, IsDistinct-tail, IsDistinct-from_apart}
 use Rattle.tick_units.specs.declared.seat.Seat.{Seat}
 use Rattle.tick_units.specs.declared.task.Task.{Task}
@@ -22,17 +24,22 @@ all_append P [] ys p q = q
 all_append P (x ∷ xs) ys p q = (p.0, all_append P xs ys p.1 q)
 
 -- two lists without common seats
-apart_append : (xs ys : List Seat) → IsDistinct is_same_seat xs → IsDistinct is_same_seat ys → All (λ x. AllByRecursion (λ y. is_same_seat x y ≡ false) ys) xs → IsDistinct is_same_seat (xs ++ ys)
+apart_append : (xs ys : List Seat) → IsDistinct is_same_seat xs → IsDistinct is_same_seat ys
+    → All (λ x. AllByRecursion (λ y. is_same_seat x y ≡ false) ys) xs → IsDistinct is_same_seat (xs ++ ys)
 apart_append [] ys p q r = q
 apart_append (x ∷ xs) ys p q r =
-    IsDistinct-cons is_same_seat x (xs ++ ys) (all_append (λ y. is_same_seat x y ≡ false) xs ys (IsDistinct-head is_same_seat x xs p) (All-head (λ z. AllByRecursion (λ y. is_same_seat z y ≡ false) ys) x xs r)) (apart_append xs ys (IsDistinct-tail is_same_seat x xs p) q (All-tail (λ z. AllByRecursion (λ y. is_same_seat z y ≡ false) ys) x xs r))
+    IsDistinct-cons is_same_seat x (xs ++ ys)
+    (all_append (λ y. is_same_seat x y ≡ false) xs ys (IsDistinct-head is_same_seat x xs p)
+    (All-head (λ z. AllByRecursion (λ y. is_same_seat z y ≡ false) ys) x xs r))
+    (apart_append xs ys (IsDistinct-tail is_same_seat x xs p) q (All-tail (λ z. AllByRecursion (λ y. is_same_seat z y ≡ false) ys) x xs r))
 
 other_panel : (a b : Seat) → (a.panel ≡ b.panel → ⊥) → is_same_seat a b ≡ false
 other_panel a b h = and_right (task_number a.task == task_number b.task) (a.panel == b.panel) (ne_eqb a.panel b.panel h)
 
 -- the seats of a panel have its number
 pub panel-panel_seats : (panel : ℕ) → All (λ (s : Seat). s.panel ≡ panel) (panel_seats panel)
-panel-panel_seats panel = All-from_recursion (λ (s : Seat). s.panel ≡ panel) (panel_seats panel) (refl, (refl, (refl, (refl, (refl, (refl, (refl, (refl, tt))))))))
+panel-panel_seats panel =
+    All-from_recursion (λ (s : Seat). s.panel ≡ panel) (panel_seats panel) (refl, (refl, (refl, (refl, (refl, (refl, (refl, (refl, tt))))))))
 
 IsDistinct-panel_seats : (panel : ℕ) → IsDistinct is_same_seat (panel_seats panel)
 unfolding IsDistinct
@@ -42,16 +49,23 @@ IsDistinct-panel_seats panel = search rules
 pub panel-seats_of_panels : (n : ℕ) → All (λ (s : Seat). (1 ≤ s.panel) × (s.panel ≤ n)) (seats_of_panels n)
 panel-seats_of_panels zero = All-nil (λ (s : Seat). (1 ≤ s.panel) × (s.panel ≤ zero))
 panel-seats_of_panels (suc n) =
-    All-append (λ (s : Seat). (1 ≤ s.panel) × (s.panel ≤ suc n)) (seats_of_panels n) (panel_seats (suc n)) (All-weaker (λ (s : Seat). (1 ≤ s.panel) × (s.panel ≤ n)) (λ (s : Seat). (1 ≤ s.panel) × (s.panel ≤ suc n)) (λ s h. (h.0, omega arith)) (seats_of_panels n) (panel-seats_of_panels n)) (All-weaker (λ (s : Seat). s.panel ≡ suc n) (λ (s : Seat). (1 ≤ s.panel) × (s.panel ≤ suc n)) (λ s h. (omega arith, omega arith)) (panel_seats (suc n)) (panel-panel_seats (suc n)))
+    All-append (λ (s : Seat). (1 ≤ s.panel) × (s.panel ≤ suc n)) (seats_of_panels n) (panel_seats (suc n))
+    (All-weaker (λ (s : Seat). (1 ≤ s.panel) × (s.panel ≤ n)) (λ (s : Seat). (1 ≤ s.panel) × (s.panel ≤ suc n)) (λ s h. (h.0, omega arith))
+    (seats_of_panels n) (panel-seats_of_panels n)) (All-weaker (λ (s : Seat). s.panel ≡ suc n) (λ (s : Seat). (1 ≤ s.panel) × (s.panel ≤ suc n))
+    (λ s h. (omega arith, omega arith)) (panel_seats (suc n)) (panel-panel_seats (suc n)))
 
 apart_from_panel : (n : ℕ) (x : Seat) → x.panel ≤ n → AllByRecursion (λ y. is_same_seat x y ≡ false) (panel_seats (suc n))
 apart_from_panel n x h =
-    recursion_from_All (λ y. is_same_seat x y ≡ false) (panel_seats (suc n)) (All-weaker (λ (s : Seat). s.panel ≡ suc n) (λ y. is_same_seat x y ≡ false) (λ s e. other_panel x s (λ same. omega arith)) (panel_seats (suc n)) (panel-panel_seats (suc n)))
+    recursion_from_All (λ y. is_same_seat x y ≡ false) (panel_seats (suc n))
+    (All-weaker (λ (s : Seat). s.panel ≡ suc n) (λ y. is_same_seat x y ≡ false) (λ s e. other_panel x s (λ same. omega arith))
+    (panel_seats (suc n)) (panel-panel_seats (suc n)))
 
 IsDistinct-seats_of_panels : (n : ℕ) → IsDistinct is_same_seat (seats_of_panels n)
 IsDistinct-seats_of_panels zero = IsDistinct-from_apart is_same_seat [] (λ i j d l m. absurd (omega arith))
 IsDistinct-seats_of_panels (suc n) =
-    apart_append (seats_of_panels n) (panel_seats (suc n)) (IsDistinct-seats_of_panels n) (IsDistinct-panel_seats (suc n)) (All-weaker (λ (s : Seat). (1 ≤ s.panel) × (s.panel ≤ n)) (λ x. AllByRecursion (λ y. is_same_seat x y ≡ false) (panel_seats (suc n))) (λ s h. apart_from_panel n s h.1) (seats_of_panels n) (panel-seats_of_panels n))
+    apart_append (seats_of_panels n) (panel_seats (suc n)) (IsDistinct-seats_of_panels n) (IsDistinct-panel_seats (suc n))
+    (All-weaker (λ (s : Seat). (1 ≤ s.panel) × (s.panel ≤ n)) (λ x. AllByRecursion (λ y. is_same_seat x y ≡ false) (panel_seats (suc n)))
+    (λ s h. apart_from_panel n s h.1) (seats_of_panels n) (panel-seats_of_panels n))
 
 one_seat : (s : Seat) → IsDistinct is_same_seat (s ∷ [])
 one_seat s = IsDistinct-cons is_same_seat s [] tt (IsDistinct-from_apart is_same_seat [] (λ i j d l m. absurd (omega arith)))
@@ -59,7 +73,9 @@ one_seat s = IsDistinct-cons is_same_seat s [] tt (IsDistinct-from_apart is_same
 -- no seat stands twice in the canonical order
 pub IsDistinct-canonical_seats : (n : ℕ) → IsDistinct is_same_seat (canonical_seats n)
 IsDistinct-canonical_seats n =
-    apart_append (seats_of_panels n) (keep_seat ∷ []) (IsDistinct-seats_of_panels n) (one_seat keep_seat) (All-weaker (λ (s : Seat). (1 ≤ s.panel) × (s.panel ≤ n)) (λ x. AllByRecursion (λ y. is_same_seat x y ≡ false) (keep_seat ∷ [])) (λ s h. (other_panel s keep_seat (λ same. omega arith), tt)) (seats_of_panels n) (panel-seats_of_panels n))
+    apart_append (seats_of_panels n) (keep_seat ∷ []) (IsDistinct-seats_of_panels n) (one_seat keep_seat)
+    (All-weaker (λ (s : Seat). (1 ≤ s.panel) × (s.panel ≤ n)) (λ x. AllByRecursion (λ y. is_same_seat x y ≡ false) (keep_seat ∷ []))
+    (λ s h. (other_panel s keep_seat (λ same. omega arith), tt)) (seats_of_panels n) (panel-seats_of_panels n))
 
 -- the seats that are there
 in_panel : (panel : ℕ) (task : Task) → task ≢ Keep → Contains (panel_seats panel) (seat_of panel task)
@@ -73,11 +89,14 @@ in_panel panel Effect h = (6, lit< tt, refl)
 in_panel panel Drive h = (7, lit< tt, refl)
 in_panel panel Keep h = absurd (h refl)
 
-in_panels-step : (n panel : ℕ) (task : Task) → task ≢ Keep → panel ≤ suc n → (panel ≤ n → Contains (seats_of_panels n) (seat_of panel task)) → (panel < suc n) ⊎ (suc n ≤ panel) → Contains (seats_of_panels (suc n)) (seat_of panel task)
-in_panels-step n panel task h le rest (inl lt) = Contains-append_left (seats_of_panels n) (panel_seats (suc n)) (seat_of panel task) (rest (omega arith))
+in_panels-step : (n panel : ℕ) (task : Task) → task ≢ Keep → panel ≤ suc n → (panel ≤ n → Contains (seats_of_panels n) (seat_of panel task))
+    → (panel < suc n) ⊎ (suc n ≤ panel) → Contains (seats_of_panels (suc n)) (seat_of panel task)
+in_panels-step n panel task h le rest (inl lt) =
+    Contains-append_left (seats_of_panels n) (panel_seats (suc n)) (seat_of panel task) (rest (omega arith))
 in_panels-step n panel task h le rest (inr ge) =
     let same : suc n ≡ panel = omega arith in
-    Contains-append_right (seats_of_panels n) (panel_seats (suc n)) (seat_of panel task) (subst (λ k. Contains (panel_seats k) (seat_of panel task)) (sym same) (in_panel panel task h))
+    Contains-append_right (seats_of_panels n) (panel_seats (suc n)) (seat_of panel task)
+    (subst (λ k. Contains (panel_seats k) (seat_of panel task)) (sym same) (in_panel panel task h))
 
 in_panels : (n panel : ℕ) (task : Task) → task ≢ Keep → 1 ≤ panel → panel ≤ n → Contains (seats_of_panels n) (seat_of panel task)
 in_panels zero panel task h low high = absurd (omega arith)
@@ -85,7 +104,8 @@ in_panels (suc n) panel task h low high = in_panels-step n panel task h high (λ
 
 -- each task but Keep has a seat at each panel
 pub Contains-canonical_seats : (n panel : ℕ) (task : Task) → task ≢ Keep → 1 ≤ panel → panel ≤ n → Contains (canonical_seats n) (seat_of panel task)
-Contains-canonical_seats n panel task h low high = Contains-append_left (seats_of_panels n) (keep_seat ∷ []) (seat_of panel task) (in_panels n panel task h low high)
+Contains-canonical_seats n panel task h low high =
+    Contains-append_left (seats_of_panels n) (keep_seat ∷ []) (seat_of panel task) (in_panels n panel task h low high)
 
 -- Keep has one
 pub Contains-keep_seat : (n : ℕ) → Contains (canonical_seats n) keep_seat
@@ -101,7 +121,9 @@ pub record IsPanelSeat (n : ℕ) (s : Seat) : Type 0 where
   pub other : s.task ≢ Keep
 
 task-panel_seats : (panel : ℕ) → All (λ (s : Seat). s.task ≢ Keep) (panel_seats panel)
-task-panel_seats panel = All-from_recursion (λ (s : Seat). s.task ≢ Keep) (panel_seats panel) (λ e. cc, (λ e. cc, (λ e. cc, (λ e. cc, (λ e. cc, (λ e. cc, (λ e. cc, (λ e. cc, tt))))))))
+task-panel_seats panel =
+    All-from_recursion (λ (s : Seat). s.task ≢ Keep) (panel_seats panel)
+    (λ e. cc, (λ e. cc, (λ e. cc, (λ e. cc, (λ e. cc, (λ e. cc, (λ e. cc, (λ e. cc, tt))))))))
 
 task-seats_of_panels : (n : ℕ) → All (λ (s : Seat). s.task ≢ Keep) (seats_of_panels n)
 task-seats_of_panels zero = All-nil (λ (s : Seat). s.task ≢ Keep)

@@ -1,5 +1,7 @@
 -- What is wrong with a list of seats, read from its first seat on, against the seats that it has.
-use Rattle.std.proofs.Common.{◌≡◌, ◌+◌, ◌<◌, ◌≤◌, ℕ, suc, take, drop, get_or, drop-cons, take-append-drop, length-append, ◌++◌, Bool, true, false, not, List, [], ◌∷◌, length, Option, Some, None, option_map, refl, ap, sym, ◌∙◌, arith, subst, append-nil, append_assoc, if◌then◌else◌}
+use Rattle.std.proofs.Common.{◌≡◌, ◌+◌, ◌<◌, ◌≤◌, ℕ, suc, take, drop, get_or, drop-cons, take-append-drop}
+use Rattle.std.proofs.Common.{length-append, ◌++◌, Bool, true, false, not, List, [], ◌∷◌, length, Option, Some, None}
+use Rattle.std.proofs.Common.{option_map, refl, ap, sym, ◌∙◌, arith, subst, append-nil, append_assoc, if◌then◌else◌}
 use Rattle.std.specs.Prelude.{◌↔◌, Result, Ok, Err, MatchResult, IsOk, IfOk}
 use Rattle.std.specs.List.{Contains}
 use Rattle.std.proofs.lemmas.List.{take_more}
@@ -14,16 +16,19 @@ use Rattle.tick_units.proofs.Missing.{missing_at, first_missing-at, all_there, f
 use Rattle.tick_units.proofs.Sound.{sound_none, sound_push, length_sound, known_behind, absent_before, order_from_sound, sound_from_order, whole_from_order}
 
 -- what the next seat decides
-pub strange_here : (panels : ℕ) (earlier : List Seat) (seat : Seat) (later : List Seat) → is_among seat (canonical_seats panels) ≡ false → fault_behind panels earlier (seat ∷ later) ≡ Some (Strange (length earlier + 1))
+pub strange_here : (panels : ℕ) (earlier : List Seat) (seat : Seat) (later : List Seat) → is_among seat (canonical_seats panels) ≡ false
+    → fault_behind panels earlier (seat ∷ later) ≡ Some (Strange (length earlier + 1))
 strange_here panels earlier seat later e =
     ap (λ b. if not b then Some (Strange (length earlier + 1)) else (if is_among seat earlier then Some (Repeated (length earlier + 1)) else fault_behind panels (earlier ++ seat ∷ []) later)) e
 
-pub repeated_here : (panels : ℕ) (earlier : List Seat) (seat : Seat) (later : List Seat) → is_among seat (canonical_seats panels) ≡ true → is_among seat earlier ≡ true → fault_behind panels earlier (seat ∷ later) ≡ Some (Repeated (length earlier + 1))
+pub repeated_here : (panels : ℕ) (earlier : List Seat) (seat : Seat) (later : List Seat) → is_among seat (canonical_seats panels) ≡ true
+    → is_among seat earlier ≡ true → fault_behind panels earlier (seat ∷ later) ≡ Some (Repeated (length earlier + 1))
 repeated_here panels earlier seat later e f =
     ap (λ b. if not b then Some (Strange (length earlier + 1)) else (if is_among seat earlier then Some (Repeated (length earlier + 1)) else fault_behind panels (earlier ++ seat ∷ []) later)) e
     ∙ ap (λ b. if b then Some (Repeated (length earlier + 1)) else fault_behind panels (earlier ++ seat ∷ []) later) f
 
-pub passes_here : (panels : ℕ) (earlier : List Seat) (seat : Seat) (later : List Seat) → is_among seat (canonical_seats panels) ≡ true → is_among seat earlier ≡ false → fault_behind panels earlier (seat ∷ later) ≡ fault_behind panels (earlier ++ seat ∷ []) later
+pub passes_here : (panels : ℕ) (earlier : List Seat) (seat : Seat) (later : List Seat) → is_among seat (canonical_seats panels) ≡ true
+    → is_among seat earlier ≡ false → fault_behind panels earlier (seat ∷ later) ≡ fault_behind panels (earlier ++ seat ∷ []) later
 passes_here panels earlier seat later e f =
     ap (λ b. if not b then Some (Strange (length earlier + 1)) else (if is_among seat earlier then Some (Repeated (length earlier + 1)) else fault_behind panels (earlier ++ seat ∷ []) later)) e
     ∙ ap (λ b. if b then Some (Repeated (length earlier + 1)) else fault_behind panels (earlier ++ seat ∷ []) later) f
@@ -33,11 +38,13 @@ isnt seat seats true e absent = absurd (absent ((is_among-Decides seat seats).0 
 isnt seat seats false e absent = e
 
 -- seats that are sound decide nothing
-pub sound_passed : (panels : ℕ) (earlier xs later : List Seat) → IsSound panels (earlier ++ xs) → fault_behind panels earlier (xs ++ later) ≡ fault_behind panels (earlier ++ xs) later
+pub sound_passed : (panels : ℕ) (earlier xs later : List Seat) → IsSound panels (earlier ++ xs)
+    → fault_behind panels earlier (xs ++ later) ≡ fault_behind panels (earlier ++ xs) later
 sound_passed panels earlier [] later h = ap (λ ys. fault_behind panels ys later) (sym (append-nil earlier))
 sound_passed panels earlier (x ∷ xs) later h =
     let joined : (earlier ++ x ∷ []) ++ xs ≡ earlier ++ (x ∷ xs) = append_assoc earlier (x ∷ []) xs in
-    passes_here panels earlier x (xs ++ later) ((is_among-Decides x (canonical_seats panels)).1 (known_behind panels earlier x xs h)) (isnt x earlier (is_among x earlier) refl (absent_before panels earlier x xs h))
+    passes_here panels earlier x (xs ++ later) ((is_among-Decides x (canonical_seats panels)).1 (known_behind panels earlier x xs h))
+    (isnt x earlier (is_among x earlier) refl (absent_before panels earlier x xs h))
     ∙ sound_passed panels (earlier ++ x ∷ []) xs later (subst (IsSound panels) (sym joined) h)
     ∙ ap (λ ys. fault_behind panels ys later) joined
 
@@ -47,7 +54,10 @@ data Walked (panels : ℕ) (seats : List Seat) (fault : Option BadOrder) : Type 
   at_repeated : (place : ℕ) → IsRepeatedAt panels seats place → fault ≡ Some (Repeated place) → Walked panels seats fault
   at_end : IsSound panels seats → fault ≡ option_map Missing (first_missing (canonical_seats panels) seats) → Walked panels seats fault
 
-walk-step : (panels : ℕ) (earlier : List Seat) (seat : Seat) (later : List Seat) (known there : Bool) → is_among seat (canonical_seats panels) ≡ known → is_among seat earlier ≡ there → IsSound panels earlier → (IsSound panels (earlier ++ seat ∷ []) → Walked panels ((earlier ++ seat ∷ []) ++ later) (fault_behind panels (earlier ++ seat ∷ []) later)) → Walked panels (earlier ++ seat ∷ later) (fault_behind panels earlier (seat ∷ later))
+walk-step : (panels : ℕ) (earlier : List Seat) (seat : Seat) (later : List Seat) (known there : Bool) → is_among seat (canonical_seats panels) ≡ known
+    → is_among seat earlier ≡ there → IsSound panels earlier
+    → (IsSound panels (earlier ++ seat ∷ []) → Walked panels ((earlier ++ seat ∷ []) ++ later) (fault_behind panels (earlier ++ seat ∷ []) later))
+    → Walked panels (earlier ++ seat ∷ later) (fault_behind panels earlier (seat ∷ later))
 walk-step panels earlier seat later false there k t sound rest =
     at_strange (length earlier + 1) (record {
       earlier = earlier;
@@ -70,7 +80,8 @@ walk-step panels earlier seat later true true k t sound rest =
     }) (repeated_here panels earlier seat later k t)
 walk-step panels earlier seat later true false k t sound rest =
     let more : IsSound panels (earlier ++ seat ∷ []) =
-    sound_push panels earlier seat sound ((is_among-Decides seat (canonical_seats panels)).0 k) (not_from_Decides (is_among seat earlier) (is_among-Decides seat earlier) t)
+    sound_push panels earlier seat sound ((is_among-Decides seat (canonical_seats panels)).0 k)
+    (not_from_Decides (is_among seat earlier) (is_among-Decides seat earlier) t)
     in
     let whole : Walked panels (earlier ++ seat ∷ later) (fault_behind panels (earlier ++ seat ∷ []) later) =
     subst (λ xs. Walked panels xs (fault_behind panels (earlier ++ seat ∷ []) later)) (append_assoc earlier (seat ∷ []) later) (rest more)
@@ -79,9 +90,11 @@ walk-step panels earlier seat later true false k t sound rest =
 
 walk : (panels : ℕ) (earlier later : List Seat) → IsSound panels earlier → Walked panels (earlier ++ later) (fault_behind panels earlier later)
 walk panels earlier [] sound =
-    at_end (subst (IsSound panels) (sym (append-nil earlier)) sound) (ap (λ xs. option_map Missing (first_missing (canonical_seats panels) xs)) (sym (append-nil earlier)))
+    at_end (subst (IsSound panels) (sym (append-nil earlier)) sound)
+    (ap (λ xs. option_map Missing (first_missing (canonical_seats panels) xs)) (sym (append-nil earlier)))
 walk panels earlier (seat ∷ later) sound =
-    walk-step panels earlier seat later (is_among seat (canonical_seats panels)) (is_among seat earlier) refl refl sound (walk panels (earlier ++ seat ∷ []) later)
+    walk-step panels earlier seat later (is_among seat (canonical_seats panels)) (is_among seat earlier) refl refl sound
+    (walk panels (earlier ++ seat ∷ []) later)
 
 walked : (panels : ℕ) (seats : List Seat) → Walked panels seats (order_fault panels seats)
 walked panels seats = walk panels [] seats (sound_none panels)
@@ -100,38 +113,52 @@ end_no_place (Some s) fault other e = other s cc
 end_no_place None fault other e = cc
 
 -- a strange seat
-strange_told : (panels : ℕ) (seats : List Seat) (place : ℕ) (fault : Option BadOrder) → fault ≡ Some (Strange place) → Walked panels seats fault → IsStrangeAt panels seats place
-strange_told panels seats place fault e (at_strange q h f) = let same : q ≡ place = let g : Some (Strange q) ≡ Some (Strange place) = sym f ∙ e in cc in subst (IsStrangeAt panels seats) same h
+strange_told : (panels : ℕ) (seats : List Seat) (place : ℕ) (fault : Option BadOrder) → fault ≡ Some (Strange place) → Walked panels seats fault
+    → IsStrangeAt panels seats place
+strange_told panels seats place fault e (at_strange q h f) = let same : q ≡ place = let g : Some (Strange q) ≡ Some (Strange place) = sym f ∙ e in
+    cc in subst (IsStrangeAt panels seats) same h
 strange_told panels seats place fault e (at_repeated q h f) = let g : Some (Repeated q) ≡ Some (Strange place) = sym f ∙ e in cc
-strange_told panels seats place fault e (at_end h f) = absurd (end_no_place (first_missing (canonical_seats panels) seats) (Strange place) (λ s g. cc) (sym f ∙ e))
+strange_told panels seats place fault e (at_end h f) =
+    absurd (end_no_place (first_missing (canonical_seats panels) seats) (Strange place) (λ s g. cc) (sym f ∙ e))
 
-pub order_fault-strange : (panels : ℕ) (seats : List Seat) (place : ℕ) → (order_fault panels seats ≡ Some (Strange place)) ↔ IsStrangeAt panels seats place
+pub order_fault-strange : (panels : ℕ) (seats : List Seat) (place : ℕ)
+    → (order_fault panels seats ≡ Some (Strange place)) ↔ IsStrangeAt panels seats place
 order_fault-strange panels seats place = (
   λ e. strange_told panels seats place (order_fault panels seats) e (walked panels seats),
-  λ h. ap (order_fault panels) h.splits ∙ sound_passed panels [] h.earlier (h.seat ∷ h.later) h.sound ∙ strange_here panels h.earlier h.seat h.later (isnt h.seat (canonical_seats panels) (is_among h.seat (canonical_seats panels)) refl h.strange) ∙ ap (λ n. Some (Strange n)) (sym h.counted),
+  λ h. ap (order_fault panels) h.splits ∙ sound_passed panels [] h.earlier (h.seat ∷ h.later) h.sound ∙ strange_here panels h.earlier h.seat h.later
+      (isnt h.seat (canonical_seats panels) (is_among h.seat (canonical_seats panels)) refl h.strange) ∙ ap (λ n. Some (Strange n)) (sym h.counted),
 )
 
 -- a repeated seat
-repeated_told : (panels : ℕ) (seats : List Seat) (place : ℕ) (fault : Option BadOrder) → fault ≡ Some (Repeated place) → Walked panels seats fault → IsRepeatedAt panels seats place
+repeated_told : (panels : ℕ) (seats : List Seat) (place : ℕ) (fault : Option BadOrder) → fault ≡ Some (Repeated place) → Walked panels seats fault
+    → IsRepeatedAt panels seats place
 repeated_told panels seats place fault e (at_strange q h f) = let g : Some (Strange q) ≡ Some (Repeated place) = sym f ∙ e in cc
-repeated_told panels seats place fault e (at_repeated q h f) = let same : q ≡ place = let g : Some (Repeated q) ≡ Some (Repeated place) = sym f ∙ e in cc in subst (IsRepeatedAt panels seats) same h
-repeated_told panels seats place fault e (at_end h f) = absurd (end_no_place (first_missing (canonical_seats panels) seats) (Repeated place) (λ s g. cc) (sym f ∙ e))
+repeated_told panels seats place fault e (at_repeated q h f) = let same : q ≡ place = let g : Some (Repeated q) ≡ Some (Repeated place) = sym f ∙ e in
+    cc in subst (IsRepeatedAt panels seats) same h
+repeated_told panels seats place fault e (at_end h f) =
+    absurd (end_no_place (first_missing (canonical_seats panels) seats) (Repeated place) (λ s g. cc) (sym f ∙ e))
 
-pub order_fault-repeated : (panels : ℕ) (seats : List Seat) (place : ℕ) → (order_fault panels seats ≡ Some (Repeated place)) ↔ IsRepeatedAt panels seats place
+pub order_fault-repeated : (panels : ℕ) (seats : List Seat) (place : ℕ)
+    → (order_fault panels seats ≡ Some (Repeated place)) ↔ IsRepeatedAt panels seats place
 order_fault-repeated panels seats place = (
   λ e. repeated_told panels seats place (order_fault panels seats) e (walked panels seats),
-  λ h. ap (order_fault panels) h.splits ∙ sound_passed panels [] h.earlier (h.seat ∷ h.later) h.sound ∙ repeated_here panels h.earlier h.seat h.later ((is_among-Decides h.seat (canonical_seats panels)).1 (known_twice panels h.earlier h.seat h.sound h.repeated)) ((is_among-Decides h.seat h.earlier).1 h.repeated) ∙ ap (λ n. Some (Repeated n)) (sym h.counted),
+  λ h. ap (order_fault panels) h.splits ∙ sound_passed panels [] h.earlier (h.seat ∷ h.later) h.sound ∙ repeated_here panels h.earlier h.seat h.later
+      ((is_among-Decides h.seat (canonical_seats panels)).1 (known_twice panels h.earlier h.seat h.sound h.repeated))
+      ((is_among-Decides h.seat h.earlier).1 h.repeated) ∙ ap (λ n. Some (Repeated n)) (sym h.counted),
 )
   where
-    known_twice : (panels : ℕ) (earlier : List Seat) (seat : Seat) → IsSound panels earlier → Contains earlier seat → Contains (canonical_seats panels) seat
+    known_twice : (panels : ℕ) (earlier : List Seat) (seat : Seat) → IsSound panels earlier → Contains earlier seat
+        → Contains (canonical_seats panels) seat
     known_twice panels earlier seat sound there = All-contains (Contains (canonical_seats panels)) earlier seat sound.known there
 
 -- the end of a sound list
-pub order_fault-sound : (panels : ℕ) (seats : List Seat) → IsSound panels seats → order_fault panels seats ≡ option_map Missing (first_missing (canonical_seats panels) seats)
+pub order_fault-sound : (panels : ℕ) (seats : List Seat) → IsSound panels seats
+    → order_fault panels seats ≡ option_map Missing (first_missing (canonical_seats panels) seats)
 order_fault-sound panels seats sound = ap (order_fault panels) (sym (append-nil seats)) ∙ sound_passed panels [] seats [] sound
 
 -- a missing seat
-missing_told : (panels : ℕ) (seats : List Seat) (seat : Seat) (fault : Option BadOrder) → fault ≡ Some (Missing seat) → Walked panels seats fault → IsFirstMissing panels seats seat
+missing_told : (panels : ℕ) (seats : List Seat) (seat : Seat) (fault : Option BadOrder) → fault ≡ Some (Missing seat) → Walked panels seats fault
+    → IsFirstMissing panels seats seat
 missing_told panels seats seat fault e (at_strange q h f) = let g : Some (Strange q) ≡ Some (Missing seat) = sym f ∙ e in cc
 missing_told panels seats seat fault e (at_repeated q h f) = let g : Some (Repeated q) ≡ Some (Missing seat) = sym f ∙ e in cc
 missing_told panels seats seat fault e (at_end sound f) =
@@ -145,10 +172,12 @@ missing_told panels seats seat fault e (at_end sound f) =
       absent = m.absent;
     }
 
-pub order_fault-missing : (panels : ℕ) (seats : List Seat) (seat : Seat) → (order_fault panels seats ≡ Some (Missing seat)) ↔ IsFirstMissing panels seats seat
+pub order_fault-missing : (panels : ℕ) (seats : List Seat) (seat : Seat)
+    → (order_fault panels seats ≡ Some (Missing seat)) ↔ IsFirstMissing panels seats seat
 order_fault-missing panels seats seat = (
   λ e. missing_told panels seats seat (order_fault panels seats) e (walked panels seats),
-  λ h. order_fault-sound panels seats h.sound ∙ ap (option_map Missing) (ap (λ xs. first_missing xs seats) h.splits ∙ first_missing-at h.earlier seat h.later seats h.there h.absent),
+  λ h. order_fault-sound panels seats h.sound ∙ ap (option_map Missing)
+      (ap (λ xs. first_missing xs seats) h.splits ∙ first_missing-at h.earlier seat h.later seats h.there h.absent),
 )
 
 -- no fault
@@ -156,26 +185,30 @@ order_told : (panels : ℕ) (seats : List Seat) (fault : Option BadOrder) → fa
 order_told panels seats fault e (at_strange q h f) = let g : Some (Strange q) ≡ None = sym f ∙ e in cc
 order_told panels seats fault e (at_repeated q h f) = let g : Some (Repeated q) ≡ None = sym f ∙ e in cc
 order_told panels seats fault e (at_end sound f) =
-    order_from_sound panels seats sound (all_there (canonical_seats panels) seats (end_none (first_missing (canonical_seats panels) seats) (sym f ∙ e)))
+    order_from_sound panels seats sound
+    (all_there (canonical_seats panels) seats (end_none (first_missing (canonical_seats panels) seats) (sym f ∙ e)))
 
 pub order_fault-none : (panels : ℕ) (seats : List Seat) → (order_fault panels seats ≡ None) ↔ IsOrder panels seats
 order_fault-none panels seats = (
   λ e. order_told panels seats (order_fault panels seats) e (walked panels seats),
-  λ order. order_fault-sound panels seats (sound_from_order panels seats order) ∙ ap (option_map Missing) (first_missing-all_there (canonical_seats panels) seats (whole_from_order panels seats order)),
+  λ order. order_fault-sound panels seats (sound_from_order panels seats order) ∙ ap (option_map Missing)
+      (first_missing-all_there (canonical_seats panels) seats (whole_from_order panels seats order)),
 )
 
 -- the same of what `Order::new` answers
 abbrev pub IsTold : ℕ → List Seat → Result (List Seat) BadOrder → Type 0
 IsTold panels seats result = MatchResult result (λ _. order_fault panels seats ≡ None) (λ fault. order_fault panels seats ≡ Some fault)
 
-pub ok-order : (panels : ℕ) (seats : List Seat) (result : Result (List Seat) BadOrder) → IsTold panels seats result → IsOk result ↔ IsOrder panels seats
+pub ok-order : (panels : ℕ) (seats : List Seat) (result : Result (List Seat) BadOrder) → IsTold panels seats result
+    → IsOk result ↔ IsOrder panels seats
 ok-order panels seats (Ok order) told = (λ _. (order_fault-none panels seats).0 told, λ _. refl)
 ok-order panels seats (Err fault) told = (
   λ ok. cc,
   λ order. let h : Some fault ≡ None = sym told ∙ (order_fault-none panels seats).1 order in cc,
 )
 
-err-fault : (panels : ℕ) (seats : List Seat) (result : Result (List Seat) BadOrder) (fault : BadOrder) → IsTold panels seats result → (result ≡ Err fault) ↔ (order_fault panels seats ≡ Some fault)
+err-fault : (panels : ℕ) (seats : List Seat) (result : Result (List Seat) BadOrder) (fault : BadOrder) → IsTold panels seats result
+    → (result ≡ Err fault) ↔ (order_fault panels seats ≡ Some fault)
 err-fault panels seats (Ok order) fault told = (λ e. cc, λ e. let h : None ≡ Some fault = sym told ∙ e in cc)
 err-fault panels seats (Err other) fault told = (
   λ e. let same : other ≡ fault = cc in told ∙ ap Some same,
@@ -185,13 +218,16 @@ err-fault panels seats (Err other) fault told = (
 both : {P Q R : Type 0} → P ↔ Q → Q ↔ R → P ↔ R
 both h k = (λ p. k.0 (h.0 p), λ r. h.1 (k.1 r))
 
-pub err-strange : (panels : ℕ) (seats : List Seat) (result : Result (List Seat) BadOrder) → IsTold panels seats result → (place : ℕ) → (result ≡ Err (Strange place)) ↔ IsStrangeAt panels seats place
+pub err-strange : (panels : ℕ) (seats : List Seat) (result : Result (List Seat) BadOrder) → IsTold panels seats result → (place : ℕ)
+    → (result ≡ Err (Strange place)) ↔ IsStrangeAt panels seats place
 err-strange panels seats result told place = both (err-fault panels seats result (Strange place) told) (order_fault-strange panels seats place)
 
-pub err-repeated : (panels : ℕ) (seats : List Seat) (result : Result (List Seat) BadOrder) → IsTold panels seats result → (place : ℕ) → (result ≡ Err (Repeated place)) ↔ IsRepeatedAt panels seats place
+pub err-repeated : (panels : ℕ) (seats : List Seat) (result : Result (List Seat) BadOrder) → IsTold panels seats result → (place : ℕ)
+    → (result ≡ Err (Repeated place)) ↔ IsRepeatedAt panels seats place
 err-repeated panels seats result told place = both (err-fault panels seats result (Repeated place) told) (order_fault-repeated panels seats place)
 
-pub err-missing : (panels : ℕ) (seats : List Seat) (result : Result (List Seat) BadOrder) → IsTold panels seats result → (seat : Seat) → (result ≡ Err (Missing seat)) ↔ IsFirstMissing panels seats seat
+pub err-missing : (panels : ℕ) (seats : List Seat) (result : Result (List Seat) BadOrder) → IsTold panels seats result → (seat : Seat)
+    → (result ≡ Err (Missing seat)) ↔ IsFirstMissing panels seats seat
 err-missing panels seats result told seat = both (err-fault panels seats result (Missing seat) told) (order_fault-missing panels seats seat)
 
 -- all of it at once
@@ -206,7 +242,8 @@ Told panels seats result =
       answer : IsTold panels seats result;
     }
 
-pub told_all : (panels : ℕ) (seats : List Seat) (result : Result (List Seat) BadOrder) → IfOk result (λ order. order ≡ seats) → IsTold panels seats result → Told panels seats result
+pub told_all : (panels : ℕ) (seats : List Seat) (result : Result (List Seat) BadOrder) → IfOk result (λ order. order ≡ seats)
+    → IsTold panels seats result → Told panels seats result
 told_all panels seats result same told =
     record {
       same = same;
@@ -218,33 +255,43 @@ told_all panels seats result same told =
     }
 
 -- where a list of seats that are sound so far goes wrong
-at_place : (panels : ℕ) (seats earlier : List Seat) (i : ℕ) (d : Seat) → earlier ≡ take i seats → i < length seats → IsSound panels earlier → order_fault panels seats ≡ fault_behind panels earlier (get_or seats i d ∷ drop (suc i) seats)
+at_place : (panels : ℕ) (seats earlier : List Seat) (i : ℕ) (d : Seat) → earlier ≡ take i seats → i < length seats → IsSound panels earlier
+    → order_fault panels seats ≡ fault_behind panels earlier (get_or seats i d ∷ drop (suc i) seats)
 at_place panels seats earlier i d is within sound =
     ap (order_fault panels) (sym (take-append-drop i seats) ∙ ap (λ xs. xs ++ drop i seats) (sym is))
     ∙ sound_passed panels [] earlier (drop i seats) sound
     ∙ ap (fault_behind panels earlier) (drop-cons seats i d within)
 
-pub strange_at : (panels : ℕ) (seats earlier : List Seat) (i : ℕ) (d : Seat) → earlier ≡ take i seats → i < length seats → IsSound panels earlier → is_among (get_or seats i d) (canonical_seats panels) ≡ false → order_fault panels seats ≡ Some (Strange (length earlier + 1))
+pub strange_at : (panels : ℕ) (seats earlier : List Seat) (i : ℕ) (d : Seat) → earlier ≡ take i seats → i < length seats → IsSound panels earlier
+    → is_among (get_or seats i d) (canonical_seats panels) ≡ false → order_fault panels seats ≡ Some (Strange (length earlier + 1))
 strange_at panels seats earlier i d is within sound strange =
     at_place panels seats earlier i d is within sound ∙ strange_here panels earlier (get_or seats i d) (drop (suc i) seats) strange
 
-pub repeated_at : (panels : ℕ) (seats earlier : List Seat) (i : ℕ) (d : Seat) → earlier ≡ take i seats → i < length seats → IsSound panels earlier → is_among (get_or seats i d) (canonical_seats panels) ≡ true → is_among (get_or seats i d) earlier ≡ true → order_fault panels seats ≡ Some (Repeated (length earlier + 1))
+pub repeated_at : (panels : ℕ) (seats earlier : List Seat) (i : ℕ) (d : Seat) → earlier ≡ take i seats → i < length seats → IsSound panels earlier
+    → is_among (get_or seats i d) (canonical_seats panels) ≡ true → is_among (get_or seats i d) earlier ≡ true
+    → order_fault panels seats ≡ Some (Repeated (length earlier + 1))
 repeated_at panels seats earlier i d is within sound known there =
     at_place panels seats earlier i d is within sound ∙ repeated_here panels earlier (get_or seats i d) (drop (suc i) seats) known there
 
 -- one more
-pub sound_more : (panels : ℕ) (earlier : List Seat) (seat : Seat) → IsSound panels earlier → is_among seat (canonical_seats panels) ≡ true → is_among seat earlier ≡ false → IsSound panels (earlier ++ seat ∷ [])
+pub sound_more : (panels : ℕ) (earlier : List Seat) (seat : Seat) → IsSound panels earlier → is_among seat (canonical_seats panels) ≡ true
+    → is_among seat earlier ≡ false → IsSound panels (earlier ++ seat ∷ [])
 sound_more panels earlier seat sound known absent =
-    sound_push panels earlier seat sound ((is_among-Decides seat (canonical_seats panels)).0 known) (not_from_Decides (is_among seat earlier) (is_among-Decides seat earlier) absent)
+    sound_push panels earlier seat sound ((is_among-Decides seat (canonical_seats panels)).0 known)
+    (not_from_Decides (is_among seat earlier) (is_among-Decides seat earlier) absent)
 
-pub room_for_more : (panels : ℕ) (earlier : List Seat) (seat : Seat) → panels ≤ 8 → IsSound panels earlier → is_among seat (canonical_seats panels) ≡ true → is_among seat earlier ≡ false → length earlier < 65
+pub room_for_more : (panels : ℕ) (earlier : List Seat) (seat : Seat) → panels ≤ 8 → IsSound panels earlier
+    → is_among seat (canonical_seats panels) ≡ true → is_among seat earlier ≡ false → length earlier < 65
 room_for_more panels earlier seat few sound known absent =
     omega (arith, length_sound panels (earlier ++ seat ∷ []) (sound_more panels earlier seat sound known absent), length-append earlier (seat ∷ []))
 
-pub taken_more : (seats earlier : List Seat) (i : ℕ) (d : Seat) → i < length seats → earlier ≡ take i seats → earlier ++ get_or seats i d ∷ [] ≡ take (i + 1) seats
+pub taken_more : (seats earlier : List Seat) (i : ℕ) (d : Seat) → i < length seats → earlier ≡ take i seats
+    → earlier ++ get_or seats i d ∷ [] ≡ take (i + 1) seats
 taken_more seats earlier i d within is = ap (λ xs. xs ++ get_or seats i d ∷ []) is ∙ sym (take_more seats i d within)
 
 -- what the search for a missing seat finds at the end
-pub told_at_end : (panels : ℕ) (seats others canonical : List Seat) (found : Option Seat) → canonical ≡ canonical_seats panels → others ≡ seats → IsSound panels seats → found ≡ first_missing canonical others → order_fault panels seats ≡ option_map Missing found
+pub told_at_end : (panels : ℕ) (seats others canonical : List Seat) (found : Option Seat) → canonical ≡ canonical_seats panels → others ≡ seats
+    → IsSound panels seats → found ≡ first_missing canonical others → order_fault panels seats ≡ option_map Missing found
 told_at_end panels seats others canonical found whole same sound is =
-    order_fault-sound panels seats sound ∙ ap (option_map Missing) (ap (first_missing (canonical_seats panels)) (sym same) ∙ ap (λ xs. first_missing xs others) (sym whole) ∙ sym is)
+    order_fault-sound panels seats sound ∙ ap (option_map Missing)
+    (ap (first_missing (canonical_seats panels)) (sym same) ∙ ap (λ xs. first_missing xs others) (sym whole) ∙ sym is)

@@ -15,7 +15,8 @@ use Rattle.tick_units.proofs.Seats.{is_same_seat-Decides, is_same_seat-comm}
 head_alone : (x : Seat) (xs : List Seat) (q : Seat) → IsDistinct is_same_seat (x ∷ xs) → Contains xs q → x ≡ q → ⊥
 head_alone x xs q distinct there same =
     let apart : is_same_seat x q ≡ false =
-    All-contains (λ y. is_same_seat x y ≡ false) xs q (All-from_recursion (λ y. is_same_seat x y ≡ false) xs (IsDistinct-head is_same_seat x xs distinct)) there
+    All-contains (λ y. is_same_seat x y ≡ false) xs q
+    (All-from_recursion (λ y. is_same_seat x y ≡ false) xs (IsDistinct-head is_same_seat x xs distinct)) there
     in
     both_ways (is_same_seat x q) apart ((is_same_seat-Decides x q).1 same)
 
@@ -23,18 +24,24 @@ behind : (x : Seat) (xs : List Seat) (q : Seat) → Contains xs q → Contains (
 behind x xs q there = Contains-append_right (x ∷ []) xs q there
 
 -- without the seat that the first list begins with, wherever it stands in the second
-same_members-step : (x : Seat) (xs ys : List Seat) (k : ℕ) → k < length ys → get_or ys k x ≡ x → IsDistinct is_same_seat (x ∷ xs) → IsDistinct is_same_seat ys → ((q : Seat) → Contains (x ∷ xs) q → Contains ys q) → ((q : Seat) → Contains ys q → Contains (x ∷ xs) q) → ((zs : List Seat) → IsDistinct is_same_seat zs → ((q : Seat) → Contains xs q → Contains zs q) → ((q : Seat) → Contains zs q → Contains xs q) → IsPermutation xs zs) → IsPermutation (x ∷ xs) ys
+same_members-step : (x : Seat) (xs ys : List Seat) (k : ℕ) → k < length ys → get_or ys k x ≡ x → IsDistinct is_same_seat (x ∷ xs)
+    → IsDistinct is_same_seat ys → ((q : Seat) → Contains (x ∷ xs) q → Contains ys q) → ((q : Seat) → Contains ys q → Contains (x ∷ xs) q)
+    → ((zs : List Seat) → IsDistinct is_same_seat zs → ((q : Seat) → Contains xs q → Contains zs q) → ((q : Seat) → Contains zs q → Contains xs q)
+    → IsPermutation xs zs) → IsPermutation (x ∷ xs) ys
 same_members-step x xs ys k within is p q to from rest =
     let zs : List Seat = remove ys k in
     let there : IsPermutation ys (x ∷ zs) = IsPermutation-remove ys k x within (sym is) in
     let back : IsPermutation (x ∷ zs) ys = IsPermutation-sym ys (x ∷ zs) there in
     let apart : IsDistinct is_same_seat (x ∷ zs) = IsDistinct-IsPermutation is_same_seat is_same_seat-comm ys (x ∷ zs) there q in
     let inner : IsPermutation xs zs =
-    rest zs (IsDistinct-tail is_same_seat x zs apart) (λ s h. Contains-tail x zs s (head_alone x xs s p h) (Contains-permutation ys (x ∷ zs) s there (to s (behind x xs s h)))) (λ s h. Contains-tail x xs s (head_alone x zs s apart h) (from s (Contains-permutation (x ∷ zs) ys s back (behind x zs s h))))
+    rest zs (IsDistinct-tail is_same_seat x zs apart)
+    (λ s h. Contains-tail x zs s (head_alone x xs s p h) (Contains-permutation ys (x ∷ zs) s there (to s (behind x xs s h))))
+    (λ s h. Contains-tail x xs s (head_alone x zs s apart h) (from s (Contains-permutation (x ∷ zs) ys s back (behind x zs s h))))
     in
     IsPermutation-trans (x ∷ xs) (x ∷ zs) ys (IsPermutation-cons x xs zs inner) back
 
-pub same_members : (xs ys : List Seat) → IsDistinct is_same_seat xs → IsDistinct is_same_seat ys → ((q : Seat) → Contains xs q → Contains ys q) → ((q : Seat) → Contains ys q → Contains xs q) → IsPermutation xs ys
+pub same_members : (xs ys : List Seat) → IsDistinct is_same_seat xs → IsDistinct is_same_seat ys → ((q : Seat) → Contains xs q → Contains ys q)
+    → ((q : Seat) → Contains ys q → Contains xs q) → IsPermutation xs ys
 same_members [] [] p q to from = IsPermutation-refl []
 same_members [] (y ∷ ys) p q to from = let h = (from y (0, omega arith, refl)).1 in absurd (omega arith)
 same_members (x ∷ xs) ys p q to from =

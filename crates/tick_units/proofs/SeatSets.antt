@@ -1,5 +1,7 @@
 -- A set of seats kept as flags, and the seats of a site told by their task and panel.
-use Rattle.std.proofs.Common.{◌≡◌, ◌≢◌, ◌+◌, ◌*◌, ◌≤◌, ◌<◌, ◌++◌, ◌==◌, ◌||◌, ℕ, Bool, true, false, not, List, [], ◌∷◌, length, Some, slice_get, slice_set, replicate, get_or, length-append, refl, sym, ◌∙◌, ap, arith, inl, inr}
+use Rattle.std.proofs.Common.{◌≡◌, ◌≢◌, ◌+◌, ◌*◌, ◌≤◌, ◌<◌, ◌++◌, ◌==◌, ◌||◌, ℕ, Bool, true, false, not, List, []}
+use Rattle.std.proofs.Common.{◌∷◌, length, Some, slice_get, slice_set, replicate, get_or, length-append, refl, sym}
+use Rattle.std.proofs.Common.{◌∙◌, ap, arith, inl, inr}
 use Rattle.std.specs.Bool.{Decides}
 use Rattle.std.specs.Prelude.{◌⊎◌, Ok}
 use Rattle.std.specs.List.{Contains}
@@ -42,7 +44,9 @@ place_within s low = omega (arith, few_tasks s.task)
 -- two seats never share a flag
 same_place : (a b : Seat) → place a ≡ place b → is_same_seat a b ≡ true
 same_place a b same =
-    and_from (task_number a.task == task_number b.task) (a.panel == b.panel) (eq-eqb (task_number a.task) (task_number b.task) (omega (arith, few_tasks a.task, few_tasks b.task, same))) (eq-eqb a.panel b.panel (omega (arith, few_tasks a.task, few_tasks b.task, same)))
+    and_from (task_number a.task == task_number b.task) (a.panel == b.panel)
+    (eq-eqb (task_number a.task) (task_number b.task) (omega (arith, few_tasks a.task, few_tasks b.task, same)))
+    (eq-eqb a.panel b.panel (omega (arith, few_tasks a.task, few_tasks b.task, same)))
 
 or_true : (b : Bool) → (b || true) ≡ true
 or_true true = refl
@@ -63,7 +67,8 @@ has_none s low =
     ∙ ap Some (get_or-replicate 81 (place s) false false (place_within s low))
 
 -- one flag is set
-added_at : (flags : List Bool) (seats : List Seat) (x s : Seat) (b : Bool) → is_same_seat s x ≡ b → x.panel ≤ 8 → s.panel ≤ 8 → HasThose (record { flags = flags }) seats → slice_get (slice_set flags (place x) true) (place s) ≡ Some (is_among s (seats ++ x ∷ []))
+added_at : (flags : List Bool) (seats : List Seat) (x s : Seat) (b : Bool) → is_same_seat s x ≡ b → x.panel ≤ 8 → s.panel ≤ 8
+    → HasThose (record { flags = flags }) seats → slice_get (slice_set flags (place x) true) (place s) ≡ Some (is_among s (seats ++ x ∷ []))
 added_at flags seats x s true is low_x low_s has =
     let same : s ≡ x = (is_same_seat-Decides s x).0 is in
     ap (λ (y : Seat). slice_get (slice_set flags (place x) true) (place y)) same
@@ -74,7 +79,8 @@ added_at flags seats x s false is low_x low_s has =
     ∙ has s low_s
     ∙ ap Some (sym (among_push s x seats ∙ ap (λ c. is_among s seats || c) is ∙ or_false (is_among s seats)))
 
-pub added : (flags : List Bool) (seats : List Seat) (x : Seat) → x.panel ≤ 8 → HasThose (record { flags = flags }) seats → HasThose (record { flags = slice_set flags (place x) true }) (seats ++ x ∷ [])
+pub added : (flags : List Bool) (seats : List Seat) (x : Seat) → x.panel ≤ 8 → HasThose (record { flags = flags }) seats
+    → HasThose (record { flags = slice_set flags (place x) true }) (seats ++ x ∷ [])
 added flags seats x low has s low_s = added_at flags seats x s (is_same_seat s x) refl low low_s has
 
 -- a seat of a panel is one of the site by its panel's number alone
@@ -125,7 +131,8 @@ known_keep n s keep =
     )
 
 -- as many sound seats as the site has are all of them
-whole_step : (panels : ℕ) (seats : List Seat) → IsSound panels seats → length seats ≡ 8 * panels + 1 → (s : Seat) → Contains (canonical_seats panels) s → (b : Bool) → is_among s seats ≡ b → Contains seats s
+whole_step : (panels : ℕ) (seats : List Seat) → IsSound panels seats → length seats ≡ 8 * panels + 1 → (s : Seat)
+    → Contains (canonical_seats panels) s → (b : Bool) → is_among s seats ≡ b → Contains seats s
 whole_step panels seats sound full s known true is = (is_among-Decides s seats).0 is
 whole_step panels seats sound full s known false is =
     let absent = not_from_Decides (is_among s seats) (is_among-Decides s seats) is in
@@ -133,15 +140,20 @@ whole_step panels seats sound full s known false is =
 
 pub whole_from_length : (panels : ℕ) (seats : List Seat) → IsSound panels seats → length seats ≡ 8 * panels + 1 → IsOrder panels seats
 whole_from_length panels seats sound full =
-    order_from_sound panels seats sound (All-weaker (Contains (canonical_seats panels)) (Contains seats) (λ s known. whole_step panels seats sound full s known (is_among s seats) refl) (canonical_seats panels) (All-contains_itself (canonical_seats panels)))
+    order_from_sound panels seats sound
+    (All-weaker (Contains (canonical_seats panels)) (Contains seats)
+    (λ s known. whole_step panels seats sound full s known (is_among s seats) refl) (canonical_seats panels)
+    (All-contains_itself (canonical_seats panels)))
 
 -- what `Order::new` answers of such a list
-pub told_full : (panels : ℕ) (seats items : List Seat) → items ≡ seats → IsSound panels seats → length items ≡ 8 * panels + 1 → Told panels seats (Ok items)
+pub told_full : (panels : ℕ) (seats items : List Seat) → items ≡ seats → IsSound panels seats → length items ≡ 8 * panels + 1
+    → Told panels seats (Ok items)
 told_full panels seats items same sound full =
     told_all panels seats (Ok items) same ((order_fault-none panels seats).1 (whole_from_length panels seats sound (ap length (sym same) ∙ full)))
 
 -- what a flag tells of its seat
-pub flag_is : (flags : List Bool) (seats : List Seat) (x : Seat) → x.panel ≤ 8 → HasThose (record { flags = flags }) seats → get_or flags (place x) false ≡ is_among x seats
+pub flag_is : (flags : List Bool) (seats : List Seat) (x : Seat) → x.panel ≤ 8 → HasThose (record { flags = flags }) seats
+    → get_or flags (place x) false ≡ is_among x seats
 flag_is flags seats x low has = get_or_from_slice_get flags (place x) (is_among x seats) false (has x low)
 
 pub there_from : (is absent : Bool) → absent ≡ not is → absent ≡ false → is ≡ true

@@ -40,7 +40,9 @@ found_same a b e =
 
 same_found : (a b : Seat) → a ≡ b → is_same_seat a b ≡ true
 same_found a b e =
-    and_from (task_number a.task == task_number b.task) (a.panel == b.panel) (eq-eqb (task_number a.task) (task_number b.task) (ap (λ (s : Seat). task_number s.task) e)) (eq-eqb a.panel b.panel (ap (λ (s : Seat). s.panel) e))
+    and_from (task_number a.task == task_number b.task) (a.panel == b.panel)
+    (eq-eqb (task_number a.task) (task_number b.task) (ap (λ (s : Seat). task_number s.task) e))
+    (eq-eqb a.panel b.panel (ap (λ (s : Seat). s.panel) e))
 
 pub is_same_seat-Decides : (a b : Seat) → Decides (is_same_seat a b) (a ≡ b)
 is_same_seat-Decides a b = (found_same a b, same_found a b)

@@ -1,5 +1,6 @@
 -- The seats of a site, and which lists of seats are orders of its turns.
-use Rattle.std.specs.Prelude.{◌≡◌, ◌+◌, ◌≤◌, ◌==◌, ◌&&◌, ℕ, zero, suc, Bool, not, List, [], ◌∷◌, ◌++◌, length, map, Option, Some, option_map, if◌then◌else◌, All, AllPairs, Contains, IsPermutation, ◌≢◌}
+use Rattle.std.specs.Prelude.{◌≡◌, ◌+◌, ◌≤◌, ◌==◌, ◌&&◌, ℕ, zero, suc, Bool, not, List, [], ◌∷◌, ◌++◌, length, map}
+use Rattle.std.specs.Prelude.{Option, Some, option_map, if◌then◌else◌, All, AllPairs, Contains, IsPermutation, ◌≢◌}
 use Rattle.std.specs.List.{find, list_any}
 use Rattle.tick_units.specs.declared.task.Task.{Task}
 use Rattle.tick_units.specs.declared.task.Task.TheVariants.{Poll, Decide, Supply, Desk, Hold, Link, Effect, Drive, Keep}
@@ -99,7 +100,9 @@ first_missing seats others = find (λ seat. not (is_among seat others)) seats
 abbrev pub fault_behind : ℕ → List Seat → List Seat → Option BadOrder
 fault_behind panels earlier [] = option_map Missing (first_missing (canonical_seats panels) earlier)
 fault_behind panels earlier (seat ∷ later) =
-    if not (is_among seat (canonical_seats panels)) then Some (Strange (length earlier + 1)) else (if is_among seat earlier then Some (Repeated (length earlier + 1)) else fault_behind panels (earlier ++ seat ∷ []) later)
+    if not (is_among seat (canonical_seats panels)) then Some (Strange (length earlier + 1)) else
+    (if is_among seat earlier then Some (Repeated (length earlier + 1)) else fault_behind panels
+    (earlier ++ seat ∷ []) later)
 
 -- why a list of seats isn't an order, read from its first seat on; `None` for an order
 abbrev pub order_fault : ℕ → List Seat → Option BadOrder

@@ -9,7 +9,7 @@
 //!
 //! A [`Lane`] is the queue between two tasks. Contracts see it as the list of what lies in it, with how many
 //! items were ever put and taken. A [`Switch`] tells the value that it had before the tick in which it was set,
-//! and the value after. [`Items`] is a list in plain data.
+//! and the value after, a [`LastDone`] the tick in which something was done last. [`Items`] is a list in plain data.
 //!
 //! [`Lane::new`] alone takes memory, and answers [`NoMemory`] where it is refused. All other calls take a time
 //! that doesn't depend on a site, but for [`Order::new`], which looks at each seat once; of a list that is
@@ -18,6 +18,7 @@
 
 mod items;
 mod lane;
+mod last_done;
 mod memory;
 mod order;
 mod order_fault;
@@ -31,6 +32,7 @@ mod tick;
 
 pub use items::Items;
 pub use lane::Lane;
+pub use last_done::LastDone;
 pub use memory::NoMemory;
 pub use order::Order;
 pub use order_fault::BadOrder;

@@ -1,5 +1,8 @@
-ghost use Rattle.std.specs.Prelude.{◌≡◌, ◌+◌, ◌*◌, ◌<◌, ◌≤◌, ◌↔◌, [], ◌∷◌, ◌++◌, ℕ, length, IfOk, IfErr, IsOk, MatchResult, Some, None, slice_get};
-ghost use Rattle.tick_units.specs.Orders.{IsPanelCount, IsOrder, IsSound, IsStrangeAt, IsRepeatedAt, IsFirstMissing, canonical_seats, panel_seats, order_fault, first_missing, is_among as among};
+ghost use Rattle.std.specs.Prelude.{◌≡◌, ◌+◌, ◌*◌, ◌<◌, ◌≤◌, ◌↔◌, [], ◌∷◌, ◌++◌, ℕ, length, IfOk, IfErr, IsOk};
+ghost use Rattle.std.specs.Prelude.{MatchResult, Some, None, slice_get};
+ghost use Rattle.tick_units.specs.Orders.{IsPanelCount, IsOrder, IsSound, IsStrangeAt, IsRepeatedAt, IsFirstMissing};
+ghost use Rattle.tick_units.specs.Orders.{canonical_seats, panel_seats, order_fault, first_missing};
+ghost use Rattle.tick_units.specs.Orders.{is_among as among};
 ghost use Rattle.tick_units.specs.declared.seat.Seat.{Seat as SeatOf};
 
 use crate::order_fault::BadOrder;
@@ -33,12 +36,16 @@ impl Order {
         ensures order { IsOk result ↔ IsOrder panels seats.now }
 
         // Each refusal, and the place or the seat that it names.
-        ensures strange { (place : ℕ) → (result ≡ Err (BadOrder.Strange place)) ↔ IsStrangeAt panels seats.now place }
-        ensures repeated { (place : ℕ) → (result ≡ Err (BadOrder.Repeated place)) ↔ IsRepeatedAt panels seats.now place }
-        ensures missing { (seat : SeatOf) → (result ≡ Err (BadOrder.Missing seat)) ↔ IsFirstMissing panels seats.now seat }
+        ensures strange { (place : ℕ)
+            → (result ≡ Err (BadOrder.Strange place)) ↔ IsStrangeAt panels seats.now place }
+        ensures repeated { (place : ℕ)
+            → (result ≡ Err (BadOrder.Repeated place)) ↔ IsRepeatedAt panels seats.now place }
+        ensures missing { (seat : SeatOf)
+            → (result ≡ Err (BadOrder.Missing seat)) ↔ IsFirstMissing panels seats.now seat }
 
         // The same as a function, for those that read orders.
-        ensures answer { MatchResult result (λ _. order_fault panels seats.now ≡ None) (λ fault. order_fault panels seats.now ≡ Some fault) }
+        ensures answer { MatchResult result (λ _. order_fault panels seats.now ≡ None)
+            (λ fault. order_fault panels seats.now ≡ Some fault) }
     {
         let order = sound_seats(seats, panels)?;
         // As many sound seats as the site has are all of them.

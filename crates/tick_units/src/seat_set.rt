@@ -22,8 +22,10 @@ impl SeatSet {
     /// Puts a seat into the set, and answers whether it wasn't there.
     pub fn insert(&mut self, seat: &Seat) -> bool
         requires { seat.now.panel ≤ 8 }
-        ensures added { (seats : List SeatOf) → HasThose self.old seats → HasThose self.new (seats ++ seat.now ∷ []) }
-        ensures was_absent { (seats : List SeatOf) → HasThose self.old seats → result ≡ not (is_among seat.now seats) }
+        ensures added { (seats : List SeatOf) → HasThose self.old seats
+            → HasThose self.new (seats ++ seat.now ∷ []) }
+        ensures was_absent { (seats : List SeatOf) → HasThose self.old seats
+            → result ≡ not (is_among seat.now seats) }
     {
         let place = flag_place(seat);
         let is_new = !self.flags[place];

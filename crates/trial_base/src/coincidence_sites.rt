@@ -59,7 +59,8 @@ point = [
 ]
 "#;
 
-/// Zones of all types, each with a manual call point and three detectors. The partners of type B have windows of their own.
+/// Zones of all types, each with a manual call point and three detectors. The partners of type B have windows
+/// of their own.
 pub const ALL_TYPES: &str = r#"
 format = 1
 site = "all"

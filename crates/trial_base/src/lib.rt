@@ -1,6 +1,7 @@
 //! What trials share: sites as texts, numbers drawn from a seed, and the rules of coincidence as a plain slow program.
 //!
-//! Only the crates of trials stand on this one, and it promises little: [`site_of`] gives a valid site, and [`Draws::below`] a number below its bound.
+//! Only the crates of trials stand on this one, and it promises little: [`site_of`] gives a valid site, and
+//! [`Draws::below`] a number below its bound.
 #![tactic(auto)]
 
 mod coincidence_sites;

@@ -1,4 +1,5 @@
-//! A plain slow program of the rules of coincidence. For each answer it looks through all answers and all operations anew, and keeps nothing.
+//! A plain slow program of the rules of coincidence. For each answer it looks through all answers and all
+//! operations anew, and keeps nothing.
 
 use coincidence::Finding;
 use site_types::{Answer, Heard, Item, Operation, Rule, Site, Zone, with_bit_32};

@@ -4,8 +4,8 @@ use crate::case::Case;
 use anyhow::Result;
 use std::process::ExitCode;
 
-/// Prints each line that comes in, and behind a case what is answered. A line that is empty or begins with `#` is a heading. At a line that is
-/// neither, which is said, the program ends with status 1.
+/// Prints each line that comes in, and behind a case what is answered. A line that is empty or begins with
+/// `#` is a heading. At a line that is neither, which is said, the program ends with status 1.
 pub fn answer_cases<F: FnMut(&Case) -> Result<Option<String>>>(
     rt: &HostRuntime,
     mut answer: F,

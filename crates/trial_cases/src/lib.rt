@@ -1,10 +1,12 @@
-//! What the programs of trials share: the list of cases, sites from their files, histories on a line, what befalls a site, and names for masks.
+//! What the programs of trials share: the list of cases, sites from their files, histories on a line, what
+//! befalls a site, and names for masks.
 //!
-//! Only the programs of trials stand on this crate. It promises what they need to call the parts of a panel: [`site_at`] gives a valid site, and
-//! [`event_of`] an event of which the site has all that it names.
+//! Only the programs of trials stand on this crate. It promises what they need to call the parts of a panel:
+//! [`site_at`] gives a valid site, and [`event_of`] an event of which the site has all that it names.
 //!
-//! A history is a line of steps with `, ` between them. A step `tick 13` goes on to that tick, and the ticks between two that are named pass too;
-//! any other step comes in the tick that was named last. A step that stands for an event has the words of a record's line.
+//! A history is a line of steps with `, ` between them. A step `tick 13` goes on to that tick, and the ticks
+//! between two that are named pass too; any other step comes in the tick that was named last. A step that
+//! stands for an event has the words of a record's line.
 #![tactic(auto)]
 
 mod answering;

@@ -9,4 +9,9 @@ cycle_from-requires-clause-left c = let e = c.in_ok-arranged.ensures in leaves_c
 pub returns-in_ok-copy_of-in-None-clause-free : goal.returns-in_ok-copy_of-in-None-clause-free
 returns-in_ok-copy_of-in-None-clause-free c =
     let e = c.in_ok-arranged.ensures in
-    order_is_free c.args.site.now c.in_ok-arranged.arranged.order (record { whole = λ m within. sym (e.same m) ∙ c.in-None.ensures m within; once = e.once; rising = e.rising })
+    order_is_free c.args.site.now c.in_ok-arranged.arranged.order (record {
+      whole = λ m within. sym (e.same m) ∙ c.in-None.ensures m within;
+      once =
+          e.once;
+      rising = e.rising;
+    })

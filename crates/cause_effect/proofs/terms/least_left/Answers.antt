@@ -7,4 +7,5 @@ pub loop-term-preserved : goal.loop-term-preserved
 loop-term-preserved c =
     let terms = c.args.terms.now in
     let k = c.loop-term.term-index in
-    subst (λ ts. LeastLeftIs c.args.placed.now ts c.lesser-least.result) (sym (take_more terms k _ c.loop-term-test.true)) (c.lesser-least.ensures (take k terms) c.loop-term.invariant)
+    subst (λ ts. LeastLeftIs c.args.placed.now ts c.lesser-least.result) (sym (take_more terms k _ c.loop-term-test.true))
+    (c.lesser-least.ensures (take k terms) c.loop-term.invariant)

@@ -7,5 +7,7 @@ use Rattle.cause_effect.proofs.users_found.add_terms.Given as goal
 abbrev pub invariant-loop-term : goal.invariant-loop-term
 invariant-loop-term l = record {
   size : length l.lists ≡ 776;
-  users : (place m : ℕ) → is_among m (users_at l.lists place) ≡ (is_among m (users_at l.initial.lists place) || ((m == l.marker) && list_any (looks_at l.site place) (take l.term-index l.terms)));
+  users : (place m : ℕ)
+      → is_among m (users_at l.lists place) ≡ (is_among m (users_at l.initial.lists place)
+      || ((m == l.marker) && list_any (looks_at l.site place) (take l.term-index l.terms)));
 }

@@ -19,7 +19,8 @@ returns-in_err-push_busy-clause-text g c =
     let ops = flat_map answer_line answers.ops in
     let busy = busy_text answers.busy in
     let failed = failed_text answers.failed in
-    puts_broken c.args.held.now c.push_ops.new.held c.push_busy.new.held _ _ _ ops busy failed _ c.from_residual-in_err-push_busy.result c.from_residual-in_err-push_busy.ensures.0
+    puts_broken c.args.held.now c.push_ops.new.held c.push_busy.new.held _ _ _ ops busy failed _ c.from_residual-in_err-push_busy.result
+    c.from_residual-in_err-push_busy.ensures.0
     refl c.in_ok-push_ops.ensures.text.ok c.in_err-push_busy.ensures.text.err
 
 pub returns-clause-text : goal.returns-clause-text
@@ -27,5 +28,8 @@ returns-clause-text g c =
     let answers = c.args.answers.now in
     let ops = flat_map answer_line answers.ops in
     let busy = busy_text answers.busy in
-    let two = moves_more c.args.held.now c.push_ops.new.held c.push_busy.new.held _ _ _ ops busy c.in_ok-push_ops.ensures.text.ok c.in_ok-push_busy.ensures.text.ok in
-    puts_more c.args.held.now c.push_busy.new.held c.push_failed.new.held _ _ _ (ops ++ busy) (failed_text answers.failed) c.push_failed.result two c.push_failed.ensures.text
+    let two =
+    moves_more c.args.held.now c.push_ops.new.held c.push_busy.new.held _ _ _ ops busy c.in_ok-push_ops.ensures.text.ok
+    c.in_ok-push_busy.ensures.text.ok in
+    puts_more c.args.held.now c.push_busy.new.held c.push_failed.new.held _ _ _ (ops ++ busy) (failed_text answers.failed) c.push_failed.result two
+    c.push_failed.ensures.text

@@ -8,7 +8,8 @@ pub returns-in_err-push-clause-text : goal.returns-in_err-push-clause-text
 returns-in_err-push-clause-text g c =
     let line = c.as_bytes.ensures.value ∙ c.as_str.ensures.value ∙ c.busy_line-line.ensures.text in
     let front = busy_front c.args.busy.now c.loop-place.place c.as_bytes.result.now c.loop-place-test.true line in
-    puts_broken c.args.held.now c.loop-place.held c.push.new.self _ _ _ _ c.as_bytes.result.now front.0 _ c.from_residual.result c.from_residual.ensures.0
+    puts_broken c.args.held.now c.loop-place.held c.push.new.self _ _ _ _ c.as_bytes.result.now front.0 _ c.from_residual.result
+    c.from_residual.ensures.0
     front.1 c.loop-place.invariant.text c.in_err-push.ensures.text.err
 
 pub loop-place-preserved : goal.loop-place-preserved
@@ -27,4 +28,5 @@ loop-place-preserved g c =
 pub returns-clause-text : goal.returns-clause-text
 returns-clause-text g c =
     let done : c.loop-place.place ≡ 8 = omega (arith, c.loop-place-test.false, c.loop-place.auto.place-end) in
-    puts_all c.args.held.now c.loop-place.held _ _ _ _ (busy_is c.args.busy.now ∙ ap (λ n. flat_map (line_at c.args.busy.now) (range_with_len 1 n)) (sym done)) c.loop-place.invariant.text
+    puts_all c.args.held.now c.loop-place.held _ _ _ _ (busy_is c.args.busy.now ∙ ap (λ n. flat_map (line_at c.args.busy.now) (range_with_len 1 n))
+    (sym done)) c.loop-place.invariant.text

@@ -9,7 +9,8 @@ use Rattle.face_text.proofs.change_lines.push_groups.Goals as goal
 
 pub push_group-requires : goal.push_group-requires
 push_group-requires g c =
-    subst (λ groups. HasPlace (get_or groups c.loop-group.group-index (Zones 0))) (sym c.page-page.ensures) (page_has_places c.loop-group.group-index (Zones 0) c.loop-group-test.true)
+    subst (λ groups. HasPlace (get_or groups c.loop-group.group-index (Zones 0))) (sym c.page-page.ensures)
+    (page_has_places c.loop-group.group-index (Zones 0) c.loop-group-test.true)
 
 pub returns-in_err-push_group-clause-text : goal.returns-in_err-push_group-clause-text
 returns-in_err-push_group-clause-text g c =
@@ -17,7 +18,8 @@ returns-in_err-push_group-clause-text g c =
     let k = c.loop-group.group-index in
     let within = subst (λ n. k < n) (sym page_length) c.loop-group-test.true in
     puts_broken c.args.held.now c.loop-group.held c.push_group.new.held _ _ _ _ _ _ _ c.from_residual.result c.from_residual.ensures.0
-    (item_front text page c.page-page.result k (Zones 0) _ c.page-page.ensures within refl) c.loop-group.invariant.text c.in_err-push_group.ensures.text.err
+    (item_front text page c.page-page.result k (Zones 0) _ c.page-page.ensures within refl) c.loop-group.invariant.text
+    c.in_err-push_group.ensures.text.err
 
 pub loop-group-preserved : goal.loop-group-preserved
 loop-group-preserved g c =

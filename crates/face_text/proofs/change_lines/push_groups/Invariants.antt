@@ -8,7 +8,9 @@ use Rattle.face_text.proofs.change_lines.push_groups.Given as goal
 abbrev pub invariant-loop-group : goal.invariant-loop-group
 invariant-loop-group g l =
     record {
-      text : Moves l.initial.held l.held (g.K.Stream.written l.initial.out) (g.K.Stream.written l.out) (groups_text l.site l.before l.after (take l.group-index page));
+      text :
+          Moves l.initial.held l.held (g.K.Stream.written l.initial.out) (g.K.Stream.written l.out)
+          (groups_text l.site l.before l.after (take l.group-index page));
       counted : g.K.Stream.write_faults l.initial.out ≤ g.K.Stream.write_faults l.out;
       left : g.K.Stream.left l.out ≡ g.K.Stream.left l.initial.out;
       reads : g.K.Stream.read_faults l.out ≡ g.K.Stream.read_faults l.initial.out;

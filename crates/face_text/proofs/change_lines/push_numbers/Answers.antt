@@ -17,7 +17,8 @@ loop-place-preserved g c =
     let call = c.push_thing.ensures in
     record {
       text = moves_next c.args.held.now c.loop-place.held c.push_thing.new.held _ _ _ _ _ _
-          (number_next c.args.site.now c.args.before.now c.args.after.now c.args.group c.loop-place.place) before.text c.in_ok-push_thing.ensures.text.ok;
+          (number_next c.args.site.now c.args.before.now c.args.after.now c.args.group c.loop-place.place) before.text
+          c.in_ok-push_thing.ensures.text.ok;
       counted = omega (arith, before.counted, call.cause.later);
       left = call.left ∙ before.left;
       reads = call.reads ∙ before.reads;

@@ -7,7 +7,9 @@ use Rattle.face_text.proofs.change_lines.push_numbers.Given as goal
 abbrev pub invariant-loop-place : goal.invariant-loop-place
 invariant-loop-place g l =
     record {
-      text : Moves l.initial.held l.held (g.K.Stream.written l.initial.out) (g.K.Stream.written l.out) (numbers_text l.site l.before l.after l.group l.place);
+      text :
+          Moves l.initial.held l.held (g.K.Stream.written l.initial.out) (g.K.Stream.written l.out)
+          (numbers_text l.site l.before l.after l.group l.place);
       counted : g.K.Stream.write_faults l.initial.out ≤ g.K.Stream.write_faults l.out;
       left : g.K.Stream.left l.out ≡ g.K.Stream.left l.initial.out;
       reads : g.K.Stream.read_faults l.out ≡ g.K.Stream.read_faults l.initial.out;

@@ -18,4 +18,5 @@ returns-clause-text g c =
     let other = rw (c.shows.ensures, c.shows-on.ensures) at c.if-shows-on.false in
     let line = c.as_bytes.ensures.value ∙ c.as_str.ensures.value ∙ c.thing_line-line.ensures.text in
     let value = ap (λ b. line_of site after.panel (Thing group number) (number_of_truth b)) c.shows-on.ensures in
-    puts_as c.args.held.now c.push.new.self _ _ _ _ c.push.result (line ∙ value ∙ thing_other site c.args.before.now after group number other) c.push.ensures.text
+    puts_as c.args.held.now c.push.new.self _ _ _ _ c.push.result (line ∙ value ∙ thing_other site c.args.before.now after group number other)
+    c.push.ensures.text

@@ -13,9 +13,11 @@ returns-in_err-push_changes-clause-err g c =
 pub returns-clause-ok : goal.returns-clause-ok
 returns-clause-ok g c =
     let text = changes_text c.args.site.now c.args.before.now c.args.after.now in
-    all_written c.new-held.result c.push_changes.new.held _ _ _ text text c.flush.result c.new-held.ensures refl c.in_ok-push_changes.ensures.text.ok c.flush.ensures.written
+    all_written c.new-held.result c.push_changes.new.held _ _ _ text text c.flush.result c.new-held.ensures refl c.in_ok-push_changes.ensures.text.ok
+    c.flush.ensures.written
 
 pub returns-clause-err : goal.returns-clause-err
 returns-clause-err g c =
     let text = changes_text c.args.site.now c.args.before.now c.args.after.now in
-    part_written c.new-held.result c.push_changes.new.held _ _ _ text text c.flush.result c.new-held.ensures refl c.in_ok-push_changes.ensures.text.ok c.flush.ensures.err
+    part_written c.new-held.result c.push_changes.new.held _ _ _ text text c.flush.result c.new-held.ensures refl c.in_ok-push_changes.ensures.text.ok
+    c.flush.ensures.err

@@ -26,8 +26,10 @@ loop-place-preserved g c =
     let call = c.push_item.ensures in
     record {
       text = moves_next c.args.held.now c.loop-place.held c.push_item.new.held _ _ _ _ _ _
-          (next_listed c.args.begun.now c.loop-place.begun _ so_far (item (place + 1)) (range_more item place) before.begun) before.text c.in_ok-push_item.ensures.text.ok;
-      begun = next_begun c.args.begun.now c.loop-place.begun c.push_item.new.begun _ so_far (item (place + 1)) (range_more item place) before.begun c.in_ok-push_item.ensures.begun;
+          (next_listed c.args.begun.now c.loop-place.begun _ so_far (item (place + 1)) (range_more item place) before.begun) before.text
+          c.in_ok-push_item.ensures.text.ok;
+      begun = next_begun c.args.begun.now c.loop-place.begun c.push_item.new.begun _ so_far (item (place + 1)) (range_more item place) before.begun
+          c.in_ok-push_item.ensures.begun;
       counted = omega (arith, before.counted, call.cause.later);
       left = call.left ∙ before.left;
       reads = call.reads ∙ before.reads;
@@ -35,5 +37,6 @@ loop-place-preserved g c =
 
 pub returns-clause-begun : goal.returns-clause-begun
 returns-clause-begun g c =
-    let done : c.loop-place.place ≡ last_of c.args.group = omega (arith, c.loop-place-test.false, c.loop-place.auto.place-end, c.last_number-place-end.ensures) in
+    let done : c.loop-place.place ≡ last_of c.args.group =
+    omega (arith, c.loop-place-test.false, c.loop-place.auto.place-end, c.last_number-place-end.ensures) in
     c.loop-place.invariant.begun ∙ ap (λ n. begun_after c.args.begun.now (group_items c.args.site.now c.args.face.now c.args.group n)) done

@@ -7,7 +7,9 @@ use Rattle.face_text.proofs.lists.push_group_items.Given as goal
 abbrev pub invariant-loop-place : goal.invariant-loop-place
 invariant-loop-place g l =
     record {
-      text : Moves l.initial.held l.held (g.K.Stream.written l.initial.out) (g.K.Stream.written l.out) (listed l.initial.begun (group_items l.site l.face l.group l.place));
+      text :
+          Moves l.initial.held l.held (g.K.Stream.written l.initial.out) (g.K.Stream.written l.out)
+          (listed l.initial.begun (group_items l.site l.face l.group l.place));
       begun : l.begun ≡ begun_after l.initial.begun (group_items l.site l.face l.group l.place);
       counted : g.K.Stream.write_faults l.initial.out ≤ g.K.Stream.write_faults l.out;
       left : g.K.Stream.left l.out ≡ g.K.Stream.left l.initial.out;

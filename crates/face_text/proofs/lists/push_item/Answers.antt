@@ -10,5 +10,6 @@ returns-clause-text g c =
     let group = c.args.group in
     let name = name_in c.args.site.now c.args.face.now.panel group c.args.number in
     puts_as c.args.held.now c.push_named_item.new.held _ _ _ _ c.push_named_item.result
-    (ap (λ o. listed begun (named_item group o)) c.name_of-name.ensures ∙ ap (λ b. listed begun (if b then named_item group name else [])) c.if-not-shows.ensures)
+    (ap (λ o. listed begun (named_item group o)) c.name_of-name.ensures ∙ ap (λ b. listed begun (if b then named_item group name else []))
+    c.if-not-shows.ensures)
     c.push_named_item.ensures.text

@@ -11,7 +11,8 @@ use Rattle.face_text.proofs.lists.push_items.Goals as goal
 
 pub push_group_of-requires : goal.push_group_of-requires
 push_group_of-requires g c =
-    subst (λ groups. HasPlace (get_or groups c.loop-group.group-index (Zones 0))) (sym c.page-page.ensures) (page_has_places c.loop-group.group-index (Zones 0) c.loop-group-test.true)
+    subst (λ groups. HasPlace (get_or groups c.loop-group.group-index (Zones 0))) (sym c.page-page.ensures)
+    (page_has_places c.loop-group.group-index (Zones 0) c.loop-group-test.true)
 
 pub returns-in_err-push_group_of-clause-text : goal.returns-in_err-push_group_of-clause-text
 returns-in_err-push_group_of-clause-text g c =
@@ -19,7 +20,8 @@ returns-in_err-push_group_of-clause-text g c =
     let k = c.loop-group.group-index in
     let within = subst (λ n. k < n) (sym page_length) c.loop-group-test.true in
     puts_broken c.args.held.now c.loop-group.held c.push_group_of.new.held _ _ _ _ _ _ _ c.from_residual.result c.from_residual.ensures.0
-    (part_listed false c.loop-group.begun _ (flat_map items (take k page)) (items (get_or c.page-page.result k (Zones 0))) (flat_map items (drop (k + 1) page))
+    (part_listed false c.loop-group.begun _ (flat_map items (take k page)) (items (get_or c.page-page.result k (Zones 0)))
+    (flat_map items (drop (k + 1) page))
     (item_front items page c.page-page.result k (Zones 0) _ c.page-page.ensures within refl) c.loop-group.invariant.begun)
     c.loop-group.invariant.text c.in_err-push_group_of.ensures.text.err
 
@@ -34,8 +36,11 @@ loop-group-preserved g c =
     let call = c.push_group_of.ensures in
     record {
       text = moves_next c.args.held.now c.loop-group.held c.push_group_of.new.held _ _ _ _ _ _
-          (next_listed false c.loop-group.begun _ (flat_map items (take k page)) part more before.begun) before.text c.in_ok-push_group_of.ensures.text.ok;
-      begun = next_begun false c.loop-group.begun c.push_group_of.new.begun _ (flat_map items (take k page)) part more before.begun c.in_ok-push_group_of.ensures.begun;
+          (next_listed false c.loop-group.begun _ (flat_map items (take k page)) part more before.begun) before.text
+          c.in_ok-push_group_of.ensures.text.ok;
+      begun =
+          next_begun false c.loop-group.begun c.push_group_of.new.begun _ (flat_map items (take k page)) part more before.begun
+          c.in_ok-push_group_of.ensures.begun;
       counted = omega (arith, before.counted, call.cause.later);
       left = call.left ∙ before.left;
       reads = call.reads ∙ before.reads;

@@ -9,7 +9,9 @@ use Rattle.face_text.proofs.lists.push_items.Given as goal
 abbrev pub invariant-loop-group : goal.invariant-loop-group
 invariant-loop-group g l =
     record {
-      text : Moves l.initial.held l.held (g.K.Stream.written l.initial.out) (g.K.Stream.written l.out) (listed false (flat_map (items_in l.site l.face l.list) (take l.group-index page)));
+      text :
+          Moves l.initial.held l.held (g.K.Stream.written l.initial.out) (g.K.Stream.written l.out)
+          (listed false (flat_map (items_in l.site l.face l.list) (take l.group-index page)));
       begun : l.begun ≡ begun_after false (flat_map (items_in l.site l.face l.list) (take l.group-index page));
       counted : g.K.Stream.write_faults l.initial.out ≤ g.K.Stream.write_faults l.out;
       left : g.K.Stream.left l.out ≡ g.K.Stream.left l.initial.out;

@@ -1,5 +1,5 @@
 use Rattle.std.proofs.Common.{◌+◌, ◌<◌, length}
-use Rattle.face_text.specs.ReadSoFar.{IsReadSoFar}
+use Rattle.face_text.proofs.ReadSoFar.{IsReadSoFar}
 use Rattle.face_text.proofs.reading.read_faces.Given as goal
 
 abbrev pub invariant-loop-line : goal.invariant-loop-line

@@ -17,7 +17,9 @@ loop-piece-preserved c =
     let here : c.if-isolates-piece.place ≡ section_of_piece isolators k =
     elim c.if-isolates-piece.branch [
       | then-isolates-piece w ↦ w.place-is ∙ sym (next ∙ ap (λ b. if b then k else section_of isolators k) (sym known ∙ w.if-isolates-piece.true))
-      | else-isolates-piece w ↦ w.place-is ∙ c.loop-piece.invariant.place ∙ sym (next ∙ ap (λ b. if b then k else section_of isolators k) (sym known ∙ w.if-isolates-piece.false))
+      | else-isolates-piece w ↦
+          w.place-is ∙ c.loop-piece.invariant.place ∙ sym
+          (next ∙ ap (λ b. if b then k else section_of isolators k) (sym known ∙ w.if-isolates-piece.false))
     ] in
     let before = c.loop-piece.invariant.known in
     let size = c.loop-piece.invariant.size in

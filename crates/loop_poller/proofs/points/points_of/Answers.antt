@@ -13,14 +13,17 @@ loop-place-preserved c =
     let point = c.point-item.result in
     let size = c.loop-place.invariant.size in
     let is : slice_get site.points n ≡ Some point =
-    sym (ap (λ xs. slice_get xs n) c.as_slice-point-items.ensures) ∙ slice_get_read c.as_slice-point-items.result.now (length c.as_slice-point-items.result.now) n point refl c.loop-place-test.true c.point-item.is in
+    sym (ap (λ xs. slice_get xs n) c.as_slice-point-items.ensures) ∙ slice_get_read c.as_slice-point-items.result.now
+    (length c.as_slice-point-items.result.now) n point refl c.loop-place-test.true c.point-item.is in
     record {
       size = elim c.if-point-panel.branch [
         | then-point-panel+then-point-line w ↦ rw w.points-is (grind (arith, common_steps))
         | else-point-panel w ↦ rw w.points-is size
       ];
       each = elim c.if-point-panel.branch [
-        | then-point-panel+then-point-line w ↦ rw w.points-is (found_here site c.args.panel c.args.line n point is c.requires c.loop-place.points.items size w.if-point-panel.true w.if-point-line.true c.loop-place.invariant.each)
+        | then-point-panel+then-point-line w ↦
+            rw w.points-is (found_here site c.args.panel c.args.line n point is c.requires c.loop-place.points.items size w.if-point-panel.true
+            w.if-point-line.true c.loop-place.invariant.each)
         | else-point-panel w ↦ rw w.points-is (found_past site c.args.panel c.args.line n point is c.loop-place.points.items
             (λ address. elim w.else-point-panel.branch [
               | else-point-panel-via-then-point-panel+else-point-line v ↦ line_is_not_at c.args.panel c.args.line address point v.if-point-line.false

@@ -7,5 +7,6 @@ use Rattle.loop_poller.proofs.points.points_of.Given as goal
 abbrev pub invariant-loop-place : goal.invariant-loop-place
 invariant-loop-place l = record {
   size : length l.points.items ≡ last_address_of l.site.format;
-  each : (address : ℕ) → 1 ≤ address → address ≤ last_address_of l.site.format → slice_index_or l.points.items (address - 1) None ≡ position (is_at l.panel l.line address) (take l.place l.site.points);
+  each : (address : ℕ) → 1 ≤ address → address ≤ last_address_of l.site.format
+      → slice_index_or l.points.items (address - 1) None ≡ position (is_at l.panel l.line address) (take l.place l.site.points);
 }

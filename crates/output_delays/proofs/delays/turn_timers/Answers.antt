@@ -19,20 +19,23 @@ loop-timer-preserved c =
     let within : i < length xs = omega arith in
     let made : c.turn.result ≡ f (get_or ys i d) = c.turn.ensures ∙ ap (λ b. turned c.args.now b (get_or ys i d)) c.has_bit_32.ensures in
     let timer : c.turn.result ≡ f (get_or xs i d) = made ∙ ap f (next_timer f xs ys i d within c.loop-timer.invariant.timers) in
-    let all : set ys i c.turn.result ≡ map f (take (i + 1) xs) ++ drop (i + 1) xs = ap (set ys i) made ∙ written f xs ys i d within c.loop-timer.invariant.timers in
+    let all : set ys i c.turn.result ≡ map f (take (i + 1) xs) ++ drop (i + 1) xs =
+    ap (set ys i) made ∙ written f xs ys i d within c.loop-timer.invariant.timers in
     elim c.if-is_holding.branch [
       | then-is_holding w ↦ record {
         timers = w.timers-is ∙ all;
         below = rw w.held-is w.with_bit_32-held.type_inv;
         held = λ k small. ap (λ m. has_bit m k) w.held-is
-            ∙ passed f test k xs i d c.turn.result c.loop-timer.held w.with_bit_32-held.result within timer (sym c.is_holding.ensures ∙ w.if-is_holding.true)
+            ∙ passed f test k xs i d c.turn.result c.loop-timer.held w.with_bit_32-held.result within timer
+            (sym c.is_holding.ensures ∙ w.if-is_holding.true)
             w.with_bit_32-held.ensures.this (λ ne. w.with_bit_32-held.ensures.others k small ne) (c.loop-timer.invariant.held k small);
       }
       | else-is_holding w ↦ record {
         timers = w.timers-is ∙ all;
         below = rw w.held-is c.loop-timer.invariant.below;
         held = λ k small. ap (λ m. has_bit m k) w.held-is
-            ∙ failed f test k xs i d c.turn.result c.loop-timer.held within timer (sym c.is_holding.ensures ∙ w.if-is_holding.false) (c.loop-timer.invariant.held k small);
+            ∙ failed f test k xs i d c.turn.result c.loop-timer.held within timer (sym c.is_holding.ensures ∙ w.if-is_holding.false)
+            (c.loop-timer.invariant.held k small);
       }
     ]
 
@@ -42,5 +45,7 @@ returns-clause-held c =
     let xs = c.args.timers.now in
     let i = c.loop-timer.timer-index in
     let whole : length xs ≤ i = omega arith in
-    mask_from_bits 32 c.loop-timer.held (λ k. list_any (λ timer. (timer.place == k) && is_holding c.args.now c.args.overridden timer) c.loop-timer.timers) c.loop-timer.invariant.below
-    (λ k small. c.loop-timer.invariant.held k small ∙ ap (list_any (λ timer. (timer.place == k) && is_holding c.args.now c.args.overridden timer)) (sym (all_written f xs c.loop-timer.timers i whole c.loop-timer.invariant.timers)))
+    mask_from_bits 32 c.loop-timer.held (λ k. list_any (λ timer. (timer.place == k) && is_holding c.args.now c.args.overridden timer)
+    c.loop-timer.timers) c.loop-timer.invariant.below
+    (λ k small. c.loop-timer.invariant.held k small ∙ ap (list_any (λ timer. (timer.place == k) && is_holding c.args.now c.args.overridden timer))
+    (sym (all_written f xs c.loop-timer.timers i whole c.loop-timer.invariant.timers)))

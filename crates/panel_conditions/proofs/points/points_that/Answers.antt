@@ -13,7 +13,8 @@ loop-point-preserved c own =
     let point = c.point-item.result in
     let k = c.loop-point.point-index in
     let at : slice_get site.points k ≡ Some point =
-    ap (λ l. slice_get l k) (sym c.as_slice-points.ensures) ∙ slice_get-get_or c.as_slice-points.result.now k point c.loop-point-test.true ∙ ap (λ p. Some p) (sym c.point-item.is) in
+    ap (λ l. slice_get l k) (sym c.as_slice-points.ensures) ∙ slice_get-get_or c.as_slice-points.result.now k point c.loop-point-test.true ∙ ap
+    (λ p. Some p) (sym c.point-item.is) in
     c.put.ensures
     ∙ ap (λ o. put_at o c.is_so.result c.loop-point.set) c.address_at.ensures
     ∙ ap (put_at (loop_address c.args.panel point) c.is_so.result) (c.loop-point.invariant own)

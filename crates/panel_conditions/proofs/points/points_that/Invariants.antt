@@ -6,4 +6,5 @@ use Rattle.panel_conditions.proofs.points.points_that.Given as goal
 
 abbrev pub invariant-loop-point : goal.invariant-loop-point
 invariant-loop-point l =
-    HasOwnPlaces l.site → l.set ≡ points_where l.site l.panel (λ place. nat_lt place l.point-index && is_asked l.site l.kept l.asked (slice_get l.site.points place))
+    HasOwnPlaces l.site
+    → l.set ≡ points_where l.site l.panel (λ place. nat_lt place l.point-index && is_asked l.site l.kept l.asked (slice_get l.site.points place))

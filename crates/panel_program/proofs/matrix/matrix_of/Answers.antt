@@ -18,7 +18,8 @@ loop-zone-preserved c =
     let zone = c.zone-item.result in
     let free = order_is_free site c.args.plan.now.order c.requires.plan.order in
     let at : slice_get site.zones k ≡ Some zone =
-    ap (λ xs. slice_get xs k) (sym c.as_slice-zone-items.ensures) ∙ (slice_get-get_or items k zone c.loop-zone-test.true ∙ ap Some (sym c.zone-item.is)) in
+    ap (λ xs. slice_get xs k) (sym c.as_slice-zone-items.ensures) ∙
+    (slice_get-get_or items k zone c.loop-zone-test.true ∙ ap Some (sym c.zone-item.is)) in
     line_more site k zone c.loop-zone.text.items c.push_zone.new.text.items at c.loop-zone.invariant
     (c.in_ok-push_zone.ensures (the_values site (released_alone zone)) (the_values_solve site (released_alone zone) free))
 
@@ -29,4 +30,5 @@ returns c =
     let least = c.loop-zone-test.false in
     let most = c.loop-zone.auto.zone-index-end in
     let whole : c.loop-zone.zone-index ≡ length site.zones = omega (arith, least, most, all) in
-    is_matrix site c.loop-zone.zone-index c.from_vec.result (order_is_free site c.args.plan.now.order c.requires.plan.order) whole (c.from_vec.ensures ∙ c.loop-zone.invariant)
+    is_matrix site c.loop-zone.zone-index c.from_vec.result (order_is_free site c.args.plan.now.order c.requires.plan.order) whole
+    (c.from_vec.ensures ∙ c.loop-zone.invariant)

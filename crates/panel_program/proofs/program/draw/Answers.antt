@@ -7,7 +7,8 @@ returns-in-Ok-clause-drawn g c = inr (
   c.in-Ok.text,
   c.in-Ok.ensures,
   record {
-    says = subst (λ text. Says 0 text (g.K.Stream.written c.args.out.now) (g.K.Stream.written c.say.new.out) c.say.result.status) c.as_slice.ensures c.say.ensures.says;
+    says = subst (λ text. Says 0 text (g.K.Stream.written c.args.out.now) (g.K.Stream.written c.say.new.out) c.say.result.status) c.as_slice.ensures
+        c.say.ensures.says;
     ticks = c.say.ensures.ticks.0;
   },
 )

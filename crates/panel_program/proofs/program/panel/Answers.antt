@@ -25,7 +25,9 @@ returns-in-Usage-clause-answers g c =
     let is : command_of words ≡ Usage = sym c.command_of.ensures ∙ c.in-Usage.is in
     some_always (g.F.Shelf.files c.args.shelf.now)
     (λ held. some_always (g.S.Stream.left c.args.input.now)
-    (λ bytes. subst (λ command. Answers command (file_of (site_word words) held) bytes (g.K.Stream.written c.args.out.now) (g.K.Stream.written c.say.new.out) c.say.result) (sym is)
+    (λ bytes.
+    subst (λ command. Answers command (file_of (site_word words) held) bytes (g.K.Stream.written c.args.out.now)
+    (g.K.Stream.written c.say.new.out) c.say.result) (sym is)
     (record { says = c.say.ensures.says; ticks = c.say.ensures.ticks.0 })))
 
 pub returns-in-Check-clause-answers : goal.returns-in-Check-clause-answers
@@ -35,7 +37,8 @@ returns-in-Check-clause-answers g c =
     let new = g.K.Stream.written c.check.new.out in
     let is : command_of words ≡ Check = sym c.command_of.ensures ∙ c.in-Check.is in
     let name : c.as_str.result.now ≡ site_word words =
-    c.as_str.ensures.value ∙ ap string_bytes c.index-words-1.is ∙ sym (site_word_is c.args.words.now c.index-words-1.result (λ e. check_is (sym is ∙ e)))
+    c.as_str.ensures.value ∙ ap string_bytes c.index-words-1.is ∙ sym
+    (site_word_is c.args.words.now c.index-words-1.result (λ e. check_is (sym is ∙ e)))
     in
     some_weaker (g.F.Shelf.files c.args.shelf.now)
     (λ held answers. some_always (g.S.Stream.left c.args.input.now)
@@ -50,7 +53,8 @@ returns-in-Run-clause-answers g c =
     let new = g.K.Stream.written c.run.new.out in
     let is : command_of words ≡ Run = sym c.command_of.ensures ∙ c.in-Run.is in
     let name : c.as_str-in-Run.result.now ≡ site_word words =
-    c.as_str-in-Run.ensures.value ∙ ap string_bytes c.index-words-1-in-Run.is ∙ sym (site_word_is c.args.words.now c.index-words-1-in-Run.result (λ e. run_is (sym is ∙ e)))
+    c.as_str-in-Run.ensures.value ∙ ap string_bytes c.index-words-1-in-Run.is ∙ sym
+    (site_word_is c.args.words.now c.index-words-1-in-Run.result (λ e. run_is (sym is ∙ e)))
     in
     some_weaker (g.F.Shelf.files c.args.shelf.now)
     (λ held told. some_weaker (g.S.Stream.left c.args.input.now)
@@ -65,7 +69,8 @@ returns-in-Matrix-clause-answers g c =
     let new = g.K.Stream.written c.matrix.new.out in
     let is : command_of words ≡ Matrix = sym c.command_of.ensures ∙ c.in-Matrix.is in
     let name : c.as_str-in-Matrix.result.now ≡ site_word words =
-    c.as_str-in-Matrix.ensures.value ∙ ap string_bytes c.index-words-1-in-Matrix.is ∙ sym (site_word_is c.args.words.now c.index-words-1-in-Matrix.result (λ e. matrix_is (sym is ∙ e)))
+    c.as_str-in-Matrix.ensures.value ∙ ap string_bytes c.index-words-1-in-Matrix.is ∙ sym
+    (site_word_is c.args.words.now c.index-words-1-in-Matrix.result (λ e. matrix_is (sym is ∙ e)))
     in
     some_weaker (g.F.Shelf.files c.args.shelf.now)
     (λ held answers. some_always (g.S.Stream.left c.args.input.now)

@@ -15,7 +15,8 @@ loop-read-init g c =
       few = omega arith;
       reads = omega arith;
       writes = omega arith;
-      so_far = λ site h. so_far_none site (g.S.Stream.left c.args.input.now) (g.K.Stream.written c.args.out.now) c.new-reader.result c.args.run.now (begins_at site c.new-reader.result c.args.run.now (c.new-reader.ensures site) h);
+      so_far = λ site h. so_far_none site (g.S.Stream.left c.args.input.now) (g.K.Stream.written c.args.out.now) c.new-reader.result c.args.run.now
+          (begins_at site c.new-reader.result c.args.run.now (c.new-reader.ensures site) h);
     }
 
 pub returns-in_default-clause-reads : goal.returns-in_default-clause-reads
@@ -24,7 +25,8 @@ returns-in_default-clause-reads g c site h =
     let old = g.K.Stream.written c.args.out.now in
     let mid = g.K.Stream.written c.loop-read.out in
     some_weaker (g.S.Stream.left c.args.input.now)
-    (λ bytes (s : SoFar site bytes left old mid c.loop-read.reader c.loop-read.run c.loop-read.read). fault_ends site bytes left old mid c.loop-read.reader c.loop-read.run c.loop-read.read s)
+    (λ bytes (s : SoFar site bytes left old mid c.loop-read.reader c.loop-read.run c.loop-read.read).
+    fault_ends site bytes left old mid c.loop-read.reader c.loop-read.run c.loop-read.read s)
     (c.loop-read.invariant.so_far site h)
 
 pub returns-then-count-eq0-clause-reads : goal.returns-then-count-eq0-clause-reads
@@ -35,7 +37,8 @@ returns-then-count-eq0-clause-reads g c site h =
     let lt = c.loop-read-test.true in
     some_weaker (g.S.Stream.left c.args.input.now)
     (λ bytes (s : SoFar site bytes left old mid c.loop-read.reader c.loop-read.run c.loop-read.read).
-    input_ends site bytes left old mid c.loop-read.reader c.loop-read.run c.loop-read.read s c.finish.result c.in-Ok.count (omega (arith, lt)) c.in-Ok.ensures.ends c.if-count-eq0.true (c.finish.ensures site s.consumed s.is_at.reads s.is_at.going.going))
+    input_ends site bytes left old mid c.loop-read.reader c.loop-read.run c.loop-read.read s c.finish.result c.in-Ok.count (omega (arith, lt))
+    c.in-Ok.ensures.ends c.if-count-eq0.true (c.finish.ensures site s.consumed s.is_at.reads s.is_at.going.going))
     (c.loop-read.invariant.so_far site h)
 
 pub returns-in_err-end-clause-reads : goal.returns-in_err-end-clause-reads
@@ -53,7 +56,8 @@ returns-in_err-end-clause-reads g c site h =
     some_weaker (g.S.Stream.left c.args.input.now)
     (λ bytes (s : SoFar site bytes left old mid c.loop-read.reader c.loop-read.run c.loop-read.read).
     subst (ReadsRecord site bytes old new c.take_piece.new.run) (sym q.1)
-    (piece_breaks site bytes left old mid c.loop-read.reader c.loop-read.run c.loop-read.read s piece (g.S.Stream.left c.read_piece.new.input) new c.take_piece.new.run c.in-Ok.ensures.bytes (omega (arith, lt, most, bound, count)) (c.in_err-end.ensures.takes site s.consumed s.is_at)))
+    (piece_breaks site bytes left old mid c.loop-read.reader c.loop-read.run c.loop-read.read s piece (g.S.Stream.left c.read_piece.new.input) new
+    c.take_piece.new.run c.in-Ok.ensures.bytes (omega (arith, lt, most, bound, count)) (c.in_err-end.ensures.takes site s.consumed s.is_at)))
     (c.loop-read.invariant.so_far site h)
 
 pub returns-in-Some-clause-reads : goal.returns-in-Some-clause-reads
@@ -69,8 +73,12 @@ returns-in-Some-clause-reads g c site h =
     let count = c.in-Ok.ensures.count in
     some_weaker (g.S.Stream.left c.args.input.now)
     (λ bytes (s : SoFar site bytes left old mid c.loop-read.reader c.loop-read.run c.loop-read.read).
-    let ended = subst (λ (o : Option RunEnd). TakesPiece site s.consumed piece mid new c.take_piece.new.reader c.take_piece.new.run (Ok o)) c.in-Some.is (c.in_ok-end.ensures.takes site s.consumed s.is_at) in
-    piece_ends site bytes left old mid c.loop-read.reader c.loop-read.run c.loop-read.read s piece ended.0 ended.1 (g.S.Stream.left c.read_piece.new.input) new c.take_piece.new.reader c.take_piece.new.run c.in-Some.end c.in-Ok.ensures.bytes ended.2 (omega (arith, lt, most, bound, count)) ended.3)
+    let ended =
+    subst (λ (o : Option RunEnd). TakesPiece site s.consumed piece mid new c.take_piece.new.reader c.take_piece.new.run (Ok o)) c.in-Some.is
+    (c.in_ok-end.ensures.takes site s.consumed s.is_at) in
+    piece_ends site bytes left old mid c.loop-read.reader c.loop-read.run c.loop-read.read s piece ended.0 ended.1
+    (g.S.Stream.left c.read_piece.new.input) new c.take_piece.new.reader c.take_piece.new.run c.in-Some.end c.in-Ok.ensures.bytes ended.2
+    (omega (arith, lt, most, bound, count)) ended.3)
     (c.loop-read.invariant.so_far site h)
 
 pub loop-read-preserved : goal.loop-read-preserved
@@ -94,7 +102,9 @@ loop-read-preserved g c =
           record {
             site = r.site;
             bytes = r.bytes ++ piece;
-            is_at = (subst (λ (o : Option RunEnd). TakesPiece r.site r.bytes piece mid new c.take_piece.new.reader c.take_piece.new.run (Ok o)) c.in-None.is (c.in_ok-end.ensures.takes r.site r.bytes r.is_at)).0;
+            is_at =
+                (subst (λ (o : Option RunEnd). TakesPiece r.site r.bytes piece mid new c.take_piece.new.reader c.take_piece.new.run (Ok o))
+                c.in-None.is (c.in_ok-end.ensures.takes r.site r.bytes r.is_at)).0;
           };
       few = omega (arith, lt, most, bound);
       reads = omega (arith, reads, reads_still);
@@ -102,8 +112,10 @@ loop-read-preserved g c =
       so_far = λ site h.
           some_weaker (g.S.Stream.left c.args.input.now)
           (λ bytes (s : SoFar site bytes left old mid c.loop-read.reader c.loop-read.run c.loop-read.read).
-          piece_more site bytes left old mid c.loop-read.reader c.loop-read.run c.loop-read.read s piece (g.S.Stream.left c.read_piece.new.input) new c.take_piece.new.reader c.take_piece.new.run (c.loop-read.read + c.in-Ok.count) c.in-Ok.ensures.bytes (omega (arith, count))
-          (subst (λ (o : Option RunEnd). TakesPiece site s.consumed piece mid new c.take_piece.new.reader c.take_piece.new.run (Ok o)) c.in-None.is (c.in_ok-end.ensures.takes site s.consumed s.is_at)))
+          piece_more site bytes left old mid c.loop-read.reader c.loop-read.run c.loop-read.read s piece (g.S.Stream.left c.read_piece.new.input) new
+          c.take_piece.new.reader c.take_piece.new.run (c.loop-read.read + c.in-Ok.count) c.in-Ok.ensures.bytes (omega (arith, count))
+          (subst (λ (o : Option RunEnd). TakesPiece site s.consumed piece mid new c.take_piece.new.reader c.take_piece.new.run (Ok o)) c.in-None.is
+          (c.in_ok-end.ensures.takes site s.consumed s.is_at)))
           (c.loop-read.invariant.so_far site h);
     }
 

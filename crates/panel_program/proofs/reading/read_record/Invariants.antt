@@ -15,7 +15,9 @@ invariant-loop-read g l =
       few : l.read ≤ most_record_bytes;
       reads : g.S.Stream.read_faults l.fn.input ≤ g.S.Stream.read_faults l.input;
       writes : g.K.Stream.write_faults l.fn.out ≤ g.K.Stream.write_faults l.out;
-      so_far : (site : Site) → Stands site at_beginning l.fn.run → IfSome (g.S.Stream.left l.fn.input) (λ bytes. SoFar site bytes (g.S.Stream.left l.input) (g.K.Stream.written l.fn.out) (g.K.Stream.written l.out) l.reader l.run l.read);
+      so_far : (site : Site) → Stands site at_beginning l.fn.run
+          → IfSome (g.S.Stream.left l.fn.input)
+          (λ bytes. SoFar site bytes (g.S.Stream.left l.input) (g.K.Stream.written l.fn.out) (g.K.Stream.written l.out) l.reader l.run l.read);
     }
 
 abbrev pub decreases-loop-read : goal.decreases-loop-read

@@ -14,12 +14,16 @@ take_step-requires g c =
     let r = c.requires.at in
     let p = progress_of r.site (reading_of r.site r.bytes).lines in
     let same = c.site.ensures r.site p r.is_at.stands in
-    let feeds = subst (λ s. Feeds s r.bytes c.args.piece.now c.feed-fed.result c.feed-fed.new.self) same (c.feed-fed.ensures.feeds r.bytes (subst (λ s. ReadsFor s r.bytes c.args.reader.now) (sym same) r.is_at.reads)) in
+    let feeds =
+    subst (λ s. Feeds s r.bytes c.args.piece.now c.feed-fed.result c.feed-fed.new.self) same
+    (c.feed-fed.ensures.feeds r.bytes (subst (λ s. ReadsFor s r.bytes c.args.reader.now) (sym same) r.is_at.reads)) in
     record {
       site = r.site;
       p = p;
       stands = r.is_at.stands;
-      comes = may_step r.site r.bytes c.args.piece.now c.feed-fed.result c.args.reader.now c.feed-fed.new.self c.args.run.now r.is_at feeds (subst (λ s. StepBelongs s c.feed-fed.result.step) same c.feed-fed.ensures.belongs);
+      comes =
+          may_step r.site r.bytes c.args.piece.now c.feed-fed.result c.args.reader.now c.feed-fed.new.self c.args.run.now r.is_at feeds
+          (subst (λ s. StepBelongs s c.feed-fed.result.step) same c.feed-fed.ensures.belongs);
     }
 
 pub returns-in_err-end-clause-takes : goal.returns-in_err-end-clause-takes
@@ -29,10 +33,15 @@ returns-in_err-end-clause-takes g c site before h =
     let q = err_from_is_err_and c.from_residual.result c.from_residual.ensures.1 in
     let p = progress_of site (reading_of site before).lines in
     let same = c.site.ensures site p h.stands in
-    let feeds = subst (λ s. Feeds s before c.args.piece.now c.feed-fed.result c.feed-fed.new.self) same (c.feed-fed.ensures.feeds before (subst (λ s. ReadsFor s before c.args.reader.now) (sym same) h.reads)) in
-    let comes = may_step site before c.args.piece.now c.feed-fed.result c.args.reader.now c.feed-fed.new.self c.args.run.now h feeds (subst (λ s. StepBelongs s c.feed-fed.result.step) same c.feed-fed.ensures.belongs) in
+    let feeds =
+    subst (λ s. Feeds s before c.args.piece.now c.feed-fed.result c.feed-fed.new.self) same
+    (c.feed-fed.ensures.feeds before (subst (λ s. ReadsFor s before c.args.reader.now) (sym same) h.reads)) in
+    let comes =
+    may_step site before c.args.piece.now c.feed-fed.result c.args.reader.now c.feed-fed.new.self c.args.run.now h feeds
+    (subst (λ s. StepBelongs s c.feed-fed.result.step) same c.feed-fed.ensures.belongs) in
     let number = ap (λ (r : Refusal). r.line) (c.finish-number.ensures site before h.reads h.going.going) in
-    let next = next_taken site before c.args.piece.now c.feed-fed.result c.finish-number.result.line old new c.args.reader.now c.feed-fed.new.self c.args.run.now c.take_step.new.run c.take_step.result h feeds number (c.take_step.ensures.takes site p h.stands comes) in
+    let next = next_taken site before c.args.piece.now c.feed-fed.result c.finish-number.result.line old new c.args.reader.now c.feed-fed.new.self
+    c.args.run.now c.take_step.new.run c.take_step.result h feeds number (c.take_step.ensures.takes site p h.stands comes) in
     subst (TakesNext site before c.args.piece.now old new c.feed-fed.new.self c.take_step.new.run) (sym q.1)
     (subst (NextBy site before c.args.piece.now c.feed-fed.result.used old new c.feed-fed.new.self c.take_step.new.run) c.in_err-end.was next)
 
@@ -42,8 +51,13 @@ returns-clause-takes g c site before h =
     let new = g.K.Stream.written c.take_step.new.out in
     let p = progress_of site (reading_of site before).lines in
     let same = c.site.ensures site p h.stands in
-    let feeds = subst (λ s. Feeds s before c.args.piece.now c.feed-fed.result c.feed-fed.new.self) same (c.feed-fed.ensures.feeds before (subst (λ s. ReadsFor s before c.args.reader.now) (sym same) h.reads)) in
-    let comes = may_step site before c.args.piece.now c.feed-fed.result c.args.reader.now c.feed-fed.new.self c.args.run.now h feeds (subst (λ s. StepBelongs s c.feed-fed.result.step) same c.feed-fed.ensures.belongs) in
+    let feeds =
+    subst (λ s. Feeds s before c.args.piece.now c.feed-fed.result c.feed-fed.new.self) same
+    (c.feed-fed.ensures.feeds before (subst (λ s. ReadsFor s before c.args.reader.now) (sym same) h.reads)) in
+    let comes =
+    may_step site before c.args.piece.now c.feed-fed.result c.args.reader.now c.feed-fed.new.self c.args.run.now h feeds
+    (subst (λ s. StepBelongs s c.feed-fed.result.step) same c.feed-fed.ensures.belongs) in
     let number = ap (λ (r : Refusal). r.line) (c.finish-number.ensures site before h.reads h.going.going) in
-    let next = next_taken site before c.args.piece.now c.feed-fed.result c.finish-number.result.line old new c.args.reader.now c.feed-fed.new.self c.args.run.now c.take_step.new.run c.take_step.result h feeds number (c.take_step.ensures.takes site p h.stands comes) in
+    let next = next_taken site before c.args.piece.now c.feed-fed.result c.finish-number.result.line old new c.args.reader.now c.feed-fed.new.self
+    c.args.run.now c.take_step.new.run c.take_step.result h feeds number (c.take_step.ensures.takes site p h.stands comes) in
     subst (NextBy site before c.args.piece.now c.feed-fed.result.used old new c.feed-fed.new.self c.take_step.new.run) c.in_ok-end.was next

@@ -16,8 +16,10 @@ pub returns-in_err-taken-clause-takes : goal.returns-in_err-taken-clause-takes
 returns-in_err-taken-clause-takes g c site before h =
     let p = err_from_is_err_and c.from_residual.result c.from_residual.ensures.1 in
     let t = c.loop-rest.invariant.so_far site before h in
-    subst (TakesPiece site before c.args.piece.now (g.K.Stream.written c.args.out.now) (g.K.Stream.written c.take_next.new.out) c.take_next.new.reader c.take_next.new.run) (sym p.1)
-    (taking_breaks site before c.args.piece.now c.loop-rest.rest.now (g.K.Stream.written c.args.out.now) (g.K.Stream.written c.loop-rest.out) (g.K.Stream.written c.take_next.new.out) c.loop-rest.reader c.loop-rest.run t c.take_next.new.run
+    subst (TakesPiece site before c.args.piece.now (g.K.Stream.written c.args.out.now) (g.K.Stream.written c.take_next.new.out) c.take_next.new.reader
+    c.take_next.new.run) (sym p.1)
+    (taking_breaks site before c.args.piece.now c.loop-rest.rest.now (g.K.Stream.written c.args.out.now) (g.K.Stream.written c.loop-rest.out)
+    (g.K.Stream.written c.take_next.new.out) c.loop-rest.reader c.loop-rest.run t c.take_next.new.run
     (c.in_err-taken.ensures.takes site (before ++ t.front) t.is_at))
 
 pub returns-in-Some-clause-takes : goal.returns-in-Some-clause-takes
@@ -25,8 +27,10 @@ returns-in-Some-clause-takes g c site before h =
     let t = c.loop-rest.invariant.so_far site before h in
     let rest = c.loop-rest.rest.now in
     let used = c.in_ok-taken.taken.used in
-    taking_ends site before c.args.piece.now rest (g.K.Stream.written c.args.out.now) (g.K.Stream.written c.loop-rest.out) (g.K.Stream.written c.take_next.new.out) c.loop-rest.reader c.loop-rest.run t used c.in-Some.end c.take_next.new.reader c.take_next.new.run
-    (subst (GoesOn site (before ++ t.front) ((before ++ t.front) ++ take used rest) (g.K.Stream.written c.loop-rest.out) (g.K.Stream.written c.take_next.new.out) c.take_next.new.reader c.take_next.new.run) c.in-Some.is
+    taking_ends site before c.args.piece.now rest (g.K.Stream.written c.args.out.now) (g.K.Stream.written c.loop-rest.out)
+    (g.K.Stream.written c.take_next.new.out) c.loop-rest.reader c.loop-rest.run t used c.in-Some.end c.take_next.new.reader c.take_next.new.run
+    (subst (GoesOn site (before ++ t.front) ((before ++ t.front) ++ take used rest) (g.K.Stream.written c.loop-rest.out)
+    (g.K.Stream.written c.take_next.new.out) c.take_next.new.reader c.take_next.new.run) c.in-Some.is
     (c.in_ok-taken.ensures.takes site (before ++ t.front) t.is_at))
 
 pub loop-rest-preserved : goal.loop-rest-preserved
@@ -42,13 +46,18 @@ loop-rest-preserved g c =
             site = r.site;
             bytes = r.bytes ++ take used rest;
             is_at =
-                (subst (GoesOn r.site r.bytes (r.bytes ++ take used rest) (g.K.Stream.written c.loop-rest.out) (g.K.Stream.written c.take_next.new.out) c.take_next.new.reader c.take_next.new.run) c.in-None.is
+                (subst
+                (GoesOn r.site r.bytes (r.bytes ++ take used rest) (g.K.Stream.written c.loop-rest.out) (g.K.Stream.written c.take_next.new.out)
+                c.take_next.new.reader c.take_next.new.run) c.in-None.is
                 (c.in_ok-taken.ensures.takes r.site r.bytes r.is_at)).0;
           };
       later = omega (arith, later, later_still);
       so_far = λ site before h.
           let t = c.loop-rest.invariant.so_far site before h in
-          taking_more site before c.args.piece.now rest (g.K.Stream.written c.args.out.now) (g.K.Stream.written c.loop-rest.out) (g.K.Stream.written c.take_next.new.out) c.loop-rest.reader c.loop-rest.run t used c.split_at.result.1.now c.take_next.new.reader c.take_next.new.run c.split_at.ensures.back
-          (subst (GoesOn site (before ++ t.front) ((before ++ t.front) ++ take used rest) (g.K.Stream.written c.loop-rest.out) (g.K.Stream.written c.take_next.new.out) c.take_next.new.reader c.take_next.new.run) c.in-None.is
+          taking_more site before c.args.piece.now rest (g.K.Stream.written c.args.out.now) (g.K.Stream.written c.loop-rest.out)
+          (g.K.Stream.written c.take_next.new.out) c.loop-rest.reader c.loop-rest.run t used c.split_at.result.1.now c.take_next.new.reader
+          c.take_next.new.run c.split_at.ensures.back
+          (subst (GoesOn site (before ++ t.front) ((before ++ t.front) ++ take used rest) (g.K.Stream.written c.loop-rest.out)
+          (g.K.Stream.written c.take_next.new.out) c.take_next.new.reader c.take_next.new.run) c.in-None.is
           (c.in_ok-taken.ensures.takes site (before ++ t.front) t.is_at));
     }

@@ -10,7 +10,8 @@ invariant-loop-rest g l =
     record {
       at : IsAtSome l.reader l.run;
       later : g.K.Stream.write_faults l.fn.out ≤ g.K.Stream.write_faults l.out;
-      so_far : (site : Site) (before : List ℕ) → IsAt site before l.fn.reader l.fn.run → Taking site before l.piece l.rest (g.K.Stream.written l.fn.out) (g.K.Stream.written l.out) l.reader l.run;
+      so_far : (site : Site) (before : List ℕ) → IsAt site before l.fn.reader l.fn.run
+          → Taking site before l.piece l.rest (g.K.Stream.written l.fn.out) (g.K.Stream.written l.out) l.reader l.run;
     }
 
 abbrev pub decreases-loop-rest : goal.decreases-loop-rest

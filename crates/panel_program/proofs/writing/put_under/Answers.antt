@@ -25,13 +25,17 @@ returns-clause-ok g c =
     let changes = changes_text c.args.site.now c.args.before c.args.after in
     let line = c.as_bytes.ensures.value ∙ c.as_str.ensures.value in
     let text = c.as_bytes.result.now in
-    all_written c.new-held.result c.put_changes.new.held _ _ _ (text ++ changes) _ c.flush.result c.new-held.ensures (ap (λ xs. xs ++ changes) (sym line))
-    (moves_more c.new-held.result c.push.new.self c.put_changes.new.held _ _ _ text changes c.in_ok-push.ensures.text.ok c.in_ok-put_changes.ensures.text.ok) c.flush.ensures.written
+    all_written c.new-held.result c.put_changes.new.held _ _ _ (text ++ changes) _ c.flush.result c.new-held.ensures
+    (ap (λ xs. xs ++ changes) (sym line))
+    (moves_more c.new-held.result c.push.new.self c.put_changes.new.held _ _ _ text changes c.in_ok-push.ensures.text.ok
+    c.in_ok-put_changes.ensures.text.ok) c.flush.ensures.written
 
 pub returns-clause-err : goal.returns-clause-err
 returns-clause-err g c =
     let changes = changes_text c.args.site.now c.args.before c.args.after in
     let line = c.as_bytes.ensures.value ∙ c.as_str.ensures.value in
     let text = c.as_bytes.result.now in
-    part_written c.new-held.result c.put_changes.new.held _ _ _ (text ++ changes) _ c.flush.result c.new-held.ensures (ap (λ xs. xs ++ changes) (sym line))
-    (moves_more c.new-held.result c.push.new.self c.put_changes.new.held _ _ _ text changes c.in_ok-push.ensures.text.ok c.in_ok-put_changes.ensures.text.ok) c.flush.ensures.err
+    part_written c.new-held.result c.put_changes.new.held _ _ _ (text ++ changes) _ c.flush.result c.new-held.ensures
+    (ap (λ xs. xs ++ changes) (sym line))
+    (moves_more c.new-held.result c.push.new.self c.put_changes.new.held _ _ _ text changes c.in_ok-push.ensures.text.ok
+    c.in_ok-put_changes.ensures.text.ok) c.flush.ensures.err

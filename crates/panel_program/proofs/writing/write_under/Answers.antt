@@ -17,5 +17,8 @@ pub returns-clause-err : goal.returns-clause-err
 returns-clause-err g c =
     let text = c.args.line.now.bytes ++ changes_text c.args.site.now c.args.before c.args.after in
     let fine = sym c.is_err.ensures.value ∙ c.if-is_err.false in
-    let is = c.as_slice.ensures.value ∙ text_of_page c.put_under-put.result c.clear.new.self.items c.put_under-put.new.out.bytes.items text c.put_under-put.new.out.passed fine c.clear.ensures.items c.if-page.false c.put_under-put.ensures.ok in
-    subst (λ t. OnErr c.write_all.result (GrowsByFront (g.K.Stream.written c.args.out.now) (g.K.Stream.written c.write_all.new.out) t)) is c.write_all.ensures.err
+    let is =
+    c.as_slice.ensures.value ∙ text_of_page c.put_under-put.result c.clear.new.self.items c.put_under-put.new.out.bytes.items text
+    c.put_under-put.new.out.passed fine c.clear.ensures.items c.if-page.false c.put_under-put.ensures.ok in
+    subst (λ t. OnErr c.write_all.result (GrowsByFront (g.K.Stream.written c.args.out.now) (g.K.Stream.written c.write_all.new.out) t)) is
+    c.write_all.ensures.err

@@ -7,4 +7,5 @@ returns c =
     let h = c.requires in
     let now = c.now-now.ensures h.site h.kept h.before h.stands in
     let few = c.if-now-ge1000000.false in
-    begins c.args.panels c.args.system.now c.begin.new.self h (omega (arith, now, few)) (c.begin.ensures h.site h.kept h.before h.stands (ap (λ n. n + 1) now))
+    begins c.args.panels c.args.system.now c.begin.new.self h (omega (arith, now, few))
+    (c.begin.ensures h.site h.kept h.before h.stands (ap (λ n. n + 1) now))

@@ -9,9 +9,11 @@ event-requires c =
     let h = c.requires in
     let event = Point c.args.report.now.point c.args.report.now.state in
     let same = c.site.ensures h.site h.kept h.before h.stands in
-    may_happen c.args.panels c.args.system.now event h (subst (λ site. has_event site event ≡ true) same (sym c.has_event.ensures ∙ c.if-not-has_event.false))
+    may_happen c.args.panels c.args.system.now event h
+    (subst (λ site. has_event site event ≡ true) same (sym c.has_event.ensures ∙ c.if-not-has_event.false))
 
 pub returns : goal.returns
 returns c =
     let h = c.requires in
-    happens c.args.panels c.args.system.now c.event.new.self (Point c.args.report.now.point c.args.report.now.state) h (c.event.ensures h.site h.kept h.before h.stands)
+    happens c.args.panels c.args.system.now c.event.new.self (Point c.args.report.now.point c.args.report.now.state) h
+    (c.event.ensures h.site h.kept h.before h.stands)

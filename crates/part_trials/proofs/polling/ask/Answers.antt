@@ -9,4 +9,4 @@ turn-requires-clause-stands c =
 pub returns : goal.returns
 returns c =
     let r = c.requires.stands in
-    subst (λ lane. lane.quota ≤ 32) (sym (c.turn.ensures c.args._site.now 1 r.0 r.1)) c.requires.few
+    subst (λ lane. lane.quota ≤ 32) (sym (c.turn.ensures.asked c.args._site.now 1 r.0 r.1)) c.requires.few

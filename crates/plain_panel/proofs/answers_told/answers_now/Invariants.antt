@@ -5,4 +5,5 @@ use Rattle.plain_panel.specs.Tellings.{answer_given}
 use Rattle.plain_panel.proofs.answers_told.answers_now.Given as goal
 
 abbrev pub invariant-loop-request : goal.invariant-loop-request
-invariant-loop-request l = map answered_of l.now.items ≡ filter_map (answer_given l.tick.0 (all_answered l.answers)) (all_requests (take l.request-index l.requests))
+invariant-loop-request l =
+    map answered_of l.now.items ≡ filter_map (answer_given l.tick.0 (all_answered l.answers)) (all_requests (take l.request-index l.requests))

@@ -4,4 +4,5 @@ use Rattle.plain_panel.specs.Tellings.{answer_given}
 use Rattle.plain_panel.proofs.answers_told.last_answer.Given as goal
 
 abbrev pub invariant-loop-answered : goal.invariant-loop-answered
-invariant-loop-answered l = option_map answered_of l.found ≡ answer_given l.tick.0 (all_answered (take l.answered-index l.answers)) (request_of l.request)
+invariant-loop-answered l =
+    option_map answered_of l.found ≡ answer_given l.tick.0 (all_answered (take l.answered-index l.answers)) (request_of l.request)

@@ -5,7 +5,9 @@ use Rattle.plain_panel.proofs.answers_told.told.Goals.{in-None, in-Some+else-as_
 
 pub loop-answered-preserved : goal.loop-answered-preserved
 loop-answered-preserved c =
-    let more = told_more c.args.now.now c.loop-answered.answered-index _ c.loop-answered-test.true c.loop-answered.ops c.told_answer.result c.loop-answered.invariant c.told_answer.ensures in
+    let more =
+    told_more c.args.now.now c.loop-answered.answered-index _ c.loop-answered-test.true c.loop-answered.ops c.told_answer.result
+    c.loop-answered.invariant c.told_answer.ensures in
     elim c.match-told_answer.branch [
       | in-None w ↦ with_none c.loop-answered.ops _ _ c.told_answer.result more w.in-None.is w.ops-is
       | in-Some+else-as_slice-ge64 w ↦ with_some c.loop-answered.ops _ _ c.told_answer.result more _ w.in-Some.is (w.ops-is ∙ w.push.ensures)

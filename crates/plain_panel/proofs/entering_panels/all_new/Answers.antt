@@ -12,6 +12,7 @@ loop-place-preserved c =
     record {
       all = λ kept done.
           subst (λ ys. AllEnter c.args.site.now kept done [] 1 ys) (sym c.in_ok-push.ensures.items)
-          (enter_more c.args.site.now kept done [] 1 xs x (c.loop-place.invariant.all kept done) (subst (λ n. StandsForEntering c.args.site.now kept done n [] x) panel (c.in_ok-new.ensures kept done)));
+          (enter_more c.args.site.now kept done [] 1 xs x (c.loop-place.invariant.all kept done)
+          (subst (λ n. StandsForEntering c.args.site.now kept done n [] x) panel (c.in_ok-new.ensures kept done)));
       count = ap length c.in_ok-push.ensures.items ∙ length_more xs x ∙ ap (λ n. n + 1) count;
     }

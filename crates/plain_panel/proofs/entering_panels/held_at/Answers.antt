@@ -10,4 +10,7 @@ returns-in-Some c =
     let lookup = c.in-Some.ensures.lookup in
     let k = c.saturating_sub.result in
     let panel : 1 + k ≡ c.args.panel = omega (arith, c.saturating_sub.ensures, among.0) in
-    c.held.ensures site kept done c.args.panel history (subst (λ n. StandsForEntering site kept done n history c.in-Some.entering.now) panel (enter_at site kept done history 1 k c.args.panels.now c.in-Some.entering.now (slice_get-get_or c.args.panels.now k c.in-Some.entering.now (lookup.3.0) ∙ ap Some (sym (lookup.1))) all))
+    c.held.ensures site kept done c.args.panel history
+    (subst (λ n. StandsForEntering site kept done n history c.in-Some.entering.now) panel
+    (enter_at site kept done history 1 k c.args.panels.now c.in-Some.entering.now
+    (slice_get-get_or c.args.panels.now k c.in-Some.entering.now (lookup.3.0) ∙ ap Some (sym (lookup.1))) all))

@@ -7,4 +7,5 @@ use Rattle.plain_panel.specs.Drives.{AreSeen, greatest}
 use Rattle.plain_panel.proofs.on.last_confirmation.Given as goal
 
 abbrev pub invariant-loop-one : goal.invariant-loop-one
-invariant-loop-one l = (site : Site) (facts : ℕ → List Moment → Facts) (history : List Moment) → AreSeen site facts (take l.one-index l.seen) history → l.last.0 ≡ greatest (confirmations l.output history)
+invariant-loop-one l = (site : Site) (facts : ℕ → List Moment → Facts) (history : List Moment) → AreSeen site facts (take l.one-index l.seen) history
+    → l.last.0 ≡ greatest (confirmations l.output history)

@@ -18,15 +18,24 @@ overflow_add-mask c =
 pub loop-bit-preserved : goal.loop-bit-preserved
 loop-bit-preserved c =
     let test = λ (k : ℕ). on_place (λ place. slice_index_or c.args.flags.now place false) (output_numbered c.args.site.now c.args.panel (k + 1)) in
-    let told = λ (value : Bool) (so : c.is_flagged.result ≡ value). told_at (on_place (λ place. slice_index_or c.args.flags.now place false)) c.output_at-output.result (output_numbered c.args.site.now c.args.panel (c.loop-bit.bit + 1)) c.is_flagged.result value c.output_at-output.ensures c.is_flagged.ensures so in
+    let told =
+    λ (value : Bool) (so : c.is_flagged.result ≡ value). told_at (on_place (λ place. slice_index_or c.args.flags.now place false))
+    c.output_at-output.result (output_numbered c.args.site.now c.args.panel (c.loop-bit.bit + 1)) c.is_flagged.result value
+    c.output_at-output.ensures c.is_flagged.ensures so in
     elim c.if-is_flagged.branch [
-      | then-is_flagged w ↦ rw w.mask-is (mask_on 32 c.loop-bit.bit c.loop-bit.mask test (omega arith) c.loop-bit.invariant (told _ w.if-is_flagged.true))
+      | then-is_flagged w ↦
+          rw w.mask-is (mask_on 32 c.loop-bit.bit c.loop-bit.mask test (omega arith) c.loop-bit.invariant (told _ w.if-is_flagged.true))
       | else-is_flagged w ↦ rw w.mask-is (mask_off c.loop-bit.bit c.loop-bit.mask test c.loop-bit.invariant (told _ w.if-is_flagged.false))
     ]
 
 pub loop-bit-init : goal.loop-bit-init
-loop-bit-init c = sym (mask_none (λ (k : ℕ). on_place (λ place. slice_index_or c.args.flags.now place false) (output_numbered c.args.site.now c.args.panel (k + 1))))
+loop-bit-init c =
+    sym
+    (mask_none (λ (k : ℕ). on_place (λ place. slice_index_or c.args.flags.now place false) (output_numbered c.args.site.now c.args.panel (k + 1))))
 
 pub returns : goal.returns
 unfolding outputs_where
-returns c = whole 32 c.loop-bit.bit c.loop-bit.mask (λ (k : ℕ). on_place (λ place. slice_index_or c.args.flags.now place false) (output_numbered c.args.site.now c.args.panel (k + 1))) (omega arith) c.loop-bit.invariant
+returns c =
+    whole 32 c.loop-bit.bit c.loop-bit.mask
+    (λ (k : ℕ). on_place (λ place. slice_index_or c.args.flags.now place false) (output_numbered c.args.site.now c.args.panel (k + 1))) (omega arith)
+    c.loop-bit.invariant

@@ -8,4 +8,7 @@ use Rattle.plain_panel.specs.Settings.{zone_setting}
 use Rattle.plain_panel.proofs.settings_shown.zones_set.Given as goal
 
 abbrev pub invariant-loop-bit : goal.invariant-loop-bit
-invariant-loop-bit l = l.mask ≡ mask_of l.bit (λ k. on_zone (λ zone. in_force l.site l.kept (zone_setting l.which zone) l.tick.0 (all_done l.done)) (numbered l.site l.panel (k + 1)))
+invariant-loop-bit l =
+    l.mask
+    ≡ mask_of l.bit (λ k. on_zone (λ zone. in_force l.site l.kept (zone_setting l.which zone) l.tick.0 (all_done l.done))
+    (numbered l.site l.panel (k + 1)))

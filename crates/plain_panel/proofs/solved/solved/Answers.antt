@@ -9,4 +9,5 @@ loop-round-init c rules are m = none_true c.none-values.result.marker c.none-val
 
 pub loop-round-preserved : goal.loop-round-preserved
 loop-round-preserved c rules are m =
-    rw add-one (c.evaluated-values.ensures m ∙ equation_same c.args.site.now c.requires rules c.args.facts.now are (values_of c.loop-round.values) (solved_to c.args.site.now rules c.loop-round._round) (c.loop-round.invariant rules are) m)
+    rw add-one (c.evaluated-values.ensures m ∙ equation_same c.args.site.now c.requires rules c.args.facts.now are (values_of c.loop-round.values)
+    (solved_to c.args.site.now rules c.loop-round._round) (c.loop-round.invariant rules are) m)

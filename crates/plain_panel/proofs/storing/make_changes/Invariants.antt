@@ -5,4 +5,6 @@ use Rattle.plain_panel.specs.Desks.{all_requests}
 use Rattle.plain_panel.proofs.storing.make_changes.Given as goal
 
 abbrev pub invariant-loop-request : goal.invariant-loop-request
-invariant-loop-request l = changed_by (changes_of l.site (all_requests l.waiting)) l.initial.stored ≡ changed_by (changes_of l.site (all_requests (drop l.request-index l.waiting))) l.stored
+invariant-loop-request l =
+    changed_by (changes_of l.site (all_requests l.waiting)) l.initial.stored
+    ≡ changed_by (changes_of l.site (all_requests (drop l.request-index l.waiting))) l.stored

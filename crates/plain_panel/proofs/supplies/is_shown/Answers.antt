@@ -11,14 +11,16 @@ loop-moment-init c = record { stands = c.new-watched.ensures.stands c.args.panel
 pub loop-moment-preserved : goal.loop-moment-preserved
 loop-moment-preserved c = record {
   stands =
-      history_next (λ before. Watches c.args.panel c.args.kind before c.after-watched.result) c.args.moments.now c.loop-moment.moment-index c.moment-item.result c.loop-moment-test.true c.moment-item.is
+      history_next (λ before. Watches c.args.panel c.args.kind before c.after-watched.result) c.args.moments.now c.loop-moment.moment-index
+      c.moment-item.result c.loop-moment-test.true c.moment-item.is
       (c.after-watched.ensures.stands _ c.loop-moment.invariant.stands);
   few = omega (arith, c.after-watched.ensures.tick, c.loop-moment.invariant.few);
 }
 
 pub returns : goal.returns
 returns c =
-    let all = history_all (λ before. Watches c.args.panel c.args.kind before c.loop-moment.watched) c.args.moments.now c.loop-moment.moment-index c.loop-moment-test.false c.loop-moment.invariant.stands in
+    let all = history_all (λ before. Watches c.args.panel c.args.kind before c.loop-moment.watched) c.args.moments.now c.loop-moment.moment-index
+    c.loop-moment-test.false c.loop-moment.invariant.stands in
     c.is_shown.ensures ∙ ap (shows c.args.wait) all.run ∙ lasts_by c.args.wait _
 
 pub returns-then-not-was_bad : goal.returns-then-not-was_bad

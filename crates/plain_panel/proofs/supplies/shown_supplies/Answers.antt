@@ -8,4 +8,5 @@ use Rattle.plain_panel.proofs.supplies.shown_supplies.Goals as goal
 pub returns : goal.returns
 returns c =
     c.mask_from_8.ensures
-    ∙ mask_of_four _ _ _ _ (λ k. is_shown c.args.waits.now (kind_at k) (supply_calls c.args.panel (history c.args.moments.now))) c.is_shown.ensures c.is_shown-2.ensures c.is_shown-3.ensures c.is_shown-4.ensures
+    ∙ mask_of_four _ _ _ _ (λ k. is_shown c.args.waits.now (kind_at k) (supply_calls c.args.panel (history c.args.moments.now))) c.is_shown.ensures
+    c.is_shown-2.ensures c.is_shown-3.ensures c.is_shown-4.ensures

@@ -15,5 +15,6 @@ returns-then-confirmed-gt0 c facts history are =
 
 pub returns-else-confirmed-gt0 : goal.returns-else-confirmed-gt0
 returns-else-confirmed-gt0 c facts history are =
-    never_confirmed (on_run c.args.site.now facts c.args.kept.now (all_done c.args.done.now) c.args.output history) (confirmations c.args.output history)
+    never_confirmed (on_run c.args.site.now facts c.args.kept.now (all_done c.args.done.now) c.args.output history)
+    (confirmations c.args.output history)
     c.last_confirmation-confirmed.result.0 (c.last_confirmation-confirmed.ensures c.args.site.now facts history are) c.if-confirmed-gt0.false

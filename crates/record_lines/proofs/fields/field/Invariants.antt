@@ -1,5 +1,5 @@
 use Rattle.std.proofs.Common.{◌≡◌, ◌-◌}
-use Rattle.record_lines.specs.Fields.{field}
+use Rattle.site_types.specs.Fields.{field}
 use Rattle.record_lines.proofs.fields.field.Given as goal
 
 -- the field lies so much nearer

@@ -12,8 +12,13 @@ loop-seat-preserved c =
     let next = c.split_field.result.1.now in
     let spelled = c.in-Some.ensures in
     record {
-      seated = each_on is_seat c.args.count k rest front next _ c.loop-seat-test.true c.split_field.ensures.rest c.split_field.ensures.first (sym spelled.is) c.loop-seat.invariant.seated;
-      numbered = each_on is_numbered c.args.count k rest front next _ c.loop-seat-test.true c.split_field.ensures.rest c.split_field.ensures.first (sym spelled.numbered) c.loop-seat.invariant.numbered;
-      back = seats_on c.args.count k rest front next c.in-Some.seat c.loop-seat.seats.items c.push.new.self.items _ c.loop-seat-test.true c.split_field.ensures.rest c.split_field.ensures.first (sym spelled.back) c.push.ensures.items c.loop-seat.invariant.back;
+      seated =
+          each_on is_seat c.args.count k rest front next _ c.loop-seat-test.true c.split_field.ensures.rest c.split_field.ensures.first
+          (sym spelled.is) c.loop-seat.invariant.seated;
+      numbered = each_on is_numbered c.args.count k rest front next _ c.loop-seat-test.true c.split_field.ensures.rest c.split_field.ensures.first
+          (sym spelled.numbered) c.loop-seat.invariant.numbered;
+      back =
+          seats_on c.args.count k rest front next c.in-Some.seat c.loop-seat.seats.items c.push.new.self.items _ c.loop-seat-test.true
+          c.split_field.ensures.rest c.split_field.ensures.first (sym spelled.back) c.push.ensures.items c.loop-seat.invariant.back;
       many = omega (arith, c.push.ensures.len, c.loop-seat.invariant.many);
     }

@@ -13,6 +13,8 @@ loop-place-preserved c =
     let within : place < length seats = omega (arith, c.loop-place-test.true, c.len-place-end.ensures.count) in
     let is = get_or_from_slice_get seats place seat seat c.seat.ensures in
     record {
-      text = joined_more c.args.out.now.items before c.push_seat.new.out.items seats place seat within c.loop-place.invariant.text (c.push_seat.ensures.text ∙ ap (λ s. before ++ 32 ∷ seat_text s) (sym is));
+      text =
+          joined_more c.args.out.now.items before c.push_seat.new.out.items seats place seat within c.loop-place.invariant.text
+          (c.push_seat.ensures.text ∙ ap (λ s. before ++ 32 ∷ seat_text s) (sym is));
       room = omega (arith, c.push_seat.ensures.room, c.loop-place.invariant.room);
     }

@@ -8,12 +8,14 @@ pub loop-which-init : goal.loop-which-init
 loop-which-init c = made_none 10 c.args.cell.now c.args.kept.now
 
 pub change_at-requires : goal.change_at-requires
-change_at-requires c = let form = cell_in_form c.args.wide 0 c.args.cell.now c.requires.form in omega (arith, form.few, c.requires.size, c.loop-which-test.true)
+change_at-requires c = let form = cell_in_form c.args.wide 0 c.args.cell.now c.requires.form in
+    omega (arith, form.few, c.requires.size, c.loop-which-test.true)
 
 pub apply-requires : goal.apply-requires
 apply-requires c =
     let form = cell_in_form c.args.wide 0 c.args.cell.now c.requires.form in
-    subst CanApply (sym c.change_at.ensures) (can_apply_at c.args.wide (10 + 8 * c.loop-which.which) c.args.cell.now (form.each c.loop-which.which c.loop-which-test.true))
+    subst CanApply (sym c.change_at.ensures)
+    (can_apply_at c.args.wide (10 + 8 * c.loop-which.which) c.args.cell.now (form.each c.loop-which.which c.loop-which-test.true))
 
 pub loop-which-preserved : goal.loop-which-preserved
 loop-which-preserved c =

@@ -17,11 +17,13 @@ loop-which-preserved c =
 
 pub returns-then-is_some-clause-value : goal.returns-then-is_some-clause-value
 returns-then-is_some-clause-value c =
-    found_option (λ k. wrong_in_change c.args.wide (10 + 8 * k) c.args.cell.now) c.loop-which.which (slice_index c.args.cell.now 9) _ c.loop-which.invariant
+    found_option (λ k. wrong_in_change c.args.wide (10 + 8 * k) c.args.cell.now) c.loop-which.which (slice_index c.args.cell.now 9) _
+    c.loop-which.invariant
     c.wrong_in_change-wrong.ensures.value (sym c.is_some.ensures ∙ c.if-is_some.true) c.loop-which-test.true
     ∙ sym (wrong_change c.args.wide 0 c.args.cell.now (sym c.is_within.ensures ∙ c.if-not-is_within.false))
 
 pub returns-clause-value : goal.returns-clause-value
 returns-clause-value c =
-    sym (none_to_end (λ k. wrong_in_change c.args.wide (10 + 8 * k) c.args.cell.now) c.loop-which.which (slice_index c.args.cell.now 9) c.loop-which.invariant (omega arith))
+    sym (none_to_end (λ k. wrong_in_change c.args.wide (10 + 8 * k) c.args.cell.now) c.loop-which.which (slice_index c.args.cell.now 9)
+    c.loop-which.invariant (omega arith))
     ∙ sym (wrong_change c.args.wide 0 c.args.cell.now (sym c.is_within.ensures ∙ c.if-not-is_within.false))

@@ -4,10 +4,12 @@ use Rattle.retained_journal.specs.Cells.{is_in_form, wrong_byte}
 use Rattle.retained_journal.proofs.Finding.{found-first, found-none, nothing_more}
 use Rattle.retained_journal.proofs.changes.wrong_in_change.Goals as goal
 
-wrong : (wide : Bool) (at : ℕ) (file : List ℕ) (place : ℕ) → is_in_form wide (slice_index file at) place (slice_index file (at + place)) ≡ false → wrong_byte wide at file place ≡ Some (at + place)
+wrong : (wide : Bool) (at : ℕ) (file : List ℕ) (place : ℕ) → is_in_form wide (slice_index file at) place (slice_index file (at + place)) ≡ false
+    → wrong_byte wide at file place ≡ Some (at + place)
 wrong wide at file place out = rw out refl
 
-right : (wide : Bool) (at : ℕ) (file : List ℕ) (place : ℕ) → is_in_form wide (slice_index file at) place (slice_index file (at + place)) ≡ true → wrong_byte wide at file place ≡ None
+right : (wide : Bool) (at : ℕ) (file : List ℕ) (place : ℕ) → is_in_form wide (slice_index file at) place (slice_index file (at + place)) ≡ true
+    → wrong_byte wide at file place ≡ None
 right wide at file place within = rw within refl
 
 pub loop-place-init : goal.loop-place-init

@@ -7,6 +7,7 @@ pub returns-clause-points : goal.returns-clause-points
 returns-clause-points c wide narrow =
     let which = c.args.which in
     loop_is wide which c.put_mask-2.new.slot c.args.halves.now c.told-halves
-    (mask-agrees 12 c.put_mask-2.new.slot (9 + 12 * which) c.put_mask.new.slot (9 + 12 * which) (record { same = λ i few. c.put_mask-2.ensures.outside (9 + 12 * which + i) (inl (let h = c.requires.which in omega (arith, few, h))) })
+    (mask-agrees 12 c.put_mask-2.new.slot (9 + 12 * which) c.put_mask.new.slot (9 + 12 * which)
+    (record { same = λ i few. c.put_mask-2.ensures.outside (9 + 12 * which + i) (inl (let h = c.requires.which in omega (arith, few, h))) })
     ∙ c.put_mask.ensures.inside)
     c.put_mask-2.ensures.inside narrow

@@ -19,7 +19,8 @@ loop-line-preserved c =
     let within : i < length xs = omega arith in
     let made : c.turn.result ≡ f (get_or ys i d) = c.turn.ensures ∙ ap (λ b. turned c.args.now b (get_or ys i d)) c.has_bit_32.ensures in
     let line : c.turn.result ≡ f (get_or xs i d) = made ∙ ap f (next_line f xs ys i d within c.loop-line.invariant.lines) in
-    let all : set ys i c.turn.result ≡ map f (take (i + 1) xs) ++ drop (i + 1) xs = ap (set ys i) made ∙ written f xs ys i d within c.loop-line.invariant.lines in
+    let all : set ys i c.turn.result ≡ map f (take (i + 1) xs) ++ drop (i + 1) xs =
+    ap (set ys i) made ∙ written f xs ys i d within c.loop-line.invariant.lines in
     elim c.if-is_late.branch [
       | then-is_late w ↦ record {
         lines = w.lines-is ∙ all;
@@ -32,7 +33,8 @@ loop-line-preserved c =
         lines = w.lines-is ∙ all;
         below = rw w.late-is c.loop-line.invariant.below;
         late = λ k small. ap (λ m. has_bit m k) w.late-is
-            ∙ failed f test k xs i d c.turn.result c.loop-line.late within line (sym c.is_late.ensures ∙ w.if-is_late.false) (c.loop-line.invariant.late k small);
+            ∙ failed f test k xs i d c.turn.result c.loop-line.late within line (sym c.is_late.ensures ∙ w.if-is_late.false)
+            (c.loop-line.invariant.late k small);
       }
     ]
 
@@ -42,5 +44,7 @@ returns-clause-late c =
     let xs = c.args.lines.now in
     let i = c.loop-line.line-index in
     let whole : length xs ≤ i = omega arith in
-    mask_from_bits 32 c.loop-line.late (λ k. list_any (λ line. (line.place == k) && is_late c.args.now c.args.limit line) c.loop-line.lines) c.loop-line.invariant.below
-    (λ k small. c.loop-line.invariant.late k small ∙ ap (list_any (λ line. (line.place == k) && is_late c.args.now c.args.limit line)) (sym (all_written f xs c.loop-line.lines i whole c.loop-line.invariant.lines)))
+    mask_from_bits 32 c.loop-line.late (λ k. list_any (λ line. (line.place == k) && is_late c.args.now c.args.limit line) c.loop-line.lines)
+    c.loop-line.invariant.below
+    (λ k small. c.loop-line.invariant.late k small ∙ ap (list_any (λ line. (line.place == k) && is_late c.args.now c.args.limit line))
+    (sym (all_written f xs c.loop-line.lines i whole c.loop-line.invariant.lines)))

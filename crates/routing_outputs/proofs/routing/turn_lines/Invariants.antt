@@ -8,5 +8,7 @@ abbrev pub invariant-loop-line : goal.invariant-loop-line
 invariant-loop-line l = record {
   lines : l.lines ≡ map (turned_by l.now l.on) (take l.line-index l.initial.lines) ++ drop l.line-index l.initial.lines;
   below : l.late < 2 ^ 32;
-  late : (k : ℕ) → k < 32 → has_bit l.late k ≡ list_any (λ line. (line.place == k) && is_late l.now l.limit line) (map (turned_by l.now l.on) (take l.line-index l.initial.lines));
+  late : (k : ℕ) → k < 32
+      → has_bit l.late k ≡ list_any (λ line. (line.place == k) && is_late l.now l.limit line)
+      (map (turned_by l.now l.on) (take l.line-index l.initial.lines));
 }

@@ -10,16 +10,19 @@ pub returns-in_err-check_references-clause-told : goal.returns-in_err-check_refe
 returns-in_err-check_references-clause-told c =
     let p = err_from_is_err_and c.from_residual-in_err-check_references.result c.from_residual-in_err-check_references.ensures.1 in
     rw (p.1, p.2)
-    (references_said c.args.draft (look_up c.in_ok-names.names) _ c.in_ok-names.ensures.named c.in_ok-names.ensures.told c.in_err-check_references.ensures)
+    (references_said c.args.draft (look_up c.in_ok-names.names) _ c.in_ok-names.ensures.named c.in_ok-names.ensures.told
+    c.in_err-check_references.ensures)
 
 pub returns-clause-told : goal.returns-clause-told
 returns-clause-told c =
     let stand : c.as_slice-2.result.now ≡ map (spot_of (look_up c.in_ok-names.names)) c.args.draft.points =
     c.as_slice-2.ensures.value ∙ c.in_ok-spots.ensures ∙ ap (map (spot_of (look_up c.in_ok-names.names))) c.as_slice.ensures in
-    let crossed : crossing_in c.as_slice-2.result.now c.args.draft.loops ≡ None = ap (crossing_in c.as_slice-2.result.now) (sym c.as_slice-3.ensures) ∙ c.in_ok-check_sections.ensures in
+    let crossed : crossing_in c.as_slice-2.result.now c.args.draft.loops ≡ None =
+    ap (crossing_in c.as_slice-2.result.now) (sym c.as_slice-3.ensures) ∙ c.in_ok-check_sections.ensures in
     let paired : unmutual_in (look_up c.in_ok-names.names) c.args.draft.zones ≡ None =
     ap (unmutual_in (look_up c.in_ok-names.names)) (sym c.as_slice-4.ensures) ∙ c.in_ok-check_mutual.ensures in
-    nothing c.args.draft (look_up c.in_ok-names.names) c.as_slice-2.result.now c.in_ok-names.ensures.named c.in_ok-names.ensures.told c.in_ok-check_references.ensures stand
+    nothing c.args.draft (look_up c.in_ok-names.names) c.as_slice-2.result.now c.in_ok-names.ensures.named c.in_ok-names.ensures.told
+    c.in_ok-check_references.ensures stand
     crossed paired
 
 pub returns-clause-site : goal.returns-clause-site

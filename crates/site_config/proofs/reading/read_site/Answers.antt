@@ -3,6 +3,10 @@ use Rattle.site_config.proofs.Later.{accepted, refused, refused_so}
 use Rattle.site_config.proofs.Validity.{valid_spelled}
 use Rattle.site_config.proofs.reading.read_site.Goals as goal
 
+pub finish-requires : goal.finish-requires
+finish-requires c =
+    let (doc, a, e) = c.in_ok-draft.ensures.draft in record { document = doc; clean = a.clean; spelled = e }
+
 pub returns-in_err-draft-clause-refused : goal.returns-in_err-draft-clause-refused
 returns-in_err-draft-clause-refused c =
     let p = err_from_is_err_and c.from_residual.result c.from_residual.ensures.1 in

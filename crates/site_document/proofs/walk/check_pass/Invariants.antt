@@ -7,4 +7,5 @@ use Rattle.site_document.proofs.walk.check_pass.Given as goal
 
 abbrev pub invariant-kinds : goal.invariant-kinds
 invariant-kinds l =
-    first_found (found_in_list l.pass (table_view l.top)) (drop l.kind-index l.kind-items) ≡ first_found (found_in_list l.pass (table_view l.top)) row_kinds
+    first_found (found_in_list l.pass (table_view l.top)) (drop l.kind-index l.kind-items) ≡ first_found (found_in_list l.pass (table_view l.top))
+    row_kinds

@@ -11,10 +11,16 @@ loop-output-preserved c =
     elim c.if-is_output_off.branch [
       | then-is_output_off w ↦
           w.kept-is
-          ∙ carried_on (λ (x : OutputPlan). Output x.panel x.number true) (λ (x : OutputPlan). output_was_off c.args.old.now c.args.state.now x.name.bytes) c.as_slice-output-items.result.now c.args.new.now.outputs c.loop-output.output-index c.output-item.result c.args.kept.now c.loop-output.kept w.apply.new.self
-          c.as_slice-output-items.ensures c.loop-output-test.true c.output-item.is (sym c.is_output_off.ensures ∙ w.if-is_output_off.true) c.loop-output.invariant w.apply.ensures
+          ∙ carried_on (λ (x : OutputPlan). Output x.panel x.number true)
+          (λ (x : OutputPlan). output_was_off c.args.old.now c.args.state.now x.name.bytes) c.as_slice-output-items.result.now
+          c.args.new.now.outputs c.loop-output.output-index c.output-item.result c.args.kept.now c.loop-output.kept w.apply.new.self
+          c.as_slice-output-items.ensures c.loop-output-test.true c.output-item.is (sym c.is_output_off.ensures ∙ w.if-is_output_off.true)
+          c.loop-output.invariant w.apply.ensures
       | else-is_output_off w ↦
           w.kept-is
-          ∙ carried_off (λ (x : OutputPlan). Output x.panel x.number true) (λ (x : OutputPlan). output_was_off c.args.old.now c.args.state.now x.name.bytes) c.as_slice-output-items.result.now c.args.new.now.outputs c.loop-output.output-index c.output-item.result c.args.kept.now c.loop-output.kept
-          c.as_slice-output-items.ensures c.loop-output-test.true c.output-item.is (sym c.is_output_off.ensures ∙ w.if-is_output_off.false) c.loop-output.invariant
+          ∙ carried_off (λ (x : OutputPlan). Output x.panel x.number true)
+          (λ (x : OutputPlan). output_was_off c.args.old.now c.args.state.now x.name.bytes) c.as_slice-output-items.result.now
+          c.args.new.now.outputs c.loop-output.output-index c.output-item.result c.args.kept.now c.loop-output.kept
+          c.as_slice-output-items.ensures c.loop-output-test.true c.output-item.is (sym c.is_output_off.ensures ∙ w.if-is_output_off.false)
+          c.loop-output.invariant
     ]

@@ -8,4 +8,7 @@ use Rattle.site_types.proofs.carry_over.carry_outputs.Given as goal
 
 abbrev pub invariant-loop-output : goal.invariant-loop-output
 invariant-loop-output l =
-    l.kept ≡ changed_by (map (λ (x : OutputPlan). Output x.panel x.number true) (filter (λ (x : OutputPlan). output_was_off l.old l.state x.name.bytes) (take l.output-index l.new.outputs))) l.initial.kept
+    l.kept
+    ≡ changed_by
+    (map (λ (x : OutputPlan). Output x.panel x.number true)
+    (filter (λ (x : OutputPlan). output_was_off l.old l.state x.name.bytes) (take l.output-index l.new.outputs))) l.initial.kept

@@ -11,10 +11,16 @@ loop-point-preserved c =
     elim c.if-is_point_off.branch [
       | then-is_point_off w ↦
           w.kept-is
-          ∙ carried_on (λ (x : PointPlan). Point x.panel x.line x.address true) (λ (x : PointPlan). point_was_off c.args.old.now c.args.state.now x.name.bytes) c.as_slice-point-items.result.now c.args.new.now.points c.loop-point.point-index c.point-item.result c.args.kept.now c.loop-point.kept w.apply.new.self
-          c.as_slice-point-items.ensures c.loop-point-test.true c.point-item.is (sym c.is_point_off.ensures ∙ w.if-is_point_off.true) c.loop-point.invariant w.apply.ensures
+          ∙ carried_on (λ (x : PointPlan). Point x.panel x.line x.address true)
+          (λ (x : PointPlan). point_was_off c.args.old.now c.args.state.now x.name.bytes) c.as_slice-point-items.result.now c.args.new.now.points
+          c.loop-point.point-index c.point-item.result c.args.kept.now c.loop-point.kept w.apply.new.self
+          c.as_slice-point-items.ensures c.loop-point-test.true c.point-item.is (sym c.is_point_off.ensures ∙ w.if-is_point_off.true)
+          c.loop-point.invariant w.apply.ensures
       | else-is_point_off w ↦
           w.kept-is
-          ∙ carried_off (λ (x : PointPlan). Point x.panel x.line x.address true) (λ (x : PointPlan). point_was_off c.args.old.now c.args.state.now x.name.bytes) c.as_slice-point-items.result.now c.args.new.now.points c.loop-point.point-index c.point-item.result c.args.kept.now c.loop-point.kept
-          c.as_slice-point-items.ensures c.loop-point-test.true c.point-item.is (sym c.is_point_off.ensures ∙ w.if-is_point_off.false) c.loop-point.invariant
+          ∙ carried_off (λ (x : PointPlan). Point x.panel x.line x.address true)
+          (λ (x : PointPlan). point_was_off c.args.old.now c.args.state.now x.name.bytes) c.as_slice-point-items.result.now c.args.new.now.points
+          c.loop-point.point-index c.point-item.result c.args.kept.now c.loop-point.kept
+          c.as_slice-point-items.ensures c.loop-point-test.true c.point-item.is (sym c.is_point_off.ensures ∙ w.if-is_point_off.false)
+          c.loop-point.invariant
     ]

@@ -11,10 +11,16 @@ loop-zone-preserved c =
     elim c.if-is_zone_tested.branch [
       | then-is_zone_tested w ↦
           w.kept-is
-          ∙ carried_on (λ (x : ZonePlan). Test x.panel x.number true) (λ (x : ZonePlan). zone_was_tested c.args.old.now c.args.state.now x.name.bytes) c.as_slice-zone-items.result.now c.args.new.now.zones c.loop-zone.zone-index c.zone-item.result c.args.kept.now c.loop-zone.kept w.apply.new.self
-          c.as_slice-zone-items.ensures c.loop-zone-test.true c.zone-item.is (sym c.is_zone_tested.ensures ∙ w.if-is_zone_tested.true) c.loop-zone.invariant w.apply.ensures
+          ∙ carried_on (λ (x : ZonePlan). Test x.panel x.number true) (λ (x : ZonePlan). zone_was_tested c.args.old.now c.args.state.now x.name.bytes)
+          c.as_slice-zone-items.result.now c.args.new.now.zones c.loop-zone.zone-index c.zone-item.result c.args.kept.now c.loop-zone.kept
+          w.apply.new.self
+          c.as_slice-zone-items.ensures c.loop-zone-test.true c.zone-item.is (sym c.is_zone_tested.ensures ∙ w.if-is_zone_tested.true)
+          c.loop-zone.invariant w.apply.ensures
       | else-is_zone_tested w ↦
           w.kept-is
-          ∙ carried_off (λ (x : ZonePlan). Test x.panel x.number true) (λ (x : ZonePlan). zone_was_tested c.args.old.now c.args.state.now x.name.bytes) c.as_slice-zone-items.result.now c.args.new.now.zones c.loop-zone.zone-index c.zone-item.result c.args.kept.now c.loop-zone.kept
-          c.as_slice-zone-items.ensures c.loop-zone-test.true c.zone-item.is (sym c.is_zone_tested.ensures ∙ w.if-is_zone_tested.false) c.loop-zone.invariant
+          ∙ carried_off (λ (x : ZonePlan). Test x.panel x.number true)
+          (λ (x : ZonePlan). zone_was_tested c.args.old.now c.args.state.now x.name.bytes) c.as_slice-zone-items.result.now c.args.new.now.zones
+          c.loop-zone.zone-index c.zone-item.result c.args.kept.now c.loop-zone.kept
+          c.as_slice-zone-items.ensures c.loop-zone-test.true c.zone-item.is (sym c.is_zone_tested.ensures ∙ w.if-is_zone_tested.false)
+          c.loop-zone.invariant
     ]

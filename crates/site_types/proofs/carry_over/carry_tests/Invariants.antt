@@ -8,4 +8,7 @@ use Rattle.site_types.proofs.carry_over.carry_tests.Given as goal
 
 abbrev pub invariant-loop-zone : goal.invariant-loop-zone
 invariant-loop-zone l =
-    l.kept ≡ changed_by (map (λ (x : ZonePlan). Test x.panel x.number true) (filter (λ (x : ZonePlan). zone_was_tested l.old l.state x.name.bytes) (take l.zone-index l.new.zones))) l.initial.kept
+    l.kept
+    ≡ changed_by
+    (map (λ (x : ZonePlan). Test x.panel x.number true)
+    (filter (λ (x : ZonePlan). zone_was_tested l.old l.state x.name.bytes) (take l.zone-index l.new.zones))) l.initial.kept

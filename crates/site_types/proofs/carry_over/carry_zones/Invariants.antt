@@ -8,4 +8,7 @@ use Rattle.site_types.proofs.carry_over.carry_zones.Given as goal
 
 abbrev pub invariant-loop-zone : goal.invariant-loop-zone
 invariant-loop-zone l =
-    l.kept ≡ changed_by (map (λ (x : ZonePlan). Zone x.panel x.number true) (filter (λ (x : ZonePlan). zone_was_off l.old l.state x.name.bytes) (take l.zone-index l.new.zones))) l.initial.kept
+    l.kept
+    ≡ changed_by
+    (map (λ (x : ZonePlan). Zone x.panel x.number true)
+    (filter (λ (x : ZonePlan). zone_was_off l.old l.state x.name.bytes) (take l.zone-index l.new.zones))) l.initial.kept

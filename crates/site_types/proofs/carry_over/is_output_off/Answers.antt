@@ -11,7 +11,8 @@ use Rattle.site_types.proofs.Places.{places_of}
 use Rattle.site_types.proofs.carry_over.is_output_off.Goals as goal
 
 -- what stands at the place
-output_there : (site : Site) (place : ℕ) (found : Option (Bor OutputPlan)) (x : Bor OutputPlan) → option_copied found ≡ slice_get site.outputs place → found ≡ Some x → slice_get site.outputs place ≡ Some x.now
+output_there : (site : Site) (place : ℕ) (found : Option (Bor OutputPlan)) (x : Bor OutputPlan) → option_copied found ≡ slice_get site.outputs place
+    → found ≡ Some x → slice_get site.outputs place ≡ Some x.now
 output_there site place found x is e = sym is ∙ ap option_copied e
 
 pub returns-in_default : goal.returns-in_default
@@ -33,24 +34,34 @@ returns-in_default-get c =
     (sym c.find.ensures ∙ c.in-Some.is ∙ ap Some c.in-Output.is) (sym c.get.ensures ∙ ap option_copied c.in_default-get.is))
 
 pub overflow_sub-output : goal.overflow_sub-output
-overflow_sub-output c = ((places_of c.args.old.now c.requires).output c.in-Output.place c.in-Some-get.output.now (output_there c.args.old.now c.in-Output.place c.get.result c.in-Some-get.output c.get.ensures c.in-Some-get.is)).0.0
+overflow_sub-output c =
+    ((places_of c.args.old.now c.requires).output c.in-Output.place c.in-Some-get.output.now
+    (output_there c.args.old.now c.in-Output.place c.get.result c.in-Some-get.output c.get.ensures c.in-Some-get.is)).0.0
 
 pub bounds-state-output : goal.bounds-state-output
 bounds-state-output c =
-    let at = (places_of c.args.old.now c.requires).output c.in-Output.place c.in-Some-get.output.now (output_there c.args.old.now c.in-Output.place c.get.result c.in-Some-get.output c.get.ensures c.in-Some-get.is) in
+    let at =
+    (places_of c.args.old.now c.requires).output c.in-Output.place c.in-Some-get.output.now
+    (output_there c.args.old.now c.in-Output.place c.get.result c.in-Some-get.output c.get.ensures c.in-Some-get.is) in
     omega (arith, at.0.0, at.0.1)
 
 pub overflow_sub-output-2 : goal.overflow_sub-output-2
-overflow_sub-output-2 c = ((places_of c.args.old.now c.requires).output c.in-Output.place c.in-Some-get.output.now (output_there c.args.old.now c.in-Output.place c.get.result c.in-Some-get.output c.get.ensures c.in-Some-get.is)).1.0
+overflow_sub-output-2 c =
+    ((places_of c.args.old.now c.requires).output c.in-Output.place c.in-Some-get.output.now
+    (output_there c.args.old.now c.in-Output.place c.get.result c.in-Some-get.output c.get.ensures c.in-Some-get.is)).1.0
 
 pub has_bit_32-requires : goal.has_bit_32-requires
 has_bit_32-requires c =
-    let at = (places_of c.args.old.now c.requires).output c.in-Output.place c.in-Some-get.output.now (output_there c.args.old.now c.in-Output.place c.get.result c.in-Some-get.output c.get.ensures c.in-Some-get.is) in
+    let at =
+    (places_of c.args.old.now c.requires).output c.in-Output.place c.in-Some-get.output.now
+    (output_there c.args.old.now c.in-Output.place c.get.result c.in-Some-get.output c.get.ensures c.in-Some-get.is) in
     omega (arith, at.1.0, at.1.1)
 
 pub returns : goal.returns
 returns c =
     c.has_bit_32.ensures
-    ∙ output_found c.args.old.now c.args.state.now c.as_bytes.result.now c.in-Output.place c.in-Some-get.output.now (thing_named_iff c.args.old.now c.requires.names c.as_bytes.result.now)
-    (sym c.find.ensures ∙ c.in-Some.is ∙ ap Some c.in-Output.is) (output_there c.args.old.now c.in-Output.place c.get.result c.in-Some-get.output c.get.ensures c.in-Some-get.is)
+    ∙ output_found c.args.old.now c.args.state.now c.as_bytes.result.now c.in-Output.place c.in-Some-get.output.now
+    (thing_named_iff c.args.old.now c.requires.names c.as_bytes.result.now)
+    (sym c.find.ensures ∙ c.in-Some.is ∙ ap Some c.in-Output.is)
+    (output_there c.args.old.now c.in-Output.place c.get.result c.in-Some-get.output c.get.ensures c.in-Some-get.is)
     ∙ ap (output_was_off c.args.old.now c.args.state.now) (c.as_bytes.ensures.value ∙ c.as_str.ensures.value)

@@ -11,7 +11,8 @@ use Rattle.site_types.proofs.Places.{places_of}
 use Rattle.site_types.proofs.carry_over.is_point_off.Goals as goal
 
 -- what stands at the place
-point_there : (site : Site) (place : ℕ) (found : Option (Bor PointPlan)) (x : Bor PointPlan) → option_copied found ≡ slice_get site.points place → found ≡ Some x → slice_get site.points place ≡ Some x.now
+point_there : (site : Site) (place : ℕ) (found : Option (Bor PointPlan)) (x : Bor PointPlan) → option_copied found ≡ slice_get site.points place
+    → found ≡ Some x → slice_get site.points place ≡ Some x.now
 point_there site place found x is e = sym is ∙ ap option_copied e
 
 pub returns-in_default : goal.returns-in_default
@@ -33,19 +34,27 @@ returns-in_default-get c =
     (sym c.find.ensures ∙ c.in-Some.is ∙ ap Some c.in-Point.is) (sym c.get.ensures ∙ ap option_copied c.in_default-get.is))
 
 pub overflow_sub-point : goal.overflow_sub-point
-overflow_sub-point c = ((places_of c.args.old.now c.requires).point c.in-Point.place c.in-Some-get.point.now (point_there c.args.old.now c.in-Point.place c.get.result c.in-Some-get.point c.get.ensures c.in-Some-get.is)).0.0
+overflow_sub-point c =
+    ((places_of c.args.old.now c.requires).point c.in-Point.place c.in-Some-get.point.now
+    (point_there c.args.old.now c.in-Point.place c.get.result c.in-Some-get.point c.get.ensures c.in-Some-get.is)).0.0
 
 pub bounds-state-point : goal.bounds-state-point
 bounds-state-point c =
-    let at = (places_of c.args.old.now c.requires).point c.in-Point.place c.in-Some-get.point.now (point_there c.args.old.now c.in-Point.place c.get.result c.in-Some-get.point c.get.ensures c.in-Some-get.is) in
+    let at =
+    (places_of c.args.old.now c.requires).point c.in-Point.place c.in-Some-get.point.now
+    (point_there c.args.old.now c.in-Point.place c.get.result c.in-Some-get.point c.get.ensures c.in-Some-get.is) in
     omega (arith, at.0.0, at.0.1)
 
 pub contains-requires : goal.contains-requires
-contains-requires c = ((places_of c.args.old.now c.requires).point c.in-Point.place c.in-Some-get.point.now (point_there c.args.old.now c.in-Point.place c.get.result c.in-Some-get.point c.get.ensures c.in-Some-get.is)).1
+contains-requires c =
+    ((places_of c.args.old.now c.requires).point c.in-Point.place c.in-Some-get.point.now
+    (point_there c.args.old.now c.in-Point.place c.get.result c.in-Some-get.point c.get.ensures c.in-Some-get.is)).1
 
 pub returns : goal.returns
 returns c =
     c.contains.ensures
-    ∙ point_found c.args.old.now c.args.state.now c.as_bytes.result.now c.in-Point.place c.in-Some-get.point.now (thing_named_iff c.args.old.now c.requires.names c.as_bytes.result.now)
-    (sym c.find.ensures ∙ c.in-Some.is ∙ ap Some c.in-Point.is) (point_there c.args.old.now c.in-Point.place c.get.result c.in-Some-get.point c.get.ensures c.in-Some-get.is)
+    ∙ point_found c.args.old.now c.args.state.now c.as_bytes.result.now c.in-Point.place c.in-Some-get.point.now
+    (thing_named_iff c.args.old.now c.requires.names c.as_bytes.result.now)
+    (sym c.find.ensures ∙ c.in-Some.is ∙ ap Some c.in-Point.is)
+    (point_there c.args.old.now c.in-Point.place c.get.result c.in-Some-get.point c.get.ensures c.in-Some-get.is)
     ∙ ap (point_was_off c.args.old.now c.args.state.now) (c.as_bytes.ensures.value ∙ c.as_str.ensures.value)

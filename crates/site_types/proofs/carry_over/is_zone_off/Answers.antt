@@ -11,7 +11,8 @@ use Rattle.site_types.proofs.Places.{places_of}
 use Rattle.site_types.proofs.carry_over.is_zone_off.Goals as goal
 
 -- what stands at the place
-zone_there : (site : Site) (place : ℕ) (found : Option (Bor ZonePlan)) (x : Bor ZonePlan) → option_copied found ≡ slice_get site.zones place → found ≡ Some x → slice_get site.zones place ≡ Some x.now
+zone_there : (site : Site) (place : ℕ) (found : Option (Bor ZonePlan)) (x : Bor ZonePlan) → option_copied found ≡ slice_get site.zones place
+    → found ≡ Some x → slice_get site.zones place ≡ Some x.now
 zone_there site place found x is e = sym is ∙ ap option_copied e
 
 pub returns-in_default : goal.returns-in_default
@@ -33,24 +34,34 @@ returns-in_default-get c =
     (sym c.find.ensures ∙ c.in-Some.is ∙ ap Some c.in-Zone.is) (sym c.get.ensures ∙ ap option_copied c.in_default-get.is))
 
 pub overflow_sub-zone : goal.overflow_sub-zone
-overflow_sub-zone c = ((places_of c.args.old.now c.requires).zone c.in-Zone.place c.in-Some-get.zone.now (zone_there c.args.old.now c.in-Zone.place c.get.result c.in-Some-get.zone c.get.ensures c.in-Some-get.is)).0.0
+overflow_sub-zone c =
+    ((places_of c.args.old.now c.requires).zone c.in-Zone.place c.in-Some-get.zone.now
+    (zone_there c.args.old.now c.in-Zone.place c.get.result c.in-Some-get.zone c.get.ensures c.in-Some-get.is)).0.0
 
 pub bounds-state-zone : goal.bounds-state-zone
 bounds-state-zone c =
-    let at = (places_of c.args.old.now c.requires).zone c.in-Zone.place c.in-Some-get.zone.now (zone_there c.args.old.now c.in-Zone.place c.get.result c.in-Some-get.zone c.get.ensures c.in-Some-get.is) in
+    let at =
+    (places_of c.args.old.now c.requires).zone c.in-Zone.place c.in-Some-get.zone.now
+    (zone_there c.args.old.now c.in-Zone.place c.get.result c.in-Some-get.zone c.get.ensures c.in-Some-get.is) in
     omega (arith, at.0.0, at.0.1)
 
 pub overflow_sub-zone-2 : goal.overflow_sub-zone-2
-overflow_sub-zone-2 c = ((places_of c.args.old.now c.requires).zone c.in-Zone.place c.in-Some-get.zone.now (zone_there c.args.old.now c.in-Zone.place c.get.result c.in-Some-get.zone c.get.ensures c.in-Some-get.is)).1.0
+overflow_sub-zone-2 c =
+    ((places_of c.args.old.now c.requires).zone c.in-Zone.place c.in-Some-get.zone.now
+    (zone_there c.args.old.now c.in-Zone.place c.get.result c.in-Some-get.zone c.get.ensures c.in-Some-get.is)).1.0
 
 pub has_bit_32-requires : goal.has_bit_32-requires
 has_bit_32-requires c =
-    let at = (places_of c.args.old.now c.requires).zone c.in-Zone.place c.in-Some-get.zone.now (zone_there c.args.old.now c.in-Zone.place c.get.result c.in-Some-get.zone c.get.ensures c.in-Some-get.is) in
+    let at =
+    (places_of c.args.old.now c.requires).zone c.in-Zone.place c.in-Some-get.zone.now
+    (zone_there c.args.old.now c.in-Zone.place c.get.result c.in-Some-get.zone c.get.ensures c.in-Some-get.is) in
     omega (arith, at.1.0, at.1.1)
 
 pub returns : goal.returns
 returns c =
     c.has_bit_32.ensures
-    ∙ zone_found c.args.old.now c.args.state.now c.as_bytes.result.now c.in-Zone.place c.in-Some-get.zone.now (thing_named_iff c.args.old.now c.requires.names c.as_bytes.result.now)
-    (sym c.find.ensures ∙ c.in-Some.is ∙ ap Some c.in-Zone.is) (zone_there c.args.old.now c.in-Zone.place c.get.result c.in-Some-get.zone c.get.ensures c.in-Some-get.is)
+    ∙ zone_found c.args.old.now c.args.state.now c.as_bytes.result.now c.in-Zone.place c.in-Some-get.zone.now
+    (thing_named_iff c.args.old.now c.requires.names c.as_bytes.result.now)
+    (sym c.find.ensures ∙ c.in-Some.is ∙ ap Some c.in-Zone.is)
+    (zone_there c.args.old.now c.in-Zone.place c.get.result c.in-Some-get.zone c.get.ensures c.in-Some-get.is)
     ∙ ap (zone_was_off c.args.old.now c.args.state.now) (c.as_bytes.ensures.value ∙ c.as_str.ensures.value)

@@ -6,4 +6,6 @@ use Rattle.site_types.specs.declared.named.Named.{Named}
 use Rattle.site_types.proofs.lookup.search.Goals as goal
 
 pub returns-clause-position : goal.returns-clause-position
-returns-clause-position c = c.binary_search_by.ensures.position (λ (named : Named). slice_cmp nat_cmp named.name.bytes c.args.name.now) (always_returns_same _ _ _ (λ a r f called. (search rules, search rules)))
+returns-clause-position c =
+    c.binary_search_by.ensures.position (λ (named : Named). slice_cmp nat_cmp named.name.bytes c.args.name.now)
+    (always_returns_same _ _ _ (λ a r f called. (search rules, search rules)))

@@ -29,6 +29,9 @@ loop-place-preserved c =
     record {
       size = grind (arith, common_steps, size);
       same = λ m. same_placed placed order x (omega (arith, size, few, within)) c.loop-place.invariant.same m ∙ sym (ap (is_among m) pushed);
-      once = subst (IsDistinct (λ a b. a == b)) (sym pushed) (still_once placed order x c.loop-place.invariant.same c.loop-place.invariant.once next.fresh);
-      rising = subst (IsRising site) (sym pushed) (still_rising site placed order x c.loop-place.invariant.same c.loop-place.invariant.rising next.ready);
+      once =
+          subst (IsDistinct (λ a b. a == b)) (sym pushed)
+          (still_once placed order x c.loop-place.invariant.same c.loop-place.invariant.once next.fresh);
+      rising =
+          subst (IsRising site) (sym pushed) (still_rising site placed order x c.loop-place.invariant.same c.loop-place.invariant.rising next.ready);
     }

@@ -10,7 +10,8 @@ abbrev pub invariant-loop-marker : goal.invariant-loop-marker
 invariant-loop-marker g l = record {
   size : length l.values.marker ≡ 256;
   marks : length l.marks ≡ 256;
-  carried : (site : Site) → IsPlanOf site l.self → IsSolution site l.fn.before (values_of l.initial.values) → AreCarried site l.fn.before l.fn.after l.self.order l.marker-index l.values.marker;
+  carried : (site : Site) → IsPlanOf site l.self → IsSolution site l.fn.before (values_of l.initial.values)
+      → AreCarried site l.fn.before l.fn.after l.self.order l.marker-index l.values.marker;
   marked : (site : Site) → IsPlanOf site l.self → AreMarked site l.fn.before l.fn.after l.self.order l.marker-index l.marks;
   evaluated : (site : Site) → IsPlanOf site l.self → AreEvaluated site l.fn.before l.fn.after l.self.order l.marker-index l.initial.steps l.steps;
 }

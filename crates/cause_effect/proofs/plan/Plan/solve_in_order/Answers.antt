@@ -18,10 +18,12 @@ loop-marker-preserved g c =
     record {
       size = (let size = c.loop-marker.invariant.size in grind (arith, common_steps, size));
       known = λ site is. solved_on site c.args.facts.now c.args.self.now.order items c.loop-marker.values.marker k c.evaluate-value.result
-          c.as_slice-marker-items.ensures is.order c.loop-marker-test.true (omega (arith, fit)) c.loop-marker.invariant.size (c.loop-marker.invariant.known site is) (c.evaluate-value.ensures.equation site is.table);
+          c.as_slice-marker-items.ensures is.order c.loop-marker-test.true (omega (arith, fit)) c.loop-marker.invariant.size
+          (c.loop-marker.invariant.known site is) (c.evaluate-value.ensures.equation site is.table);
     }
 
 pub returns : goal.returns
 returns g c site is =
     all_solved site c.args.facts.now c.args.self.now.order c.loop-marker.marker-index c.loop-marker.values.marker is.order
-    (subst (λ xs. length xs ≤ c.loop-marker.marker-index) c.as_slice-marker-items.ensures c.loop-marker-test.false) (c.loop-marker.invariant.known site is)
+    (subst (λ xs. length xs ≤ c.loop-marker.marker-index) c.as_slice-marker-items.ensures c.loop-marker-test.false)
+    (c.loop-marker.invariant.known site is)

@@ -9,5 +9,6 @@ use Rattle.cause_effect.proofs.plan.Plan.solve_in_order.Given as goal
 abbrev pub invariant-loop-marker : goal.invariant-loop-marker
 invariant-loop-marker g l = record {
   size : length l.values.marker ≡ 256;
-  known : (site : Site) → IsPlanOf site l.self → (m : ℕ) → values_of l.values m ≡ (is_among m (take l.marker-index l.self.order) && the_values site l.facts m);
+  known : (site : Site) → IsPlanOf site l.self → (m : ℕ)
+      → values_of l.values m ≡ (is_among m (take l.marker-index l.self.order) && the_values site l.facts m);
 }

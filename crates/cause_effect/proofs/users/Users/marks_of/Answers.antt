@@ -1,6 +1,7 @@
 use Rattle.std.proofs.Common.{◌≡◌, ◌||◌, sym, ap, ◌∙◌, arith}
-use Rattle.cause_effect.specs.Users.{any_below, uses_panel, uses_word}
-use Rattle.cause_effect.proofs.Marking.{below_none, facts_mark, panel_more}
+use Rattle.cause_effect.specs.Users.{uses_word}
+use Rattle.site_types.specs.Bits.{any_below}
+use Rattle.cause_effect.proofs.Marking.{below_none, facts_mark, panel_more, uses_panel}
 use Rattle.cause_effect.proofs.Solving.{none_true}
 use Rattle.cause_effect.proofs.users.Users.marks_of.Goals as goal
 
@@ -21,5 +22,6 @@ returns-clause-marks c site valid users m small =
     let before = c.args.before.now in
     let after = c.args.after.now in
     c.mark_word-2.ensures m small ∙
-    (ap (λ b. b || uses_word lists 768 before.faults after.faults m) (c.loop-panel.invariant m small ∙ ap (λ n. any_below n (uses_panel lists before after m)) whole) ∙
+    (ap (λ b. b || uses_word lists 768 before.faults after.faults m)
+    (c.loop-panel.invariant m small ∙ ap (λ n. any_below n (uses_panel lists before after m)) whole) ∙
     facts_mark site valid lists before after m users)

@@ -1,5 +1,7 @@
 use Rattle.std.proofs.Common.{◌≡◌, ◌<◌, ℕ}
-use Rattle.cause_effect.specs.Users.{any_below, is_marked, uses_panel}
+use Rattle.cause_effect.specs.Users.{is_marked}
+use Rattle.cause_effect.proofs.Marking.{uses_panel}
+use Rattle.site_types.specs.Bits.{any_below}
 use Rattle.cause_effect.proofs.users.Users.marks_of.Given as goal
 
 abbrev pub invariant-loop-panel : goal.invariant-loop-panel

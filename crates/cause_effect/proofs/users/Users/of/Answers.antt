@@ -24,18 +24,22 @@ loop-place-preserved c =
     let items = c.as_slice-marker-items.result.now in
     let marker = c.marker-item.result in
     let at : slice_get site.markers k ≡ Some marker =
-    ap (λ xs. slice_get xs k) (sym c.as_slice-marker-items.ensures) ∙ (slice_get-get_or items k marker c.loop-place-test.true ∙ ap Some (sym c.marker-item.is)) in
+    ap (λ xs. slice_get xs k) (sym c.as_slice-marker-items.ensures) ∙
+    (slice_get-get_or items k marker c.loop-place-test.true ∙ ap Some (sym c.marker-item.is)) in
     record {
       size = ap length whole ∙ size;
       users = subst (AreUsersUpTo site (k + 1)) (sym whole)
           (users_next site k marker c.loop-place.lists.items c.add_terms.new.lists at c.loop-place.invariant.users
           (λ place m. c.in_ok-add_terms.ensures.users place m ∙
-          (ap (λ lists. is_among m (users_at lists place) || ((m == k) && list_any (looks_at site place) c.as_slice.result.now)) c.deref_mut.ensures.value ∙
-          ap (λ terms. is_among m (users_at c.loop-place.lists.items place) || ((m == k) && list_any (looks_at site place) terms)) c.as_slice.ensures)));
+          (ap (λ lists. is_among m (users_at lists place) || ((m == k) && list_any (looks_at site place) c.as_slice.result.now))
+          c.deref_mut.ensures.value ∙
+          ap (λ terms. is_among m (users_at c.loop-place.lists.items place) || ((m == k) && list_any (looks_at site place) terms))
+          c.as_slice.ensures)));
     }
 
 pub returns : goal.returns
 returns c place m =
     let rows = c.as_slice-marker-items.ensures in
     let done : length c.args.site.now.markers ≤ c.loop-place.place = subst (λ xs. length xs ≤ c.loop-place.place) rows c.loop-place-test.false in
-    ap (λ lists. is_among m (users_at lists place)) c.from_vec.ensures ∙ users_all c.args.site.now c.loop-place.place c.loop-place.lists.items done c.loop-place.invariant.users place m
+    ap (λ lists. is_among m (users_at lists place)) c.from_vec.ensures ∙ users_all c.args.site.now c.loop-place.place c.loop-place.lists.items done
+    c.loop-place.invariant.users place m

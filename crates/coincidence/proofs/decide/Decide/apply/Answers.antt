@@ -10,7 +10,8 @@ pub set_test-requires : goal.set_test-requires
 set_test-requires c =
     let zone = c.in-Test.zone in
     let q : CanApply c.args.self.now (Test zone) c.args.at.0 = subst (λ o. CanApply c.args.self.now o c.args.at.0) c.in-Test.is c.requires in
-    (zone_since q.stands (Test zone) c.args.at q.may zone (own_zone q.site q.panel zone q.may.own) c.index_mut-in-Test.result.now c.index_mut-in-Test.ensures.value).1 (same_place zone)
+    (zone_since q.stands (Test zone) c.args.at q.may zone (own_zone q.site q.panel zone q.may.own) c.index_mut-in-Test.result.now
+    c.index_mut-in-Test.ensures.value).1 (same_place zone)
 
 pub index_mut-requires-in-Untest : goal.index_mut-requires-in-Untest
 index_mut-requires-in-Untest c =
@@ -22,22 +23,27 @@ pub set_test-requires-in-Untest : goal.set_test-requires-in-Untest
 set_test-requires-in-Untest c =
     let zone = c.in-Untest.zone in
     let q : CanApply c.args.self.now (Untest zone) c.args.at.0 = subst (λ o. CanApply c.args.self.now o c.args.at.0) c.in-Untest.is c.requires in
-    (zone_since q.stands (Untest zone) c.args.at q.may zone (own_zone q.site q.panel zone q.may.own) c.index_mut-in-Untest.result.now c.index_mut-in-Untest.ensures.value).1 (same_place zone)
+    (zone_since q.stands (Untest zone) c.args.at q.may zone (own_zone q.site q.panel zone q.may.own) c.index_mut-in-Untest.result.now
+    c.index_mut-in-Untest.ensures.value).1 (same_place zone)
 
 pub returns-in-Reset : goal.returns-in-Reset
-returns-in-Reset c site kept panel done taken stands may = reset_stands stands c.args.at c.args.operation.now c.raise.new.self c.in-Reset.is c.raise.ensures may
+returns-in-Reset c site kept panel done taken stands may =
+    reset_stands stands c.args.at c.args.operation.now c.raise.new.self c.in-Reset.is c.raise.ensures may
 
 pub returns-in-Cancel : goal.returns-in-Cancel
 returns-in-Cancel c site kept panel done taken stands may =
-    cancel_stands stands c.args.at c.args.operation.now c.in-Cancel.zone c.index_mut.result.now c.cancel.new.self c.in-Cancel.is c.index_mut.ensures.value c.cancel.ensures may
+    cancel_stands stands c.args.at c.args.operation.now c.in-Cancel.zone c.index_mut.result.now c.cancel.new.self c.in-Cancel.is
+    c.index_mut.ensures.value c.cancel.ensures may
 
 pub returns-in-Test : goal.returns-in-Test
 returns-in-Test c site kept panel done taken stands may =
-    test_stands stands c.args.at c.args.operation.now c.in-Test.zone c.index_mut-in-Test.result.now c.set_test.new.self c.in-Test.is c.index_mut-in-Test.ensures.value c.set_test.ensures may
+    test_stands stands c.args.at c.args.operation.now c.in-Test.zone c.index_mut-in-Test.result.now c.set_test.new.self c.in-Test.is
+    c.index_mut-in-Test.ensures.value c.set_test.ensures may
 
 pub returns-in-Untest : goal.returns-in-Untest
 returns-in-Untest c site kept panel done taken stands may =
-    untest_stands stands c.args.at c.args.operation.now c.in-Untest.zone c.index_mut-in-Untest.result.now c.set_test-in-Untest.new.self c.in-Untest.is c.index_mut-in-Untest.ensures.value c.set_test-in-Untest.ensures may
+    untest_stands stands c.args.at c.args.operation.now c.in-Untest.zone c.index_mut-in-Untest.result.now c.set_test-in-Untest.new.self c.in-Untest.is
+    c.index_mut-in-Untest.ensures.value c.set_test-in-Untest.ensures may
 
 pub returns-in-Disable : goal.returns-in-Disable
 returns-in-Disable c site kept panel done taken stands may =

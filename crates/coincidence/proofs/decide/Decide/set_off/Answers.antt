@@ -9,30 +9,38 @@ pub set_off-requires : goal.set_off-requires
 set_off-requires c =
     let off = c.args.off in
     let point = c.in-Point.point in
-    let q : CanApply c.args.self.now (off_operation off (Point point)) c.args.at.0 = subst (λ i. CanApply c.args.self.now (off_operation off i) c.args.at.0) c.in-Point.is c.requires in
-    point_since q.stands (off_operation off (Point point)) c.args.at q.may point (own_point_off q.site q.panel off point q.may.own) c.index_mut.result.now c.index_mut.ensures.value (on_point_off c.args.at q.panel off point)
+    let q : CanApply c.args.self.now (off_operation off (Point point)) c.args.at.0 =
+    subst (λ i. CanApply c.args.self.now (off_operation off i) c.args.at.0) c.in-Point.is c.requires in
+    point_since q.stands (off_operation off (Point point)) c.args.at q.may point (own_point_off q.site q.panel off point q.may.own)
+    c.index_mut.result.now c.index_mut.ensures.value (on_point_off c.args.at q.panel off point)
 
 pub index_mut-requires-in-Zone : goal.index_mut-requires-in-Zone
 index_mut-requires-in-Zone c =
     let off = c.args.off in
     let zone = c.in-Zone.zone in
-    let q : CanApply c.args.self.now (off_operation off (Zone zone)) c.args.at.0 = subst (λ i. CanApply c.args.self.now (off_operation off i) c.args.at.0) c.in-Zone.is c.requires in
+    let q : CanApply c.args.self.now (off_operation off (Zone zone)) c.args.at.0 =
+    subst (λ i. CanApply c.args.self.now (off_operation off i) c.args.at.0) c.in-Zone.is c.requires in
     subst (λ n. zone < n) (sym c.args.self.now.zones.ok.0) (own_small q.stands c.args.at zone (own_zone_off q.site q.panel off zone q.may.own))
 
 pub set_off-requires-in-Zone : goal.set_off-requires-in-Zone
 set_off-requires-in-Zone c =
     let off = c.args.off in
     let zone = c.in-Zone.zone in
-    let q : CanApply c.args.self.now (off_operation off (Zone zone)) c.args.at.0 = subst (λ i. CanApply c.args.self.now (off_operation off i) c.args.at.0) c.in-Zone.is c.requires in
-    (zone_since q.stands (off_operation off (Zone zone)) c.args.at q.may zone (own_zone_off q.site q.panel off zone q.may.own) c.index_mut-in-Zone.result.now c.index_mut-in-Zone.ensures.value).0 (on_zone_off c.args.at q.panel off zone)
+    let q : CanApply c.args.self.now (off_operation off (Zone zone)) c.args.at.0 =
+    subst (λ i. CanApply c.args.self.now (off_operation off i) c.args.at.0) c.in-Zone.is c.requires in
+    (zone_since q.stands (off_operation off (Zone zone)) c.args.at q.may zone (own_zone_off q.site q.panel off zone q.may.own)
+    c.index_mut-in-Zone.result.now c.index_mut-in-Zone.ensures.value).0 (on_zone_off c.args.at q.panel off zone)
 
 pub returns-in-Point : goal.returns-in-Point
 returns-in-Point c site kept panel done taken stands may =
-    point_off_stands stands c.args.at c.args.off c.args.item.now c.in-Point.point c.index_mut.result.now c.set_off.new.self c.in-Point.is c.index_mut.ensures.value c.set_off.ensures may
+    point_off_stands stands c.args.at c.args.off c.args.item.now c.in-Point.point c.index_mut.result.now c.set_off.new.self c.in-Point.is
+    c.index_mut.ensures.value c.set_off.ensures may
 
 pub returns-in-Zone : goal.returns-in-Zone
 returns-in-Zone c site kept panel done taken stands may =
-    zone_off_stands stands c.args.at c.args.off c.args.item.now c.in-Zone.zone c.index_mut-in-Zone.result.now c.set_off-in-Zone.new.self c.in-Zone.is c.index_mut-in-Zone.ensures.value c.set_off-in-Zone.ensures may
+    zone_off_stands stands c.args.at c.args.off c.args.item.now c.in-Zone.zone c.index_mut-in-Zone.result.now c.set_off-in-Zone.new.self c.in-Zone.is
+    c.index_mut-in-Zone.ensures.value c.set_off-in-Zone.ensures may
 
 pub returns-in-Output : goal.returns-in-Output
-returns-in-Output c site kept panel done taken stands may = output_off_stands stands c.args.at c.args.off c.args.item.now c.in-Output.field-0 c.in-Output.is may
+returns-in-Output c site kept panel done taken stands may =
+    output_off_stands stands c.args.at c.args.off c.args.item.now c.in-Output.field-0 c.in-Output.is may

@@ -18,4 +18,5 @@ find-requires c =
 
 pub returns-clause-found : goal.returns-clause-found
 returns-clause-found c site kept panel done taken stands may =
-    c.find.ensures site kept panel done taken (c.note.ensures site kept panel done taken stands may) (fits_last site kept panel done taken c.args.answer.now may)
+    c.find.ensures site kept panel done taken (c.note.ensures site kept panel done taken stands may)
+    (fits_last site kept panel done taken c.args.answer.now may)

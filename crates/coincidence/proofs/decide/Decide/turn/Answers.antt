@@ -32,10 +32,13 @@ loop-answer-preserved c =
     record {
       stands = λ site kept panel done taken stands may.
           subst (λ ys. DecidesFor site kept panel done ys c.take.new.self) (one_more taken xs k _ c.loop-answer-test.true)
-          (c.take.ensures.taken site kept panel done (taken ++ take k xs) (h.stands site kept panel done taken stands may) (may_next site panel done taken xs k _ c.loop-answer-test.true may));
+          (c.take.ensures.taken site kept panel done (taken ++ take k xs) (h.stands site kept panel done taken stands may)
+          (may_next site panel done taken xs k _ c.loop-answer-test.true may));
       found = λ site kept panel done taken stands may.
-          found_more site kept panel done taken xs k _ c.args.findings.now c.loop-answer.findings c.put.new.self c.take.result c.loop-answer-test.true (h.found site kept panel done taken stands may)
-          (c.take.ensures.found site kept panel done (taken ++ take k xs) (h.stands site kept panel done taken stands may) (may_next site panel done taken xs k _ c.loop-answer-test.true may)) put;
+          found_more site kept panel done taken xs k _ c.args.findings.now c.loop-answer.findings c.put.new.self c.take.result c.loop-answer-test.true
+          (h.found site kept panel done taken stands may)
+          (c.take.ensures.found site kept panel done (taken ++ take k xs) (h.stands site kept panel done taken stands may)
+          (may_next site panel done taken xs k _ c.loop-answer-test.true may)) put;
       few = items_more c.loop-answer.findings c.put.new.self c.take.result (length c.args.findings.now.items) k put h.few;
       puts = puts_more c.loop-answer.findings c.put.new.self c.take.result c.args.findings.now.put k put h.puts;
       room = ap (λ (l : LaneState Finding). l.capacity) put ∙ h.room;
@@ -46,4 +49,5 @@ returns-clause-taken c site kept panel done taken stands may =
     let xs = c.as_slice-answer-items.result.now in
     let same : xs ≡ taken_by c.args.answers.now = c.as_slice-answer-items.ensures.value ∙ c.take_turn.ensures.moved in
     subst (λ ys. DecidesFor site kept panel done (taken ++ ys) c.loop-answer.self) same
-    (stands_front site kept panel done taken xs c.loop-answer.answer-index c.loop-answer.self c.loop-answer-test.false (c.loop-answer.invariant.stands site kept panel done taken stands (subst (MayTake site panel done taken) (sym same) may)))
+    (stands_front site kept panel done taken xs c.loop-answer.answer-index c.loop-answer.self c.loop-answer-test.false
+    (c.loop-answer.invariant.stands site kept panel done taken stands (subst (MayTake site panel done taken) (sym same) may)))

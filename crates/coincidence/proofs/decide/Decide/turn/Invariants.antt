@@ -11,9 +11,11 @@ use Rattle.coincidence.proofs.decide.Decide.turn.Given as goal
 
 abbrev pub invariant-loop-answer : goal.invariant-loop-answer
 invariant-loop-answer l = record {
-  stands : (site : Site) (kept : Retained) (panel : ℕ) (done : List Done) (taken : List Answer) → DecidesFor site kept panel done taken l.initial.self → MayTake site panel done taken l.answer-items
+  stands : (site : Site) (kept : Retained) (panel : ℕ) (done : List Done) (taken : List Answer) → DecidesFor site kept panel done taken l.initial.self
+      → MayTake site panel done taken l.answer-items
       → DecidesFor site kept panel done (taken ++ take l.answer-index l.answer-items) l.self;
-  found : (site : Site) (kept : Retained) (panel : ℕ) (done : List Done) (taken : List Answer) → DecidesFor site kept panel done taken l.initial.self → MayTake site panel done taken l.answer-items
+  found : (site : Site) (kept : Retained) (panel : ℕ) (done : List Done) (taken : List Answer) → DecidesFor site kept panel done taken l.initial.self
+      → MayTake site panel done taken l.answer-items
       → l.findings ≡ with_put l.initial.findings (findings_after site kept panel done taken (take l.answer-index l.answer-items));
   few : length l.findings.items ≡ length l.initial.findings.items + l.answer-index;
   puts : l.findings.put ≡ l.initial.findings.put + l.answer-index;

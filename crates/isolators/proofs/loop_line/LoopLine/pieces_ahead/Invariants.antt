@@ -5,4 +5,5 @@ use Rattle.isolators.specs.Stands.{Cables, HoldShorts}
 use Rattle.isolators.proofs.loop_line.LoopLine.pieces_ahead.Given as goal
 
 abbrev pub invariant-loop-piece : goal.invariant-loop-piece
-invariant-loop-piece l = (plan : Plan) (cable : Cable) → Cables plan cable l.self → HoldShorts plan cable l.self.shorted → (piece : ℕ) → piece < l.piece → is_passed plan cable piece ≡ true
+invariant-loop-piece l = (plan : Plan) (cable : Cable) → Cables plan cable l.self → HoldShorts plan cable l.self.shorted → (piece : ℕ)
+    → piece < l.piece → is_passed plan cable piece ≡ true

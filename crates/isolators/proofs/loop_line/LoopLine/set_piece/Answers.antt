@@ -8,4 +8,9 @@ returns c plan cable stands =
     let size : length c.args.self.now.pieces ≡ 256 = omega arith in
     let h = stands.cables in
     c.look.ensures plan (with_piece cable c.args.piece c.args.state)
-    (record { last = h.last; begins = h.begins; pieces = λ k small. told_piece c.args.self.now.pieces cable c.args.piece k c.args.state size small (h.pieces k small) })
+    (record {
+      last = h.last;
+      begins = h.begins;
+      pieces =
+          λ k small. told_piece c.args.self.now.pieces cable c.args.piece k c.args.state size small (h.pieces k small);
+    })

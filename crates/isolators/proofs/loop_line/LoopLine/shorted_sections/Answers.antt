@@ -19,9 +19,14 @@ loop-piece-preserved c =
       known = λ plan cable h place within.
           let known = c.loop-piece.invariant.known plan cable h place within in
           let short : c.match-matches.matches ≡ is_short (cable k) =
-          sym (ap is_short (sym (h.pieces k (omega arith))) ∙ elim c.match-matches.branch [ in-Short v ↦ ap is_short v.in-Short.is ∙ sym v.matches-is | in_default v ↦ not_short _ v.in_default.not-Short ∙ sym v.matches-is ]) in
+          sym (ap is_short (sym (h.pieces k (omega arith))) ∙ elim c.match-matches.branch [
+            | in-Short v ↦ ap is_short v.in-Short.is ∙ sym v.matches-is
+            | in_default v ↦ not_short _ v.in_default.not-Short ∙ sym v.matches-is
+          ]) in
           elim c.if-matches.branch [
-            | then-matches w ↦ rw w.shorted-is (short_here plan cable k place c.loop-piece.shorted known (slice_index c.args.self.now.begins k) (sym short ∙ w.if-matches.true) (h.begins k (omega arith)) (omega arith))
+            | then-matches w ↦
+                rw w.shorted-is (short_here plan cable k place c.loop-piece.shorted known (slice_index c.args.self.now.begins k)
+                (sym short ∙ w.if-matches.true) (h.begins k (omega arith)) (omega arith))
             | else-matches w ↦ rw w.shorted-is (short_not plan cable k place c.loop-piece.shorted known (sym short ∙ w.if-matches.false))
           ];
     }

@@ -9,5 +9,7 @@ use Rattle.isolators.proofs.loop_line.LoopLine.shorted_sections.Given as goal
 abbrev pub invariant-loop-piece : goal.invariant-loop-piece
 invariant-loop-piece l = record {
   size : length l.shorted ≡ 256;
-  known : (plan : Plan) (cable : Cable) → Cables plan cable l.self → (place : ℕ) → place < 256 → slice_index_or l.shorted place false ≡ list_any (λ piece. is_short (cable piece) && (section_of_piece plan.isolators piece == place)) (range_with_len 0 l.piece);
+  known : (plan : Plan) (cable : Cable) → Cables plan cable l.self → (place : ℕ) → place < 256
+      → slice_index_or l.shorted place false ≡ list_any (λ piece. is_short (cable piece) && (section_of_piece plan.isolators piece == place))
+      (range_with_len 0 l.piece);
 }

@@ -2,7 +2,8 @@ use Rattle.std.proofs.Common.{◌≡◌, ◌∙◌, ap, sym, ◌+◌, ◌-◌, �
 use Rattle.std.specs.List.{filter_map, range_with_len}
 use Rattle.tick_units.specs.Lane.{with_put}
 use Rattle.site_types.specs.Profile.{round_of}
-use Rattle.loop_poller.specs.Asked.{answer_from, answer_of, heard_of, is_reached_on, loop_at, point_at}
+use Rattle.loop_poller.specs.Asked.{answer_from, answer_of, heard_of, is_reached_on, point_at}
+use Rattle.site_types.specs.Things.{loop_of}
 use Rattle.loop_poller.proofs.Filling.{read_at}
 use Rattle.loop_poller.proofs.Lanes.{got_more, got_same, put-nil, put_some, put_none}
 use Rattle.loop_poller.proofs.Lines.{nothing_asked, on_loop, point_there}
@@ -13,11 +14,13 @@ use Rattle.loop_poller.proofs.polled_line.PolledLine.ask.Goals.{in-Some, in_defa
 pub bounds-states-point : goal.bounds-states-point
 bounds-states-point c =
     let within : c.loop-address.address - 1 < length c.args.self.now.points.items = omega arith in
-    c.requires.known (c.loop-address.address - 1) c.in-Some.point (read_at c.args.self.now.points.items (c.loop-address.address - 1) c.index.result.now None within c.index.ensures ∙ c.in-Some.is)
+    c.requires.known (c.loop-address.address - 1) c.in-Some.point
+    (read_at c.args.self.now.points.items (c.loop-address.address - 1) c.index.result.now None within c.index.ensures ∙ c.in-Some.is)
 
 pub returns-then-is_none-clause-put : goal.returns-then-is_none-clause-put
 returns-then-is_none-clause-put c site panel line points cables valid stands states from =
-    sym (ap (with_put c.args.answers.now) (nothing_asked site panel line points cables c.args.now.0 c.args.self.now valid stands c.if-is_none.ensures) ∙ put-nil c.args.answers.now)
+    sym (ap (with_put c.args.answers.now) (nothing_asked site panel line points cables c.args.now.0 c.args.self.now valid stands c.if-is_none.ensures)
+    ∙ put-nil c.args.answers.now)
 
 pub loop-address-preserved : goal.loop-address-preserved
 loop-address-preserved c =
@@ -33,13 +36,16 @@ loop-address-preserved c =
           let f = answer_from site panel points cables c.args.now.0 line in
           let so_far = c.loop-address.invariant.put site panel line points cables valid stands states from in
           let span : range_with_len first (address - first) ++ address ∷ [] ≡ range_with_len first (address + 1 - first) =
-          sym (ap (range_with_len first) count ∙ range-more first (address - first) ∙ ap (λ k. range_with_len first (address - first) ++ k ∷ []) (omega arith)) in
+          sym (ap (range_with_len first) count ∙ range-more first (address - first) ∙ ap (λ k. range_with_len first (address - first) ++ k ∷ [])
+          (omega arith)) in
           let within : address - 1 < length c.args.self.now.points.items = omega arith in
           let size = stands.points.size in
           let there : point_at site panel line address ≡ c.index.result.now =
-          sym (stands.points.each address (omega arith) (omega arith)) ∙ read_at c.args.self.now.points.items (address - 1) c.index.result.now None within c.index.ensures in
+          sym (stands.points.each address (omega arith) (omega arith)) ∙ read_at c.args.self.now.points.items (address - 1) c.index.result.now None
+          within c.index.ensures in
           let asked : f address ≡ option_map (answer_of site panel points cables c.args.now.0 line address) c.index.result.now =
-          is_asked_here site panel points cables c.args.now.0 line address (group_of (c.args.now.0 % round_of site.format) first address from (omega arith) (omega arith))
+          is_asked_here site panel points cables c.args.now.0 line address
+          (group_of (c.args.now.0 % round_of site.format) first address from (omega arith) (omega arith))
           ∙ ap (option_map (answer_of site panel points cables c.args.now.0 line address)) there in
           elim c.match-index.branch [
             | in-Some w ↦ (let point = w.in-Some.point in
@@ -47,12 +53,15 @@ loop-address-preserved c =
                 let known = (point_there site panel line address point at).within in
                 let state = states.each point known in
                 let heard = w.heard-heard.ensures site panel line (cables line) stands (on_loop site panel line address point valid at)
-                ∙ ap (λ s. heard_of s (is_reached_on (loop_at site panel line) (cables line) address)) state in
+                ∙ ap (λ s. heard_of s (is_reached_on (loop_of site panel line) (cables line) address)) state in
                 let answer : f address ≡ Some (record { stamp = c.args.now; point = point; heard = w.heard-heard.result }) =
-                asked ∙ ap (option_map (answer_of site panel points cables c.args.now.0 line address)) w.in-Some.is ∙ ap (λ h. Some (record { stamp = c.args.now; point = point; heard = h })) (sym heard) in
+                asked ∙ ap (option_map (answer_of site panel points cables c.args.now.0 line address)) w.in-Some.is ∙ ap
+                (λ h. Some (record { stamp = c.args.now; point = point; heard = h })) (sym heard) in
                 put_some f address (range_with_len first (address - first)) _ _ _ so_far _ answer (w.answers-is ∙ w.put.ensures)
                 ∙ ap (λ places. with_put c.args.answers.now (filter_map f places)) span)
-            | in_default w ↦ put_none f address (range_with_len first (address - first)) _ _ _ so_far (asked ∙ ap (option_map (answer_of site panel points cables c.args.now.0 line address)) w.in_default.is) w.answers-is
+            | in_default w ↦
+                put_none f address (range_with_len first (address - first)) _ _ _ so_far
+                (asked ∙ ap (option_map (answer_of site panel points cables c.args.now.0 line address)) w.in_default.is) w.answers-is
                 ∙ ap (λ places. with_put c.args.answers.now (filter_map f places)) span
           ];
     }

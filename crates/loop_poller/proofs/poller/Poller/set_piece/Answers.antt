@@ -12,6 +12,9 @@ returns c site panel calls stands =
     record {
       valid = stands.valid;
       format = stands.format;
-      lines = told_lines site panel calls c.args.self.now.lines line c.args.piece c.args.state (get_or c.args.self.now.lines (line - 1) c.index-self-line.result) _ stands.lines c.requires.0 is (c.set_piece.ensures site panel line (told_cable calls line));
+      lines =
+          told_lines site panel calls c.args.self.now.lines line c.args.piece c.args.state
+          (get_or c.args.self.now.lines (line - 1) c.index-self-line.result) _ stands.lines c.requires.0 is
+          (c.set_piece.ensures site panel line (told_cable calls line));
       states = record { size = stands.states.size; each = stands.states.each };
     }

@@ -1,12 +1,15 @@
 use Rattle.std.proofs.Common.{◌≡◌, ◌+◌, ◌*◌, ◌%◌, ◌<◌, arith, length, get_or, ap, ◌∙◌, slice_index_or}
 use Rattle.std.proofs.lemmas.Nat.{mod_below}
 use Rattle.std.proofs.lemmas.Option.{slice_get-get_or}
+use Rattle.tick_units.specs.Lane.{LaneState}
+use Rattle.site_types.specs.declared.answer.Answer.{Answer}
 use Rattle.site_types.specs.declared.point_state.PointState.TheVariants.{Quiet}
 use Rattle.site_types.specs.Profile.{round_of}
 use Rattle.loop_poller.specs.Asked.{asked_in, asked_on}
 use Rattle.loop_poller.specs.Calls.{told_cable, told_point}
 use Rattle.loop_poller.proofs.Lanes.{put_line}
 use Rattle.loop_poller.proofs.Lines.{knows_points}
+use Rattle.loop_poller.proofs.Places.{asked_few}
 use Rattle.loop_poller.proofs.poller.Poller.turn.Goals as goal
 
 pub ask-requires-clause-room : goal.ask-requires-clause-room
@@ -45,7 +48,8 @@ loop-line-preserved c =
       put = λ site panel calls stands.
           let line = stands.lines k (get_or lines k c.line-item.result) (slice_get-get_or lines k c.line-item.result (omega arith)) in
           let round : c.round.result ≡ round_of site.format = c.round.ensures ∙ ap round_of stands.format in
-          let from : (c.args.now.0 % c.round.result) * 8 + 1 ≡ 8 * (c.args.now.0 % round_of site.format) + 1 = ap (λ r. (c.args.now.0 % r) * 8 + 1) round ∙ omega arith in
+          let from : (c.args.now.0 % c.round.result) * 8 + 1 ≡ 8 * (c.args.now.0 % round_of site.format) + 1 =
+          ap (λ r. (c.args.now.0 % r) * 8 + 1) round ∙ omega arith in
           put_line (asked_on site panel (told_point calls) (told_cable calls) c.args.now.0) k c.args.answers.now c.loop-line.answers c.ask.new.answers
           (c.loop-line.invariant.put site panel calls stands)
           (c.ask.ensures.put site panel (k + 1) (told_point calls) (told_cable calls) stands.valid line
@@ -56,8 +60,17 @@ loop-line-preserved c =
           from);
     }
 
-pub returns : goal.returns
+pub returns-clause-asked : goal.returns-clause-asked
 unfolding asked_in
-returns c site panel calls stands =
+returns-clause-asked c site panel calls stands =
     let all : c.loop-line.line-index ≡ 4 = omega arith in
     rw all at (c.loop-line.invariant.put site panel calls stands)
+
+pub returns-clause-few : goal.returns-clause-few
+unfolding asked_in
+returns-clause-few c =
+    let some = c.requires.stands in
+    let all : c.loop-line.line-index ≡ 4 = omega arith in
+    let put = rw all at (c.loop-line.invariant.put some.site some.panel some.calls some.stands) in
+    let few = asked_few some.site some.panel (told_point some.calls) (told_cable some.calls) c.args.now.0 some.stands.valid.forms.format.0 in
+    omega (arith, ap (λ (l : LaneState Answer). l.put) put, few)

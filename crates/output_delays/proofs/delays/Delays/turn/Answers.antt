@@ -9,20 +9,23 @@ use Rattle.site_types.proofs.Masks.{mask_from_bits, mask_same}
 use Rattle.output_delays.specs.declared.timer.Timer.{Timer}
 use Rattle.output_delays.specs.Overrides.{last_before}
 use Rattle.output_delays.specs.Runs.{Call, Turned, are_active, is_through, overrides_of}
-use Rattle.output_delays.specs.Stands.{places, timer_of}
+use Rattle.output_delays.specs.Stands.{timer_of}
+use Rattle.site_types.specs.Limits.{output_bits}
 use Rattle.output_delays.specs.Timers.{is_holding, turned_by}
 use Rattle.output_delays.proofs.Bits.{bit_is}
-use Rattle.output_delays.proofs.Listed.{map_found, passes}
+use Rattle.tick_units.proofs.Listed.{map_found, passes}
 use Rattle.output_delays.proofs.Requested.{held_timers, through_is, through_off, timer_turned}
 use Rattle.output_delays.proofs.Steps.{turned_timers, placed_timers}
 use Rattle.output_delays.proofs.delays.Delays.turn.Goals as goal
 
 -- the timers after a turn
-found : (site : Site) (panel : ℕ) (calls : List Call) (now : Tick) (requests : Requests) (items : List Timer) → items ≡ filter_map (timer_of site panel calls) places →
-    map (turned_by now requests.asked) items ≡ filter_map (timer_of site panel (Turned now.0 requests ∷ calls)) places
+found : (site : Site) (panel : ℕ) (calls : List Call) (now : Tick) (requests : Requests) (items : List Timer)
+    → items ≡ filter_map (timer_of site panel calls) output_bits →
+    map (turned_by now requests.asked) items ≡ filter_map (timer_of site panel (Turned now.0 requests ∷ calls)) output_bits
 found site panel calls now requests items is =
     ap (map (turned_by now requests.asked)) is
-    ∙ map_found (turned_by now requests.asked) (timer_of site panel calls) (timer_of site panel (Turned now.0 requests ∷ calls)) places (timer_turned site panel calls now requests)
+    ∙ map_found (turned_by now requests.asked) (timer_of site panel calls) (timer_of site panel (Turned now.0 requests ∷ calls)) output_bits
+    (timer_turned site panel calls now requests)
 
 pub returns-then-self-clause-stands : goal.returns-then-self-clause-stands
 returns-then-self-clause-stands c site panel first calls stands =
@@ -57,13 +60,15 @@ returns-then-self-clause-value c site panel first calls stands up =
     let overridden = c.last_before-overridden.result in
     let held = c.turn_timers-held.result in
     let given : timers ≡ map f items = c.turn_timers-held.ensures.timers ∙ ap (map f) c.as_mut_slice.ensures.value in
-    let all : timers ≡ filter_map (timer_of site panel after) places = given ∙ found site panel calls now requests items stands.timers in
+    let all : timers ≡ filter_map (timer_of site panel after) output_bits = given ∙ found site panel calls now requests items stands.timers in
     let latest : overridden ≡ last_before now.0 (overrides_of calls) = c.last_before-overridden.ensures (overrides_of calls) stands.overrides up in
     let on : are_active first calls ≡ true = sym stands.active ∙ c.if-self.true in
     c.without_32-then-self.ensures
-    ∙ mask_same 32 (λ k. has_bit requests.asked k && not (has_bit c.without_32.result k)) (λ k. is_through site panel first calls now.0 requests (k + 1))
+    ∙ mask_same 32 (λ k. has_bit requests.asked k && not (has_bit c.without_32.result k))
+    (λ k. is_through site panel first calls now.0 requests (k + 1))
     (λ k small.
-    ap (λ b. has_bit requests.asked k && not b) (bit_is c.without_32.result (λ j. has_bit held j && not (has_bit requests.manual j)) c.without_32.ensures k small)
+    ap (λ b. has_bit requests.asked k && not b)
+    (bit_is c.without_32.result (λ j. has_bit held j && not (has_bit requests.manual j)) c.without_32.ensures k small)
     ∙ ap (λ b. has_bit requests.asked k && not (b && not (has_bit requests.manual k)))
     (bit_is held (λ j. list_any (λ timer. (timer.place == j) && is_holding now overridden timer) timers) c.turn_timers-held.ensures.held k small
     ∙ ap (list_any (λ timer. (timer.place == k) && is_holding now overridden timer)) all

@@ -8,8 +8,10 @@ use Rattle.panel_conditions.proofs.hold.Hold.take_all.Given as goal
 
 abbrev pub invariant-loop-finding : goal.invariant-loop-finding
 invariant-loop-finding l = record {
-  watches : (site : Site) (kept : Retained) (panel : ℕ) (done : List Done) (taken : List Finding) → Watches site kept panel done taken l.initial.self →
+  watches : (site : Site) (kept : Retained) (panel : ℕ) (done : List Done) (taken : List Finding)
+      → Watches site kept panel done taken l.initial.self →
       Watches site kept panel done (taken ++ take l.finding-index l.findings) l.self;
-  settled : (site : Site) (kept : Retained) (panel : ℕ) (done : List Done) (taken : List Finding) (tick : ℕ) → Watches site kept panel done taken l.initial.self → Settled tick l.initial.self.zones → Settled tick l.self.zones;
+  settled : (site : Site) (kept : Retained) (panel : ℕ) (done : List Done) (taken : List Finding) (tick : ℕ)
+      → Watches site kept panel done taken l.initial.self → Settled tick l.initial.self.zones → Settled tick l.self.zones;
   kept : TakesFindings l.initial.self l.self;
 }

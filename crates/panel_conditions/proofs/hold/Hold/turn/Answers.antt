@@ -11,8 +11,10 @@ returns-clause-stands c site kept panel done turns h may =
     let before : latest_tick turns ≤ c.args.now.0 = (let later = may.later in omega (arith, later)) in
     let watches = c.take_turn.ensures.watches site kept panel done (findings_taken turns) h.watches in
     let settled = c.take_turn.ensures.settled site kept panel done (findings_taken turns) (latest_tick turns) h.watches h.settled in
-    let stamp : c.take_turn.new.self.shown.word.stamp.0 ≡ latest_tick turns = ap (λ s. s.word.stamp.0) c.take_turn.ensures.kept.shown ∙ shown_in site kept panel done turns c.args.self.now h in
-    holds_turn site kept panel done (record { tick = c.args.now.0; found = found; outside = c.args.outside.now }) turns c.args.self.now c.take_turn.new.self c.show.new.self
+    let stamp : c.take_turn.new.self.shown.word.stamp.0 ≡ latest_tick turns =
+    ap (λ s. s.word.stamp.0) c.take_turn.ensures.kept.shown ∙ shown_in site kept panel done turns c.args.self.now h in
+    holds_turn site kept panel done (record { tick = c.args.now.0; found = found; outside = c.args.outside.now }) turns c.args.self.now
+    c.take_turn.new.self c.show.new.self
     c.show.ensures.fits h may c.take_turn.ensures.kept.shown (c.show.ensures.settled (latest_tick turns) settled before)
     (c.show.ensures.shows site kept panel done (findings_taken turns ++ found) (latest_tick turns) watches settled before may.since
     (stays_taken done c.args.self.now c.take_turn.new.self c.take_turn.ensures.kept h.stays) (omega (arith, stamp, before)))

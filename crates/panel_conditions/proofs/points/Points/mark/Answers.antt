@@ -6,4 +6,6 @@ pub returns-then-place-len-clause-told : goal.returns-then-place-len-clause-told
 returns-then-place-len-clause-told c k b at = marked c.args.self.now.told.items c.args.place k c.args.missing b at
 
 pub returns-else-place-len-clause-told : goal.returns-else-place-len-clause-told
-returns-else-place-len-clause-told c k b at = unmarked c.args.self.now.told.items c.args.place k c.args.missing b (omega (arith, c.len.ensures, c.args.self.now.told.ok.0, c.if-place-len.false)) at
+returns-else-place-len-clause-told c k b at =
+    unmarked c.args.self.now.told.items c.args.place k c.args.missing b
+    (omega (arith, c.len.ensures, c.args.self.now.told.ok.0, c.if-place-len.false)) at

@@ -7,4 +7,5 @@ returns-then-has_told-clause-watches c site kept panel done taken h =
 
 pub returns-clause-watches : goal.returns-clause-watches
 returns-clause-watches c site kept panel done taken h =
-    points_more site kept panel done taken c.args.finding.now c.args.self.now c.put_missing.new.self c.mark.new.self c.put_missing.ensures c.mark.ensures.kept c.mark.ensures.off c.mark.ensures.told h
+    points_more site kept panel done taken c.args.finding.now c.args.self.now c.put_missing.new.self c.mark.new.self c.put_missing.ensures
+    c.mark.ensures.kept c.mark.ensures.off c.mark.ensures.told h

@@ -9,7 +9,8 @@ invariant-loop-k l = record {
   within : l.k ≤ 32;
   fits : l.mask < 2 ^ 32;
   on : l.k < 32 → has_bit l.look l.k ≡ true;
-  bits : (j : ℕ) → j < 32 → has_bit l.mask j ≡ up_to l.k l.look j (watch_shows l.sign l.now.0 (slice_get l.self.watches.items j)) (has_bit l.before j);
+  bits : (j : ℕ) → j < 32
+      → has_bit l.mask j ≡ up_to l.k l.look j (watch_shows l.sign l.now.0 (slice_get l.self.watches.items j)) (has_bit l.before j);
 }
 
 abbrev pub decreases-loop-k : goal.decreases-loop-k

@@ -8,7 +8,9 @@ pub loop-k-init : goal.loop-k-init
 loop-k-init c = record {
   within = c.next_bit-k.ensures.bounds.1;
   on = c.next_bit-k.ensures.set;
-  watches = λ j. up_none c.next_bit-k.result (told_by c.args.finding.now) j _ (slice_get c.args.self.now.watches.items j) (λ i le less. ap (λ m. has_bit m i) (sym c.told-told.ensures) ∙ c.next_bit-k.ensures.none i le less);
+  watches =
+      λ j. up_none c.next_bit-k.result (told_by c.args.finding.now) j _ (slice_get c.args.self.now.watches.items j)
+      (λ i le less. ap (λ m. has_bit m i) (sym c.told-told.ensures) ∙ c.next_bit-k.ensures.none i le less);
   count = refl;
   stirred = refl;
   signs = refl;
@@ -24,7 +26,8 @@ loop-k-preserved c =
       within = c.next_bit-k-in-loop-k.ensures.bounds.1;
       on = c.next_bit-k-in-loop-k.ensures.set;
       watches = λ j.
-          told_more c.loop-k.k c.next_bit-k-in-loop-k.result c.args.finding.now j (slice_get c.args.self.now.watches.items j) (slice_get c.loop-k.self.watches.items j) (slice_get c.take_at.new.self.watches.items j)
+          told_more c.loop-k.k c.next_bit-k-in-loop-k.result c.args.finding.now j (slice_get c.args.self.now.watches.items j)
+          (slice_get c.loop-k.self.watches.items j) (slice_get c.take_at.new.self.watches.items j)
           up on (λ i le less. told i ∙ c.next_bit-k-in-loop-k.ensures.none i le less) (c.loop-k.invariant.watches j) (c.take_at.ensures.watches j);
       count = c.take_at.ensures.count ∙ c.loop-k.invariant.count;
       stirred = c.take_at.ensures.rest.0 ∙ c.loop-k.invariant.stirred;
@@ -35,4 +38,5 @@ loop-k-preserved c =
 pub returns-clause-watches : goal.returns-clause-watches
 returns-clause-watches c numbered k =
     c.loop-k.invariant.watches k
-    ∙ told_all c.loop-k.k c.args.finding.now k (slice_get c.args.self.now.watches.items k) (subst (λ m. m < 2 ^ 32) c.told-told.ensures c.told-told.type_inv) c.loop-k-test.false (λ watch is. numbered k watch is)
+    ∙ told_all c.loop-k.k c.args.finding.now k (slice_get c.args.self.now.watches.items k)
+    (subst (λ m. m < 2 ^ 32) c.told-told.ensures c.told-told.type_inv) c.loop-k-test.false (λ watch is. numbered k watch is)

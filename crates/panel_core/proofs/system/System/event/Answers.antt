@@ -6,10 +6,13 @@ use Rattle.panel_core.proofs.system.System.event.Goals as goal
 pub set_point-requires : goal.set_point-requires
 set_point-requires c =
     let r = c.requires in
-    (point_panel r.site r.kept r.before c.args.self.now c.args.event.now c.in-Point.point c.in-Point.state c.as_slice.result.now c.index-as_slice-point.result c.index_mut-parts.result.now r.stands r.has c.in-Point.is c.as_slice.ensures c.index-as_slice-point.is c.index_mut-parts.ensures.value).within
+    (point_panel r.site r.kept r.before c.args.self.now c.args.event.now c.in-Point.point c.in-Point.state c.as_slice.result.now
+    c.index-as_slice-point.result c.index_mut-parts.result.now r.stands r.has c.in-Point.is c.as_slice.ensures c.index-as_slice-point.is
+    c.index_mut-parts.ensures.value).within
 
 pub overflow_sub-panel-in-Cable : goal.overflow_sub-panel-in-Cable
-overflow_sub-panel-in-Cable c = let r = c.requires in let i = c.in-Cable in (piece_read r.site c.args.event.now i.panel i.line i.piece i.state r.stands.valid r.has i.is).member.0
+overflow_sub-panel-in-Cable c = let r = c.requires in let i = c.in-Cable in
+    (piece_read r.site c.args.event.now i.panel i.line i.piece i.state r.stands.valid r.has i.is).member.0
 
 pub index_mut-parts-requires-in-Cable : goal.index_mut-parts-requires-in-Cable
 index_mut-parts-requires-in-Cable c =
@@ -32,8 +35,11 @@ returns-in-Point c site kept before h =
     let system = c.args.self.now in
     let same = sym h.same ∙ r.stands.same in
     let has = ap (λ s. has_event s c.args.event.now) same ∙ r.has in
-    let p = point_panel site kept before system c.args.event.now c.in-Point.point c.in-Point.state c.as_slice.result.now c.index-as_slice-point.result c.index_mut-parts.result.now h has c.in-Point.is c.as_slice.ensures c.index-as_slice-point.is c.index_mut-parts.ensures.value in
-    point_done site kept before system c.args.event.now c.in-Point.point c.in-Point.state c.as_slice.result.now c.index-as_slice-point.result c.index_mut-parts.result.now c.set_point.new.self h c.in-Point.is c.index-as_slice-point.is p (c.set_point.ensures site kept _ before p.stands p.read.there)
+    let p = point_panel site kept before system c.args.event.now c.in-Point.point c.in-Point.state c.as_slice.result.now c.index-as_slice-point.result
+    c.index_mut-parts.result.now h has c.in-Point.is c.as_slice.ensures c.index-as_slice-point.is c.index_mut-parts.ensures.value in
+    point_done site kept before system c.args.event.now c.in-Point.point c.in-Point.state c.as_slice.result.now c.index-as_slice-point.result
+    c.index_mut-parts.result.now c.set_point.new.self h c.in-Point.is c.index-as_slice-point.is p
+    (c.set_point.ensures site kept _ before p.stands p.read.there)
 
 pub returns-in-Cable : goal.returns-in-Cable
 returns-in-Cable c site kept before h =
@@ -44,7 +50,8 @@ returns-in-Cable c site kept before h =
     let has = ap (λ s. has_event s c.args.event.now) same ∙ r.has in
     let line = piece_read site c.args.event.now i.panel i.line i.piece i.state h.valid has i.is in
     piece_done site kept before system c.args.event.now i.panel i.line i.piece i.state c.set_piece.new.self h i.is line.member
-    (c.set_piece.ensures site kept i.panel before (panel_read site kept before system i.panel c.index_mut-parts-in-Cable.result.now h line.member c.index_mut-parts-in-Cable.ensures.value))
+    (c.set_piece.ensures site kept i.panel before (panel_read site kept before system i.panel c.index_mut-parts-in-Cable.result.now h line.member
+    c.index_mut-parts-in-Cable.ensures.value))
 
 pub returns-in-Supply : goal.returns-in-Supply
 returns-in-Supply c site kept before h =

@@ -6,8 +6,12 @@ pub loop-before-preserved : goal.loop-before-preserved
 loop-before-preserved c =
     let pushed = c.in_ok-push.ensures.items in
     record {
-      count = panels_counted c.loop-before.panels.items c.push.new.self.items c.in_ok-new.field-0 c.loop-before.before pushed c.loop-before.invariant.count;
-      each = λ place parts is. panel_added c.args.site c.args.kept.now c.loop-before.panels.items c.push.new.self.items c.in_ok-new.field-0 c.loop-before.before pushed c.loop-before.invariant.count c.loop-before.invariant.each c.in_ok-new.ensures place parts is;
+      count =
+          panels_counted c.loop-before.panels.items c.push.new.self.items c.in_ok-new.field-0 c.loop-before.before pushed
+          c.loop-before.invariant.count;
+      each =
+          λ place parts is. panel_added c.args.site c.args.kept.now c.loop-before.panels.items c.push.new.self.items c.in_ok-new.field-0
+          c.loop-before.before pushed c.loop-before.invariant.count c.loop-before.invariant.each c.in_ok-new.ensures place parts is;
     }
 
 pub returns : goal.returns

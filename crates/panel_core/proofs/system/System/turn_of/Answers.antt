@@ -8,7 +8,8 @@ pub overflow_sub-seat : goal.overflow_sub-seat
 overflow_sub-seat c = (seat_panel c.requires.site.panels c.args.seat c.requires.known c.in_default.not-Keep).0
 
 pub index_mut-parts-requires : goal.index_mut-parts-requires
-index_mut-parts-requires c = let p = seat_panel c.requires.site.panels c.args.seat c.requires.known c.in_default.not-Keep in let count = c.requires.stands.count in omega (arith, p.0, p.1, count)
+index_mut-parts-requires c = let p = seat_panel c.requires.site.panels c.args.seat c.requires.known c.in_default.not-Keep in let count =
+    c.requires.stands.count in omega (arith, p.0, p.1, count)
 
 pub turn-requires : goal.turn-requires
 turn-requires c =
@@ -16,7 +17,9 @@ turn-requires c =
     let seat = c.args.seat in
     let system = c.args.self.now in
     let p = seat_panel r.site.panels seat r.known c.in_default.not-Keep in
-    let at = slice_get_read system.panels.items r.site.panels (seat.panel - 1) c.index_mut-parts.result.now (sym r.stands.count) (omega (arith, p.0, p.1)) c.index_mut-parts.ensures.value in
+    let at =
+    slice_get_read system.panels.items r.site.panels (seat.panel - 1) c.index_mut-parts.result.now (sym r.stands.count) (omega (arith, p.0, p.1))
+    c.index_mut-parts.ensures.value in
     record {
       site = r.site;
       kept = r.kept;
@@ -33,9 +36,12 @@ returns-in_default c site kept before h run =
     let seat = c.args.seat in
     let system = c.args.self.now in
     let p = seat_panel c.requires.site.panels seat c.requires.known c.in_default.not-Keep in
-    let at = slice_get_read system.panels.items c.requires.site.panels (seat.panel - 1) c.index_mut-parts.result.now (sym c.requires.stands.count) (omega (arith, p.0, p.1)) c.index_mut-parts.ensures.value in
-    let turned = c.turn.ensures site kept seat.panel before (panel_at site kept before system seat.panel c.index_mut-parts.result.now h p.0 at) h.tick (subst (λ moment. IsRun site.panels (moment ∷ before)) (turn_is seat.panel seat.task c.in_default.not-Keep) run) in
-    rw (turn_is seat.panel seat.task c.in_default.not-Keep) (stands_after_turn site kept before system seat.panel seat.task c.turn.new.self h p.0 turned)
+    let at = slice_get_read system.panels.items c.requires.site.panels (seat.panel - 1) c.index_mut-parts.result.now (sym c.requires.stands.count)
+    (omega (arith, p.0, p.1)) c.index_mut-parts.ensures.value in
+    let turned = c.turn.ensures site kept seat.panel before (panel_at site kept before system seat.panel c.index_mut-parts.result.now h p.0 at) h.tick
+    (subst (λ moment. IsRun site.panels (moment ∷ before)) (turn_is seat.panel seat.task c.in_default.not-Keep) run) in
+    rw (turn_is seat.panel seat.task c.in_default.not-Keep)
+    (stands_after_turn site kept before system seat.panel seat.task c.turn.new.self h p.0 turned)
 
 pub returns-in-Keep : goal.returns-in-Keep
 returns-in-Keep c site kept before h = rw c.in-Keep.is (λ run. stands_after_keep site kept before c.args.self.now false h)

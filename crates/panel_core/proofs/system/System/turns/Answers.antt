@@ -26,9 +26,11 @@ loop-place-preserved c site kept before h run =
     subst (λ moments. StandsFor site kept moments c.turn_of.new.self)
     (sym (turns_next c.args.order.now c.loop-place.place c.seat.result before c.seat.ensures))
     (c.turn_of.ensures site kept (and_turns false (take c.loop-place.place c.args.order.now) before) (c.loop-place.invariant site kept before h run)
-    (subst (IsRun site.panels) (turns_next c.args.order.now c.loop-place.place c.seat.result before c.seat.ensures) (front_turns site.panels c.args.order.now (c.loop-place.place + 1) before run)))
+    (subst (IsRun site.panels) (turns_next c.args.order.now c.loop-place.place c.seat.result before c.seat.ensures)
+    (front_turns site.panels c.args.order.now (c.loop-place.place + 1) before run)))
 
 pub returns : goal.returns
 returns c site kept before h run =
     let count = c.len-place-end.ensures.count in
-    subst (λ xs. StandsFor site kept (and_turns false xs before) c.loop-place.self) (take_all c.loop-place.place c.args.order.now (omega (arith, count))) (c.loop-place.invariant site kept before h run)
+    subst (λ xs. StandsFor site kept (and_turns false xs before) c.loop-place.self)
+    (take_all c.loop-place.place c.args.order.now (omega (arith, count))) (c.loop-place.invariant site kept before h run)

@@ -7,4 +7,5 @@ use Rattle.panel_core.proofs.system.System.turns.Given as goal
 
 -- so many turns were made
 abbrev pub invariant-loop-place : goal.invariant-loop-place
-invariant-loop-place l = (site : Site) (kept : Retained) (before : List Moment) → StandsFor site kept before l.fn.self → IsRun site.panels (and_turns false l.order before) → StandsFor site kept (and_turns false (take l.place l.order) before) l.self
+invariant-loop-place l = (site : Site) (kept : Retained) (before : List Moment) → StandsFor site kept before l.fn.self
+    → IsRun site.panels (and_turns false l.order before) → StandsFor site kept (and_turns false (take l.place l.order) before) l.self

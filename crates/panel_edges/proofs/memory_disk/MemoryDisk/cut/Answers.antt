@@ -16,4 +16,5 @@ returns-in-Ok-clause-file c = is_cut c
 pub returns-in-Ok-clause-image : goal.returns-in-Ok-clause-image
 returns-in-Ok-clause-image c t le within =
     let disk = c.args.self.now in
-    subst (left_after disk.start.items (log_of disk) t) (sym (is_cut c)) (cut_since disk.start.items (log_of disk) c.args.calls c.args.kept.now t le within)
+    subst (left_after disk.start.items (log_of disk) t) (sym (is_cut c))
+    (cut_since disk.start.items (log_of disk) c.args.calls c.args.kept.now t le within)

@@ -9,4 +9,5 @@ returns c panels calls stands =
     let end : c.loop-link.link ≡ 9 = omega arith in
     c.mask_from_8.ensures
     ∙ ap (λ n. mask_of n (λ k. slice_index_or c.loop-link.down k false)) c.loop-link.invariant.size
-    ∙ mask_same 8 (λ k. slice_index_or c.loop-link.down k false) (λ k. is_down_at panels c.args.panel calls (k + 1)) (λ k small. c.loop-link.invariant.known panels calls stands k (omega arith))
+    ∙ mask_same 8 (λ k. slice_index_or c.loop-link.down k false) (λ k. is_down_at panels c.args.panel calls (k + 1))
+    (λ k small. c.loop-link.invariant.known panels calls stands k (omega arith))

@@ -9,4 +9,5 @@ pub returns-then-self-link-clause-words : goal.returns-then-self-link-clause-wor
 returns-then-self-link-clause-words c a o ha ho =
     c.receive.ensures.words a o ha ho
     ∙ ap (λ (f : Frame). after_frame c.args.at f.group f.words a o (kept_in c.args.self.now a o)) c.frame-frame.ensures
-    ∙ over_link c.args.self.now.panels c.args.now.0 c.args.at a o (is_up_in c.args.self.now c.args.link) (kept_in c.args.self.now a o) (kept_in c.args.self.now c.args.from) c.if-self-link.true ho.0 ho.1
+    ∙ over_link c.args.self.now.panels c.args.now.0 c.args.at a o (is_up_in c.args.self.now c.args.link) (kept_in c.args.self.now a o)
+    (kept_in c.args.self.now c.args.from) c.if-self-link.true ho.0 ho.1

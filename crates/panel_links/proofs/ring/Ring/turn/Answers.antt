@@ -23,13 +23,19 @@ returns-then-self-gt1-clause-stands c panels calls stands =
     record {
       size = p3 ∙ p2 ∙ p1 ∙ p0;
       words = λ a o ha ho.
-          turned panels c.args.now.0 c.args.panel c.args.own calls (kept_in before) (kept_in mid) (kept_in half) (kept_in after) several within (is_up_in mid (left_of panels c.args.panel)) (is_up_in half c.args.panel)
+          turned panels c.args.now.0 c.args.panel c.args.own calls (kept_in before) (kept_in mid) (kept_in half) (kept_in after) several within
+          (is_up_in mid (left_of panels c.args.panel)) (is_up_in half c.args.panel)
           (λ x y hx hy. stands.words x y (hx.0, omega (arith, hx.1)) (hy.0, omega (arith, hy.1)))
           (λ x y hx hy. c.keep.ensures.words x y (hx.0, omega (arith, hx.1)) (hy.0, omega (arith, hy.1)))
           (λ x y hx hy. rw (left, p1, p0) at (c.take_over.ensures.words x y (hx.0, omega (arith, hx.1)) (hy.0, omega (arith, hy.1))))
-          (λ x y hx hy. rw (right, p2, p1, p0) at (c.take_over-then-self-gt1.ensures.words x y (hx.0, omega (arith, hx.1)) (hy.0, omega (arith, hy.1))))
-          (ap (λ (up : List Bool). slice_index_or up (left_of panels c.args.panel - 1) false) c.keep.ensures.links ∙ stands.links (left_of panels c.args.panel) here.0 (omega (arith, here.1)))
-          (ap (λ (up : List Bool). slice_index_or up (c.args.panel - 1) false) (c.take_over.ensures.links ∙ c.keep.ensures.links) ∙ stands.links c.args.panel within.0 (omega (arith, within.1)))
+          (λ x y hx hy.
+          rw (right, p2, p1, p0) at (c.take_over-then-self-gt1.ensures.words x y (hx.0, omega (arith, hx.1)) (hy.0, omega (arith, hy.1))))
+          (ap (λ (up : List Bool). slice_index_or up (left_of panels c.args.panel - 1) false) c.keep.ensures.links ∙ stands.links
+          (left_of panels c.args.panel) here.0 (omega (arith, here.1)))
+          (ap (λ (up : List Bool). slice_index_or up (c.args.panel - 1) false) (c.take_over.ensures.links ∙ c.keep.ensures.links) ∙ stands.links
+          c.args.panel within.0 (omega (arith, within.1)))
           a o (ha.0, omega (arith, ha.1)) (ho.0, omega (arith, ho.1));
-      links = λ link low high. ap (λ (up : List Bool). slice_index_or up (link - 1) false) (c.take_over-then-self-gt1.ensures.links ∙ c.take_over.ensures.links ∙ c.keep.ensures.links) ∙ stands.links link low high;
+      links =
+          λ link low high. ap (λ (up : List Bool). slice_index_or up (link - 1) false)
+          (c.take_over-then-self-gt1.ensures.links ∙ c.take_over.ensures.links ∙ c.keep.ensures.links) ∙ stands.links link low high;
     }

@@ -7,4 +7,5 @@ use Rattle.panel_program.proofs.run.Run.begin.Goals as goal
 pub returns : goal.returns
 returns c site ticks h tick few =
     let count = tick_moments ticks in
-    begun site ticks c.args.self.now c.begin.new.self h (c.begin.ensures site nothing_retained (moments ticks) h.system (omega (arith, tick, count))) (omega (arith, tick, few))
+    begun site ticks c.args.self.now c.begin.new.self h (c.begin.ensures site nothing_retained (moments ticks) h.system (omega (arith, tick, count)))
+    (omega (arith, tick, few))

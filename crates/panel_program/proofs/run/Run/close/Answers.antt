@@ -17,8 +17,12 @@ returns-clause-ok g c =
     let closes = c.make_turns.ensures site p h in
     let stands = closes_open site p old run h c.if-not-self.false closes in
     let same = c.site.ensures site nothing_retained (moments_in (after_close p)) stands.system in
-    let more = closed_more site p old run h c.if-not-self.false closes in
-    (tick_text site run.ticks old.shown run.shown, more.is, subst (λ s. Grows (g.K.Stream.written c.args.out.now) (g.K.Stream.written c.write_tick.new.out) (tick_text s run.ticks old.shown run.shown)) same wrote))
+    let more = closed_more site p old run h c.if-not-self.false closes in (
+      tick_text site run.ticks old.shown run.shown,
+      more.is,
+      subst (λ s. Grows (g.K.Stream.written c.args.out.now) (g.K.Stream.written c.write_tick.new.out) (tick_text s run.ticks old.shown run.shown))
+          same wrote,
+    ))
     c.write_tick.ensures.ok
 
 pub returns-clause-err : goal.returns-clause-err
@@ -30,6 +34,10 @@ returns-clause-err g c =
     let closes = c.make_turns.ensures site p h in
     let stands = closes_open site p old run h c.if-not-self.false closes in
     let same = c.site.ensures site nothing_retained (moments_in (after_close p)) stands.system in
-    let more = closed_more site p old run h c.if-not-self.false closes in
-    (tick_text site run.ticks old.shown run.shown, more.is, subst (λ s. GrowsByFront (g.K.Stream.written c.args.out.now) (g.K.Stream.written c.write_tick.new.out) (tick_text s run.ticks old.shown run.shown)) same wrote))
+    let more = closed_more site p old run h c.if-not-self.false closes in (
+      tick_text site run.ticks old.shown run.shown,
+      more.is,
+      subst (λ s. GrowsByFront (g.K.Stream.written c.args.out.now) (g.K.Stream.written c.write_tick.new.out)
+          (tick_text s run.ticks old.shown run.shown)) same wrote,
+    ))
     c.write_tick.ensures.err

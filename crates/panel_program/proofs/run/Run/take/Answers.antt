@@ -22,24 +22,39 @@ nothing_more : (text : List ℕ) (written : Option (List ℕ)) → Advances writ
 nothing_more text written = ([], sym (append-nil text), grows_none written)
 
 -- an event is told, or no part takes it
-event_taken : (site : Site) (p : Progress) (event : Event) (number : ℕ) (written : Option (List ℕ)) (run : Run) (result : Option RunEnd) → TellsEvent site p event number run result
+event_taken : (site : Site) (p : Progress) (event : Event) (number : ℕ) (written : Option (List ℕ)) (run : Run) (result : Option RunEnd)
+    → TellsEvent site p event number run result
     → Takes site p (EventLine event) number written written run (Ok result)
-event_taken site p event number written run None (built, stands) =
-    (built, refl, subst (λ e. Stands site (after_line site p (EventLine e)) run) (sym (view_event event built)) stands, nothing_more (text_of site p.run) written)
+event_taken site p event number written run None (built, stands) = (
+  built,
+  refl,
+  subst (λ e. Stands site (after_line site p (EventLine e)) run) (sym (view_event event built)) stands,
+  nothing_more (text_of site p.run) written,
+)
 event_taken site p event number written run (Some end) (is, not_built, stands) =
-    subst (λ e. Takes site p (EventLine event) number written written run (Ok (Some e))) (sym is) (refl, not_built, has_run site p.run p.block run stands, refl)
+    subst (λ e. Takes site p (EventLine event) number written written run (Ok (Some e))) (sym is)
+    (refl, not_built, has_run site p.run p.block run stands, refl)
 
 pub returns-in-Event-clause-takes : goal.returns-in-Event-clause-takes
 returns-in-Event-clause-takes g c site p h may =
-    subst (λ line. Takes site p line c.args.number (g.K.Stream.written c.args.out.now) (g.K.Stream.written c.args.out.now) c.tell.new.self (Ok c.tell.result)) (sym c.in-Event.is)
+    subst (λ line. Takes site p line c.args.number (g.K.Stream.written c.args.out.now) (g.K.Stream.written c.args.out.now) c.tell.new.self
+    (Ok c.tell.result)) (sym c.in-Event.is)
     (event_taken site p c.in-Event.event c.args.number (g.K.Stream.written c.args.out.now) c.tell.new.self c.tell.result (c.tell.ensures site p h))
 
 -- an order is kept for the tick that has begun
-order_taken : (site : Site) (p : Progress) (line : Line) (seats : List Seat) (number : ℕ) (written : Option (List ℕ)) (run : Run) → line ≡ Order seats → Belongs site line
-    → (IsOrder site.panels seats → Stands site (record { run = p.run; block = with_order seats p.block }) run) → Takes site p line number written written run (Ok None)
+order_taken : (site : Site) (p : Progress) (line : Line) (seats : List Seat) (number : ℕ) (written : Option (List ℕ)) (run : Run) → line ≡ Order seats
+    → Belongs site line
+    → (IsOrder site.panels seats → Stands site (record { run = p.run; block = with_order seats p.block }) run)
+    → Takes site p line number written written run (Ok None)
 order_taken site p line seats number written run is belongs kept =
-    subst (λ l. Takes site p l number written written run (Ok None)) (sym is) (refl, refl, kept (subst (Belongs site) is belongs), nothing_more (text_of site p.run) written)
+    subst (λ l. Takes site p l number written written run (Ok None)) (sym is) (
+      refl,
+      refl,
+      kept (subst (Belongs site) is belongs),
+      nothing_more (text_of site p.run) written,
+    )
 
 pub returns-in-Order-clause-takes : goal.returns-in-Order-clause-takes
 returns-in-Order-clause-takes g c site p h may =
-    order_taken site p c.args.line c.in-Order.order c.args.number (g.K.Stream.written c.args.out.now) c.set_order.new.self c.in-Order.is may.belongs (c.set_order.ensures site p h)
+    order_taken site p c.args.line c.in-Order.order c.args.number (g.K.Stream.written c.args.out.now) c.set_order.new.self c.in-Order.is may.belongs
+    (c.set_order.ensures site p h)

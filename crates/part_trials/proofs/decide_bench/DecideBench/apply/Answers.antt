@@ -7,7 +7,8 @@ pub apply-requires : goal.apply-requires
 apply-requires c =
     let bench = c.args.self.now in
     let may : c.may_apply.result ≡ true = grind (arith, common_steps, c.if-not-may_apply.false) in
-    can_apply bench.site bench.panel bench.decide bench.answers bench.findings bench.stamp.0 bench.point bench.at.0 c.args.operation.now c.args.at.0 c.requires (c.may_apply.ensures may)
+    can_apply bench.site bench.panel bench.decide bench.answers bench.findings bench.stamp.0 bench.point bench.at.0 c.args.operation.now c.args.at.0
+    c.requires (c.may_apply.ensures may)
 
 pub returns : goal.returns
 returns c =
@@ -15,5 +16,7 @@ returns c =
     let h = c.requires in
     let may : c.may_apply.result ≡ true = grind (arith, common_steps, c.if-not-may_apply.false) in
     let does = c.may_apply.ensures may in
-    let can = may_apply bench.site bench.panel bench.decide bench.answers bench.findings bench.stamp.0 bench.point bench.at.0 c.args.operation.now c.args.at.0 h does in
-    applied bench.site bench.panel bench.decide c.apply.new.self bench.answers bench.findings bench.stamp.0 bench.point bench.at.0 c.args.operation.now c.args.at.0 h does (c.apply.ensures bench.site h.kept bench.panel h.done h.taken h.stands can)
+    let can = may_apply bench.site bench.panel bench.decide bench.answers bench.findings bench.stamp.0 bench.point bench.at.0 c.args.operation.now
+    c.args.at.0 h does in
+    applied bench.site bench.panel bench.decide c.apply.new.self bench.answers bench.findings bench.stamp.0 bench.point bench.at.0
+    c.args.operation.now c.args.at.0 h does (c.apply.ensures bench.site h.kept bench.panel h.done h.taken h.stands can)

@@ -11,5 +11,7 @@ returns c =
     let bench = c.args.self.now in
     let answer = c.args.answer.now in
     let may : c.may_put.result ≡ true = grind (arith, common_steps, c.if-not-may_put.false) in
-    subst (λ (l : LaneState Answer). IsReady bench.site bench.panel bench.decide l bench.findings answer.stamp.0 answer.point bench.at.0) (sym c.put.ensures)
-    (put_more bench.site bench.panel bench.decide bench.answers bench.findings bench.stamp.0 bench.point bench.at.0 answer c.requires (c.may_put.ensures may))
+    subst (λ (l : LaneState Answer). IsReady bench.site bench.panel bench.decide l bench.findings answer.stamp.0 answer.point bench.at.0)
+    (sym c.put.ensures)
+    (put_more bench.site bench.panel bench.decide bench.answers bench.findings bench.stamp.0 bench.point bench.at.0 answer c.requires
+    (c.may_put.ensures may))

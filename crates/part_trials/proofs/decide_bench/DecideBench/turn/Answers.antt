@@ -20,6 +20,9 @@ returns c =
     let may = may_take bench.site bench.panel bench.decide bench.answers bench.findings bench.stamp.0 bench.point bench.at.0 h in
     let put = c.turn.ensures.findings bench.site h.kept bench.panel h.done h.taken h.stands may in
     let rest = c.take_turn.ensures.rest in
-    turned bench.site bench.panel bench.decide c.turn.new.self bench.answers c.turn.new.answers bench.findings c.take_turn.new.self bench.stamp.0 bench.point bench.at.0 h c.turn.ensures.answers
-    (ap (λ (l : LaneState Finding). l.quota) rest ∙ ap (λ (l : LaneState Finding). l.quota) put, ap (λ (l : LaneState Finding). l.capacity) rest ∙ ap (λ (l : LaneState Finding). l.capacity) put)
+    turned bench.site bench.panel bench.decide c.turn.new.self bench.answers c.turn.new.answers bench.findings c.take_turn.new.self bench.stamp.0
+    bench.point bench.at.0 h c.turn.ensures.answers (
+      ap (λ (l : LaneState Finding). l.quota) rest ∙ ap (λ (l : LaneState Finding). l.quota) put,
+      ap (λ (l : LaneState Finding). l.capacity) rest ∙ ap (λ (l : LaneState Finding). l.capacity) put,
+    )
     (c.turn.ensures.taken bench.site h.kept bench.panel h.done h.taken h.stands may)

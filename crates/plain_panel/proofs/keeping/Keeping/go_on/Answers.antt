@@ -16,7 +16,8 @@ returns-in_ok-self-clause-standing c =
     let moment = moment_of c.args.moment.now in
     let desk = c.in_ok-changed.ensures.stands before c.requires.ticks c.requires.desk in
     let done : all_done c.as_slice-done.result.now ≡ (operations site kept (moment ∷ before)).done =
-    ap all_done (c.as_slice-done.ensures.value ∙ ap (λ (o : Outcomes). o.done.items) c.outcomes.ensures) ∙ ap (λ (o : Operations). o.done) desk.became in
+    ap all_done (c.as_slice-done.ensures.value ∙ ap (λ (o : Outcomes). o.done.items) c.outcomes.ensures) ∙ ap (λ (o : Operations). o.done) desk.became
+    in
     let with_it : history c.args.with_it.now ≡ moment ∷ before = ap history c.requires.all ∙ history_more c.args.before.now c.args.moment.now in
     subst (λ (h : List MomentOf). StandsForStanding site kept (operations site kept (moment ∷ before)).done h c.in_ok-self.field-0) with_it
     (subst (λ (d : List Done). StandsForStanding site kept d (history c.args.with_it.now) c.in_ok-self.field-0) done c.in_ok-self.ensures)

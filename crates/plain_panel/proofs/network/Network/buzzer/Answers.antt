@@ -19,4 +19,5 @@ returns c kept before stands =
     let stamp = ap (λ (w : Word). w.stamp.0) word ∙ latest_stamp c.args.site.now kept (all_done c.args.done.now) told c.args.panel before in
     let muted = c.muted_before-muted.ensures ∙ ap (λ t. muted_before c.args.panel t (all_done c.args.done.now)) stamp in
     c.sounds.ensures
-    ∙ sounds_same _ (latest_word c.args.site.now kept (all_done c.args.done.now) told c.args.panel before) _ _ _ _ word muted (ap (λ (o : Own). o.news.0) c.own-own.ensures ∙ stands.news c.args.panel p)
+    ∙ sounds_same _ (latest_word c.args.site.now kept (all_done c.args.done.now) told c.args.panel before) _ _ _ _ word muted
+    (ap (λ (o : Own). o.news.0) c.own-own.ensures ∙ stands.news c.args.panel p)

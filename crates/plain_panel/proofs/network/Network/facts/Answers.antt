@@ -22,9 +22,12 @@ returns c site kept done before valid stands =
     let calls = ring_calls site kept done told before in
     let words = λ (q : ℕ). kept_in ring panel q in
     let words_are = λ (q : ℕ) (iq : IsPanel site q).
-    stands.ring.words panel q (p.0, omega (arith, ring_size, p.1)) (iq.0, omega (arith, ring_size, iq.1)) ∙ kept_by_ring site kept done told before panel q low p iq in
-    let mask = c.mask_from_8.ensures ∙ ap (λ (n : ℕ). mask_of n (λ k. slice_index_or c.loop-source.faulty k false)) c.loop-source.invariant.faulty_wide in
-    subst (λ (m : ℕ). AreFacts site (facts_of site kept done panel before) (let masks : Masks = record { zones = c.loop-source.zones; manual = c.loop-source.manual; faults = m } in masks)) (sym mask)
+    stands.ring.words panel q (p.0, omega (arith, ring_size, p.1)) (iq.0, omega (arith, ring_size, iq.1)) ∙ kept_by_ring site kept done told before
+    panel q low p iq in
+    let mask =
+    c.mask_from_8.ensures ∙ ap (λ (n : ℕ). mask_of n (λ k. slice_index_or c.loop-source.faulty k false)) c.loop-source.invariant.faulty_wide in
+    subst (λ (m : ℕ). AreFacts site (facts_of site kept done panel before) (let masks : Masks =
+    record { zones = c.loop-source.zones; manual = c.loop-source.manual; faults = m } in masks)) (sym mask)
     (facts_are site kept done valid panel before words words_are c.loop-source.zones c.loop-source.manual c.loop-source.faulty low
     (λ q iq. c.loop-source.invariant.zones q iq.0 (omega (arith, size, iq.1, c.loop-source-test.false)))
     (λ q iq. c.loop-source.invariant.manual q iq.0 (omega (arith, size, iq.1, c.loop-source-test.false)))

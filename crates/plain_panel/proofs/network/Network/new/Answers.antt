@@ -8,7 +8,8 @@ use Rattle.plain_panel.proofs.network.Network.new.Goals as goal
 pub returns-clause-stands : goal.returns-clause-stands
 returns-clause-stands c kept done =
     let few = c.requires.forms.panels.1 in
-    let none = λ (panel : ℕ) (p : IsPanel c.args.site.now.panels panel). none_shown c.nothing.result panel c.nothing.ensures p.0 (omega (arith, p.1, few)) in
+    let none =
+    λ (panel : ℕ) (p : IsPanel c.args.site.now.panels panel). none_shown c.nothing.result panel c.nothing.ensures p.0 (omega (arith, p.1, few)) in
     record {
       size = refl;
       ring = c.new.ensures.stands;

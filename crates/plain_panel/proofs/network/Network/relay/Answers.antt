@@ -12,7 +12,8 @@ returns-then-panel-self-clause-stands c site kept done before stands tick =
     record {
       size = stands.size;
       ring =
-          took_same site.panels c.args.panel (ring_calls site kept done (tells_fault site kept done) before) c.turn.new.self c.args.now.0 (tick_of before) _ (latest_word site kept done (tells_fault site kept done) c.args.panel before) tick
+          took_same site.panels c.args.panel (ring_calls site kept done (tells_fault site kept done) before) c.turn.new.self c.args.now.0
+          (tick_of before) _ (latest_word site kept done (tells_fault site kept done) c.args.panel before) tick
           (ap (λ (o : Own). o.word) c.own.ensures ∙ stands.words c.args.panel (c.if-panel-ge1.true, omega arith))
           (c.turn.ensures.stands site.panels (ring_calls site kept done (tells_fault site kept done) before) stands.ring);
       words = stands.words;

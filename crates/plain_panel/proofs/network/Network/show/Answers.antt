@@ -12,8 +12,10 @@ returns-clause-stands c site kept done before stands tick faults word =
     let few = c.args.self.now.few in
     let p : IsPanel site.panels c.args.panel = (c.requires.0, omega (arith, size, c.requires.1)) in
     let shown =
-    shown_now site kept done before c.args.self.now.own (record { words = stands.words; faults = stands.faults; news = stands.news }) (omega arith) (omega (arith, size, few)) c.args.panel p
+    shown_now site kept done before c.args.self.now.own (record { words = stands.words; faults = stands.faults; news = stands.news }) (omega arith)
+    (omega (arith, size, few)) c.args.panel p
     c.args.now c.args.word c.args.faults tick faults word in
     let made = c.then.ensures ∙ ap (λ (o : Own). own_then o c.args.now c.args.word c.args.faults) c.own-own.ensures in
-    let now = subst (λ (o : Own). AreShown site kept done (Turned c.args.panel Hold ∷ before) (slice_set c.args.self.now.own (c.args.panel - 1) o)) (sym made) shown in
+    let now = subst (λ (o : Own). AreShown site kept done (Turned c.args.panel Hold ∷ before) (slice_set c.args.self.now.own (c.args.panel - 1) o))
+    (sym made) shown in
     record { size = stands.size; ring = stands.ring; words = now.words; faults = now.faults; news = now.news }

@@ -5,5 +5,5 @@ use Rattle.plain_panel.specs.Network.{StandsFor}
 use Rattle.plain_panel.proofs.network.Network.turn.Goals as goal
 
 pub returns-in-Link-clause-stands : goal.returns-in-Link-clause-stands
-returns-in-Link-clause-stands c site kept done before stands tick other =
+returns-in-Link-clause-stands c other site kept done before stands tick =
     subst (λ (task : Task). StandsFor site kept done (Turned c.args.panel task ∷ before) c.relay.new.self) (sym c.in-Link.is) (c.relay.ensures.stands site kept done before stands tick)

@@ -5,6 +5,7 @@ use Rattle.plain_panel.proofs.outcomes.Outcomes.desk.Given as goal
 
 abbrev pub invariant-loop-request : goal.invariant-loop-request
 invariant-loop-request l = record {
-  became : outcomes_of l.self ≡ after_desk l.site l.kept (requests_in l.panel l.tick.0 (all_requests (take l.request-index l.requests))) (outcomes_of l.initial.self);
+  became : outcomes_of l.self ≡ after_desk l.site l.kept (requests_in l.panel l.tick.0 (all_requests (take l.request-index l.requests)))
+      (outcomes_of l.initial.self);
   same : l.changed ≡ false → l.self.done.items ≡ l.initial.self.done.items;
 }

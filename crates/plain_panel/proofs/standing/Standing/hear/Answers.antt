@@ -19,7 +19,8 @@ returns-in-Some c =
     let turned : moment_of c.args.moment.now ≡ Turned panel Hold = ap moment_of c.in-Some.ensures in
     let all : AllEnter site kept done (Turned panel Hold ∷ before) 1 c.deref.result.now =
     subst (λ (m : MomentOf). AllEnter site kept done (m ∷ before) 1 c.deref.result.now) turned
-    (subst (λ (xs : List Entering). AllEnter site kept done (moment_of c.args.moment.now ∷ before) 1 xs) (sym c.deref.ensures.value) c.requires.panels.all) in
+    (subst (λ (xs : List Entering). AllEnter site kept done (moment_of c.args.moment.now ∷ before) 1 xs) (sym c.deref.ensures.value)
+    c.requires.panels.all) in
     let drives = subst (λ (m : MomentOf). DrivesFor site (facts_of site kept done) (m ∷ before) c.args.self.now.driving) turned c.requires.driving in
     record {
       panels = refl;
@@ -29,7 +30,7 @@ returns-in-Some c =
           (λ is.
           let last : panel ≤ length c.deref.result.now = omega (arith, is.1, c.requires.panels.count, ap length c.deref.ensures.value) in
           c.held_at-held.ensures site kept done (Turned panel Hold ∷ before) all (is.0, last))
-          (λ is. c.outputs_unconfirmed-unconfirmed.ensures (facts_of site kept done) (Turned panel Hold ∷ before) drives));
+          (λ is. c.outputs_in-unconfirmed.ensures (facts_of site kept done) (Turned panel Hold ∷ before) drives));
       driving = refl;
     }
 
@@ -37,6 +38,6 @@ pub returns-in-None : goal.returns-in-None
 returns-in-None c =
     record {
       panels = refl;
-      network = c.step.ensures.stands c.args.site.now c.args.kept.now (all_done c.args.done.now) (history c.args.before.now) c.requires.network (sym c.requires.ticks) c.in-None.ensures;
+      network = c.step.ensures.stands c.in-None.ensures c.args.site.now c.args.kept.now (all_done c.args.done.now) (history c.args.before.now) c.requires.network (sym c.requires.ticks);
       driving = refl;
     }

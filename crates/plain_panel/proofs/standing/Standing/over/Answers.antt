@@ -11,8 +11,11 @@ loop-place-preserved c =
     let k = c.loop-place.place in
     let moment = c.index-moments-place.result in
     let before = history (take k moments) in
-    let same : history (take (k + 1) moments) ≡ moment_of moment ∷ before = history_at moments k moment c.loop-place-test.true ∙ ap (λ m. moment_of m ∷ before) (sym c.index-moments-place.is) in
+    let same : history (take (k + 1) moments) ≡ moment_of moment ∷ before =
+    history_at moments k moment c.loop-place-test.true ∙ ap (λ m. moment_of m ∷ before) (sym c.index-moments-place.is) in
     record {
-      stands = subst (λ (h : List MomentOf). StandsForStanding c.args.site.now c.args.kept.now (all_done c.args.done.now) h c.step.new.self) (sym same) c.in_ok-step.ensures;
+      stands =
+          subst (λ (h : List MomentOf). StandsForStanding c.args.site.now c.args.kept.now (all_done c.args.done.now) h c.step.new.self) (sym same)
+          c.in_ok-step.ensures;
       ticks = ap tick_of same ∙ c.in_ok-tick.ensures before c.loop-place.invariant.ticks;
     }

@@ -1,18 +1,19 @@
-use Rattle.std.proofs.Common.{◌≡◌, ◌∙◌, ◌∷◌, List, Vec, Global, ap, length, subst, sym}
+use Rattle.std.proofs.Common.{◌∷◌, List, Vec, Global, subst, sym}
 use Rattle.panel_rules.specs.Run.{facts_of}
 use Rattle.plain_panel.specs.declared.driving.Driving.{Driving}
 use Rattle.plain_panel.specs.declared.entering.Entering.{Entering}
 use Rattle.plain_panel.specs.Drives.{DrivesFor}
-use Rattle.plain_panel.specs.Enterings.{AllAsk, AllEnter, AreEntering}
+use Rattle.plain_panel.specs.Enterings.{AllAsk, AreEntering}
 use Rattle.plain_panel.specs.Histories.{all_done, history, moment_of}
 use Rattle.plain_panel.proofs.EnteringPanels.{all_ask}
-use Rattle.plain_panel.proofs.Standings.{items_written}
+use Rattle.plain_panel.proofs.Standings.{panels_stepped}
 use Rattle.plain_panel.proofs.standing.Standing.step.Goals as goal
 
 pub step_all-requires : goal.step_all-requires
 step_all-requires c =
     subst (λ (xs : List Entering). AllAsk c.args.site.now xs) (sym c.deref_mut.ensures.value)
-    (all_ask c.args.site.now c.args.kept.now (all_done c.args.done.now) (history c.args.before.now) 1 c.args.self.now.panels.items c.requires.stands.panels.all)
+    (all_ask c.args.site.now c.args.kept.now (all_done c.args.done.now) (history c.args.before.now) 1 c.args.self.now.panels.items
+    c.requires.stands.panels.all)
 
 pub facts_now-facts-requires : goal.facts_now-facts-requires
 facts_now-facts-requires c = c.requires.stands.network.size
@@ -23,15 +24,13 @@ hear-requires c =
     let kept = c.args.kept.now in
     let done = all_done c.args.done.now in
     let before = history c.args.before.now in
-    let written = c.step_all.new.panels in
-    let long : length written ≡ length c.args.self.now.panels.items = c.step_all.auto.panels ∙ ap length c.deref_mut.ensures.value in
-    let all = c.in_ok-step_all.ensures 1 before (subst (λ (xs : List Entering). AllEnter site kept done before 1 xs) (sym c.deref_mut.ensures.value) c.requires.stands.panels.all) c.requires.ticks in
-    let items = items_written c.args.self.now.panels written long in
+    let s = c.requires.stands in
     record {
       valid = c.requires.valid;
-      panels = subst (λ (xs : List Entering). AreEntering site kept done (moment_of c.args.moment.now ∷ before) xs) (sym items) (record { all = all; count = long ∙ c.requires.stands.panels.count });
-      network = c.requires.stands.network;
-      driving = c.in_ok-step.ensures (facts_of site kept done) before c.requires.stands.driving (λ panel is told. c.facts_now-facts.ensures kept done before c.requires.valid c.requires.stands.network panel is told);
+      panels = panels_stepped site kept done c.args.tick.0 before (moment_of c.args.moment.now) c.args.self.now.panels _ c.step_all.new.panels c.step_all.auto.panels c.deref_mut.ensures.value
+          c.in_ok-step_all.ensures c.requires.ticks s.panels;
+      network = s.network;
+      driving = c.in_ok-step.ensures (facts_of site kept done) before s.driving (c.facts_now-facts.ensures kept done before c.requires.valid s.network);
       ticks = c.requires.ticks;
     }
 
@@ -41,15 +40,15 @@ returns c =
     let kept = c.args.kept.now in
     let done = all_done c.args.done.now in
     let before = history c.args.before.now in
-    let written = c.step_all.new.panels in
-    let long : length written ≡ length c.args.self.now.panels.items = c.step_all.auto.panels ∙ ap length c.deref_mut.ensures.value in
-    let all = c.in_ok-step_all.ensures 1 before (subst (λ (xs : List Entering). AllEnter site kept done before 1 xs) (sym c.deref_mut.ensures.value) c.requires.stands.panels.all) c.requires.ticks in
-    let items = items_written c.args.self.now.panels written long in
-    let drives = c.in_ok-step.ensures (facts_of site kept done) before c.requires.stands.driving (λ panel is told. c.facts_now-facts.ensures kept done before c.requires.valid c.requires.stands.network panel is told) in
+    let moment = moment_of c.args.moment.now in
+    let s = c.requires.stands in
     record {
       panels =
-          subst (λ (v : Vec Entering Global). AreEntering site kept done (moment_of c.args.moment.now ∷ before) v.items) (sym c.hear.ensures.panels)
-          (subst (λ (xs : List Entering). AreEntering site kept done (moment_of c.args.moment.now ∷ before) xs) (sym items) (record { all = all; count = long ∙ c.requires.stands.panels.count }));
+          subst (λ (v : Vec Entering Global). AreEntering site kept done (moment ∷ before) v.items) (sym c.hear.ensures.panels)
+          (panels_stepped site kept done c.args.tick.0 before moment c.args.self.now.panels _ c.step_all.new.panels c.step_all.auto.panels c.deref_mut.ensures.value c.in_ok-step_all.ensures
+          c.requires.ticks s.panels);
       network = c.hear.ensures.network;
-      driving = subst (λ (d : Driving). DrivesFor site (facts_of site kept done) (moment_of c.args.moment.now ∷ before) d) (sym c.hear.ensures.driving) drives;
+      driving =
+          subst (λ (d : Driving). DrivesFor site (facts_of site kept done) (moment ∷ before) d) (sym c.hear.ensures.driving)
+          (c.in_ok-step.ensures (facts_of site kept done) before s.driving (c.facts_now-facts.ensures kept done before c.requires.valid s.network));
     }

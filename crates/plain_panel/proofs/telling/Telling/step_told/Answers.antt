@@ -15,15 +15,19 @@ returns-then-is_told c =
     let moments = history c.args.before.now in
     let s = c.requires.stands in
     let now : map answered_of c.in_ok-now.now.items ≡ answers_now site kept moments =
-    answers_are site kept moments c.args.self.now.keeping.desk c.args.self.now.tick.0 c.requests-requests.result.now c.as_slice-answers.result.now (map answered_of c.in_ok-now.now.items) s.keeping.desk s.tick c.requests-requests.ensures
+    answers_are site kept moments c.args.self.now.keeping.desk c.args.self.now.tick.0 c.requests-requests.result.now c.as_slice-answers.result.now
+    (map answered_of c.in_ok-now.now.items) s.keeping.desk s.tick c.requests-requests.ensures
     (c.as_slice-answers.ensures.value ∙ ap (λ o. o.answers.items) c.outcomes.ensures) (c.in_ok-now.ensures site kept) in
-    let count : length c.as_slice-now.result.now ≡ length (answers_now site kept moments) = ap length c.as_slice-now.ensures.value ∙ sym (length-map c.in_ok-now.now.items answered_of) ∙ ap length now in
+    let count : length c.as_slice-now.result.now ≡ length (answers_now site kept moments) =
+    ap length c.as_slice-now.ensures.value ∙ sym (length-map c.in_ok-now.now.items answered_of) ∙ ap length now in
     let told : c.is_told.result ≡ (nat_le 1 (tick_of moments) && is_told site kept moments (tick_of moments)) =
     c.is_told.ensures
-    ∙ told_is site kept moments c.args.self.now.tick.0 c.args.faces.now c.as_slice.result.now (length c.as_slice-now.result.now) c.args.self.now.failed s.tick c.requires.faces (λ begun. c.as_slice.ensures.value ∙ s.faces begun) count s.failed in
+    ∙ told_is site kept moments c.args.self.now.tick.0 c.args.faces.now c.as_slice.result.now (length c.as_slice-now.result.now)
+    c.args.self.now.failed s.tick c.requires.faces (λ begun. c.as_slice.ensures.value ∙ s.faces begun) count s.failed in
     ap Some
     (c.in_ok-step.ensures
-    ∙ step_is site kept moments c.args.self.now.tick c.args.faces.now (map answered_of c.as_slice-now.result.now) c.args.self.now.failed s.tick c.requires.faces (ap (map answered_of) c.as_slice-now.ensures.value ∙ now) s.failed)
+    ∙ step_is site kept moments c.args.self.now.tick c.args.faces.now (map answered_of c.as_slice-now.result.now) c.args.self.now.failed s.tick
+    c.requires.faces (ap (map answered_of) c.as_slice-now.ensures.value ∙ now) s.failed)
     ∙ closed_is site kept moments c.is_told.result _ told c.if-is_told.true
 
 pub returns : goal.returns
@@ -33,10 +37,13 @@ returns c =
     let moments = history c.args.before.now in
     let s = c.requires.stands in
     let now : map answered_of c.in_ok-now.now.items ≡ answers_now site kept moments =
-    answers_are site kept moments c.args.self.now.keeping.desk c.args.self.now.tick.0 c.requests-requests.result.now c.as_slice-answers.result.now (map answered_of c.in_ok-now.now.items) s.keeping.desk s.tick c.requests-requests.ensures
+    answers_are site kept moments c.args.self.now.keeping.desk c.args.self.now.tick.0 c.requests-requests.result.now c.as_slice-answers.result.now
+    (map answered_of c.in_ok-now.now.items) s.keeping.desk s.tick c.requests-requests.ensures
     (c.as_slice-answers.ensures.value ∙ ap (λ o. o.answers.items) c.outcomes.ensures) (c.in_ok-now.ensures site kept) in
-    let count : length c.as_slice-now.result.now ≡ length (answers_now site kept moments) = ap length c.as_slice-now.ensures.value ∙ sym (length-map c.in_ok-now.now.items answered_of) ∙ ap length now in
+    let count : length c.as_slice-now.result.now ≡ length (answers_now site kept moments) =
+    ap length c.as_slice-now.ensures.value ∙ sym (length-map c.in_ok-now.now.items answered_of) ∙ ap length now in
     let told : c.is_told.result ≡ (nat_le 1 (tick_of moments) && is_told site kept moments (tick_of moments)) =
     c.is_told.ensures
-    ∙ told_is site kept moments c.args.self.now.tick.0 c.args.faces.now c.as_slice.result.now (length c.as_slice-now.result.now) c.args.self.now.failed s.tick c.requires.faces (λ begun. c.as_slice.ensures.value ∙ s.faces begun) count s.failed in
+    ∙ told_is site kept moments c.args.self.now.tick.0 c.args.faces.now c.as_slice.result.now (length c.as_slice-now.result.now)
+    c.args.self.now.failed s.tick c.requires.faces (λ begun. c.as_slice.ensures.value ∙ s.faces begun) count s.failed in
     closed_is site kept moments c.is_told.result _ told c.if-is_told.false

@@ -21,7 +21,8 @@ returns-in_err-append-clause-images g c honest room file here =
 pub returns-clause-images : goal.returns-clause-images
 returns-clause-images g c honest room file here =
     let whole = c.in_ok-append.ensures.ok in
-    inl (opens_whole c.append.new.self file c.append.ensures.stands.sound (c.append.ensures.stands.each honest file here) room whole.1 whole.2 whole.3).0
+    inl (opens_whole c.append.new.self file c.append.ensures.stands.sound (c.append.ensures.stands.each honest file here) room whole.1 whole.2
+    whole.3).0
 
 pub returns-in_err-mend-clause-in_turn : goal.returns-in_err-mend-clause-in_turn
 returns-in_err-mend-clause-in_turn g c honest room = inl (c.mend.ensures.same.same_attempt, c.mend.ensures.moments honest (omega (arith, room)))
@@ -36,9 +37,12 @@ returns-in_err-append-clause-in_turn g c honest room =
       record {
         between = c.mend.new.disk;
         first = c.mend.ensures.moments honest (omega (arith, room));
-        second = weaker g.D.Disk.moment g.D.Disk.left_since c.mend.new.disk c.append.new.disk (OpensToKeptOrAttempt begun) (OpensToKeptOrWith c.args.self.now c.args.batch.now.items)
+        second =
+            weaker g.D.Disk.moment g.D.Disk.left_since c.mend.new.disk c.append.new.disk (OpensToKeptOrAttempt begun)
+            (OpensToKeptOrWith c.args.self.now c.args.batch.now.items)
             (with_attempt _ c.mend.new.self begun same is.0 c.args.batch.now.items is.1)
-            (c.append.ensures.moments (c.mend.ensures.honest.1 honest) (let number = begun_number _ c.mend.new.self begun same is.0 in omega (arith, room, number)));
+            (c.append.ensures.moments (c.mend.ensures.honest.1 honest) (let number = begun_number _ c.mend.new.self begun same is.0 in
+            omega (arith, room, number)));
       },
     )
 
@@ -52,13 +56,17 @@ returns-clause-in_turn g c honest room =
       record {
         between = c.mend.new.disk;
         first = c.mend.ensures.moments honest (omega (arith, room));
-        second = weaker g.D.Disk.moment g.D.Disk.left_since c.mend.new.disk c.append.new.disk (OpensToKeptOrAttempt begun) (OpensToKeptOrWith c.args.self.now c.args.batch.now.items)
+        second =
+            weaker g.D.Disk.moment g.D.Disk.left_since c.mend.new.disk c.append.new.disk (OpensToKeptOrAttempt begun)
+            (OpensToKeptOrWith c.args.self.now c.args.batch.now.items)
             (with_attempt _ c.mend.new.self begun same is.0 c.args.batch.now.items is.1)
-            (c.append.ensures.moments (c.mend.ensures.honest.1 honest) (let number = begun_number _ c.mend.new.self begun same is.0 in omega (arith, room, number)));
+            (c.append.ensures.moments (c.mend.ensures.honest.1 honest) (let number = begun_number _ c.mend.new.self begun same is.0 in
+            omega (arith, room, number)));
       },
     )
 
 pub returns-clause-cells : goal.returns-clause-cells
 returns-clause-cells g c honest =
     let whole = c.in_ok-append.ensures.ok in
-    counts_read g.D.Disk.honest g.D.Disk.images c.append.new.self c.append.new.disk (g.D.Disk.seen c.append.new.disk) c.append.ensures.stands honest (g.met.D.Disk.reads_as_image c.append.new.disk honest) whole.1 whole.2 whole.3
+    counts_read g.D.Disk.honest g.D.Disk.images c.append.new.self c.append.new.disk (g.D.Disk.seen c.append.new.disk) c.append.ensures.stands honest
+    (g.met.D.Disk.reads_as_image c.append.new.disk honest) whole.1 whole.2 whole.3

@@ -11,52 +11,75 @@ use Rattle.retained_journal.proofs.WrittenCells.{can_make}
 use Rattle.retained_journal.proofs.journal.Journal.open_cell.Goals as goal
 
 pub make_changes-requires : goal.make_changes-requires
-make_changes-requires g c = subst CanMakeAll (sym c.as_slice.ensures.value) (can_make c.args.self.now.wide c.args.self.now.attempt.items c.requires.batch.keeps)
+make_changes-requires g c =
+    subst CanMakeAll (sym c.as_slice.ensures.value) (can_make c.args.self.now.wide c.args.self.now.attempt.items c.requires.batch.keeps)
 
 pub returns-in_err-write_synced-clause-stands : goal.returns-in_err-write_synced-clause-stands
 returns-in_err-write_synced-clause-stands g c =
     let j = c.args.self.now in
     let k = record c.args.self.now { cell_may_be_open = true } in
-    let before = other_stands g.D.Disk.honest g.D.Disk.images j k c.args.disk.now c.requires.stands (sound_unsure j c.requires.stands.sound c.requires.torn) (λ file was here image. next_may j file image (c.requires.holds was file here)) in
+    let before =
+    other_stands g.D.Disk.honest g.D.Disk.images j k c.args.disk.now c.requires.stands (sound_unsure j c.requires.stands.sound c.requires.torn)
+    (λ file was here image. next_may j file image (c.requires.holds was file here)) in
     let spares = subst (λ (at : ℕ). Spares k at 1) (sym c.cell_place.ensures) (spares_next_gate k refl) in
-    still_stands g.D.Disk.honest g.D.Disk.images k c.args.disk.now c.write_synced.new.disk c.cell_place.result 1 before spares c.write_synced.ensures.honest.0 c.write_synced.ensures.crash
+    still_stands g.D.Disk.honest g.D.Disk.images k c.args.disk.now c.write_synced.new.disk c.cell_place.result 1 before spares
+    c.write_synced.ensures.honest.0 c.write_synced.ensures.crash
 
 pub returns-in_err-write_synced-clause-moments : goal.returns-in_err-write_synced-clause-moments
 returns-in_err-write_synced-clause-moments g c honest room =
     let j = c.args.self.now in
     let k = record c.args.self.now { cell_may_be_open = true } in
-    let before = other_stands g.D.Disk.honest g.D.Disk.images j k c.args.disk.now c.requires.stands (sound_unsure j c.requires.stands.sound c.requires.torn) (λ file was here image. next_may j file image (c.requires.holds was file here)) in
+    let before =
+    other_stands g.D.Disk.honest g.D.Disk.images j k c.args.disk.now c.requires.stands (sound_unsure j c.requires.stands.sound c.requires.torn)
+    (λ file was here image. next_may j file image (c.requires.holds was file here)) in
     let spares = subst (λ (at : ℕ). Spares k at 1) (sym c.cell_place.ensures) (spares_next_gate k refl) in
-    its_moments g.D.Disk.honest g.D.Disk.images g.D.Disk.moment g.D.Disk.left_since g.met.D.Disk.only_now k c.args.disk.now c.write_synced.new.disk c.cell_place.result 1 before spares honest room (c.write_synced.ensures.time honest)
+    its_moments g.D.Disk.honest g.D.Disk.images g.D.Disk.moment g.D.Disk.left_since g.met.D.Disk.only_now k c.args.disk.now c.write_synced.new.disk
+    c.cell_place.result 1 before spares honest room (c.write_synced.ensures.time honest)
 
 pub returns-clause-moments : goal.returns-clause-moments
 returns-clause-moments g c honest room =
     let j = c.args.self.now in
     let k = record c.args.self.now { cell_may_be_open = true } in
-    let before = other_stands g.D.Disk.honest g.D.Disk.images j k c.args.disk.now c.requires.stands (sound_unsure j c.requires.stands.sound c.requires.torn) (λ file was here image. next_may j file image (c.requires.holds was file here)) in
+    let before =
+    other_stands g.D.Disk.honest g.D.Disk.images j k c.args.disk.now c.requires.stands (sound_unsure j c.requires.stands.sound c.requires.torn)
+    (λ file was here image. next_may j file image (c.requires.holds was file here)) in
     let spares = subst (λ (at : ℕ). Spares k at 1) (sym c.cell_place.ensures) (spares_next_gate k refl) in
-    its_moments g.D.Disk.honest g.D.Disk.images g.D.Disk.moment g.D.Disk.left_since g.met.D.Disk.only_now k c.args.disk.now c.write_synced.new.disk c.cell_place.result 1 before spares honest room (c.write_synced.ensures.time honest)
+    its_moments g.D.Disk.honest g.D.Disk.images g.D.Disk.moment g.D.Disk.left_since g.met.D.Disk.only_now k c.args.disk.now c.write_synced.new.disk
+    c.cell_place.result 1 before spares honest room (c.write_synced.ensures.time honest)
 
 pub returns-clause-stands : goal.returns-clause-stands
 returns-clause-stands g c =
     let j = c.args.self.now in
     let k = record c.args.self.now { cell_may_be_open = true } in
-    let before = other_stands g.D.Disk.honest g.D.Disk.images j k c.args.disk.now c.requires.stands (sound_unsure j c.requires.stands.sound c.requires.torn) (λ file was here image. next_may j file image (c.requires.holds was file here)) in
+    let before =
+    other_stands g.D.Disk.honest g.D.Disk.images j k c.args.disk.now c.requires.stands (sound_unsure j c.requires.stands.sound c.requires.torn)
+    (λ file was here image. next_may j file image (c.requires.holds was file here)) in
     let spares = subst (λ (at : ℕ). Spares k at 1) (sym c.cell_place.ensures) (spares_next_gate k refl) in
     let may = subst MayCount (sym c.requires.log) tt in
-    let stands = then_stands g.D.Disk.honest g.D.Disk.images k (record j { kept = changed_by j.attempt.items j.kept; number = j.number + 1; cells = j.cells + 1; cell_may_be_open = false })
-    c.args.disk.now c.write_synced.new.disk c.cell_place.result (1 ∷ []) before spares (sound_appended j c.requires.stands.sound c.requires.torn c.requires.number c.requires.free c.requires.batch)
+    let stands =
+    then_stands g.D.Disk.honest g.D.Disk.images k (record j {
+      kept = changed_by j.attempt.items j.kept;
+      number = j.number + 1;
+      cells =
+          j.cells + 1;
+      cell_may_be_open = false;
+    })
+    c.args.disk.now c.write_synced.new.disk c.cell_place.result (1 ∷ []) before spares
+    (sound_appended j c.requires.stands.sound c.requires.torn c.requires.number c.requires.free c.requires.batch)
     c.write_synced.ensures.honest.0 c.in_ok-write_synced.ensures.stands
     (λ d file was here image holds.
     let at = subst (λ (n : ℕ). Holds n (1 ∷ []) d file) c.cell_place.ensures holds in
-    appended k file image c.requires.log c.requires.free (batch_after k d file 1 (before.each was d here) may c.requires.free at (c.requires.holds was d here)) (byte_now (next_of k) 1 d file at)) in
+    appended k file image c.requires.log c.requires.free
+    (batch_after k d file 1 (before.each was d here) may c.requires.free at (c.requires.holds was d here)) (byte_now (next_of k) 1 d file at)) in
     subst (λ (kept : Retained). Stands g.D.Disk.honest g.D.Disk.images c.write_synced.new.disk (record j { kept = kept; number = j.number + 1; cells = j.cells + 1; cell_may_be_open = false }))
     (sym (c.make_changes.ensures ∙ ap (λ changes. changed_by changes j.kept) c.as_slice.ensures.value)) stands
 
 pub returns-clause-front : goal.returns-clause-front
 returns-clause-front g c =
-    becomes_front c.cell_place.result (1 ∷ []) (g.D.Disk.seen c.args.disk.now) (g.D.Disk.seen c.write_synced.new.disk) (let e = c.cell_place.ensures in omega (arith, e)) c.in_ok-write_synced.ensures.ok
+    becomes_front c.cell_place.result (1 ∷ []) (g.D.Disk.seen c.args.disk.now) (g.D.Disk.seen c.write_synced.new.disk) (let e =
+    c.cell_place.ensures in omega (arith, e)) c.in_ok-write_synced.ensures.ok
 
 pub returns-in_err-write_synced-clause-front : goal.returns-in_err-write_synced-clause-front
 returns-in_err-write_synced-clause-front g c =
-    torn_becomes_front c.cell_place.result 1 (g.D.Disk.seen c.args.disk.now) (g.D.Disk.seen c.write_synced.new.disk) (let e = c.cell_place.ensures in omega (arith, e)) c.in_err-write_synced.ensures.err
+    torn_becomes_front c.cell_place.result 1 (g.D.Disk.seen c.args.disk.now) (g.D.Disk.seen c.write_synced.new.disk) (let e = c.cell_place.ensures in
+    omega (arith, e)) c.in_err-write_synced.ensures.err

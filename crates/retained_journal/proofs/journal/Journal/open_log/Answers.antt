@@ -8,27 +8,33 @@ pub returns-in_err-write_synced-in-Ready-clause-stands : goal.returns-in_err-wri
 returns-in_err-write_synced-in-Ready-clause-stands g c =
     let j = c.args.self.now in
     let spares = spares_log j c.in-Ready.is in
-    still_stands g.D.Disk.honest g.D.Disk.images j c.args.disk.now c.write_synced.new.disk 40 1 c.requires.stands spares c.write_synced.ensures.honest.0 c.write_synced.ensures.crash
+    still_stands g.D.Disk.honest g.D.Disk.images j c.args.disk.now c.write_synced.new.disk 40 1 c.requires.stands spares
+    c.write_synced.ensures.honest.0 c.write_synced.ensures.crash
 
 pub returns-in_err-write_synced-in-Ready-clause-moments : goal.returns-in_err-write_synced-in-Ready-clause-moments
 returns-in_err-write_synced-in-Ready-clause-moments g c honest room =
     let j = c.args.self.now in
     let spares = spares_log j c.in-Ready.is in
-    its_moments g.D.Disk.honest g.D.Disk.images g.D.Disk.moment g.D.Disk.left_since g.met.D.Disk.only_now j c.args.disk.now c.write_synced.new.disk 40 1 c.requires.stands spares honest room (c.write_synced.ensures.time honest)
+    its_moments g.D.Disk.honest g.D.Disk.images g.D.Disk.moment g.D.Disk.left_since g.met.D.Disk.only_now j c.args.disk.now c.write_synced.new.disk 40
+    1 c.requires.stands spares honest room (c.write_synced.ensures.time honest)
 
 pub returns-in_ok-write_synced-in-Ready-clause-moments : goal.returns-in_ok-write_synced-in-Ready-clause-moments
 returns-in_ok-write_synced-in-Ready-clause-moments g c honest room =
     let j = c.args.self.now in
     let spares = spares_log j c.in-Ready.is in
-    its_moments g.D.Disk.honest g.D.Disk.images g.D.Disk.moment g.D.Disk.left_since g.met.D.Disk.only_now j c.args.disk.now c.write_synced.new.disk 40 1 c.requires.stands spares honest room (c.write_synced.ensures.time honest)
+    its_moments g.D.Disk.honest g.D.Disk.images g.D.Disk.moment g.D.Disk.left_since g.met.D.Disk.only_now j c.args.disk.now c.write_synced.new.disk 40
+    1 c.requires.stands spares honest room (c.write_synced.ensures.time honest)
 
 pub returns-in_ok-write_synced-in-Ready-clause-stands : goal.returns-in_ok-write_synced-in-Ready-clause-stands
 returns-in_ok-write_synced-in-Ready-clause-stands g c =
     let j = c.args.self.now in
     let spares = spares_log j c.in-Ready.is in
-    then_stands g.D.Disk.honest g.D.Disk.images j (record j { log = Open }) c.args.disk.now c.write_synced.new.disk 40 (1 ∷ []) c.requires.stands spares (sound_log j c.requires.stands.sound)
+    then_stands g.D.Disk.honest g.D.Disk.images j (record j { log = Open }) c.args.disk.now c.write_synced.new.disk 40 (1 ∷ []) c.requires.stands
+    spares (sound_log j c.requires.stands.sound)
     c.write_synced.ensures.honest.0 c.in_ok-write_synced-in-Ready.ensures.stands
     (λ d file was here image holds. log_opened j file image c.requires.log (byte_now 40 1 d file holds))
 
 pub returns-in-Open-clause-moments : goal.returns-in-Open-clause-moments
-returns-in-Open-clause-moments g c honest room = no_moment g.D.Disk.honest g.D.Disk.images g.D.Disk.moment g.D.Disk.left_since g.met.D.Disk.only_now c.args.self.now c.args.disk.now c.requires.stands honest room
+returns-in-Open-clause-moments g c honest room =
+    no_moment g.D.Disk.honest g.D.Disk.images g.D.Disk.moment g.D.Disk.left_since g.met.D.Disk.only_now c.args.self.now c.args.disk.now
+    c.requires.stands honest room

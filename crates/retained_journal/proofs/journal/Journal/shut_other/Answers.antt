@@ -8,27 +8,34 @@ pub returns-in_err-write_synced-clause-stands : goal.returns-in_err-write_synced
 returns-in_err-write_synced-clause-stands g c =
     let j = c.args.self.now in
     let spares = subst (λ (at : ℕ). Spares j at 1) (sym c.other_at.ensures) (spares_other_gate j c.if-self.true) in
-    still_stands g.D.Disk.honest g.D.Disk.images j c.args.disk.now c.write_synced.new.disk c.other_at.result 1 c.requires spares c.write_synced.ensures.honest.0 c.write_synced.ensures.crash
+    still_stands g.D.Disk.honest g.D.Disk.images j c.args.disk.now c.write_synced.new.disk c.other_at.result 1 c.requires spares
+    c.write_synced.ensures.honest.0 c.write_synced.ensures.crash
 
 pub returns-in_err-write_synced-clause-moments : goal.returns-in_err-write_synced-clause-moments
 returns-in_err-write_synced-clause-moments g c honest room =
     let j = c.args.self.now in
     let spares = subst (λ (at : ℕ). Spares j at 1) (sym c.other_at.ensures) (spares_other_gate j c.if-self.true) in
-    its_moments g.D.Disk.honest g.D.Disk.images g.D.Disk.moment g.D.Disk.left_since g.met.D.Disk.only_now j c.args.disk.now c.write_synced.new.disk c.other_at.result 1 c.requires spares honest room (c.write_synced.ensures.time honest)
+    its_moments g.D.Disk.honest g.D.Disk.images g.D.Disk.moment g.D.Disk.left_since g.met.D.Disk.only_now j c.args.disk.now c.write_synced.new.disk
+    c.other_at.result 1 c.requires spares honest room (c.write_synced.ensures.time honest)
 
 pub returns-in_ok-write_synced-clause-stands : goal.returns-in_ok-write_synced-clause-stands
 returns-in_ok-write_synced-clause-stands g c =
     let j = c.args.self.now in
     let spares = subst (λ (at : ℕ). Spares j at 1) (sym c.other_at.ensures) (spares_other_gate j c.if-self.true) in
-    then_stands g.D.Disk.honest g.D.Disk.images j (record j { slot_may_be_open = false }) c.args.disk.now c.write_synced.new.disk c.other_at.result (0 ∷ []) c.requires spares (sound_slot j c.requires.sound false)
+    then_stands g.D.Disk.honest g.D.Disk.images j (record j { slot_may_be_open = false }) c.args.disk.now c.write_synced.new.disk c.other_at.result
+    (0 ∷ []) c.requires spares (sound_slot j c.requires.sound false)
     c.write_synced.ensures.honest.0 c.in_ok-write_synced.ensures.stands
-    (λ d file was here image holds. other_shut j file image (subst (λ (at : ℕ). slice_index file at ≡ 0) c.other_at.ensures (byte_now c.other_at.result 0 d file holds)))
+    (λ d file was here image holds.
+    other_shut j file image (subst (λ (at : ℕ). slice_index file at ≡ 0) c.other_at.ensures (byte_now c.other_at.result 0 d file holds)))
 
 pub returns-in_ok-write_synced-clause-moments : goal.returns-in_ok-write_synced-clause-moments
 returns-in_ok-write_synced-clause-moments g c honest room =
     let j = c.args.self.now in
     let spares = subst (λ (at : ℕ). Spares j at 1) (sym c.other_at.ensures) (spares_other_gate j c.if-self.true) in
-    its_moments g.D.Disk.honest g.D.Disk.images g.D.Disk.moment g.D.Disk.left_since g.met.D.Disk.only_now j c.args.disk.now c.write_synced.new.disk c.other_at.result 1 c.requires spares honest room (c.write_synced.ensures.time honest)
+    its_moments g.D.Disk.honest g.D.Disk.images g.D.Disk.moment g.D.Disk.left_since g.met.D.Disk.only_now j c.args.disk.now c.write_synced.new.disk
+    c.other_at.result 1 c.requires spares honest room (c.write_synced.ensures.time honest)
 
 pub returns-else-self-clause-moments : goal.returns-else-self-clause-moments
-returns-else-self-clause-moments g c honest room = no_moment g.D.Disk.honest g.D.Disk.images g.D.Disk.moment g.D.Disk.left_since g.met.D.Disk.only_now c.args.self.now c.args.disk.now c.requires honest room
+returns-else-self-clause-moments g c honest room =
+    no_moment g.D.Disk.honest g.D.Disk.images g.D.Disk.moment g.D.Disk.left_since g.met.D.Disk.only_now c.args.self.now c.args.disk.now c.requires
+    honest room

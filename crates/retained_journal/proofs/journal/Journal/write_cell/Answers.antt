@@ -13,8 +13,11 @@ returns-clause-stands g c =
     let buf = c.cell_bytes-cell.result in
     let long : length buf ≡ 593 = omega arith in
     let n = length (take 592 (drop 1 buf)) in
-    let spares = subst (λ (m : ℕ). Spares j (c.cell_place.result + 1) m) (sym (tail_size 592 buf long)) (subst (λ (at : ℕ). Spares j (at + 1) 592) (sym c.cell_place.ensures) (spares_next_body j c.requires.shut)) in
-    still_stands g.D.Disk.honest g.D.Disk.images j c.args.disk.now c.write_synced.new.disk (c.cell_place.result + 1) n c.requires.stands spares c.write_synced.ensures.honest.0 c.write_synced.ensures.crash
+    let spares =
+    subst (λ (m : ℕ). Spares j (c.cell_place.result + 1) m) (sym (tail_size 592 buf long))
+    (subst (λ (at : ℕ). Spares j (at + 1) 592) (sym c.cell_place.ensures) (spares_next_body j c.requires.shut)) in
+    still_stands g.D.Disk.honest g.D.Disk.images j c.args.disk.now c.write_synced.new.disk (c.cell_place.result + 1) n c.requires.stands spares
+    c.write_synced.ensures.honest.0 c.write_synced.ensures.crash
 
 pub returns-clause-moments : goal.returns-clause-moments
 returns-clause-moments g c honest room =
@@ -22,16 +25,23 @@ returns-clause-moments g c honest room =
     let buf = c.cell_bytes-cell.result in
     let long : length buf ≡ 593 = omega arith in
     let n = length (take 592 (drop 1 buf)) in
-    let spares = subst (λ (m : ℕ). Spares j (c.cell_place.result + 1) m) (sym (tail_size 592 buf long)) (subst (λ (at : ℕ). Spares j (at + 1) 592) (sym c.cell_place.ensures) (spares_next_body j c.requires.shut)) in
-    its_moments g.D.Disk.honest g.D.Disk.images g.D.Disk.moment g.D.Disk.left_since g.met.D.Disk.only_now j c.args.disk.now c.write_synced.new.disk (c.cell_place.result + 1) n c.requires.stands spares honest room (c.write_synced.ensures.time honest)
+    let spares =
+    subst (λ (m : ℕ). Spares j (c.cell_place.result + 1) m) (sym (tail_size 592 buf long))
+    (subst (λ (at : ℕ). Spares j (at + 1) 592) (sym c.cell_place.ensures) (spares_next_body j c.requires.shut)) in
+    its_moments g.D.Disk.honest g.D.Disk.images g.D.Disk.moment g.D.Disk.left_since g.met.D.Disk.only_now j c.args.disk.now c.write_synced.new.disk
+    (c.cell_place.result + 1) n c.requires.stands spares honest room (c.write_synced.ensures.time honest)
 
 pub returns-clause-ok : goal.returns-clause-ok
 returns-clause-ok g c honest =
     let j = c.args.self.now in
     let buf = c.cell_bytes-cell.result in
     let long : length buf ≡ 593 = omega arith in
-    on_ok_weaker c.write_synced.result (λ follows file here. let was = follows file here in cell_written j buf was.0 file c.cell_place.result c.cell_place.ensures long was.2 c.cell_bytes-cell.ensures.number (c.cell_bytes-cell.ensures.form j.wide (subst (IsBatch j.wide) (sym c.as_slice.ensures.value) c.requires.batch)) (c.cell_bytes-cell.ensures.changes ∙ c.as_slice.ensures.value) c.cell_bytes-cell.ensures.shut) (c.write_synced.ensures.stands honest)
+    on_ok_weaker c.write_synced.result (λ follows file here. let was = follows file here in
+    cell_written j buf was.0 file c.cell_place.result c.cell_place.ensures long was.2 c.cell_bytes-cell.ensures.number
+    (c.cell_bytes-cell.ensures.form j.wide (subst (IsBatch j.wide) (sym c.as_slice.ensures.value) c.requires.batch))
+    (c.cell_bytes-cell.ensures.changes ∙ c.as_slice.ensures.value) c.cell_bytes-cell.ensures.shut) (c.write_synced.ensures.stands honest)
 
 pub returns-clause-front : goal.returns-clause-front
 returns-clause-front g c =
-    either_front c.write_synced.result (c.cell_place.result + 1) _ (g.D.Disk.seen c.args.disk.now) (g.D.Disk.seen c.write_synced.new.disk) (let e = c.cell_place.ensures in omega (arith, e)) c.write_synced.ensures.ok c.write_synced.ensures.err
+    either_front c.write_synced.result (c.cell_place.result + 1) _ (g.D.Disk.seen c.args.disk.now) (g.D.Disk.seen c.write_synced.new.disk) (let e =
+    c.cell_place.ensures in omega (arith, e)) c.write_synced.ensures.ok c.write_synced.ensures.err

@@ -21,8 +21,11 @@ returns-clause-stands g c =
     let buf = c.slot_bytes-slot.result in
     let long : length buf ≡ 906 = omega arith in
     let n = length (take 905 (drop 1 buf)) in
-    let spares = subst (λ (m : ℕ). Spares j (c.other_at.result + 1) m) (sym (tail_size 905 buf long)) (subst (λ (at : ℕ). Spares j (at + 1) 905) (sym c.other_at.ensures) (spares_other_body j c.requires.shut)) in
-    still_stands g.D.Disk.honest g.D.Disk.images j c.args.disk.now c.write_synced.new.disk (c.other_at.result + 1) n c.requires.stands spares c.write_synced.ensures.honest.0 c.write_synced.ensures.crash
+    let spares =
+    subst (λ (m : ℕ). Spares j (c.other_at.result + 1) m) (sym (tail_size 905 buf long))
+    (subst (λ (at : ℕ). Spares j (at + 1) 905) (sym c.other_at.ensures) (spares_other_body j c.requires.shut)) in
+    still_stands g.D.Disk.honest g.D.Disk.images j c.args.disk.now c.write_synced.new.disk (c.other_at.result + 1) n c.requires.stands spares
+    c.write_synced.ensures.honest.0 c.write_synced.ensures.crash
 
 pub returns-clause-moments : goal.returns-clause-moments
 returns-clause-moments g c honest room =
@@ -30,12 +33,17 @@ returns-clause-moments g c honest room =
     let buf = c.slot_bytes-slot.result in
     let long : length buf ≡ 906 = omega arith in
     let n = length (take 905 (drop 1 buf)) in
-    let spares = subst (λ (m : ℕ). Spares j (c.other_at.result + 1) m) (sym (tail_size 905 buf long)) (subst (λ (at : ℕ). Spares j (at + 1) 905) (sym c.other_at.ensures) (spares_other_body j c.requires.shut)) in
-    its_moments g.D.Disk.honest g.D.Disk.images g.D.Disk.moment g.D.Disk.left_since g.met.D.Disk.only_now j c.args.disk.now c.write_synced.new.disk (c.other_at.result + 1) n c.requires.stands spares honest room (c.write_synced.ensures.time honest)
+    let spares =
+    subst (λ (m : ℕ). Spares j (c.other_at.result + 1) m) (sym (tail_size 905 buf long))
+    (subst (λ (at : ℕ). Spares j (at + 1) 905) (sym c.other_at.ensures) (spares_other_body j c.requires.shut)) in
+    its_moments g.D.Disk.honest g.D.Disk.images g.D.Disk.moment g.D.Disk.left_since g.met.D.Disk.only_now j c.args.disk.now c.write_synced.new.disk
+    (c.other_at.result + 1) n c.requires.stands spares honest room (c.write_synced.ensures.time honest)
 
 pub returns-clause-ok : goal.returns-clause-ok
 returns-clause-ok g c honest =
     let j = c.args.self.now in
     let buf = c.slot_bytes-slot.result in
     let long : length buf ≡ 906 = omega arith in
-    on_ok_weaker c.write_synced.result (λ follows file here. let was = follows file here in slot_written j buf was.0 file c.other_at.result c.other_at.ensures long was.2 c.requires.full c.slot_bytes-slot.ensures.number (c.slot_bytes-slot.ensures.state j.wide c.requires.stands.sound.keeps.narrow)) (c.write_synced.ensures.stands honest)
+    on_ok_weaker c.write_synced.result (λ follows file here. let was = follows file here in
+    slot_written j buf was.0 file c.other_at.result c.other_at.ensures long was.2 c.requires.full c.slot_bytes-slot.ensures.number
+    (c.slot_bytes-slot.ensures.state j.wide c.requires.stands.sound.keeps.narrow)) (c.write_synced.ensures.stands honest)

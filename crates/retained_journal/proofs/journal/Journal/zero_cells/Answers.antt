@@ -18,10 +18,13 @@ returns-in_err-write_synced-clause-stands g c =
     let spares = spares_cells j at 1 c.requires.shut (let e = c.cell_place.ensures in omega (arith, e)) in
     let call = c.write_synced.ensures in
     let zeros = c.write_zeros.ensures in
-    let stands = still_stands g.D.Disk.honest g.D.Disk.images j c.write_zeros.new.disk c.write_synced.new.disk at 1 zeros.stands spares call.honest.0 call.crash in
+    let stands = still_stands g.D.Disk.honest g.D.Disk.images j c.write_zeros.new.disk c.write_synced.new.disk at 1 zeros.stands spares call.honest.0
+    call.crash in
     let moments = λ (honest : g.D.Disk.honest c.args.disk.now) (room : HasRoom j).
-    then_more g.D.Disk.moment g.D.Disk.left_since c.args.disk.now c.write_zeros.new.disk c.write_synced.new.disk (OpensToKeptOrAttempt j) (zeros.moments honest room)
-    (its_moments g.D.Disk.honest g.D.Disk.images g.D.Disk.moment g.D.Disk.left_since g.met.D.Disk.only_now j c.write_zeros.new.disk c.write_synced.new.disk at 1 zeros.stands spares (zeros.honest.1 honest) room (call.time (zeros.honest.1 honest))) in
+    then_more g.D.Disk.moment g.D.Disk.left_since c.args.disk.now c.write_zeros.new.disk c.write_synced.new.disk (OpensToKeptOrAttempt j)
+    (zeros.moments honest room)
+    (its_moments g.D.Disk.honest g.D.Disk.images g.D.Disk.moment g.D.Disk.left_since g.met.D.Disk.only_now j c.write_zeros.new.disk
+    c.write_synced.new.disk at 1 zeros.stands spares (zeros.honest.1 honest) room (call.time (zeros.honest.1 honest))) in
     stands
 
 pub returns-in_err-write_synced-clause-moments : goal.returns-in_err-write_synced-clause-moments
@@ -31,10 +34,13 @@ returns-in_err-write_synced-clause-moments g c =
     let spares = spares_cells j at 1 c.requires.shut (let e = c.cell_place.ensures in omega (arith, e)) in
     let call = c.write_synced.ensures in
     let zeros = c.write_zeros.ensures in
-    let stands = still_stands g.D.Disk.honest g.D.Disk.images j c.write_zeros.new.disk c.write_synced.new.disk at 1 zeros.stands spares call.honest.0 call.crash in
+    let stands = still_stands g.D.Disk.honest g.D.Disk.images j c.write_zeros.new.disk c.write_synced.new.disk at 1 zeros.stands spares call.honest.0
+    call.crash in
     let moments = λ (honest : g.D.Disk.honest c.args.disk.now) (room : HasRoom j).
-    then_more g.D.Disk.moment g.D.Disk.left_since c.args.disk.now c.write_zeros.new.disk c.write_synced.new.disk (OpensToKeptOrAttempt j) (zeros.moments honest room)
-    (its_moments g.D.Disk.honest g.D.Disk.images g.D.Disk.moment g.D.Disk.left_since g.met.D.Disk.only_now j c.write_zeros.new.disk c.write_synced.new.disk at 1 zeros.stands spares (zeros.honest.1 honest) room (call.time (zeros.honest.1 honest))) in
+    then_more g.D.Disk.moment g.D.Disk.left_since c.args.disk.now c.write_zeros.new.disk c.write_synced.new.disk (OpensToKeptOrAttempt j)
+    (zeros.moments honest room)
+    (its_moments g.D.Disk.honest g.D.Disk.images g.D.Disk.moment g.D.Disk.left_since g.met.D.Disk.only_now j c.write_zeros.new.disk
+    c.write_synced.new.disk at 1 zeros.stands spares (zeros.honest.1 honest) room (call.time (zeros.honest.1 honest))) in
     moments
 
 pub returns-clause-moments : goal.returns-clause-moments
@@ -44,10 +50,13 @@ returns-clause-moments g c =
     let spares = spares_cells j at 1 c.requires.shut (let e = c.cell_place.ensures in omega (arith, e)) in
     let call = c.write_synced.ensures in
     let zeros = c.write_zeros.ensures in
-    let stands = still_stands g.D.Disk.honest g.D.Disk.images j c.write_zeros.new.disk c.write_synced.new.disk at 1 zeros.stands spares call.honest.0 call.crash in
+    let stands = still_stands g.D.Disk.honest g.D.Disk.images j c.write_zeros.new.disk c.write_synced.new.disk at 1 zeros.stands spares call.honest.0
+    call.crash in
     let moments = λ (honest : g.D.Disk.honest c.args.disk.now) (room : HasRoom j).
-    then_more g.D.Disk.moment g.D.Disk.left_since c.args.disk.now c.write_zeros.new.disk c.write_synced.new.disk (OpensToKeptOrAttempt j) (zeros.moments honest room)
-    (its_moments g.D.Disk.honest g.D.Disk.images g.D.Disk.moment g.D.Disk.left_since g.met.D.Disk.only_now j c.write_zeros.new.disk c.write_synced.new.disk at 1 zeros.stands spares (zeros.honest.1 honest) room (call.time (zeros.honest.1 honest))) in
+    then_more g.D.Disk.moment g.D.Disk.left_since c.args.disk.now c.write_zeros.new.disk c.write_synced.new.disk (OpensToKeptOrAttempt j)
+    (zeros.moments honest room)
+    (its_moments g.D.Disk.honest g.D.Disk.images g.D.Disk.moment g.D.Disk.left_since g.met.D.Disk.only_now j c.write_zeros.new.disk
+    c.write_synced.new.disk at 1 zeros.stands spares (zeros.honest.1 honest) room (call.time (zeros.honest.1 honest))) in
     moments
 
 pub returns-clause-stands : goal.returns-clause-stands
@@ -57,16 +66,23 @@ returns-clause-stands g c =
     let spares = spares_cells j at 1 c.requires.shut (let e = c.cell_place.ensures in omega (arith, e)) in
     let call = c.write_synced.ensures in
     let zeros = c.write_zeros.ensures in
-    let stands = still_stands g.D.Disk.honest g.D.Disk.images j c.write_zeros.new.disk c.write_synced.new.disk at 1 zeros.stands spares call.honest.0 call.crash in
+    let stands = still_stands g.D.Disk.honest g.D.Disk.images j c.write_zeros.new.disk c.write_synced.new.disk at 1 zeros.stands spares call.honest.0
+    call.crash in
     let moments = λ (honest : g.D.Disk.honest c.args.disk.now) (room : HasRoom j).
-    then_more g.D.Disk.moment g.D.Disk.left_since c.args.disk.now c.write_zeros.new.disk c.write_synced.new.disk (OpensToKeptOrAttempt j) (zeros.moments honest room)
-    (its_moments g.D.Disk.honest g.D.Disk.images g.D.Disk.moment g.D.Disk.left_since g.met.D.Disk.only_now j c.write_zeros.new.disk c.write_synced.new.disk at 1 zeros.stands spares (zeros.honest.1 honest) room (call.time (zeros.honest.1 honest))) in
-    other_stands g.D.Disk.honest g.D.Disk.images j (record j { log = Ready; cell_may_be_open = false }) c.write_synced.new.disk stands (sound_ready j c.requires.stands.sound c.requires.shut)
+    then_more g.D.Disk.moment g.D.Disk.left_since c.args.disk.now c.write_zeros.new.disk c.write_synced.new.disk (OpensToKeptOrAttempt j)
+    (zeros.moments honest room)
+    (its_moments g.D.Disk.honest g.D.Disk.images g.D.Disk.moment g.D.Disk.left_since g.met.D.Disk.only_now j c.write_zeros.new.disk
+    c.write_synced.new.disk at 1 zeros.stands spares (zeros.honest.1 honest) room (call.time (zeros.honest.1 honest))) in
+    other_stands g.D.Disk.honest g.D.Disk.images j (record j { log = Ready; cell_may_be_open = false }) c.write_synced.new.disk stands
+    (sound_ready j c.requires.stands.sound c.requires.shut)
     (λ file honest here image.
     let was = call.honest.0 honest in
     let old = g.met.D.Disk.reads_as_image c.write_zeros.new.disk was in
     let new' = g.met.D.Disk.reads_as_image c.write_synced.new.disk honest in
     let all = all_zero (g.D.Disk.seen c.write_zeros.new.disk) (g.D.Disk.seen c.write_synced.new.disk) old.0 old.1 (c.in_ok-write_zeros.ensures.ok was)
-    (subst (λ (p : ℕ). Becomes (Holds p (0 ∷ [])) (g.D.Disk.seen c.write_zeros.new.disk) (g.D.Disk.seen c.write_synced.new.disk)) c.cell_place.ensures c.in_ok-write_synced.ensures.ok) in
-    let so = only_so (g.D.Disk.seen c.write_synced.new.disk) new'.0 (g.D.Disk.images c.write_synced.new.disk) (λ f. (slice_index f (cell_place 0) ≡ 0) × (whole_bytes ≤ length f)) new'.1 all (c.in_ok-write_synced.ensures.durable was) file here in
+    (subst (λ (p : ℕ). Becomes (Holds p (0 ∷ [])) (g.D.Disk.seen c.write_zeros.new.disk) (g.D.Disk.seen c.write_synced.new.disk)) c.cell_place.ensures
+    c.in_ok-write_synced.ensures.ok) in
+    let so =
+    only_so (g.D.Disk.seen c.write_synced.new.disk) new'.0 (g.D.Disk.images c.write_synced.new.disk) (λ f. (slice_index f (cell_place 0) ≡ 0)
+    × (whole_bytes ≤ length f)) new'.1 all (c.in_ok-write_synced.ensures.durable was) file here in
     cells_ready j file image c.requires.shut so.1 so.0)

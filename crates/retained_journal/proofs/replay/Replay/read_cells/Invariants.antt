@@ -17,6 +17,7 @@ invariant-loop-cell g l =
       seen : g.D.Disk.seen l.disk ≡ g.D.Disk.seen l.initial.disk;
       honest : g.D.Disk.honest l.disk ↔ g.D.Disk.honest l.initial.disk;
       crash : g.D.Disk.honest l.initial.disk → Stays (g.D.Disk.images l.initial.disk) (g.D.Disk.images l.disk);
-      moments : g.D.Disk.honest l.initial.disk → LeavesOnly g.D.Disk.moment g.D.Disk.left_since l.initial.disk l.disk (g.D.Disk.images l.initial.disk);
+      moments : g.D.Disk.honest l.initial.disk
+          → LeavesOnly g.D.Disk.moment g.D.Disk.left_since l.initial.disk l.disk (g.D.Disk.images l.initial.disk);
       later : g.D.Disk.faults l.initial.disk ≤ g.D.Disk.faults l.disk;
     }

@@ -4,10 +4,11 @@ use Rattle.site_types.specs.Bits.{has_bit}
 use Rattle.site_types.proofs.Masks.{mask_same}
 use Rattle.routing_outputs.specs.Confirmations.{Turned, is_watched}
 use Rattle.routing_outputs.specs.Lines.{is_late, turned_by}
-use Rattle.routing_outputs.specs.Stands.{line_of, places}
+use Rattle.routing_outputs.specs.Stands.{line_of}
+use Rattle.site_types.specs.Limits.{output_bits}
 use Rattle.routing_outputs.proofs.Bits.{bit_is}
 use Rattle.routing_outputs.proofs.Confirming.{on_at, confirmed_at, late_at, late_lines}
-use Rattle.routing_outputs.proofs.Listed.{map_found}
+use Rattle.tick_units.proofs.Listed.{map_found}
 use Rattle.routing_outputs.proofs.Runs.{line_turned, on_turned, confirmed_turned}
 use Rattle.routing_outputs.proofs.Steps.{turned_lines, placed_lines}
 use Rattle.routing_outputs.proofs.routing.Routing.turn.Goals as goal
@@ -20,7 +21,9 @@ returns c site panel limit calls stands =
     let items = c.args.self.now.lines.items in
     let after = Turned now.0 on ∷ calls in
     let given : c.turn_lines-self.new.lines ≡ map f items = c.turn_lines-self.ensures.lines ∙ ap (map f) c.as_mut_slice.ensures.value in
-    let found : map f items ≡ filter_map (line_of site panel after) places = ap (map f) stands.lines ∙ map_found f (line_of site panel calls) (line_of site panel after) places (line_turned site panel calls now on) in
+    let found : map f items ≡ filter_map (line_of site panel after) output_bits =
+    ap (map f) stands.lines ∙ map_found f (line_of site panel calls) (line_of site panel after) output_bits (line_turned site panel calls now on)
+    in
     let watched = bit_is c.args.self.now.watched (λ k. is_watched site panel (k + 1)) stands.watched in
     let confirmed = bit_is c.args.self.now.confirmed (confirmed_at site panel limit calls) stands.confirmed in
     record {
@@ -34,7 +37,8 @@ returns c site panel limit calls stands =
           ∙ mask_same 32 (λ k. has_bit c.args.self.now.confirmed k && has_bit on k) (confirmed_at site panel limit after)
           (λ k small. ap (λ b. b && has_bit on k) (confirmed k small) ∙ confirmed_turned (is_watched site panel (k + 1)) now.0 on k calls);
       late = c.turn_lines-self.ensures.late
-          ∙ mask_same 32 (λ k. list_any (λ line. (line.place == k) && is_late now c.args.self.now.limit line) c.turn_lines-self.new.lines) (late_at site panel limit after)
+          ∙ mask_same 32 (λ k. list_any (λ line. (line.place == k) && is_late now c.args.self.now.limit line) c.turn_lines-self.new.lines)
+          (late_at site panel limit after)
           (λ k small.
           ap (list_any (λ line. (line.place == k) && is_late now c.args.self.now.limit line)) (given ∙ found)
           ∙ late_lines site panel c.args.self.now.limit after now k small calls on refl

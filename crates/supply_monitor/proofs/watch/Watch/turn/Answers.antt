@@ -5,7 +5,8 @@ use Rattle.supply_monitor.proofs.watch.Watch.turn.Goals as goal
 pub returns : goal.returns
 returns c kind calls k before =
     let bad : c.args.self.bad ≡ true = grind arith in
-    rw c.saturating_sub.ensures (turned_bad c.args.wait c.args.tick c.unwrap_or-since.result kind calls c.args.self k before bad c.unwrap_or-since.ensures)
+    rw c.saturating_sub.ensures (turned_bad c.args.wait c.args.tick c.unwrap_or-since.result kind calls c.args.self k before bad
+    c.unwrap_or-since.ensures)
 
 pub returns-then-not-self : goal.returns-then-not-self
 returns-then-not-self c kind calls k before =

@@ -15,9 +15,13 @@ returns-then-len-panels c =
 pub returns-in-Some : goal.returns-in-Some
 returns-in-Some c =
     let sound = c.in_ok-order.ensures.ok in
-    told_all c.args.panels c.args.seats.now _ tt (told_at_end c.args.panels c.args.seats.now _ _ _ c.canonical.ensures.seats (c.deref.ensures.0 ∙ sound.0) sound.1 c.first_missing.ensures ∙ ap (option_map Missing) c.in-Some.is)
+    told_all c.args.panels c.args.seats.now _ tt
+    (told_at_end c.args.panels c.args.seats.now _ _ _ c.canonical.ensures.seats (c.deref.ensures.0 ∙ sound.0) sound.1 c.first_missing.ensures ∙ ap
+    (option_map Missing) c.in-Some.is)
 
 pub returns-in-None : goal.returns-in-None
 returns-in-None c =
     let sound = c.in_ok-order.ensures.ok in
-    told_all c.args.panels c.args.seats.now _ sound.0 (told_at_end c.args.panels c.args.seats.now _ _ _ c.canonical.ensures.seats (c.deref.ensures.0 ∙ sound.0) sound.1 c.first_missing.ensures ∙ ap (option_map Missing) c.in-None.is)
+    told_all c.args.panels c.args.seats.now _ sound.0
+    (told_at_end c.args.panels c.args.seats.now _ _ _ c.canonical.ensures.seats (c.deref.ensures.0 ∙ sound.0) sound.1 c.first_missing.ensures ∙ ap
+    (option_map Missing) c.in-None.is)

@@ -1,0 +1,42 @@
+-- What taking answers and applying an operation make of the part that decides, whatever it stood for.
+use Rattle.std.specs.Prelude.{◌≡◌, ℕ, List, [], ◌∷◌, ◌++◌}
+use Rattle.tick_units.specs.Lane.{LaneState, with_put}
+use Rattle.site_types.specs.declared.answer.Answer.{Answer}
+use Rattle.site_types.specs.declared.operation.Operation.{Operation}
+use Rattle.site_types.specs.declared.retained.Retained.{Retained}
+use Rattle.site_types.specs.declared.site.Site.{Site}
+use Rattle.site_types.specs.Done.{Done}
+use Rattle.coincidence_rules.specs.declared.finding.Finding.{Finding}
+use Rattle.coincidence_rules.specs.Findings.{finding_of, findings_after}
+use Rattle.coincidence.specs.declared.decide.Decide.{Decide}
+use Rattle.coincidence.specs.Premises.{MayTake, MayApply}
+use Rattle.coincidence.specs.Stands.{DecidesFor}
+
+-- these answers are taken after those before
+abbrev pub TakesAnswers : Decide → List Answer → Decide → Type 0
+TakesAnswers old answers decide =
+    (site : Site) (kept : Retained) (panel : ℕ) (done : List Done) (taken : List Answer)
+    → DecidesFor site kept panel done taken old → MayTake site panel done taken answers
+    → DecidesFor site kept panel done (taken ++ answers) decide
+
+-- one finding more lies in the lane for each of these answers, in their order
+abbrev pub PutsFindings : Decide → List Answer → LaneState Finding → LaneState Finding → Type 0
+PutsFindings old answers lane findings =
+    (site : Site) (kept : Retained) (panel : ℕ) (done : List Done) (taken : List Answer)
+    → DecidesFor site kept panel done taken old → MayTake site panel done taken answers
+    → findings ≡ with_put lane (findings_after site kept panel done taken answers)
+
+-- the finding is that of an answer that comes after those taken
+abbrev pub FindsNext : Decide → Answer → Finding → Type 0
+FindsNext old answer finding =
+    (site : Site) (kept : Retained) (panel : ℕ) (done : List Done) (taken : List Answer)
+    → DecidesFor site kept panel done taken old → MayTake site panel done taken (answer ∷ [])
+    → finding ≡ finding_of site kept panel done taken answer
+
+-- the operation is done in a tick, after those before
+abbrev pub AppliesOperation : Decide → Operation → ℕ → Decide → Type 0
+AppliesOperation old operation tick decide =
+    (site : Site) (kept : Retained) (panel : ℕ) (done : List Done) (taken : List Answer)
+    → DecidesFor site kept panel done taken old → MayApply site panel done taken operation tick
+    → DecidesFor site kept panel (record { tick = tick; panel = panel; operation = operation } ∷ done) taken
+    decide

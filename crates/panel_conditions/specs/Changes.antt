@@ -1,0 +1,56 @@
+-- What a turn, findings and an operation make of the part that holds, whatever it stood for.
+use Rattle.std.specs.Prelude.{◌≤◌, ℕ, List, ◌∷◌, ◌++◌, take}
+use Rattle.tick_units.specs.Lane.{LaneState, turn_count}
+use Rattle.site_types.specs.declared.operation.Operation.{Operation}
+use Rattle.site_types.specs.declared.retained.Retained.{Retained}
+use Rattle.site_types.specs.declared.site.Site.{Site}
+use Rattle.site_types.specs.Done.{Done, AreBy}
+use Rattle.coincidence_rules.specs.declared.finding.Finding.{Finding}
+use Rattle.panel_conditions.specs.declared.hold.Hold.{Hold}
+use Rattle.panel_conditions.specs.declared.outside.Outside.{Outside}
+use Rattle.panel_conditions.specs.Stands.{HoldsFor, MayApply, MayTurn, Settled, ShownStays, ShowsThen, Watches}
+use Rattle.panel_conditions.specs.Turns.{HoldTurn}
+
+-- the findings that a turn moves from the lane
+abbrev pub moved_from : LaneState Finding → List Finding
+moved_from lane = take (turn_count lane) lane.items
+
+-- a turn in a tick, which takes what it moves from the lane
+abbrev pub turn_from : ℕ → LaneState Finding → Outside → HoldTurn
+turn_from tick lane outside = record { tick = tick; found = moved_from lane; outside = outside }
+
+-- the turn is made after those before
+abbrev pub MakesTurn : Hold → HoldTurn → Hold → Type 0
+MakesTurn old turn hold =
+    (site : Site) (kept : Retained) (panel : ℕ) (done : List Done) (turns : List HoldTurn)
+    → HoldsFor site kept panel done turns old → MayTurn done turns turn.tick
+    → HoldsFor site kept panel done (turn ∷ turns) hold
+
+-- the operation is done in a tick, after those before
+abbrev pub AppliesOperation : Hold → Operation → ℕ → Hold → Type 0
+AppliesOperation old operation tick hold =
+    (site : Site) (kept : Retained) (panel : ℕ) (done : List Done) (turns : List HoldTurn)
+    → HoldsFor site kept panel done turns old → MayApply panel done turns operation tick
+    → HoldsFor site kept panel (record { tick = tick; panel = panel; operation = operation } ∷ done) turns
+    hold
+
+-- these findings are taken after those before
+abbrev pub WatchesMore : Hold → List Finding → Hold → Type 0
+WatchesMore old findings hold =
+    (site : Site) (kept : Retained) (panel : ℕ) (done : List Done) (taken : List Finding)
+    → Watches site kept panel done taken old → Watches site kept panel done (taken ++ findings) hold
+
+-- zones that were settled stay so
+abbrev pub StaysSettled : Hold → Hold → Type 0
+StaysSettled old hold =
+    (site : Site) (kept : Retained) (panel : ℕ) (done : List Done) (taken : List Finding) (tick : ℕ)
+    → Watches site kept panel done taken old → Settled tick old.zones → Settled tick hold.zones
+
+-- at a tick that is not before that of the latest turn, it shows what follows from the findings taken and the
+-- operations done
+abbrev pub ShowsWhatFollows : Hold → ℕ → Outside → Hold → Type 0
+ShowsWhatFollows old now outside hold =
+    (site : Site) (kept : Retained) (panel : ℕ) (done : List Done) (taken : List Finding) (tick : ℕ)
+    → Watches site kept panel done taken old → Settled tick old.zones → tick ≤ now → AreBy now done
+    → ShownStays done old → old.shown.word.stamp.0 ≤ now
+    → ShowsThen site kept panel done taken now outside old hold

@@ -1,0 +1,61 @@
+-- What reports, events and turns make of a panel and of the system, whatever they stood for.
+use Rattle.std.specs.Prelude.{◌≡◌, ℕ, true, false, List, ◌∷◌, slice_get}
+use Rattle.tick_units.specs.declared.seat.Seat.{Seat}
+use Rattle.tick_units.specs.declared.task.Task.{Task}
+use Rattle.site_types.specs.declared.event.Event.{Event}
+use Rattle.site_types.specs.declared.event.Event.TheVariants.{Point, Cable}
+use Rattle.site_types.specs.declared.piece_state.PieceState.{PieceState}
+use Rattle.site_types.specs.declared.point_state.PointState.{PointState}
+use Rattle.site_types.specs.declared.retained.Retained.{Retained}
+use Rattle.site_types.specs.declared.site.Site.{Site}
+use Rattle.panel_rules.specs.Moments.{Moment, Began, Happened, Turned, IsRun, and_turns, tick_of}
+use Rattle.panel_core.specs.declared.parts.Parts.{Parts}
+use Rattle.panel_core.specs.declared.system.System.{System}
+use Rattle.panel_rules.specs.Reports.{is_on_panel}
+use Rattle.panel_core.specs.Stands.{PanelStands, StandsFor}
+
+-- ---- a panel
+
+-- a report came on a point of the panel
+abbrev pub HearsPoint : Parts → ℕ → PointState → Parts → Type 0
+HearsPoint old point state parts =
+    (site : Site) (kept : Retained) (panel : ℕ) (before : List Moment)
+    → PanelStands site kept panel before old → is_on_panel panel (slice_get site.points point) ≡ true
+    → PanelStands site kept panel (Happened (Point point state) ∷ before) parts
+
+-- a report came on a piece of cable of the panel
+abbrev pub HearsPiece : Parts → ℕ → ℕ → PieceState → Parts → Type 0
+HearsPiece old line piece state parts =
+    (site : Site) (kept : Retained) (panel : ℕ) (before : List Moment)
+    → PanelStands site kept panel before old
+    → PanelStands site kept panel (Happened (Cable panel line piece state) ∷ before) parts
+
+-- a task had its turn, in the tick that began last
+abbrev pub MakesTurn : Parts → Task → ℕ → Parts → Type 0
+MakesTurn old task tick parts =
+    (site : Site) (kept : Retained) (panel : ℕ) (before : List Moment)
+    → PanelStands site kept panel before old → tick ≡ tick_of before
+    → IsRun site.panels (Turned panel task ∷ before)
+    → PanelStands site kept panel (Turned panel task ∷ before) parts
+
+-- ---- all panels
+
+-- a tick began: the one after that which began last
+abbrev pub BeginsTick : System → ℕ → System → Type 0
+BeginsTick old tick system =
+    (site : Site) (kept : Retained) (before : List Moment)
+    → StandsFor site kept before old → tick ≡ tick_of (Began ∷ before)
+    → StandsFor site kept (Began ∷ before) system
+
+-- an event happened
+abbrev pub TakesEvent : System → Event → System → Type 0
+TakesEvent old event system =
+    (site : Site) (kept : Retained) (before : List Moment)
+    → StandsFor site kept before old → StandsFor site kept (Happened event ∷ before) system
+
+-- each of these seats had its turn, in this order, and no journal failed
+abbrev pub MakesTurns : System → List Seat → System → Type 0
+MakesTurns old order system =
+    (site : Site) (kept : Retained) (before : List Moment)
+    → StandsFor site kept before old → IsRun site.panels (and_turns false order before)
+    → StandsFor site kept (and_turns false order before) system

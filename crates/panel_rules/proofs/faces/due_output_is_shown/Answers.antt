@@ -1,5 +1,0 @@
-use Rattle.panel_rules.proofs.FacesShow.{due_output_shown as law}
-use Rattle.panel_rules.proofs.faces.due_output_is_shown.Goals as goal
-
-pub returns : goal.returns
-returns c = law

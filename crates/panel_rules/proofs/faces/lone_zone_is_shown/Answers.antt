@@ -1,5 +1,0 @@
-use Rattle.panel_rules.proofs.FirstsShow.{lone_zone_shown as law}
-use Rattle.panel_rules.proofs.faces.lone_zone_is_shown.Goals as goal
-
-pub returns : goal.returns
-returns c = law

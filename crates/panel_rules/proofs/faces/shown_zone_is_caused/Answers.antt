@@ -1,5 +1,0 @@
-use Rattle.panel_rules.proofs.FacesShow.{shown_zone_caused as law}
-use Rattle.panel_rules.proofs.faces.shown_zone_is_caused.Goals as goal
-
-pub returns : goal.returns
-returns c = law

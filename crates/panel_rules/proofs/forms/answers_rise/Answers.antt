@@ -1,5 +1,0 @@
-use Rattle.panel_rules.proofs.AnswersRise.{answers_rise as law}
-use Rattle.panel_rules.proofs.forms.answers_rise.Goals as goal
-
-pub returns : goal.returns
-returns c = law

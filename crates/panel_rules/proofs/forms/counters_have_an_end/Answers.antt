@@ -1,5 +1,0 @@
-use Rattle.panel_rules.proofs.FacesInForm.{counter_ends as law}
-use Rattle.panel_rules.proofs.forms.counters_have_an_end.Goals as goal
-
-pub returns : goal.returns
-returns c = law

@@ -1,5 +1,0 @@
-use Rattle.panel_rules.proofs.FacesInForm.{by_panel as law}
-use Rattle.panel_rules.proofs.forms.faces_are_by_panel.Goals as goal
-
-pub returns : goal.returns
-returns c = law

@@ -1,5 +1,0 @@
-use Rattle.panel_rules.proofs.FacesInForm.{of_the_site as law}
-use Rattle.panel_rules.proofs.forms.faces_are_of_site.Goals as goal
-
-pub returns : goal.returns
-returns c = law

@@ -1,5 +1,0 @@
-use Rattle.panel_rules.proofs.TimelineForms.{in_form as law}
-use Rattle.panel_rules.proofs.forms.timeline_is_in_form.Goals as goal
-
-pub returns : goal.returns
-returns c = law

@@ -1,5 +1,0 @@
-use Rattle.panel_rules.proofs.TimelineForms.{told_ticks_tell as law}
-use Rattle.panel_rules.proofs.forms.told_ticks_tell.Goals as goal
-
-pub returns : goal.returns
-returns c = law

@@ -1,5 +1,0 @@
-use Rattle.panel_rules.proofs.AnswerLaws.{answered_once as law}
-use Rattle.panel_rules.proofs.operations.answered_once.Goals as goal
-
-pub returns : goal.returns
-returns c = law

@@ -1,5 +1,0 @@
-use Rattle.panel_rules.proofs.AnswerLaws.{answers_are_to as law}
-use Rattle.panel_rules.proofs.operations.answers_are_to_requests.Goals as goal
-
-pub returns : goal.returns
-returns c = law

@@ -1,5 +1,0 @@
-use Rattle.panel_rules.proofs.StoredSettings.{kept_in_force as law}
-use Rattle.panel_rules.proofs.operations.kept_is_in_force.Goals as goal
-
-pub returns : goal.returns
-returns c = law

@@ -1,5 +1,0 @@
-use Rattle.panel_rules.proofs.SettingLaws.{settings_change_once as law}
-use Rattle.panel_rules.proofs.operations.settings_change_once.Goals as goal
-
-pub returns : goal.returns
-returns c = law

@@ -1,5 +1,0 @@
-use Rattle.panel_rules.proofs.Supplies.{bad_supply_shown as law}
-use Rattle.panel_rules.proofs.other_deadlines.bad_supply_is_shown.Goals as goal
-
-pub returns : goal.returns
-returns c = law

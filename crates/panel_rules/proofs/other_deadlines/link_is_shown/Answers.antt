@@ -1,5 +1,0 @@
-use Rattle.panel_rules.proofs.OwnTick.{link_shown as law}
-use Rattle.panel_rules.proofs.other_deadlines.link_is_shown.Goals as goal
-
-pub returns : goal.returns
-returns c = law

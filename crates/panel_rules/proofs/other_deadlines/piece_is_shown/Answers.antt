@@ -1,5 +1,0 @@
-use Rattle.panel_rules.proofs.OwnTick.{piece_shown as law}
-use Rattle.panel_rules.proofs.other_deadlines.piece_is_shown.Goals as goal
-
-pub returns : goal.returns
-returns c = law

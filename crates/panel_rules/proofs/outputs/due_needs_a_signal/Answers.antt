@@ -1,5 +1,0 @@
-use Rattle.panel_rules.proofs.DueBySignal.{due_needs as law}
-use Rattle.panel_rules.proofs.outputs.due_needs_a_signal.Goals as goal
-
-pub returns : goal.returns
-returns c = law

@@ -1,5 +1,0 @@
-use Rattle.panel_rules.proofs.OutputsOn.{due_output_on as law}
-use Rattle.panel_rules.proofs.outputs.due_output_is_on.Goals as goal
-
-pub returns : goal.returns
-returns c = law

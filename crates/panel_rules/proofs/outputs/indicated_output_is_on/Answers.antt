@@ -1,5 +1,0 @@
-use Rattle.panel_rules.proofs.OutputsOn.{indicated_on as law}
-use Rattle.panel_rules.proofs.outputs.indicated_output_is_on.Goals as goal
-
-pub returns : goal.returns
-returns c = law

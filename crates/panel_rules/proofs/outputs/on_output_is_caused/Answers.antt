@@ -1,5 +1,0 @@
-use Rattle.panel_rules.proofs.OutputsOn.{on_output_caused as law}
-use Rattle.panel_rules.proofs.outputs.on_output_is_caused.Goals as goal
-
-pub returns : goal.returns
-returns c = law

@@ -1,5 +1,0 @@
-use Rattle.panel_rules.proofs.CountersAddUp.{add_up as law}
-use Rattle.panel_rules.proofs.timelines.counters_add_up.Goals as goal
-
-pub returns : goal.returns
-returns c = law

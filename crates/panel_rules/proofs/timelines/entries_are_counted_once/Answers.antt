@@ -1,5 +1,0 @@
-use Rattle.panel_rules.proofs.EntriesAddUp.{counted_once as law}
-use Rattle.panel_rules.proofs.timelines.entries_are_counted_once.Goals as goal
-
-pub returns : goal.returns
-returns c = law

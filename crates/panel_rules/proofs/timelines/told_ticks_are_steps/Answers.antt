@@ -1,5 +1,0 @@
-use Rattle.panel_rules.proofs.Steps.{told_are_steps as law}
-use Rattle.panel_rules.proofs.timelines.told_ticks_are_steps.Goals as goal
-
-pub returns : goal.returns
-returns c = law

@@ -1,5 +1,0 @@
-use Rattle.panel_rules.proofs.Joined.{due_kept}
-use Rattle.panel_rules.proofs.words.due_zone_is_kept.Goals as goal
-
-pub returns : goal.returns
-returns c = due_kept

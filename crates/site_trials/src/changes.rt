@@ -1,0 +1,92 @@
+//! Changes of a text, and bytes that a text can't hold.
+
+use anyhow::{Result, bail};
+use std::alloc::{AllocError, Global};
+
+/// A text after changes, with bars between them. `OLD -> NEW` puts NEW in the place of OLD, which stands
+/// once; `then NEW` puts a line behind the text; `fill N` puts a comment behind it, so that it has N
+/// bytes. NEW may be `N times ITEM`.
+pub fn changed(alloc: Global, base: &str, changes: &str) -> Result<String> {
+    let mut text = String::from_str(alloc, base)?;
+    for change in changes.split('|') {
+        text = with_change(alloc, &text, change.trim())?;
+    }
+    Ok(text)
+}
+
+fn with_change(alloc: Global, text: &str, change: &str) -> Result<String> {
+    if change.is_empty() {
+        return Ok(String::from_str(alloc, text)?);
+    }
+    if let Some(line) = change.strip_prefix("then ") {
+        let line = repeated(alloc, line)?;
+        return Ok(format!(in alloc; "{text}{line}\n")?);
+    }
+    if let Some(bytes) = change.strip_prefix("fill ") {
+        let bytes: usize = bytes.parse()?;
+        return Ok(filled(alloc, text, bytes)?);
+    }
+    match change.split_once("->") {
+        Some((old, new)) => {
+            let new = repeated(alloc, new.trim())?;
+            replaced(alloc, text, old.trim(), &new)
+        }
+        None => bail!("no change: {change}"),
+    }
+}
+
+fn replaced(alloc: Global, text: &str, old: &str, new: &str) -> Result<String> {
+    match text.split_once(old) {
+        Some((before, after)) if !after.contains(old) => {
+            Ok(format!(in alloc; "{before}{new}{after}")?)
+        }
+        _ => bail!("{old} doesn't stand there once"),
+    }
+}
+
+fn filled(alloc: Global, text: &str, bytes: usize) -> Result<String, AllocError> {
+    let filling = "x".repeat(alloc, bytes.saturating_sub(text.len()).saturating_sub(1))?;
+    format!(in alloc; "{text}#{filling}")
+}
+
+// `N times ITEM` is the item N times over, each `%` in it being 0, 1 and so on. Any other text is itself.
+fn repeated(alloc: Global, text: &str) -> Result<String> {
+    let Some((count, item)) = text.split_once(" times ") else {
+        return Ok(String::from_str(alloc, text)?);
+    };
+    let count: usize = count.parse()?;
+    if item.contains('%') {
+        Ok(numbered(alloc, item, count)?)
+    } else {
+        Ok(item.repeat(alloc, count)?)
+    }
+}
+
+fn numbered(alloc: Global, item: &str, count: usize) -> Result<String, AllocError> {
+    let mut text = String::new(alloc);
+    for number in 0..count {
+        let number = number.to_string(alloc)?;
+        let item = item.replace(alloc, '%', &number)?;
+        text.push_str(&item)?;
+    }
+    Ok(text)
+}
+
+/// The bytes that a text on one line spells: `;` is a line end, and `\x` the byte that the two
+/// hexadecimal digits behind it give.
+pub fn bytes_of(alloc: Global, text: &str) -> Result<Vec<u8>> {
+    let text = text.replace(alloc, ';', "\n")?;
+    let mut parts = text.split("\\x");
+    let mut bytes = Vec::new(alloc);
+    if let Some(first) = parts.next() {
+        bytes.extend_from_slice(first.as_bytes())?;
+    }
+    for part in parts {
+        let Some((digits, rest)) = part.split_at_checked(2) else {
+            bail!("no digits: {text}");
+        };
+        bytes.push(u8::from_str_radix(digits, 16)?)?;
+        bytes.extend_from_slice(rest.as_bytes())?;
+    }
+    Ok(bytes)
+}
