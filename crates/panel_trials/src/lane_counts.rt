@@ -21,7 +21,7 @@ fn full_panel(alloc: Global) -> Result<String> {
     text.push_str("]\nzone = [\n")?;
     for number in 1..33 {
         let row = format!(in alloc;
-            "  {{ name = \"z1-{number}\", panel = 1, number = {number} }},\n"
+            "  {{ name = \"z{number}\", panel = 1, number = {number} }},\n"
         )?;
         text.push_str(row.as_str())?;
     }
@@ -31,7 +31,7 @@ fn full_panel(alloc: Global) -> Result<String> {
         let address = place % 96 + 1;
         let zone = place / 12 + 1;
         let row = format!(in alloc;
-            "  {{ name = \"p{line}-{address}\", panel = 1, loop = {line}, address = {address}, zone = \"z1-{zone}\" }},\n"
+            "  {{ name = \"p{line}-{address}\", panel = 1, loop = {line}, address = {address}, zone = \"z{zone}\" }},\n"
         )?;
         text.push_str(row.as_str())?;
     }
