@@ -1,15 +1,17 @@
 //! Drawn records of points without operations: each zone that is due by a plain program is shown, whatever
 //! the orders of turns, and a zone that is shown has an answer that confirms it.
 
-use crate::system_ticks::{Report, opened, order_of, run_tick, shown};
-use site_types::{Answer, Heard, PointState, Rule, Site, Zone, has_bit_32};
-use std::alloc::Global;
-use std::process::Abort;
-use std::test::Fail;
-use tick_units::Tick;
-use trial_base::{ALL_TYPES, Draws, Judged, PlainRules, site_of};
+ghost use Rattle.site_types.specs.Valid.{IsValid};
 
-const RECORDS: u64 = 20;
+use crate::report::Report;
+use crate::system_ticks::{opened, order_of, run_tick, shown};
+use anyhow::Result;
+use rand_pcg::Pcg32;
+use site_types::{Answer, Heard, PointState, Rule, Site, Zone, has_bit_32};
+use std::alloc::{AllocError, Global};
+use tick_units::Tick;
+use trial_base::{Judged, PlainRules};
+use trial_cases::below;
 
 const LAST: u64 = 150;
 
@@ -39,8 +41,8 @@ struct Bounds {
 
 const NEVER: u64 = 1_000_000_000;
 
-fn drawn_state(draws: &mut Draws) -> PointState {
-    match draws.below(5) {
+fn drawn_state(draws: &mut Pcg32) -> PointState {
+    match below(draws, 5) {
         0 | 1 => PointState::Alarm,
         2 => PointState::Gone,
         _ => PointState::Quiet,
@@ -48,12 +50,13 @@ fn drawn_state(draws: &mut Draws) -> PointState {
 }
 
 // About one report in two ticks.
-fn drawn_reports(alloc: Global, draws: &mut Draws) -> Result<Vec<Report>, Fail> {
+fn drawn_reports(alloc: Global, draws: &mut Pcg32) -> Result<Vec<Report>, AllocError> {
     let mut reports: Vec<Report> = Vec::new(alloc);
     for tick in 1..LAST {
-        if draws.below(2) == 0 {
-            let point = draws.below(POINTS as u64) as u16;
-            reports.push((tick, point, drawn_state(draws)))?;
+        if below(draws, 2) == 0 {
+            let point = below(draws, POINTS as u64) as u16;
+            let state = drawn_state(draws);
+            reports.push(Report { tick, point, state })?;
         }
     }
     Ok(reports)
@@ -62,9 +65,9 @@ fn drawn_reports(alloc: Global, draws: &mut Draws) -> Result<Vec<Report>, Fail> 
 // The state of a point in a tick: the last one that was reported, at first quiet.
 fn state_at(reports: &[Report], point: u16, tick: u64) -> PointState {
     let mut state = PointState::Quiet;
-    for (at, of, what) in reports {
-        if *of == point && *at <= tick {
-            state = *what;
+    for report in reports {
+        if report.point == point && report.tick <= tick {
+            state = report.state;
         }
     }
     state
@@ -81,7 +84,7 @@ fn is_held(reports: &[Report], point: u16, first: u64, count: u64) -> bool {
 }
 
 // Each point with each tick from which on it was in alarm for a round.
-fn all_held(alloc: Global, site: &Site, reports: &[Report]) -> Result<Vec<Held>, Fail> {
+fn all_held(alloc: Global, site: &Site, reports: &[Report]) -> Result<Vec<Held>, AllocError> {
     let mut held = Vec::new(alloc);
     let mut place: u16 = 0;
     for point in site.points.as_slice() {
@@ -107,7 +110,7 @@ fn all_held(alloc: Global, site: &Site, reports: &[Report]) -> Result<Vec<Held>,
 }
 
 // What the points answer, tick by tick in the order of the site's points.
-fn all_answers(alloc: Global, site: &Site, reports: &[Report]) -> Result<Vec<Answer>, Fail> {
+fn all_answers(alloc: Global, site: &Site, reports: &[Report]) -> Result<Vec<Answer>, AllocError> {
     let mut answers = Vec::new(alloc);
     for tick in 1..=LAST {
         let mut place: u16 = 0;
@@ -138,7 +141,7 @@ fn settled_by_two(
     partner: Option<u16>,
     within: u64,
     held: &[Held],
-) -> Result<u64, Fail> {
+) -> Result<u64, AllocError> {
     let mut near: Vec<Held> = Vec::new(alloc);
     for one in held {
         if !one.manual && (one.zone == place || partner == Some(one.zone)) {
@@ -192,7 +195,7 @@ fn due_from(
     zone: &Zone,
     held: &[Held],
     reports: &[Report],
-) -> Result<u64, Fail> {
+) -> Result<u64, AllocError> {
     let alone = settled_by_one(place, zone.rule, held, reports);
     let together = match zone.rule {
         Rule::Plain | Rule::C => NEVER,
@@ -216,7 +219,7 @@ fn is_shown(zones: u32, number: u8) -> bool {
     number >= 1 && number <= 32 && has_bit_32(zones, number - 1)
 }
 
-fn all_bounds(alloc: Global, site: &Site, reports: &[Report]) -> Result<Vec<Bounds>, Fail> {
+fn all_bounds(alloc: Global, site: &Site, reports: &[Report]) -> Result<Vec<Bounds>, AllocError> {
     let held = all_held(alloc, site, reports)?;
     let answers = all_answers(alloc, site, reports)?;
     let plain = PlainRules {
@@ -238,49 +241,36 @@ fn all_bounds(alloc: Global, site: &Site, reports: &[Report]) -> Result<Vec<Boun
     Ok(bounds)
 }
 
-// Each zone that is due is shown, and each that is shown is caused; how many were due.
-fn compare(rt: &impl Abort, bounds: &[Bounds], zones: u32, tick: u64) -> u32 {
+// How many zones are due, if each that is due is shown and each that is shown is caused.
+fn due_zones(bounds: &[Bounds], zones: u32, tick: u64) -> Option<u32> {
     let mut due: u32 = 0;
     for zone in bounds {
         let shown = is_shown(zones, zone.number);
-        if zone.due <= tick {
-            assert!(rt; shown, "zone {} is due in tick {tick}", zone.number);
-            due = due.saturating_add(1);
+        if zone.due <= tick && !shown || shown && zone.caused > tick {
+            return None;
         }
-        if shown {
-            assert!(rt;
-                zone.caused <= tick,
-                "zone {} has no cause in tick {tick}",
-                zone.number
-            );
-        }
+        due = due.saturating_add((zone.due <= tick) as u32);
     }
-    due
+    Some(due)
 }
 
-// One record, each tick in a drawn order; how many zones were due at its end.
-fn drive(rt: &impl Abort, alloc: Global, draws: &mut Draws) -> Result<u32, Fail> {
-    let site = site_of(alloc, ALL_TYPES)?;
+/// A drawn record, each tick in a drawn order: how many zones were due at its end, if each that was due
+/// was shown and none without a cause.
+pub(crate) fn due_at_end(alloc: Global, site: Site, draws: &mut Pcg32) -> Result<Option<u32>>
+    requires { IsValid site }
+{
     let panels = site.panels;
     let reports = drawn_reports(alloc, draws)?;
     let bounds = all_bounds(alloc, &site, &reports)?;
     let mut system = opened(alloc, site)?;
     let mut due = 0;
     for tick in 1..=LAST {
-        let order = order_of(alloc, panels, draws.below(2) == 0)?;
+        let order = order_of(alloc, panels, below(draws, 2) == 0)?;
         run_tick(&mut system, panels, &reports, &order)?;
-        due = compare(rt, &bounds, shown(&system, panels).0, tick);
+        match due_zones(&bounds, shown(&system, panels).0, tick) {
+            Some(zones) => due = zones,
+            None => return Ok(None),
+        }
     }
-    Ok(due)
-}
-
-#[test]
-fn shows_what_is_due_and_nothing_without_a_cause(rt: HostRuntime) -> Result<(), Fail> {
-    let mut draws = Draws::from_seed(4);
-    let mut due: u32 = 0;
-    for _ in 0..RECORDS {
-        due = due.saturating_add(drive(&rt, rt.alloc(), &mut draws)?);
-    }
-    assert!(rt; due >= 50, "{due} zones were due");
-    Ok(())
+    Ok(Some(due))
 }

@@ -2,15 +2,15 @@
 
 ghost use Rattle.std.specs.Prelude.{◌≡◌};
 
-use crate::system_ticks::{opened, reversed_order, run_tick, taken};
+use crate::system_ticks::{opened, order_of, run_tick, taken};
+use anyhow::{Result, bail};
 use arrayvec::ArrayVec;
+use site_config::read_site;
 use std::alloc::Global;
-use std::test::Fail;
-use tick_units::{Lane, Order};
-use trial_base::site_of;
+use tick_units::Lane;
 
 // One panel with four full loops, a section of twelve addresses for each zone.
-fn full_panel(alloc: Global) -> Result<String, Fail> {
+fn full_panel(alloc: Global) -> Result<String> {
     let mut text = "format = 1\nsite = \"full\"\npanels = 1\nloop = [\n".to_string(alloc)?;
     for line in 1..5 {
         let row = format!(in alloc;
@@ -21,7 +21,7 @@ fn full_panel(alloc: Global) -> Result<String, Fail> {
     text.push_str("]\nzone = [\n")?;
     for number in 1..33 {
         let row = format!(in alloc;
-            "  {{ name = \"z1-{number}\", panel = 1, number = {number} }},\n"
+            "  {{ name = \"z{number}\", panel = 1, number = {number} }},\n"
         )?;
         text.push_str(row.as_str())?;
     }
@@ -31,7 +31,7 @@ fn full_panel(alloc: Global) -> Result<String, Fail> {
         let address = place % 96 + 1;
         let zone = place / 12 + 1;
         let row = format!(in alloc;
-            "  {{ name = \"p1-l{line}-a{address}\", panel = 1, loop = {line}, address = {address}, zone = \"z1-{zone}\" }},\n"
+            "  {{ name = \"p{line}-{address}\", panel = 1, loop = {line}, address = {address}, zone = \"z{zone}\" }},\n"
         )?;
         text.push_str(row.as_str())?;
     }
@@ -39,35 +39,51 @@ fn full_panel(alloc: Global) -> Result<String, Fail> {
     Ok(text)
 }
 
-// In a reversed tick Poll is last, and in the canonical one after it first: so twice 32 answers lie before
-// Decide, which takes half of them.
-#[test]
-fn two_batches_lie_in_a_lane_at_most(rt: HostRuntime) -> Result<(), Fail> {
-    let alloc = rt.alloc();
+/// What Decide and Hold have taken after each tick, its turns being in the canonical or in the reversed order.
+pub(crate) fn taken_of_full_loops(alloc: Global, orders: &str) -> Result<String> {
     let text = full_panel(alloc)?;
-    let site = site_of(alloc, text.as_str())?;
+    let Ok(site) = read_site(alloc, text.as_bytes()) else {
+        bail!("a refused site");
+    };
     let panels = site.panels;
-    let reversed = reversed_order(alloc, panels)?;
-    let canonical = Order::canonical(panels);
     let mut system = opened(alloc, site)?;
-    assert_eq!(rt; panels, 1);
-    run_tick(&mut system, panels, &[], &reversed)?;
-    assert_eq!(rt; taken(&system, panels), (0, 0));
-    run_tick(&mut system, panels, &[], &canonical)?;
-    assert_eq!(rt; taken(&system, panels), (32, 32));
-    run_tick(&mut system, panels, &[], &canonical)?;
-    assert_eq!(rt; taken(&system, panels), (64, 64));
-    Ok(())
+    let mut told = String::new(alloc);
+    for word in orders.split(", ") {
+        let order = order_of(alloc, panels, word == "reversed")?;
+        run_tick(&mut system, panels, &[], &order)?;
+        let (decided, held) = taken(&system, panels);
+        told.push_str(&format!(in alloc; "    {word}: Decide {decided}, Hold {held}\n")?)?;
+    }
+    Ok(told)
+}
+
+/// How much lies in a lane after each step: a `batch` of 32 that is put, or a `turn` of its taker.
+pub(crate) fn lane_lengths(alloc: Global, steps: &str) -> Result<String> {
+    let Ok(mut lane) = Lane::new(alloc, 32, 64) else {
+        bail!("no memory");
+    };
+    let mut told = String::new(alloc);
+    for word in steps.split(", ") {
+        match word {
+            "batch" => put_batch(&mut lane)?,
+            "turn" => take_batch(&mut lane),
+            _ => bail!("no step of a lane: {word}"),
+        }
+        told.push_str(&format!(in alloc; "    {word}: {} lie in it\n", lane.len())?)?;
+    }
+    let (put, taken) = (lane.put_count(), lane.taken_count());
+    told.push_str(&format!(in alloc; "    {put} put, {taken} taken\n")?)?;
+    Ok(told)
 }
 
 // Puts a batch of 32 items.
-fn put_batch(lane: &mut Lane<u64>) -> Result<(), Fail>
+fn put_batch(lane: &mut Lane<u64>) -> Result<()>
     requires { (lane.old.quota ≡ 32) × (lane.old.capacity ≡ 64) }
     ensures { (lane.new.quota ≡ 32) × (lane.new.capacity ≡ 64) }
 {
     for item in 0..32 {
         if lane.len() >= 64 || lane.put_count() >= 1000 {
-            return Err(Fail::from("a full lane"));
+            bail!("a full lane");
         }
         lane.put(item);
     }
@@ -75,28 +91,10 @@ fn put_batch(lane: &mut Lane<u64>) -> Result<(), Fail>
 }
 
 // A turn of the taker.
-fn take_batch(lane: &mut Lane<u64>) -> usize
+fn take_batch(lane: &mut Lane<u64>)
     requires { (lane.old.quota ≡ 32) × (lane.old.capacity ≡ 64) }
     ensures { (lane.new.quota ≡ 32) × (lane.new.capacity ≡ 64) }
 {
     let mut batch: ArrayVec<u64, 32> = ArrayVec::new();
     lane.take_turn(&mut batch);
-    batch.len()
-}
-
-// A lane with the same puts and turns.
-#[test]
-fn a_lane_of_the_same_puts_and_turns_holds_64_at_most(rt: HostRuntime) -> Result<(), Fail> {
-    let mut lane = Lane::new(rt.alloc(), 32, 64)?;
-    assert_eq!(rt; take_batch(&mut lane), 0);
-    put_batch(&mut lane)?;
-    assert_eq!(rt; lane.len(), 32);
-    put_batch(&mut lane)?;
-    assert_eq!(rt; lane.len(), 64);
-    assert_eq!(rt; take_batch(&mut lane), 32);
-    put_batch(&mut lane)?;
-    assert_eq!(rt; lane.len(), 64);
-    assert_eq!(rt; take_batch(&mut lane), 32);
-    assert_eq!(rt; (lane.put_count(), lane.taken_count()), (96, 64));
-    Ok(())
 }

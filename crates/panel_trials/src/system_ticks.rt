@@ -5,22 +5,22 @@ ghost use Rattle.tick_units.specs.Orders.{IsOrder, IsPanelCount};
 ghost use Rattle.site_types.specs.Valid.{IsValid};
 ghost use Rattle.panel_trials.specs.SystemTicks.{IsBetween, HasBegun};
 
+use crate::report::Report;
+use anyhow::{Result, bail};
 use panel_core::System;
-use site_types::{Event, PointState, Retained, Site};
+use site_types::{Event, Retained, Site};
 use std::alloc::Global;
-use std::test::Fail;
 use tick_units::{Order, Seat, Task, Tick};
 
-/// In a tick a point, by its place, comes into a state.
-pub(crate) type Report = (u64, u16, PointState);
-
 /// A system before its first tick, with nothing retained.
-pub(crate) fn opened(alloc: Global, site: Site) -> Result<System, Fail>
+pub(crate) fn opened(alloc: Global, site: Site) -> Result<System>
     requires { IsValid site }
     ensures { IfOk result (IsBetween site.panels) }
 {
-    let system = System::open(alloc, site, &Retained::empty())?;
-    Ok(system)
+    match System::open(alloc, site, &Retained::empty()) {
+        Ok(system) => Ok(system),
+        Err(_) => bail!("no memory"),
+    }
 }
 
 /// The next tick: those of the reports that come in it, and its turns in an order.
@@ -29,7 +29,7 @@ pub(crate) fn run_tick(
     panels: u8,
     reports: &[Report],
     order: &Order,
-) -> Result<(), Fail>
+) -> Result<()>
     requires between { IsBetween panels system.old }
     requires ordered { IsOrder panels order.now }
     ensures { IfOk result (λ _. IsBetween panels system.new) }
@@ -43,30 +43,32 @@ pub(crate) fn run_tick(
 }
 
 // The next tick begins.
-fn begin(system: &mut System, panels: u8) -> Result<u64, Fail>
+fn begin(system: &mut System, panels: u8) -> Result<u64>
     requires { IsBetween panels system.old }
     ensures { IfOk result (λ _. HasBegun panels system.new) }
 {
     let now = system.now();
     if now.0 >= 1_000_000 {
-        return Err(Fail::from("too many ticks"));
+        bail!("too many ticks");
     }
     system.begin(Tick(now.0 + 1));
     Ok(now.0 + 1)
 }
 
 // A report comes, if it is one of this tick.
-fn take_report(system: &mut System, panels: u8, tick: u64, report: &Report) -> Result<(), Fail>
+fn take_report(system: &mut System, panels: u8, tick: u64, report: &Report) -> Result<()>
     requires { HasBegun panels system.old }
     ensures { IfOk result (λ _. HasBegun panels system.new) }
 {
-    let (at, point, state) = *report;
-    if at != tick {
+    if report.tick != tick {
         return Ok(());
     }
-    let event = Event::Point { point, state };
+    let event = Event::Point {
+        point: report.point,
+        state: report.state,
+    };
     if !system.site().has_event(&event) {
-        return Err(Fail::from("no such point"));
+        bail!("no such point");
     }
     system.event(&event);
     Ok(())
@@ -87,7 +89,7 @@ pub(crate) fn taken(system: &System, panels: u8) -> (u64, u64)
 }
 
 /// The canonical order, or the reversed one.
-pub(crate) fn order_of(alloc: Global, panels: u8, reversed: bool) -> Result<Order, Fail>
+pub(crate) fn order_of(alloc: Global, panels: u8, reversed: bool) -> Result<Order>
     requires { IsPanelCount panels }
     ensures { IfOk result (IsOrder panels) }
 {
@@ -98,7 +100,7 @@ pub(crate) fn order_of(alloc: Global, panels: u8, reversed: bool) -> Result<Orde
 }
 
 /// The canonical order backwards.
-pub(crate) fn reversed_order(alloc: Global, panels: u8) -> Result<Order, Fail>
+pub(crate) fn reversed_order(alloc: Global, panels: u8) -> Result<Order>
     requires { IsPanelCount panels }
     ensures { IfOk result (IsOrder panels) }
 {
@@ -109,6 +111,6 @@ pub(crate) fn reversed_order(alloc: Global, panels: u8) -> Result<Order, Fail>
     }
     match Order::new(&seats, panels) {
         Ok(order) => Ok(order),
-        Err(_) => Err(Fail::from("no order")),
+        Err(_) => bail!("no order"),
     }
 }

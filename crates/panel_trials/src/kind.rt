@@ -1,0 +1,25 @@
+/// What a case tries.
+#[derive(Clone, Copy)]
+pub(crate) enum Kind {
+    /// What panel 1 shows of its zones over a whole record, in the canonical and in the reversed order of turns.
+    Zones,
+    /// Drawn records: what is due is shown, and nothing is shown without a cause.
+    DrawnZones,
+    /// How much a panel's parts have taken, every address of four loops being asked.
+    FullLoops,
+    /// How much lies in a lane.
+    Lane,
+}
+
+impl Kind {
+    /// The kind of this name.
+    pub(crate) fn named(word: &str) -> Option<Kind> {
+        match word {
+            "zones" => Some(Kind::Zones),
+            "drawn-zones" => Some(Kind::DrawnZones),
+            "full-loops" => Some(Kind::FullLoops),
+            "lane" => Some(Kind::Lane),
+            _ => None,
+        }
+    }
+}
