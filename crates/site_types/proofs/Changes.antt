@@ -21,7 +21,7 @@ use Rattle.site_types.specs.declared.operation.Operation.TheVariants.{Disable, E
 use Rattle.site_types.specs.declared.operation.Operation.TheVariants.{Delays as SetDelays, Clear as ClearCounter}
 use Rattle.site_types.specs.Bits.{IsPlace, has_bit, with_bit, with_point}
 use Rattle.site_types.specs.Done.{Done, Setting, PointOff, ZoneOff, OutputOff, InTest, DelaysOff, Counter, no_points}
-use Rattle.site_types.specs.Done.{same_setting, IsSetting, is_setting, is_on, operation_setting, value_set}
+use Rattle.site_types.specs.Done.{same_setting, item_off, IsSetting, is_setting, is_on, operation_setting, value_set}
 use Rattle.site_types.specs.Done.{at_opening, kept_point, kept_zone, kept_output, kept_test, is_kept_operation}
 use Rattle.site_types.specs.Changes.{IsPanelNumber, CanApply, item_change, changed, changed_by, point_change}
 use Rattle.site_types.specs.Changes.{zone_change, output_change, test_change, operation_change, IsSized, AreCounters}
@@ -31,125 +31,91 @@ use Rattle.site_types.specs.Limits.{greatest_count}
 use Rattle.site_types.proofs.Masks.{with_bit-same, with_bit-other}
 use Rattle.site_types.proofs.ChangedBits.{number-same, number-other, point-same, point-other}
 
--- what is kept of two things of one list, by their places
-same_thing : {X : Type 0} (xs : List X) (i j : ℕ) (x y : X) → i ≡ j → slice_get xs i ≡ Some x → slice_get xs j ≡ Some y → x ≡ y
-same_thing xs i j x y e f g = let h : slice_get xs j ≡ Some x = subst (λ k. slice_get xs k ≡ Some x) e f in cc (h, g)
-
-not_there : {X : Type 0} (xs : List X) (i j : ℕ) (x : X) → i ≡ j → slice_get xs i ≡ Some x → slice_get xs j ≡ None → ⊥
-not_there xs i j x e f g = let h : slice_get xs j ≡ Some x = subst (λ k. slice_get xs k ≡ Some x) e f in cc (h, g)
+-- what is kept of one thing of a list is as it was set, and of the others as it was
+set_at : {X : Type 0} (xs : List X) (i j : ℕ) (x : X) (off : Bool) (was after : Option X → Bool) → slice_get xs i ≡ Some x → was None ≡ false
+    → after None ≡ false → after (Some x) ≡ off → ((y : X) → slice_get xs j ≡ Some y → j ≢ i → after (Some y) ≡ was (Some y))
+    → after (slice_get xs j) ≡ (if j == i then off else was (slice_get xs j))
+set_at {X = X} xs i j x off was after is was_none after_none this others = go (eqb_tells j i) (slice_get xs j) refl
+  where
+    go : (((j == i) ≡ true) × (j ≡ i)) ⊎ (((j == i) ≡ false) × (j ≢ i)) → (o : Option X) → slice_get xs j ≡ o
+        → after o ≡ (if j == i then off else was o)
+    go (inl same) o e =
+        ap after (sym e ∙ ap (slice_get xs) same.1 ∙ is) ∙ this ∙ sym (ap (λ b. if b then off else was o) same.0)
+    go (inr other) None e = after_none ∙ sym (ap (λ b. if b then off else was None) other.0 ∙ was_none)
+    go (inr other) (Some y) e = others y e other.1 ∙ sym (ap (λ b. if b then off else was (Some y)) other.0)
 
 -- what the change of a point makes of each setting; likewise those of a zone, an output, a test and delays
 pub at_point : (site : Site) (kept : Retained) (i : ℕ) (p : PointPlan) (off : Bool) → HasOwnPlaces site → IsSized kept
     → slice_get site.points i ≡ Some p → (setting : Setting)
     → at_opening site (changed (Point p.panel p.line p.address off) kept) setting
     ≡ (if same_setting setting (PointOff i) then off else at_opening site kept setting)
-at_point site kept i p off own sized is (PointOff j) = go (eqb_tells j i) (slice_get site.points j) refl
-  where
-    go : (((j == i) ≡ true) × (j ≡ i)) ⊎ (((j == i) ≡ false) × (j ≢ i)) → (o : Option PointPlan) → slice_get site.points j ≡ o
-        → kept_point (changed (Point p.panel p.line p.address off) kept) o ≡ (if j == i then off else kept_point kept o)
-    go (inl same) None e = absurd (not_there site.points i j p (sym same.1) is e)
-    go (inl same) (Some q) e =
-        let q_is : q ≡ p = same_thing site.points j i q p same.1 e is in
-        let places = own.point i p is in
-        ap (λ x. kept_point (changed (Point p.panel p.line p.address off) kept) (Some x)) q_is
-        ∙ point-same kept p.panel p.line p.address off sized places.0 places.1
-        ∙ sym (ap (λ b. if b then off else kept_point kept (Some q)) same.0)
-    go (inr other) None e = sym (ap (λ b. if b then off else false) other.0)
-    go (inr other) (Some q) e =
-        let places = own.point i p is in
-        let places' = own.point j q e in
-        point-other kept p.panel p.line p.address off sized places.0 places.1 q.panel q.line q.address places'.0 places'.1
-        (λ a b c. other.1 (own.points_apart j i q p e is a b c))
-        ∙ sym (ap (λ b. if b then off else kept_point kept (Some q)) other.0)
+at_point site kept i p off own sized is (PointOff j) =
+    let here = own.point i p is in
+    set_at site.points i j p off (kept_point kept) (kept_point (changed (Point p.panel p.line p.address off) kept)) is refl refl
+    (point-same kept p.panel p.line p.address off sized here.0 here.1)
+    (λ q e apart.
+    let there = own.point j q e in
+    point-other kept p.panel p.line p.address off sized here.0 here.1 q.panel q.line q.address there.0 there.1
+    (λ a b c. apart (own.points_apart j i q p e is a b c)))
 at_point site kept i p off own sized is (ZoneOff j) = refl
 at_point site kept i p off own sized is (OutputOff j) = refl
 at_point site kept i p off own sized is (InTest j) = refl
 at_point site kept i p off own sized is (DelaysOff j) = refl
 at_point site kept i p off own sized is (Counter j) = refl
 
-pub at_zone : (site : Site) (kept : Retained) (i : ℕ) (p : ZonePlan) (off : Bool) → HasOwnPlaces site → IsSized kept → slice_get site.zones i ≡ Some p
+pub at_zone : (site : Site) (kept : Retained) (i : ℕ) (z : ZonePlan) (off : Bool) → HasOwnPlaces site → IsSized kept → slice_get site.zones i ≡ Some z
     → (setting : Setting)
-    → at_opening site (changed (Zone p.panel p.number off) kept) setting
+    → at_opening site (changed (Zone z.panel z.number off) kept) setting
     ≡ (if same_setting setting (ZoneOff i) then off else at_opening site kept setting)
-at_zone site kept i p off own sized is (PointOff j) = refl
-at_zone site kept i p off own sized is (ZoneOff j) = go (eqb_tells j i) (slice_get site.zones j) refl
-  where
-    go : (((j == i) ≡ true) × (j ≡ i)) ⊎ (((j == i) ≡ false) × (j ≢ i)) → (o : Option ZonePlan) → slice_get site.zones j ≡ o
-        → kept_zone (changed (Zone p.panel p.number off) kept) o ≡ (if j == i then off else kept_zone kept o)
-    go (inl same) None e = absurd (not_there site.zones i j p (sym same.1) is e)
-    go (inl same) (Some q) e =
-        let q_is : q ≡ p = same_thing site.zones j i q p same.1 e is in
-        let places = own.zone i p is in
-        ap (λ x. kept_zone (changed (Zone p.panel p.number off) kept) (Some x)) q_is
-        ∙ number-same kept.zones p.panel p.number off sized.zones places.0 places.1
-        ∙ sym (ap (λ b. if b then off else kept_zone kept (Some q)) same.0)
-    go (inr other) None e = sym (ap (λ b. if b then off else false) other.0)
-    go (inr other) (Some q) e =
-        let places = own.zone i p is in
-        let places' = own.zone j q e in
-        number-other kept.zones p.panel p.number off sized.zones places.0 places.1 q.panel q.number places'.0 places'.1
-        (λ a b. other.1 (own.zones_apart j i q p e is a b))
-        ∙ sym (ap (λ b. if b then off else kept_zone kept (Some q)) other.0)
-at_zone site kept i p off own sized is (OutputOff j) = refl
-at_zone site kept i p off own sized is (InTest j) = refl
-at_zone site kept i p off own sized is (DelaysOff j) = refl
-at_zone site kept i p off own sized is (Counter j) = refl
+at_zone site kept i z off own sized is (ZoneOff j) =
+    let here = own.zone i z is in
+    set_at site.zones i j z off (kept_zone kept) (kept_zone (changed (Zone z.panel z.number off) kept)) is refl refl
+    (number-same kept.zones z.panel z.number off sized.zones here.0 here.1)
+    (λ y e apart.
+    let there = own.zone j y e in
+    number-other kept.zones z.panel z.number off sized.zones here.0 here.1 y.panel y.number there.0 there.1
+    (λ a b. apart (own.zones_apart j i y z e is a b)))
+at_zone site kept i z off own sized is (PointOff j) = refl
+at_zone site kept i z off own sized is (OutputOff j) = refl
+at_zone site kept i z off own sized is (InTest j) = refl
+at_zone site kept i z off own sized is (DelaysOff j) = refl
+at_zone site kept i z off own sized is (Counter j) = refl
 
-pub at_output : (site : Site) (kept : Retained) (i : ℕ) (p : OutputPlan) (off : Bool) → HasOwnPlaces site → IsSized kept
-    → slice_get site.outputs i ≡ Some p → (setting : Setting)
-    → at_opening site (changed (Output p.panel p.number off) kept) setting
+pub at_output : (site : Site) (kept : Retained) (i : ℕ) (o : OutputPlan) (off : Bool) → HasOwnPlaces site → IsSized kept
+    → slice_get site.outputs i ≡ Some o → (setting : Setting)
+    → at_opening site (changed (Output o.panel o.number off) kept) setting
     ≡ (if same_setting setting (OutputOff i) then off else at_opening site kept setting)
-at_output site kept i p off own sized is (PointOff j) = refl
-at_output site kept i p off own sized is (ZoneOff j) = refl
-at_output site kept i p off own sized is (OutputOff j) = go (eqb_tells j i) (slice_get site.outputs j) refl
-  where
-    go : (((j == i) ≡ true) × (j ≡ i)) ⊎ (((j == i) ≡ false) × (j ≢ i)) → (o : Option OutputPlan) → slice_get site.outputs j ≡ o
-        → kept_output (changed (Output p.panel p.number off) kept) o ≡ (if j == i then off else kept_output kept o)
-    go (inl same) None e = absurd (not_there site.outputs i j p (sym same.1) is e)
-    go (inl same) (Some q) e =
-        let q_is : q ≡ p = same_thing site.outputs j i q p same.1 e is in
-        let places = own.output i p is in
-        ap (λ x. kept_output (changed (Output p.panel p.number off) kept) (Some x)) q_is
-        ∙ number-same kept.outputs p.panel p.number off sized.outputs places.0 places.1
-        ∙ sym (ap (λ b. if b then off else kept_output kept (Some q)) same.0)
-    go (inr other) None e = sym (ap (λ b. if b then off else false) other.0)
-    go (inr other) (Some q) e =
-        let places = own.output i p is in
-        let places' = own.output j q e in
-        number-other kept.outputs p.panel p.number off sized.outputs places.0 places.1 q.panel q.number places'.0 places'.1
-        (λ a b. other.1 (own.outputs_apart j i q p e is a b))
-        ∙ sym (ap (λ b. if b then off else kept_output kept (Some q)) other.0)
-at_output site kept i p off own sized is (InTest j) = refl
-at_output site kept i p off own sized is (DelaysOff j) = refl
-at_output site kept i p off own sized is (Counter j) = refl
+at_output site kept i o off own sized is (OutputOff j) =
+    let here = own.output i o is in
+    set_at site.outputs i j o off (kept_output kept) (kept_output (changed (Output o.panel o.number off) kept)) is refl refl
+    (number-same kept.outputs o.panel o.number off sized.outputs here.0 here.1)
+    (λ n e apart.
+    let there = own.output j n e in
+    number-other kept.outputs o.panel o.number off sized.outputs here.0 here.1 n.panel n.number there.0 there.1
+    (λ a b. apart (own.outputs_apart j i n o e is a b)))
+at_output site kept i o off own sized is (PointOff j) = refl
+at_output site kept i o off own sized is (ZoneOff j) = refl
+at_output site kept i o off own sized is (InTest j) = refl
+at_output site kept i o off own sized is (DelaysOff j) = refl
+at_output site kept i o off own sized is (Counter j) = refl
 
-pub at_test : (site : Site) (kept : Retained) (i : ℕ) (p : ZonePlan) (on : Bool) → HasOwnPlaces site → IsSized kept → slice_get site.zones i ≡ Some p
+pub at_test : (site : Site) (kept : Retained) (i : ℕ) (z : ZonePlan) (on : Bool) → HasOwnPlaces site → IsSized kept → slice_get site.zones i ≡ Some z
     → (setting : Setting)
-    → at_opening site (changed (Test p.panel p.number on) kept) setting
+    → at_opening site (changed (Test z.panel z.number on) kept) setting
     ≡ (if same_setting setting (InTest i) then on else at_opening site kept setting)
-at_test site kept i p on own sized is (PointOff j) = refl
-at_test site kept i p on own sized is (ZoneOff j) = refl
-at_test site kept i p on own sized is (OutputOff j) = refl
-at_test site kept i p on own sized is (InTest j) = go (eqb_tells j i) (slice_get site.zones j) refl
-  where
-    go : (((j == i) ≡ true) × (j ≡ i)) ⊎ (((j == i) ≡ false) × (j ≢ i)) → (o : Option ZonePlan) → slice_get site.zones j ≡ o
-        → kept_test (changed (Test p.panel p.number on) kept) o ≡ (if j == i then on else kept_test kept o)
-    go (inl same) None e = absurd (not_there site.zones i j p (sym same.1) is e)
-    go (inl same) (Some q) e =
-        let q_is : q ≡ p = same_thing site.zones j i q p same.1 e is in
-        let places = own.zone i p is in
-        ap (λ x. kept_test (changed (Test p.panel p.number on) kept) (Some x)) q_is
-        ∙ number-same kept.tests p.panel p.number on sized.tests places.0 places.1
-        ∙ sym (ap (λ b. if b then on else kept_test kept (Some q)) same.0)
-    go (inr other) None e = sym (ap (λ b. if b then on else false) other.0)
-    go (inr other) (Some q) e =
-        let places = own.zone i p is in
-        let places' = own.zone j q e in
-        number-other kept.tests p.panel p.number on sized.tests places.0 places.1 q.panel q.number places'.0 places'.1
-        (λ a b. other.1 (own.zones_apart j i q p e is a b))
-        ∙ sym (ap (λ b. if b then on else kept_test kept (Some q)) other.0)
-at_test site kept i p on own sized is (DelaysOff j) = refl
-at_test site kept i p on own sized is (Counter j) = refl
+at_test site kept i z on own sized is (InTest j) =
+    let here = own.zone i z is in
+    set_at site.zones i j z on (kept_test kept) (kept_test (changed (Test z.panel z.number on) kept)) is refl refl
+    (number-same kept.tests z.panel z.number on sized.tests here.0 here.1)
+    (λ y e apart.
+    let there = own.zone j y e in
+    number-other kept.tests z.panel z.number on sized.tests here.0 here.1 y.panel y.number there.0 there.1
+    (λ a b. apart (own.zones_apart j i y z e is a b)))
+at_test site kept i z on own sized is (PointOff j) = refl
+at_test site kept i z on own sized is (ZoneOff j) = refl
+at_test site kept i z on own sized is (OutputOff j) = refl
+at_test site kept i z on own sized is (DelaysOff j) = refl
+at_test site kept i z on own sized is (Counter j) = refl
 
 at_delays : (site : Site) (kept : Retained) (panel : ℕ) (off : Bool) → IsPanelNumber panel → (setting : Setting) → IsSetting setting
     → at_opening site (changed (Delays panel off) kept) setting
@@ -204,37 +170,58 @@ abbrev then_set : Site → Retained → ℕ → Operation → Setting → Bool
 then_set site kept panel operation setting =
     if is_setting setting (operation_setting panel operation) then value_set operation else at_opening site kept setting
 
-point_set' : (site : Site) (kept : Retained) (i : ℕ) (off : Bool) (change : Change) → HasOwnPlaces site → IsSized kept → (o : Option PointPlan)
-    → slice_get site.points i ≡ o → point_change o off ≡ Some change → (setting : Setting)
-    → at_opening site (changed change kept) setting ≡ (if same_setting setting (PointOff i) then off else at_opening site kept setting)
-point_set' site kept i off change own sized None is e setting = absurd (cc)
-point_set' site kept i off change own sized (Some p) is e setting =
-    ap (λ c. at_opening site (changed c kept) setting) (sym (some_is (Point p.panel p.line p.address off) change e)) ∙ at_point site kept i p off own
-    sized is setting
+-- what holds of the change of each thing at a place holds of the change that is made there
+made_there : {X : Type 0} (P : Change → Type 0) (change_of : Option X → Option Change) (make : X → Change) (o : Option X) (change : Change)
+    → change_of None ≡ None → ((x : X) → change_of (Some x) ≡ Some (make x)) → ((x : X) → o ≡ Some x → P (make x)) → change_of o ≡ Some change
+    → P change
+made_there P change_of make None change none some each e = absurd (cc)
+made_there P change_of make (Some x) change none some each e = subst P (some_is (make x) change (sym (some x) ∙ e)) (each x refl)
 
-zone_set : (site : Site) (kept : Retained) (i : ℕ) (off : Bool) (change : Change) → HasOwnPlaces site → IsSized kept → (o : Option ZonePlan)
-    → slice_get site.zones i ≡ o → zone_change o off ≡ Some change → (setting : Setting)
-    → at_opening site (changed change kept) setting ≡ (if same_setting setting (ZoneOff i) then off else at_opening site kept setting)
-zone_set site kept i off change own sized None is e setting = absurd (cc)
-zone_set site kept i off change own sized (Some p) is e setting =
-    ap (λ c. at_opening site (changed c kept) setting) (sym (some_is (Zone p.panel p.number off) change e)) ∙ at_zone site kept i p off own sized is
-    setting
+-- what holds of the change of each item of a site, and of that of each test
+item_made : (P : Change → Type 0) (site : Site) (item : Item) (off : Bool) (change : Change)
+    → ((i : ℕ) (p : PointPlan) → item ≡ ThePoint i → slice_get site.points i ≡ Some p → P (Point p.panel p.line p.address off))
+    → ((i : ℕ) (z : ZonePlan) → item ≡ TheZone i → slice_get site.zones i ≡ Some z → P (Zone z.panel z.number off))
+    → ((i : ℕ) (o : OutputPlan) → item ≡ TheOutput i → slice_get site.outputs i ≡ Some o → P (Output o.panel o.number off))
+    → item_change site item off ≡ Some change → P change
+item_made P site (ThePoint i) off change point zone output e =
+    made_there P (λ o. point_change o off) (λ (p : PointPlan). Point p.panel p.line p.address off) (slice_get site.points i) change refl (λ p. refl)
+    (λ p is. point i p refl is) e
+item_made P site (TheZone i) off change point zone output e =
+    made_there P (λ o. zone_change o off) (λ (z : ZonePlan). Zone z.panel z.number off) (slice_get site.zones i) change refl (λ z. refl)
+    (λ z is. zone i z refl is) e
+item_made P site (TheOutput i) off change point zone output e =
+    made_there P (λ o. output_change o off) (λ (o : OutputPlan). Output o.panel o.number off) (slice_get site.outputs i) change refl (λ o. refl)
+    (λ o is. output i o refl is) e
 
-output_set : (site : Site) (kept : Retained) (i : ℕ) (off : Bool) (change : Change) → HasOwnPlaces site → IsSized kept → (o : Option OutputPlan)
-    → slice_get site.outputs i ≡ o → output_change o off ≡ Some change → (setting : Setting)
-    → at_opening site (changed change kept) setting ≡ (if same_setting setting (OutputOff i) then off else at_opening site kept setting)
-output_set site kept i off change own sized None is e setting = absurd (cc)
-output_set site kept i off change own sized (Some p) is e setting =
-    ap (λ c. at_opening site (changed c kept) setting) (sym (some_is (Output p.panel p.number off) change e)) ∙ at_output site kept i p off own sized
-    is setting
+test_made : (P : Change → Type 0) (site : Site) (zone : ℕ) (on : Bool) (change : Change)
+    → ((z : ZonePlan) → slice_get site.zones zone ≡ Some z → P (Test z.panel z.number on)) → test_change (slice_get site.zones zone) on ≡ Some change
+    → P change
+test_made P site zone on change each e =
+    made_there P (λ o. test_change o on) (λ (z : ZonePlan). Test z.panel z.number on) (slice_get site.zones zone) change refl (λ z. refl) each e
 
-test_set : (site : Site) (kept : Retained) (i : ℕ) (on : Bool) (change : Change) → HasOwnPlaces site → IsSized kept → (o : Option ZonePlan)
-    → slice_get site.zones i ≡ o → test_change o on ≡ Some change → (setting : Setting)
+-- what the change of an item makes of each setting, and that of a test
+item_set : (site : Site) (kept : Retained) (item : Item) (off : Bool) (change : Change) → HasOwnPlaces site → IsSized kept
+    → item_change site item off ≡ Some change → (setting : Setting)
+    → at_opening site (changed change kept) setting ≡ (if same_setting setting (item_off item) then off else at_opening site kept setting)
+item_set site kept item off change own sized e setting =
+    item_made
+    (λ c. at_opening site (changed c kept) setting ≡ (if same_setting setting (item_off item) then off else at_opening site kept setting))
+    site item off change
+    (λ i p this is. at_point site kept i p off own sized is setting ∙ sym (by this))
+    (λ i z this is. at_zone site kept i z off own sized is setting ∙ sym (by this))
+    (λ i o this is. at_output site kept i o off own sized is setting ∙ sym (by this)) e
+  where
+    by : {other : Item} → item ≡ other
+        → (if same_setting setting (item_off item) then off else at_opening site kept setting)
+        ≡ (if same_setting setting (item_off other) then off else at_opening site kept setting)
+    by this = ap (λ x. if same_setting setting (item_off x) then off else at_opening site kept setting) this
+
+test_set : (site : Site) (kept : Retained) (i : ℕ) (on : Bool) (change : Change) → HasOwnPlaces site → IsSized kept
+    → test_change (slice_get site.zones i) on ≡ Some change → (setting : Setting)
     → at_opening site (changed change kept) setting ≡ (if same_setting setting (InTest i) then on else at_opening site kept setting)
-test_set site kept i on change own sized None is e setting = absurd (cc)
-test_set site kept i on change own sized (Some p) is e setting =
-    ap (λ c. at_opening site (changed c kept) setting) (sym (some_is (Test p.panel p.number on) change e)) ∙ at_test site kept i p on own sized is
-    setting
+test_set site kept i on change own sized e setting =
+    test_made (λ c. at_opening site (changed c kept) setting ≡ (if same_setting setting (InTest i) then on else at_opening site kept setting)) site i
+    on change (λ z is. at_test site kept i z on own sized is setting) e
 
 by_operation : (site : Site) (kept : Retained) (panel : ℕ) (operation : Operation) (change : Change) → HasOwnPlaces site → IsSized kept
     → IsPanelNumber panel → operation_change site panel operation ≡ Some change → (setting : Setting) → IsSetting setting
@@ -245,22 +232,10 @@ by_operation site kept panel Silence change own sized here e setting place = abs
 by_operation site kept panel Resound change own sized here e setting place = absurd (cc)
 by_operation site kept panel Reset change own sized here e setting place = absurd (cc)
 by_operation site kept panel (Cancel zone) change own sized here e setting place = absurd (cc)
-by_operation site kept panel (Disable (ThePoint i)) change own sized here e setting place =
-    point_set' site kept i true change own sized (slice_get site.points i) refl e setting
-by_operation site kept panel (Disable (TheZone i)) change own sized here e setting place =
-    zone_set site kept i true change own sized (slice_get site.zones i) refl e setting
-by_operation site kept panel (Disable (TheOutput i)) change own sized here e setting place =
-    output_set site kept i true change own sized (slice_get site.outputs i) refl e setting
-by_operation site kept panel (Enable (ThePoint i)) change own sized here e setting place =
-    point_set' site kept i false change own sized (slice_get site.points i) refl e setting
-by_operation site kept panel (Enable (TheZone i)) change own sized here e setting place =
-    zone_set site kept i false change own sized (slice_get site.zones i) refl e setting
-by_operation site kept panel (Enable (TheOutput i)) change own sized here e setting place =
-    output_set site kept i false change own sized (slice_get site.outputs i) refl e setting
-by_operation site kept panel (SetTest i) change own sized here e setting place =
-    test_set site kept i true change own sized (slice_get site.zones i) refl e setting
-by_operation site kept panel (Untest i) change own sized here e setting place =
-    test_set site kept i false change own sized (slice_get site.zones i) refl e setting
+by_operation site kept panel (Disable item) change own sized here e setting place = item_set site kept item true change own sized e setting
+by_operation site kept panel (Enable item) change own sized here e setting place = item_set site kept item false change own sized e setting
+by_operation site kept panel (SetTest i) change own sized here e setting place = test_set site kept i true change own sized e setting
+by_operation site kept panel (Untest i) change own sized here e setting place = test_set site kept i false change own sized e setting
 by_operation site kept panel (SetDelays on) change own sized here e setting place =
     ap (λ c. at_opening site (changed c kept) setting) (sym (some_is (Delays panel (not on)) change e)) ∙ at_delays site kept panel (not on) here
     setting place
@@ -311,74 +286,32 @@ sized_points kept panel line address off sized here place = record {
     halves : (l : ℕ) → l < 4 → length (get_or (get_or kept.points (panel - 1) no_points).loops l []) ≡ 2
     halves l near = sized.halves (panel - 1) l (omega (arith, here.0, here.1)) near
 
+-- with the same points, it is the lengths of the other lists that tell
+with_points : (kept new : Retained) → IsSized kept → new.points ≡ kept.points → length new.zones ≡ 8 → length new.outputs ≡ 8
+    → length new.counters ≡ 8 → length new.tests ≡ 8 → IsSized new
+with_points kept new sized same zones outputs counters tests = record {
+  points = ap length same ∙ sized.points;
+  loops = λ k small. ap (λ ps. length (get_or ps k no_points).loops) same ∙ sized.loops k small;
+  halves = λ k l small small'. ap (λ ps. length (get_or (get_or ps k no_points).loops l [])) same ∙ sized.halves k l small small';
+  zones = zones;
+  outputs = outputs;
+  counters = counters;
+  tests = tests;
+}
+
 pub sized-changed : (change : Change) (kept : Retained) → CanApply change → IsSized kept → IsSized (changed change kept)
 sized-changed (Point panel line address off) kept can sized = sized_points kept panel line address off sized can.0 can.1
 sized-changed (Zone panel number off) kept can sized =
-    record {
-      points = sized.points;
-      loops = sized.loops;
-      halves = sized.halves;
-      zones = length-set kept.zones (panel - 1) _ ∙ sized.zones;
-      outputs =
-          sized.outputs;
-      counters = sized.counters;
-      tests = sized.tests;
-    }
+    with_points kept _ sized refl (length-set kept.zones (panel - 1) _ ∙ sized.zones) sized.outputs sized.counters sized.tests
 sized-changed (Output panel number off) kept can sized =
-    record {
-      points = sized.points;
-      loops = sized.loops;
-      halves = sized.halves;
-      zones = sized.zones;
-      outputs =
-          length-set kept.outputs (panel - 1) _ ∙ sized.outputs;
-      counters = sized.counters;
-      tests = sized.tests;
-    }
-sized-changed (Delays panel off) kept can sized =
-    record {
-      points = sized.points;
-      loops = sized.loops;
-      halves = sized.halves;
-      zones = sized.zones;
-      outputs = sized.outputs;
-      counters =
-          sized.counters;
-      tests = sized.tests;
-    }
+    with_points kept _ sized refl sized.zones (length-set kept.outputs (panel - 1) _ ∙ sized.outputs) sized.counters sized.tests
+sized-changed (Delays panel off) kept can sized = with_points kept _ sized refl sized.zones sized.outputs sized.counters sized.tests
 sized-changed (Count panel entries) kept can sized =
-    record {
-      points = sized.points;
-      loops = sized.loops;
-      halves = sized.halves;
-      zones = sized.zones;
-      outputs = sized.outputs;
-      counters =
-          length-set kept.counters (panel - 1) _ ∙ sized.counters;
-      tests = sized.tests;
-    }
+    with_points kept _ sized refl sized.zones sized.outputs (length-set kept.counters (panel - 1) _ ∙ sized.counters) sized.tests
 sized-changed (Clear panel) kept can sized =
-    record {
-      points = sized.points;
-      loops = sized.loops;
-      halves = sized.halves;
-      zones = sized.zones;
-      outputs = sized.outputs;
-      counters =
-          length-set kept.counters (panel - 1) _ ∙ sized.counters;
-      tests = sized.tests;
-    }
+    with_points kept _ sized refl sized.zones sized.outputs (length-set kept.counters (panel - 1) _ ∙ sized.counters) sized.tests
 sized-changed (Test panel number on) kept can sized =
-    record {
-      points = sized.points;
-      loops = sized.loops;
-      halves = sized.halves;
-      zones = sized.zones;
-      outputs = sized.outputs;
-      counters =
-          sized.counters;
-      tests = length-set kept.tests (panel - 1) _ ∙ sized.tests;
-    }
+    with_points kept _ sized refl sized.zones sized.outputs sized.counters (length-set kept.tests (panel - 1) _ ∙ sized.tests)
 
 set_below : (xs : List ℕ) (i n : ℕ) → n ≤ greatest_count → AreCounters xs → AreCounters (set xs i n)
 set_below xs i n le all k = go (eqb_tells k i)
@@ -409,31 +342,14 @@ changed_by-append [] ys kept = refl
 changed_by-append (x ∷ xs) ys kept = changed_by-append xs ys (changed x kept)
 
 -- an operation on a setting of the site makes a change that has a place, and no other operation makes one
-can_item : (site : Site) (panel : ℕ) (item : Item) (off : Bool) (change : Change) → HasOwnPlaces site → item_change site item off ≡ Some change
-    → CanApply change
-can_item site panel (ThePoint i) off change own e = go (slice_get site.points i) refl e
-  where
-    go : (o : Option PointPlan) → slice_get site.points i ≡ o → point_change o off ≡ Some change → CanApply change
-    go None is e = absurd (cc)
-    go (Some p) is e = subst CanApply (some_is _ change e) (let h = own.point i p is in (h.0, h.1))
-can_item site panel (TheZone i) off change own e = go (slice_get site.zones i) refl e
-  where
-    go : (o : Option ZonePlan) → slice_get site.zones i ≡ o → zone_change o off ≡ Some change → CanApply change
-    go None is e = absurd (cc)
-    go (Some z) is e = subst CanApply (some_is _ change e) (let h = own.zone i z is in (h.0, h.1))
-can_item site panel (TheOutput i) off change own e = go (slice_get site.outputs i) refl e
-  where
-    go : (o : Option OutputPlan) → slice_get site.outputs i ≡ o → output_change o off ≡ Some change → CanApply change
-    go None is e = absurd (cc)
-    go (Some z) is e = subst CanApply (some_is _ change e) (let h = own.output i z is in (h.0, h.1))
+can_item : (site : Site) (item : Item) (off : Bool) (change : Change) → HasOwnPlaces site → item_change site item off ≡ Some change → CanApply change
+can_item site item off change own e =
+    item_made CanApply site item off change (λ i p this is. let h = own.point i p is in (h.0, h.1)) (λ i z this is. let h = own.zone i z is in (h.0, h.1))
+    (λ i o this is. let h = own.output i o is in (h.0, h.1)) e
 
 can_test : (site : Site) (zone : ℕ) (on : Bool) (change : Change) → HasOwnPlaces site → test_change (slice_get site.zones zone) on ≡ Some change
     → CanApply change
-can_test site zone on change own e = go (slice_get site.zones zone) refl e
-  where
-    go : (o : Option ZonePlan) → slice_get site.zones zone ≡ o → test_change o on ≡ Some change → CanApply change
-    go None is e = absurd (cc)
-    go (Some z) is e = subst CanApply (some_is _ change e) (let h = own.zone zone z is in (h.0, h.1))
+can_test site zone on change own e = test_made CanApply site zone on change (λ z is. let h = own.zone zone z is in (h.0, h.1)) e
 
 pub can_apply : (site : Site) (panel : ℕ) (operation : Operation) (change : Change) → HasOwnPlaces site → IsPanelNumber panel
     → operation_change site panel operation ≡ Some change → CanApply change
@@ -443,8 +359,8 @@ can_apply site panel Silence change own here e = absurd (cc)
 can_apply site panel Resound change own here e = absurd (cc)
 can_apply site panel Reset change own here e = absurd (cc)
 can_apply site panel (Cancel zone) change own here e = absurd (cc)
-can_apply site panel (Disable item) change own here e = can_item site panel item true change own e
-can_apply site panel (Enable item) change own here e = can_item site panel item false change own e
+can_apply site panel (Disable item) change own here e = can_item site item true change own e
+can_apply site panel (Enable item) change own here e = can_item site item false change own e
 can_apply site panel (SetTest zone) change own here e = can_test site zone true change own e
 can_apply site panel (Untest zone) change own here e = can_test site zone false change own e
 can_apply site panel (SetDelays on) change own here e = subst CanApply (some_is _ change e) here

@@ -8,7 +8,7 @@ use Rattle.std.specs.Int.Bits.{bit_or, or_zero_r}
 use mir.Val.{bits}
 use Rattle.std.proofs.Math.Nat.{div-eq_of_lt, mod-eq_of_lt}
 use Rattle.std.proofs.Math.Pow.{pow_mono}
-use Rattle.std.proofs.lemmas.Nat.{or_block, pow_below}
+use Rattle.std.proofs.lemmas.Nat.{and_le_l, or_block, or_lt, pow_below}
 use Rattle.std.proofs.lemmas.Nat.Bits.{bit_at_or, bit_at_and, bit_at_not, bit_at-pow_same, bit_at-pow_other}
 use Rattle.std.proofs.lemmas.Nat.Bits.{bit_at-lt, bit_at-zero, bit_at_above, bit_at_set_same, bit_at_set_other}
 use Rattle.std.proofs.lemmas.Nat.Bits.{bit_at_clear_same, bit_at_clear_other, same_from_bits_below}
@@ -23,6 +23,10 @@ mask_below (suc n) test = elim (test n) as (λ b. mask_of n test + (if b then 2 
   | true ↦ omega (arith, mask_below n test, pow-suc 2 n)
   | false ↦ omega (arith, mask_below n test, pow-suc 2 n)
 ]
+
+-- so it fits every width that has its bits
+pub mask_fits : (w n : ℕ) (test : ℕ → Bool) → n ≤ w → mask_of n test < 2 ^ w
+mask_fits w n test le = let below = mask_below n test in let more : 2 ^ n ≤ 2 ^ w = pow_mono le in omega (arith, below, more)
 
 -- the mask of one more bit
 pub mask_more : (n : ℕ) (test : ℕ → Bool) → mask_of (suc n) test ≡ mask_of n test + (if test n then 2 ^ n else 0)
@@ -194,3 +198,29 @@ pub mask_without : (w : Width) (a b : ℕ) → b < 2 ^ bits w → bit_and a (bit
 mask_without w a b bound below =
     mask_from_bits (bits w) (bit_and a (bit_not w b)) (λ k. has_bit a k && not (has_bit b k)) below
     (λ k small. has_bit-and a (bit_not w b) k ∙ ap (λ x. has_bit a k && x) (has_bit-not w b k bound small))
+
+-- the mask of a width with one bit set or cleared fits it, and is that of a wider one
+with_bit-fits : (w : Width) (n mask k : ℕ) (on : Bool) → n ≤ bits w → mask < 2 ^ n → k < n → with_bit w mask k on < 2 ^ n
+with_bit-fits w n mask k true le below small =
+    let one : 2 ^ k < 2 ^ bits w = pow_below k (bits w) (omega (arith, le, small)) in
+    let place : 1 * 2 ^ k ≡ 2 ^ k = omega arith in
+    rw (place, mod-eq_of_lt one) (or_lt n mask (2 ^ k) below (pow_below k n small))
+with_bit-fits w n mask k false le below small =
+    let le' = and_le_l mask (bit_not w (1 * 2 ^ k % 2 ^ bits w)) in omega (arith, le', below)
+
+pub with_bit-wider : (v w : Width) (mask k : ℕ) (on : Bool) → bits v ≤ bits w → mask < 2 ^ bits v → k < bits v
+    → (with_bit w mask k on < 2 ^ bits v) × (with_bit w mask k on ≡ with_bit v mask k on)
+with_bit-wider v w mask k on le below small =
+    let fits = with_bit-fits w (bits v) mask k on le below small in
+    let wide : k < bits w = omega (arith, small, le) in (
+      fits,
+      same_mask (bits v) (with_bit w mask k on) (with_bit v mask k on) fits
+          (with_bit-fits v (bits v) mask k on (omega arith) below small)
+          (λ i near. elim (eqb_tells i k) [
+            | inl same ↦
+                ap (has_bit (with_bit w mask k on)) same.1 ∙ with_bit-same w mask k on wide
+                ∙ sym (ap (has_bit (with_bit v mask k on)) same.1 ∙ with_bit-same v mask k on small)
+            | inr other ↦
+                with_bit-other w mask k on wide i (omega (arith, near, le)) other.1 ∙ sym (with_bit-other v mask k on small i near other.1)
+          ]),
+    )

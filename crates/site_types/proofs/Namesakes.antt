@@ -1,6 +1,6 @@
 -- Of the things of one kind at most one has a name, so what is kept of a name is what is kept of the thing
 -- that is found by it.
-use Rattle.std.proofs.Common.{◌≡◌, ◌↔◌, ℕ, Bool, true, false, List, get_or, Some, None, slice_get, ◌&&◌, refl, sym, ◌∙◌, ap}
+use Rattle.std.proofs.Common.{◌≡◌, ◌↔◌, ℕ, Bool, true, false, List, get_or, Option, Some, None, slice_get, ◌&&◌, refl, sym, ◌∙◌, ap}
 use Rattle.std.specs.List.{list_any}
 use Rattle.std.specs.Prelude.{option_map}
 use Rattle.std.specs.Str.{bytes_eq}
@@ -13,8 +13,11 @@ use Rattle.site_types.specs.declared.zone.Zone.{Zone as ZonePlan}
 use Rattle.site_types.specs.declared.output.Output.{Output as OutputPlan}
 use Rattle.site_types.specs.declared.retained.Retained.{Retained}
 use Rattle.site_types.specs.declared.named.Thing.{Thing}
-use Rattle.site_types.specs.declared.named.Thing.TheVariants.{Point, Zone, Output}
-use Rattle.site_types.specs.Carry.{point_was_off, zone_was_off, output_was_off, zone_was_tested}
+use Rattle.site_types.specs.declared.named.Thing.TheVariants.{Point, Zone, Output, Marker}
+use Rattle.site_types.specs.declared.restriction.Restriction.{Restriction}
+use Rattle.site_types.specs.declared.restriction.Restriction.TheVariants.{PointOff, ZoneOff, OutputOff, InTest}
+use Rattle.site_types.specs.Carry.{point_was_off, zone_was_off, output_was_off, zone_was_tested, is_restricted}
+use Rattle.site_types.specs.Carry.{was_restricted}
 use Rattle.site_types.specs.Done.{kept_point, kept_zone, kept_output, kept_test}
 use Rattle.site_types.specs.Things.{name_at, thing_named}
 
@@ -57,98 +60,79 @@ not_one {X = X} name_of kept xs name none =
 abbrev pub Finds : Site → List ℕ → Type 0
 Finds site name = (thing : Thing) → (thing_named site name ≡ Some thing) ↔ (name_at site thing ≡ Some name)
 
-pub point_found : (site : Site) (state : Retained) (name : List ℕ) (i : ℕ) (x : PointPlan) → Finds site name → thing_named site name ≡ Some (Point i)
-    → slice_get site.points i ≡ Some x → kept_point state (Some x) ≡ point_was_off site state name
-point_found site state name i x finds found is =
-    sym (the_one (λ (y : PointPlan). y.name.bytes) (λ (y : PointPlan). kept_point state (Some y)) site.points name i x is
-    (named i x is ((finds (Point i)).0 found)) alone)
+-- what is kept of the thing of a kind that has the name is what is kept of the name
+found : {X : Type 0} (site : Site) (kind : ℕ → Thing) (xs : List X) (name_of : X → List ℕ) (kept : Option X → Bool) (name : List ℕ) (i : ℕ)
+    → Finds site name → ((j : ℕ) → name_at site (kind j) ≡ option_map name_of (slice_get xs j)) → ((j : ℕ) → Some (kind j) ≡ Some (kind i) → j ≡ i)
+    → thing_named site name ≡ Some (kind i) → kept (slice_get xs i) ≡ list_any (λ y. bytes_eq (name_of y) name && kept (Some y)) xs
+found {X = X} site kind xs name_of kept name i finds of_kind apart is = go (slice_get xs i) refl
   where
-    named : (j : ℕ) (y : PointPlan) → slice_get site.points j ≡ Some y → name_at site (Point j) ≡ Some name → y.name.bytes ≡ name
-    named j y at has = same_Some y.name.bytes name (sym (ap (option_map (λ (z : PointPlan). z.name.bytes)) at) ∙ has)
+    named : name_at site (kind i) ≡ Some name
+    named = (finds (kind i)).0 is
 
-    alone : (j : ℕ) (y : PointPlan) → slice_get site.points j ≡ Some y → y.name.bytes ≡ name → j ≡ i
-    alone j y at is_name = let same : Some (Point j) ≡ Some (Point i) =
-        sym ((finds (Point j)).1 (ap (option_map (λ (z : PointPlan). z.name.bytes)) at ∙ ap Some is_name)) ∙ found in cc
+    go : (o : Option X) → slice_get xs i ≡ o → kept o ≡ list_any (λ y. bytes_eq (name_of y) name && kept (Some y)) xs
+    go None none = absurd (let e : None ≡ Some name = sym (of_kind i ∙ ap (option_map name_of) none) ∙ named in cc)
+    go (Some x) at =
+        sym (the_one name_of (λ y. kept (Some y)) xs name i x at (same_Some (name_of x) name (sym (of_kind i ∙ ap (option_map name_of) at) ∙ named))
+        (λ j y there same.
+        apart j (sym ((finds (kind j)).1 (of_kind j ∙ ap (option_map name_of) there ∙ ap Some same)) ∙ is)))
 
-pub point_not_found : (site : Site) (state : Retained) (name : List ℕ) → Finds site name → ((i : ℕ) → thing_named site name ≡ Some (Point i) → ⊥)
+-- where the name is found for no thing of the kind, nothing is kept of the name
+not_found : {X : Type 0} (site : Site) (kind : ℕ → Thing) (xs : List X) (name_of : X → List ℕ) (kept : Option X → Bool) (name : List ℕ)
+    → Finds site name → ((j : ℕ) → name_at site (kind j) ≡ option_map name_of (slice_get xs j)) → ((j : ℕ) → thing_named site name ≡ Some (kind j) → ⊥)
+    → false ≡ list_any (λ y. bytes_eq (name_of y) name && kept (Some y)) xs
+not_found site kind xs name_of kept name finds of_kind none =
+    sym (not_one name_of (λ y. kept (Some y)) xs name
+    (λ j y at same. none j ((finds (kind j)).1 (of_kind j ∙ ap (option_map name_of) at ∙ ap Some same))))
+
+-- what is kept of what a name stands for
+abbrev pub of_found : Site → Retained → Restriction → Option Thing → Bool
+of_found site state restriction None = false
+of_found site state restriction (Some thing) = is_restricted site state restriction thing
+
+no_disabled_point : (site : Site) (state : Retained) (name : List ℕ) → Finds site name → ((j : ℕ) → thing_named site name ≡ Some (Point j) → ⊥)
     → false ≡ point_was_off site state name
-point_not_found site state name finds none =
-    sym (not_one (λ (y : PointPlan). y.name.bytes) (λ (y : PointPlan). kept_point state (Some y)) site.points name
-    (λ j y at is_name. none j ((finds (Point j)).1 (ap (option_map (λ (z : PointPlan). z.name.bytes)) at ∙ ap Some is_name))))
+no_disabled_point site state name finds none =
+    not_found site Point site.points (λ (x : PointPlan). x.name.bytes) (kept_point state) name finds (λ j. refl) none
 
-pub point_is_there : (site : Site) (name : List ℕ) (i : ℕ) → Finds site name → thing_named site name ≡ Some (Point i) → slice_get site.points i ≡ None
-    → ⊥
-point_is_there site name i finds found is = let e : None ≡ Some name =
-    sym (ap (option_map (λ (z : PointPlan). z.name.bytes)) is) ∙ (finds (Point i)).0 found in cc
-
-pub zone_found : (site : Site) (state : Retained) (name : List ℕ) (i : ℕ) (x : ZonePlan) → Finds site name → thing_named site name ≡ Some (Zone i)
-    → slice_get site.zones i ≡ Some x → kept_zone state (Some x) ≡ zone_was_off site state name
-zone_found site state name i x finds found is =
-    sym (the_one (λ (y : ZonePlan). y.name.bytes) (λ (y : ZonePlan). kept_zone state (Some y)) site.zones name i x is
-    (named i x is ((finds (Zone i)).0 found)) alone)
-  where
-    named : (j : ℕ) (y : ZonePlan) → slice_get site.zones j ≡ Some y → name_at site (Zone j) ≡ Some name → y.name.bytes ≡ name
-    named j y at has = same_Some y.name.bytes name (sym (ap (option_map (λ (z : ZonePlan). z.name.bytes)) at) ∙ has)
-
-    alone : (j : ℕ) (y : ZonePlan) → slice_get site.zones j ≡ Some y → y.name.bytes ≡ name → j ≡ i
-    alone j y at is_name = let same : Some (Zone j) ≡ Some (Zone i) =
-        sym ((finds (Zone j)).1 (ap (option_map (λ (z : ZonePlan). z.name.bytes)) at ∙ ap Some is_name)) ∙ found in cc
-
-pub zone_not_found : (site : Site) (state : Retained) (name : List ℕ) → Finds site name → ((i : ℕ) → thing_named site name ≡ Some (Zone i) → ⊥)
+no_disabled_zone : (site : Site) (state : Retained) (name : List ℕ) → Finds site name → ((j : ℕ) → thing_named site name ≡ Some (Zone j) → ⊥)
     → false ≡ zone_was_off site state name
-zone_not_found site state name finds none =
-    sym (not_one (λ (y : ZonePlan). y.name.bytes) (λ (y : ZonePlan). kept_zone state (Some y)) site.zones name
-    (λ j y at is_name. none j ((finds (Zone j)).1 (ap (option_map (λ (z : ZonePlan). z.name.bytes)) at ∙ ap Some is_name))))
+no_disabled_zone site state name finds none =
+    not_found site Zone site.zones (λ (x : ZonePlan). x.name.bytes) (kept_zone state) name finds (λ j. refl) none
 
-pub zone_is_there : (site : Site) (name : List ℕ) (i : ℕ) → Finds site name → thing_named site name ≡ Some (Zone i) → slice_get site.zones i ≡ None
-    → ⊥
-zone_is_there site name i finds found is = let e : None ≡ Some name =
-    sym (ap (option_map (λ (z : ZonePlan). z.name.bytes)) is) ∙ (finds (Zone i)).0 found in cc
-
-pub output_found : (site : Site) (state : Retained) (name : List ℕ) (i : ℕ) (x : OutputPlan) → Finds site name
-    → thing_named site name ≡ Some (Output i) → slice_get site.outputs i ≡ Some x → kept_output state (Some x) ≡ output_was_off site state name
-output_found site state name i x finds found is =
-    sym (the_one (λ (y : OutputPlan). y.name.bytes) (λ (y : OutputPlan). kept_output state (Some y)) site.outputs name i x is
-    (named i x is ((finds (Output i)).0 found)) alone)
-  where
-    named : (j : ℕ) (y : OutputPlan) → slice_get site.outputs j ≡ Some y → name_at site (Output j) ≡ Some name → y.name.bytes ≡ name
-    named j y at has = same_Some y.name.bytes name (sym (ap (option_map (λ (z : OutputPlan). z.name.bytes)) at) ∙ has)
-
-    alone : (j : ℕ) (y : OutputPlan) → slice_get site.outputs j ≡ Some y → y.name.bytes ≡ name → j ≡ i
-    alone j y at is_name = let same : Some (Output j) ≡ Some (Output i) =
-        sym ((finds (Output j)).1 (ap (option_map (λ (z : OutputPlan). z.name.bytes)) at ∙ ap Some is_name)) ∙ found in cc
-
-pub output_not_found : (site : Site) (state : Retained) (name : List ℕ) → Finds site name → ((i : ℕ) → thing_named site name ≡ Some (Output i) → ⊥)
+no_disabled_output : (site : Site) (state : Retained) (name : List ℕ) → Finds site name → ((j : ℕ) → thing_named site name ≡ Some (Output j) → ⊥)
     → false ≡ output_was_off site state name
-output_not_found site state name finds none =
-    sym (not_one (λ (y : OutputPlan). y.name.bytes) (λ (y : OutputPlan). kept_output state (Some y)) site.outputs name
-    (λ j y at is_name. none j ((finds (Output j)).1 (ap (option_map (λ (z : OutputPlan). z.name.bytes)) at ∙ ap Some is_name))))
+no_disabled_output site state name finds none =
+    not_found site Output site.outputs (λ (x : OutputPlan). x.name.bytes) (kept_output state) name finds (λ j. refl) none
 
-pub output_is_there : (site : Site) (name : List ℕ) (i : ℕ) → Finds site name → thing_named site name ≡ Some (Output i)
-    → slice_get site.outputs i ≡ None → ⊥
-output_is_there site name i finds found is = let e : None ≡ Some name =
-    sym (ap (option_map (λ (z : OutputPlan). z.name.bytes)) is) ∙ (finds (Output i)).0 found in cc
-
-pub tested_found : (site : Site) (state : Retained) (name : List ℕ) (i : ℕ) (x : ZonePlan) → Finds site name → thing_named site name ≡ Some (Zone i)
-    → slice_get site.zones i ≡ Some x → kept_test state (Some x) ≡ zone_was_tested site state name
-tested_found site state name i x finds found is =
-    sym (the_one (λ (y : ZonePlan). y.name.bytes) (λ (y : ZonePlan). kept_test state (Some y)) site.zones name i x is
-    (named i x is ((finds (Zone i)).0 found)) alone)
-  where
-    named : (j : ℕ) (y : ZonePlan) → slice_get site.zones j ≡ Some y → name_at site (Zone j) ≡ Some name → y.name.bytes ≡ name
-    named j y at has = same_Some y.name.bytes name (sym (ap (option_map (λ (z : ZonePlan). z.name.bytes)) at) ∙ has)
-
-    alone : (j : ℕ) (y : ZonePlan) → slice_get site.zones j ≡ Some y → y.name.bytes ≡ name → j ≡ i
-    alone j y at is_name = let same : Some (Zone j) ≡ Some (Zone i) =
-        sym ((finds (Zone j)).1 (ap (option_map (λ (z : ZonePlan). z.name.bytes)) at ∙ ap Some is_name)) ∙ found in cc
-
-pub tested_not_found : (site : Site) (state : Retained) (name : List ℕ) → Finds site name → ((i : ℕ) → thing_named site name ≡ Some (Zone i) → ⊥)
+no_tested_zone : (site : Site) (state : Retained) (name : List ℕ) → Finds site name → ((j : ℕ) → thing_named site name ≡ Some (Zone j) → ⊥)
     → false ≡ zone_was_tested site state name
-tested_not_found site state name finds none =
-    sym (not_one (λ (y : ZonePlan). y.name.bytes) (λ (y : ZonePlan). kept_test state (Some y)) site.zones name
-    (λ j y at is_name. none j ((finds (Zone j)).1 (ap (option_map (λ (z : ZonePlan). z.name.bytes)) at ∙ ap Some is_name))))
+no_tested_zone site state name finds none =
+    not_found site Zone site.zones (λ (x : ZonePlan). x.name.bytes) (kept_test state) name finds (λ j. refl) none
 
-pub tested_is_there : (site : Site) (name : List ℕ) (i : ℕ) → Finds site name → thing_named site name ≡ Some (Zone i) → slice_get site.zones i ≡ None
-    → ⊥
-tested_is_there site name i finds found is = let e : None ≡ Some name =
-    sym (ap (option_map (λ (z : ZonePlan). z.name.bytes)) is) ∙ (finds (Zone i)).0 found in cc
+-- what is kept of what the name stands for is what is kept of the name
+pub restricted_by_name : (site : Site) (state : Retained) (restriction : Restriction) (name : List ℕ) → Finds site name → (o : Option Thing)
+    → thing_named site name ≡ o → of_found site state restriction o ≡ was_restricted site state restriction name
+restricted_by_name site state PointOff name finds (Some (Point i)) is =
+    found site Point site.points (λ (x : PointPlan). x.name.bytes) (kept_point state) name i finds (λ j. refl) (λ j e. cc) is
+restricted_by_name site state PointOff name finds None is = no_disabled_point site state name finds (λ j e. cc)
+restricted_by_name site state PointOff name finds (Some (Zone i)) is = no_disabled_point site state name finds (λ j e. cc)
+restricted_by_name site state PointOff name finds (Some (Output i)) is = no_disabled_point site state name finds (λ j e. cc)
+restricted_by_name site state PointOff name finds (Some (Marker i)) is = no_disabled_point site state name finds (λ j e. cc)
+restricted_by_name site state ZoneOff name finds (Some (Zone i)) is =
+    found site Zone site.zones (λ (x : ZonePlan). x.name.bytes) (kept_zone state) name i finds (λ j. refl) (λ j e. cc) is
+restricted_by_name site state ZoneOff name finds None is = no_disabled_zone site state name finds (λ j e. cc)
+restricted_by_name site state ZoneOff name finds (Some (Point i)) is = no_disabled_zone site state name finds (λ j e. cc)
+restricted_by_name site state ZoneOff name finds (Some (Output i)) is = no_disabled_zone site state name finds (λ j e. cc)
+restricted_by_name site state ZoneOff name finds (Some (Marker i)) is = no_disabled_zone site state name finds (λ j e. cc)
+restricted_by_name site state OutputOff name finds (Some (Output i)) is =
+    found site Output site.outputs (λ (x : OutputPlan). x.name.bytes) (kept_output state) name i finds (λ j. refl) (λ j e. cc) is
+restricted_by_name site state OutputOff name finds None is = no_disabled_output site state name finds (λ j e. cc)
+restricted_by_name site state OutputOff name finds (Some (Point i)) is = no_disabled_output site state name finds (λ j e. cc)
+restricted_by_name site state OutputOff name finds (Some (Zone i)) is = no_disabled_output site state name finds (λ j e. cc)
+restricted_by_name site state OutputOff name finds (Some (Marker i)) is = no_disabled_output site state name finds (λ j e. cc)
+restricted_by_name site state InTest name finds (Some (Zone i)) is =
+    found site Zone site.zones (λ (x : ZonePlan). x.name.bytes) (kept_test state) name i finds (λ j. refl) (λ j e. cc) is
+restricted_by_name site state InTest name finds None is = no_tested_zone site state name finds (λ j e. cc)
+restricted_by_name site state InTest name finds (Some (Point i)) is = no_tested_zone site state name finds (λ j e. cc)
+restricted_by_name site state InTest name finds (Some (Output i)) is = no_tested_zone site state name finds (λ j e. cc)
+restricted_by_name site state InTest name finds (Some (Marker i)) is = no_tested_zone site state name finds (λ j e. cc)

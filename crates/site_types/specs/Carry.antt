@@ -1,6 +1,7 @@
 -- What a changed site keeps of what was retained for the site before: by name and kind; delays and counters
 -- by panel.
-use Rattle.std.specs.Prelude.{ℕ, ◌-◌, Bool, true, List, ◌++◌, Some, map, take, replicate, nat_lt, ◌&&◌}
+use Rattle.std.specs.Prelude.{ℕ, ◌-◌, Bool, true, false, List, ◌++◌, Some, map, take, replicate, nat_lt, ◌&&◌}
+use Rattle.std.specs.Prelude.{slice_get}
 use Rattle.std.specs.List.{list_any, filter}
 use Rattle.std.specs.Str.{bytes_eq}
 use Rattle.site_types.specs.declared.site.Site.{Site}
@@ -10,6 +11,10 @@ use Rattle.site_types.specs.declared.output.Output.{Output as OutputPlan}
 use Rattle.site_types.specs.declared.retained.Retained.{Retained}
 use Rattle.site_types.specs.declared.change.Change.{Change}
 use Rattle.site_types.specs.declared.change.Change.TheVariants.{Point, Zone, Output, Test}
+use Rattle.site_types.specs.declared.named.Thing.{Thing}
+use Rattle.site_types.specs.declared.named.Thing.TheVariants.{Point as ThePoint, Zone as TheZone, Output as TheOutput}
+use Rattle.site_types.specs.declared.restriction.Restriction.{Restriction}
+use Rattle.site_types.specs.declared.restriction.Restriction.TheVariants.{PointOff, ZoneOff, OutputOff, InTest}
 use Rattle.site_types.specs.Bits.{has_bit, mask_of}
 use Rattle.site_types.specs.Done.{kept_point, kept_zone, kept_output, kept_test}
 use Rattle.site_types.specs.Changes.{changed_by, nothing_retained}
@@ -31,6 +36,21 @@ output_was_off old state name =
 abbrev pub zone_was_tested : Site → Retained → List ℕ → Bool
 zone_was_tested old state name =
     list_any (λ (z : ZonePlan). bytes_eq z.name.bytes name && kept_test state (Some z)) old.zones
+
+-- whether the old site has a thing of this name and kind that was restricted so
+abbrev pub was_restricted : Site → Retained → Restriction → List ℕ → Bool
+was_restricted old state PointOff name = point_was_off old state name
+was_restricted old state ZoneOff name = zone_was_off old state name
+was_restricted old state OutputOff name = output_was_off old state name
+was_restricted old state InTest name = zone_was_tested old state name
+
+-- whether a thing of a site is restricted so, a thing of another kind being not
+abbrev pub is_restricted : Site → Retained → Restriction → Thing → Bool
+is_restricted site state PointOff (ThePoint place) = kept_point state (slice_get site.points place)
+is_restricted site state ZoneOff (TheZone place) = kept_zone state (slice_get site.zones place)
+is_restricted site state OutputOff (TheOutput place) = kept_output state (slice_get site.outputs place)
+is_restricted site state InTest (TheZone place) = kept_test state (slice_get site.zones place)
+is_restricted site state _ _ = false
 
 -- the disablements and tests of the new site that come from the old one
 abbrev pub point_changes : Site → Site → Retained → List Change

@@ -1,15 +1,14 @@
-ghost use Rattle.std.specs.Prelude.{◌≡◌, ◌≤◌, Some};
-ghost use Rattle.site_types.specs.Carry.{carried, carried_counters, carried_delays, output_changes, output_was_off};
-ghost use Rattle.site_types.specs.Carry.{point_changes, point_was_off, test_changes, zone_changes, zone_was_off};
-ghost use Rattle.site_types.specs.Carry.{zone_was_tested};
+ghost use Rattle.std.specs.Prelude.{◌≡◌, ◌≤◌};
+ghost use Rattle.site_types.specs.Carry.{carried, carried_counters, carried_delays, is_restricted, output_changes};
+ghost use Rattle.site_types.specs.Carry.{point_changes, test_changes, was_restricted, zone_changes};
 ghost use Rattle.site_types.specs.Valid.{IsValid};
 ghost use Rattle.site_types.specs.Changes.{changed_by};
 
-use crate::bits::has_bit_32;
 use crate::change::Change;
 use crate::label::Label;
 use crate::named::Thing;
-use crate::retained::Retained;
+use crate::restriction::Restriction;
+use crate::retained::{Retained, has_number};
 use crate::site::Site;
 
 /// What a changed site keeps of what was retained for the site before: disablements and tests of the points,
@@ -36,7 +35,7 @@ fn carry_points(kept: &mut Retained, old: &Site, new: &Site, state: &Retained)
     ensures { kept.new ≡ changed_by (point_changes old.now new.now state.now) kept.old }
 {
     for point in new.points.as_slice() {
-        if is_point_off(old, state, &point.name) {
+        if was_restricted(old, state, Restriction::PointOff, &point.name) {
             kept.apply(&Change::Point {
                 panel: point.panel,
                 line: point.line,
@@ -53,7 +52,7 @@ fn carry_zones(kept: &mut Retained, old: &Site, new: &Site, state: &Retained)
     ensures { kept.new ≡ changed_by (zone_changes old.now new.now state.now) kept.old }
 {
     for zone in new.zones.as_slice() {
-        if is_zone_off(old, state, &zone.name) {
+        if was_restricted(old, state, Restriction::ZoneOff, &zone.name) {
             kept.apply(&Change::Zone {
                 panel: zone.panel,
                 number: zone.number,
@@ -69,7 +68,7 @@ fn carry_outputs(kept: &mut Retained, old: &Site, new: &Site, state: &Retained)
     ensures { kept.new ≡ changed_by (output_changes old.now new.now state.now) kept.old }
 {
     for output in new.outputs.as_slice() {
-        if is_output_off(old, state, &output.name) {
+        if was_restricted(old, state, Restriction::OutputOff, &output.name) {
             kept.apply(&Change::Output {
                 panel: output.panel,
                 number: output.number,
@@ -85,7 +84,7 @@ fn carry_tests(kept: &mut Retained, old: &Site, new: &Site, state: &Retained)
     ensures { kept.new ≡ changed_by (test_changes old.now new.now state.now) kept.old }
 {
     for zone in new.zones.as_slice() {
-        if is_zone_tested(old, state, &zone.name) {
+        if was_restricted(old, state, Restriction::InTest, &zone.name) {
             kept.apply(&Change::Test {
                 panel: zone.panel,
                 number: zone.number,
@@ -95,68 +94,44 @@ fn carry_tests(kept: &mut Retained, old: &Site, new: &Site, state: &Retained)
     }
 }
 
-fn is_point_off(old: &Site, state: &Retained, name: &Label) -> bool
+// Whether the old site has a thing of this name and kind that was restricted so.
+fn was_restricted(old: &Site, state: &Retained, restriction: Restriction, name: &Label) -> bool
     requires { IsValid old.now }
-    ensures { result ≡ point_was_off old.now state.now name.now.bytes }
+    ensures { result ≡ was_restricted old.now state.now restriction name.now.bytes }
 {
-    let Some(thing) = old.find(name.as_str().as_bytes()) else {
-        return false;
-    };
-    let Thing::Point(place) = thing else {
-        return false;
-    };
-    let Some(point) = old.points.get(place as usize) else {
-        return false;
-    };
-    state.points[point.panel as usize - 1].contains(point.line, point.address)
+    match old.find(name.as_str().as_bytes()) {
+        Some(thing) => is_restricted(old, state, restriction, thing),
+        None => false,
+    }
 }
 
-fn is_zone_off(old: &Site, state: &Retained, name: &Label) -> bool
-    requires { IsValid old.now }
-    ensures { result ≡ zone_was_off old.now state.now name.now.bytes }
+// Whether a thing is restricted so; a thing of another kind is not.
+fn is_restricted(site: &Site, state: &Retained, restriction: Restriction, thing: Thing) -> bool
+    requires { IsValid site.now }
+    ensures { result ≡ is_restricted site.now state.now restriction thing }
 {
-    let Some(thing) = old.find(name.as_str().as_bytes()) else {
-        return false;
-    };
-    let Thing::Zone(place) = thing else {
-        return false;
-    };
-    let Some(zone) = old.zones.get(place as usize) else {
-        return false;
-    };
-    has_bit_32(state.zones[zone.panel as usize - 1], zone.number - 1)
-}
-
-fn is_output_off(old: &Site, state: &Retained, name: &Label) -> bool
-    requires { IsValid old.now }
-    ensures { result ≡ output_was_off old.now state.now name.now.bytes }
-{
-    let Some(thing) = old.find(name.as_str().as_bytes()) else {
-        return false;
-    };
-    let Thing::Output(place) = thing else {
-        return false;
-    };
-    let Some(output) = old.outputs.get(place as usize) else {
-        return false;
-    };
-    has_bit_32(state.outputs[output.panel as usize - 1], output.number - 1)
-}
-
-fn is_zone_tested(old: &Site, state: &Retained, name: &Label) -> bool
-    requires { IsValid old.now }
-    ensures { result ≡ zone_was_tested old.now state.now name.now.bytes }
-{
-    let Some(thing) = old.find(name.as_str().as_bytes()) else {
-        return false;
-    };
-    let Thing::Zone(place) = thing else {
-        return false;
-    };
-    let Some(zone) = old.zones.get(place as usize) else {
-        return false;
-    };
-    has_bit_32(state.tests[zone.panel as usize - 1], zone.number - 1)
+    match (restriction, thing) {
+        (Restriction::PointOff, Thing::Point(place)) => match site.points.get(place as usize) {
+            Some(point) => state.points[point.panel as usize - 1].contains(
+                point.line,
+                point.address,
+            ),
+            None => false,
+        },
+        (Restriction::ZoneOff, Thing::Zone(place)) => match site.zones.get(place as usize) {
+            Some(zone) => has_number(&state.zones, zone.panel, zone.number),
+            None => false,
+        },
+        (Restriction::OutputOff, Thing::Output(place)) => match site.outputs.get(place as usize) {
+            Some(output) => has_number(&state.outputs, output.panel, output.number),
+            None => false,
+        },
+        (Restriction::InTest, Thing::Zone(place)) => match site.zones.get(place as usize) {
+            Some(zone) => has_number(&state.tests, zone.panel, zone.number),
+            None => false,
+        },
+        _ => false,
+    }
 }
 
 // The delays of the first panels.

@@ -30,8 +30,6 @@ mod bits;
 mod buzzer;
 mod carry_over;
 mod change;
-#[cfg(test)]
-mod change_tests;
 mod combine;
 mod digest;
 mod event;
@@ -57,6 +55,7 @@ mod point_set;
 mod point_state;
 mod profile;
 mod requests;
+mod restriction;
 mod retained;
 mod rule;
 mod site;

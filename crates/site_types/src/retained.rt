@@ -1,7 +1,8 @@
-ghost use Rattle.std.specs.Prelude.{◌≡◌};
+ghost use Rattle.std.specs.Prelude.{◌≡◌, ◌-◌, slice_index};
+ghost use Rattle.site_types.specs.Bits.{has_bit};
 ghost use Rattle.site_types.specs.Changes.{CanApply, IsNumber, IsPanelNumber, changed, nothing_retained, with_number};
 
-use crate::bits::{with_bit_8, with_bit_32};
+use crate::bits::{has_bit_32, with_bit_8, with_bit_32};
 use crate::change::Change;
 use crate::limits::GREATEST_COUNT;
 use crate::point_set::PointSet;
@@ -76,4 +77,13 @@ fn set_number(masks: &mut [u32; 8], panel: u8, number: u8, on: bool)
 {
     let mask = &mut masks[panel as usize - 1];
     *mask = with_bit_32(*mask, number - 1, on);
+}
+
+/// Whether the bit of a number is set in the mask of a panel.
+pub fn has_number(masks: &[u32; 8], panel: u8, number: u8) -> bool
+    requires panel { IsPanelNumber panel }
+    requires number { IsNumber number }
+    ensures { result ≡ has_bit (slice_index masks.now (panel - 1)) (number - 1) }
+{
+    has_bit_32(masks[panel as usize - 1], number - 1)
 }

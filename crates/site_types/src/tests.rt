@@ -1,7 +1,4 @@
-use crate::{
-    PointSet, Profile, has_bit_8, has_bit_32, has_bit_128, mask_from_8, mask_from_32,
-    mask_from_128, read_code, read_name, read_number, with_bit_8, with_bit_32, with_bit_128,
-};
+use crate::{Profile, read_code, read_name, read_number, site_digest};
 
 #[test]
 fn reads_numbers_by_their_form(rt: HostRuntime) {
@@ -60,26 +57,13 @@ fn gives_the_numbers_of_both_formats(rt: HostRuntime) {
     }
 }
 
+// The one-block message of the standard's examples.
 #[test]
-fn writes_single_bits(rt: HostRuntime) {
-    assert_eq!(rt; with_bit_8(0b101, 1, true), 0b111);
-    assert_eq!(rt; with_bit_32(u32::MAX, 31, false), 0x7fff_ffff);
-    assert_eq!(rt; with_bit_128(1, 127, true) >> 127, 1);
-    assert!(rt; has_bit_8(0x80, 7) && has_bit_32(2, 1) && !has_bit_128(2, 0));
-    let flags = [true, false, true];
-    assert_eq!(rt; mask_from_8(&flags), 5);
-    assert_eq!(rt; mask_from_32(&flags), 5);
-    assert_eq!(rt; mask_from_128(&flags), 5);
-}
-
-#[test]
-fn keeps_points_in_halves_of_a_loop(rt: HostRuntime) {
-    let set = PointSet::default().with(2, 97, true).with(4, 192, true);
-    assert_eq!(rt; set.loops[1][1], 1);
-    assert_eq!(rt; set.loops[3][1], 1 << 95);
-    assert!(rt; set.contains(2, 97) && !set.contains(2, 96) && !set.contains(1, 97));
-    assert_eq!(rt;
-        set.with(2, 97, false).with(4, 192, false),
-        PointSet::default()
-    );
+fn digests_by_sha_256(rt: HostRuntime) {
+    let digest = [
+        0xba, 0x78, 0x16, 0xbf, 0x8f, 0x01, 0xcf, 0xea, 0x41, 0x41, 0x40, 0xde, 0x5d, 0xae, 0x22,
+        0x23, 0xb0, 0x03, 0x61, 0xa3, 0x96, 0x17, 0x7a, 0x9c, 0xb4, 0x10, 0xff, 0x61, 0xf2, 0x00,
+        0x15, 0xad,
+    ];
+    assert_eq!(rt; site_digest(b"abc"), digest);
 }

@@ -4,23 +4,23 @@ use Rattle.site_types.specs.declared.change.Change.TheVariants.{Test}
 use Rattle.site_types.specs.Carry.{zone_was_tested}
 use Rattle.site_types.proofs.Carried.{carried_on, carried_off}
 use Rattle.site_types.proofs.carry_over.carry_tests.Goals as goal
-use Rattle.site_types.proofs.carry_over.carry_tests.Goals.{then-is_zone_tested, else-is_zone_tested}
+use Rattle.site_types.proofs.carry_over.carry_tests.Goals.{then-was_restricted, else-was_restricted}
 
 pub loop-zone-preserved : goal.loop-zone-preserved
 loop-zone-preserved c =
-    elim c.if-is_zone_tested.branch [
-      | then-is_zone_tested w ↦
+    elim c.if-was_restricted.branch [
+      | then-was_restricted w ↦
           w.kept-is
           ∙ carried_on (λ (x : ZonePlan). Test x.panel x.number true) (λ (x : ZonePlan). zone_was_tested c.args.old.now c.args.state.now x.name.bytes)
           c.as_slice-zone-items.result.now c.args.new.now.zones c.loop-zone.zone-index c.zone-item.result c.args.kept.now c.loop-zone.kept
           w.apply.new.self
-          c.as_slice-zone-items.ensures c.loop-zone-test.true c.zone-item.is (sym c.is_zone_tested.ensures ∙ w.if-is_zone_tested.true)
+          c.as_slice-zone-items.ensures c.loop-zone-test.true c.zone-item.is (sym c.was_restricted.ensures ∙ w.if-was_restricted.true)
           c.loop-zone.invariant w.apply.ensures
-      | else-is_zone_tested w ↦
+      | else-was_restricted w ↦
           w.kept-is
           ∙ carried_off (λ (x : ZonePlan). Test x.panel x.number true)
           (λ (x : ZonePlan). zone_was_tested c.args.old.now c.args.state.now x.name.bytes) c.as_slice-zone-items.result.now c.args.new.now.zones
           c.loop-zone.zone-index c.zone-item.result c.args.kept.now c.loop-zone.kept
-          c.as_slice-zone-items.ensures c.loop-zone-test.true c.zone-item.is (sym c.is_zone_tested.ensures ∙ w.if-is_zone_tested.false)
+          c.as_slice-zone-items.ensures c.loop-zone-test.true c.zone-item.is (sym c.was_restricted.ensures ∙ w.if-was_restricted.false)
           c.loop-zone.invariant
     ]
