@@ -10,7 +10,7 @@ use Rattle.std.proofs.lemmas.List.Elements.{All-contains}
 use Rattle.tick_units.specs.declared.seat.Seat.{Seat}
 use Rattle.tick_units.specs.declared.order_fault.BadOrder.{BadOrder}
 use Rattle.tick_units.specs.declared.order_fault.BadOrder.TheVariants.{Repeated, Missing, Strange}
-use Rattle.tick_units.specs.Orders.{IsSound, IsOrder, IsStrangeAt, IsRepeatedAt, IsFirstMissing, canonical_seats, is_among, first_missing, fault_behind, order_fault}
+use Rattle.tick_units.specs.Orders.{IsSound, IsOrder, IsBadAt, IsStrangeAt, IsRepeatedAt, IsFirstMissing, canonical_seats, is_among, first_missing, fault_behind, order_fault}
 use Rattle.tick_units.proofs.Seats.{is_among-Decides}
 use Rattle.tick_units.proofs.Missing.{missing_at, first_missing-at, all_there, first_missing-all_there}
 use Rattle.tick_units.proofs.Sound.{sound_none, sound_push, length_sound, known_behind, absent_before, order_from_sound, sound_from_order, whole_from_order}
@@ -54,30 +54,23 @@ data Walked (panels : ℕ) (seats : List Seat) (fault : Option BadOrder) : Type 
   at_repeated : (place : ℕ) → IsRepeatedAt panels seats place → fault ≡ Some (Repeated place) → Walked panels seats fault
   at_end : IsSound panels seats → fault ≡ option_map Missing (first_missing (canonical_seats panels) seats) → Walked panels seats fault
 
+bad_here : {IsBad : List Seat → Seat → Type 0} (panels : ℕ) (earlier : List Seat) (seat : Seat) (later : List Seat) → IsSound panels earlier
+    → IsBad earlier seat → IsBadAt IsBad panels (earlier ++ seat ∷ later) (length earlier + 1)
+bad_here panels earlier seat later sound bad =
+    record { earlier = earlier; seat = seat; later = later; splits = refl; counted = refl; sound = sound; bad = bad }
+
 walk-step : (panels : ℕ) (earlier : List Seat) (seat : Seat) (later : List Seat) (known there : Bool) → is_among seat (canonical_seats panels) ≡ known
     → is_among seat earlier ≡ there → IsSound panels earlier
     → (IsSound panels (earlier ++ seat ∷ []) → Walked panels ((earlier ++ seat ∷ []) ++ later) (fault_behind panels (earlier ++ seat ∷ []) later))
     → Walked panels (earlier ++ seat ∷ later) (fault_behind panels earlier (seat ∷ later))
 walk-step panels earlier seat later false there k t sound rest =
-    at_strange (length earlier + 1) (record {
-      earlier = earlier;
-      seat = seat;
-      later = later;
-      splits = refl;
-      counted = refl;
-      sound = sound;
-      strange = not_from_Decides (is_among seat (canonical_seats panels)) (is_among-Decides seat (canonical_seats panels)) k;
-    }) (strange_here panels earlier seat later k)
+    at_strange (length earlier + 1)
+    (bad_here panels earlier seat later sound
+    (not_from_Decides (is_among seat (canonical_seats panels)) (is_among-Decides seat (canonical_seats panels)) k))
+    (strange_here panels earlier seat later k)
 walk-step panels earlier seat later true true k t sound rest =
-    at_repeated (length earlier + 1) (record {
-      earlier = earlier;
-      seat = seat;
-      later = later;
-      splits = refl;
-      counted = refl;
-      sound = sound;
-      repeated = (is_among-Decides seat earlier).0 t;
-    }) (repeated_here panels earlier seat later k t)
+    at_repeated (length earlier + 1) (bad_here panels earlier seat later sound ((is_among-Decides seat earlier).0 t))
+    (repeated_here panels earlier seat later k t)
 walk-step panels earlier seat later true false k t sound rest =
     let more : IsSound panels (earlier ++ seat ∷ []) =
     sound_push panels earlier seat sound ((is_among-Decides seat (canonical_seats panels)).0 k)
@@ -126,7 +119,7 @@ pub order_fault-strange : (panels : ℕ) (seats : List Seat) (place : ℕ)
 order_fault-strange panels seats place = (
   λ e. strange_told panels seats place (order_fault panels seats) e (walked panels seats),
   λ h. ap (order_fault panels) h.splits ∙ sound_passed panels [] h.earlier (h.seat ∷ h.later) h.sound ∙ strange_here panels h.earlier h.seat h.later
-      (isnt h.seat (canonical_seats panels) (is_among h.seat (canonical_seats panels)) refl h.strange) ∙ ap (λ n. Some (Strange n)) (sym h.counted),
+      (isnt h.seat (canonical_seats panels) (is_among h.seat (canonical_seats panels)) refl h.bad) ∙ ap (λ n. Some (Strange n)) (sym h.counted),
 )
 
 -- a repeated seat
@@ -143,8 +136,8 @@ pub order_fault-repeated : (panels : ℕ) (seats : List Seat) (place : ℕ)
 order_fault-repeated panels seats place = (
   λ e. repeated_told panels seats place (order_fault panels seats) e (walked panels seats),
   λ h. ap (order_fault panels) h.splits ∙ sound_passed panels [] h.earlier (h.seat ∷ h.later) h.sound ∙ repeated_here panels h.earlier h.seat h.later
-      ((is_among-Decides h.seat (canonical_seats panels)).1 (known_twice panels h.earlier h.seat h.sound h.repeated))
-      ((is_among-Decides h.seat h.earlier).1 h.repeated) ∙ ap (λ n. Some (Repeated n)) (sym h.counted),
+      ((is_among-Decides h.seat (canonical_seats panels)).1 (known_twice panels h.earlier h.seat h.sound h.bad))
+      ((is_among-Decides h.seat h.earlier).1 h.bad) ∙ ap (λ n. Some (Repeated n)) (sym h.counted),
 )
   where
     known_twice : (panels : ℕ) (earlier : List Seat) (seat : Seat) → IsSound panels earlier → Contains earlier seat

@@ -45,25 +45,23 @@ pub record IsSound (panels : ℕ) (seats : List Seat) : Type 0 where
   pub known : All (Contains (canonical_seats panels)) seats
   pub once : AllPairs (λ a b. a ≢ b) seats
 
--- the least bad place, counted from 1, has a seat that isn't one of the site
-pub record IsStrangeAt (panels : ℕ) (seats : List Seat) (place : ℕ) : Type 0 where
+-- the least bad place, counted from 1, has a seat that is bad behind those earlier
+pub record IsBadAt (IsBad : List Seat → Seat → Type 0) (panels : ℕ) (seats : List Seat) (place : ℕ) : Type 0 where
   pub earlier : List Seat
   pub seat : Seat
   pub later : List Seat
   pub splits : seats ≡ earlier ++ seat ∷ later
   pub counted : place ≡ length earlier + 1
   pub sound : IsSound panels earlier
-  pub strange : ¬ Contains (canonical_seats panels) seat
+  pub bad : IsBad earlier seat
 
--- the least bad place, counted from 1, has a seat that stands earlier too
-pub record IsRepeatedAt (panels : ℕ) (seats : List Seat) (place : ℕ) : Type 0 where
-  pub earlier : List Seat
-  pub seat : Seat
-  pub later : List Seat
-  pub splits : seats ≡ earlier ++ seat ∷ later
-  pub counted : place ≡ length earlier + 1
-  pub sound : IsSound panels earlier
-  pub repeated : Contains earlier seat
+-- it isn't one of the site
+abbrev pub IsStrangeAt : ℕ → List Seat → ℕ → Type 0
+IsStrangeAt panels = IsBadAt (λ earlier seat. ¬ Contains (canonical_seats panels) seat) panels
+
+-- it stands earlier too
+abbrev pub IsRepeatedAt : ℕ → List Seat → ℕ → Type 0
+IsRepeatedAt panels = IsBadAt Contains panels
 
 -- no place is bad, and this is the first seat in canonical order that isn't there
 pub record IsFirstMissing (panels : ℕ) (seats : List Seat) (seat : Seat) : Type 0 where
