@@ -1,5 +1,5 @@
 -- What is known of the bytes of a stream, which may tell them (Some) or not (None).
-use Rattle.std.specs.Prelude.{◌≡◌, ℕ, List, ◌++◌, Option, Some, None}
+use Rattle.std.specs.Prelude.{◌≡◌, ◌↔◌, ℕ, ◌≤◌, List, [], ◌++◌, length, take, Option, Some, None}
 use Rattle.std.specs.Io.KnownBytes.{Consumes as TakesFromFront}
 
 -- these bytes stood at the front of what was left, and the rest is left; nothing is said where nothing was
@@ -17,3 +17,9 @@ Grows old (Some after) bytes = (before : List ℕ) × (old ≡ Some before) × (
 abbrev pub GrowsByFront : Option (List ℕ) → Option (List ℕ) → List ℕ → Type 0
 GrowsByFront old new bytes = (front : List ℕ) × (rest : List ℕ) × (bytes ≡ front ++ rest)
     × Grows old new front
+
+-- a read took the first bytes of what was left, as many as it answers, which is none only at the end
+pub record HasTaken (old new into : List ℕ) (count : ℕ) : Type 0 where
+  pub bound : count ≤ length into
+  pub bytes : old ≡ take count into ++ new
+  pub ends : (count ≡ 0) ↔ (old ≡ [])

@@ -1,6 +1,9 @@
 -- What a disk in memory means: its log, its images and when it fails.
-use Rattle.std.specs.Prelude.{◌≡◌, ◌⊎◌, ℕ, ◌+◌, ◌<◌, ◌≤◌, List, [], ◌∷◌, ◌++◌, length}
+use Rattle.std.specs.Prelude.{◌≡◌, ◌⊎◌, ◌↔◌, ℕ, ◌+◌, ◌<◌, ◌≤◌, List, [], ◌∷◌, ◌++◌, length, Result, IsErr}
+use Rattle.panel_edges.specs.Crashes.{Elapses, Stays}
 use Rattle.panel_edges.specs.DiskLogs.{Call, calls_of, left_by, left_after}
+use Rattle.panel_edges.specs.Faults.{HasCause, IsListed, counted}
+use Rattle.panel_edges.specs.declared.failed.Failed.{Failed}
 use Rattle.panel_edges.specs.declared.memory_disk.MemoryDisk.{MemoryDisk}
 
 -- the calls that its log holds
@@ -37,3 +40,14 @@ pub record HasKept (old new : MemoryDisk) : Type 0 where
   pub start : new.start.items ≡ old.start.items
   pub log : log_of new ≡ log_of old
   pub bytes : new.bytes.items ≡ old.bytes.items
+
+-- a call that reads: it fails exactly where its number is listed, and changes neither the bytes nor what a
+-- crash may leave
+pub record HasRead {T : Type 0} (old new : MemoryDisk) (result : Result T Failed) : Type 0 where
+  pub kept : HasKept old new
+  pub crash : Stays (images_of old) (images_of new)
+  pub time : Elapses (moment_of old) (moment_of new) (left_of old) (left_of new) (images_of new)
+  pub cause : HasCause old.faults new.faults result
+  pub fails : IsErr result ↔ IsListed old.fails.items old.calls
+  pub calls : new.calls ≡ counted old.calls
+  pub list : new.fails.items ≡ old.fails.items

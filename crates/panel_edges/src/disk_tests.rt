@@ -51,40 +51,6 @@ fn a_cut_leaves_a_front_of_each_unsynced_write(rt: HostRuntime) -> Result<(), Fa
 }
 
 #[test]
-fn a_failed_call_leaves_half_of_its_bytes(rt: HostRuntime) -> Result<(), Fail> {
-    let alloc = rt.alloc();
-    for (place, file) in [
-        // What a read gives where the call at this place fails.
-        b"dfddbbcceeee".as_slice(),
-        b"dfdd\0\0cceeee",
-        b"dfddbbcceeee",
-        b"dfddbbc\0eeee",
-        b"dfbbbbcceeee",
-        b"dfddbbcceeee",
-        b"dfddbbccee",
-        b"ddddbbcceeee",
-    ]
-    .iter()
-    .enumerate()
-    {
-        let start = Vec::from_slice(alloc, b"0123")?;
-        let fails = vec![in alloc; place as u64 + 1]?;
-        let mut disk = MemoryDisk::new(alloc, start, 8, 19, fails).expect(&rt, "memory");
-        let done = run_script(&mut disk);
-        for (call, succeeded) in done.iter().enumerate() {
-            assert_eq!(rt;
-                *succeeded,
-                call != place,
-                "call {call} where {place} fails"
-            );
-        }
-        assert_eq!(rt; disk.bytes.as_slice(), *file, "where {place} fails");
-        assert_eq!(rt; disk.faults, 1);
-    }
-    Ok(())
-}
-
-#[test]
 fn a_real_file_is_written_synced_and_read_back(rt: HostRuntime) -> Result<(), Fail> {
     let alloc = rt.alloc();
     let path = format!(in alloc; "/tmp/panel_edges_disk_{}", process::id(rt.process()))?;

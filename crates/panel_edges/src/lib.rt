@@ -67,8 +67,7 @@ pub use file_disk::FileDisk;
 pub use file_shelf::FileShelf;
 pub use label::Label;
 pub use limits::{
-    MOST_BODY_BYTES, MOST_DISK_BYTES, MOST_FILE_BYTES, MOST_HEAD_BYTES, MOST_LINE_BYTES,
-    MOST_RECORD_BYTES,
+    MOST_BODY_BYTES, MOST_DISK_BYTES, MOST_FILE_BYTES, MOST_HEAD_BYTES, MOST_RECORD_BYTES,
 };
 pub use memory_disk::MemoryDisk;
 pub use memory_shelf::MemoryShelf;

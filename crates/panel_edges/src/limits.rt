@@ -1,9 +1,6 @@
 /// The bytes of one file that a shelf hands out, at most.
 pub const MOST_FILE_BYTES: usize = 1_048_576;
 
-/// The bytes of one line of a record, at most, without its line end.
-pub const MOST_LINE_BYTES: usize = 512;
-
 /// The bytes of one record that are read, at most.
 pub const MOST_RECORD_BYTES: u64 = 1 << 40;
 

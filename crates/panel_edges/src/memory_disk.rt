@@ -1,6 +1,7 @@
 ghost use Rattle.std.specs.Prelude.{◌≡◌, ◌+◌, ◌≤◌, length, vec_capacity, Some, refl};
 ghost use Rattle.panel_edges.specs.DiskLogs.{bytes_in, calls_of, content, left_after, left_by};
 ghost use Rattle.panel_edges.specs.DiskLaws.{image_now, none_since, now_counts};
+ghost use Rattle.panel_edges.specs.Limits.{most_disk_bytes};
 
 use crate::call_counts::count_call;
 use crate::cutting::cut_file;
@@ -37,10 +38,10 @@ pub struct MemoryDisk {
     pub faults: u64,
     ghost whole: { bytes.items ≡ content start.items (calls_of log.items log_bytes.items) },
     ghost tight: { length log_bytes.items ≡ bytes_in log.items },
-    ghost small: { length bytes.items ≤ 65536 },
+    ghost small: { length bytes.items ≤ most_disk_bytes },
     ghost few_calls: { length log.items ≤ most_calls },
     ghost few_written: { length log_bytes.items ≤ most_written },
-    ghost room: { 65536 ≤ vec_capacity bytes },
+    ghost room: { most_disk_bytes ≤ vec_capacity bytes },
     ghost log_room: { most_calls ≤ vec_capacity log },
     ghost written_room: { most_written ≤ vec_capacity log_bytes },
 }
@@ -74,25 +75,14 @@ impl Disk for MemoryDisk {
     ghost use Rattle.panel_edges.specs.Disks.{Holds, Torn};
     ghost use Rattle.panel_edges.specs.DiskLogs.{Sync, Write};
     ghost use Rattle.panel_edges.specs.Faults.{HasCause, IsListed, counted};
-    ghost use Rattle.panel_edges.specs.Limits.{most_disk_bytes};
-    ghost use Rattle.panel_edges.specs.MemoryDisks.{HasKept, HasLogged, IsFull, IsPassed, images_of, left_of};
+    ghost use Rattle.panel_edges.specs.MemoryDisks.{HasKept, HasLogged, HasRead, IsFull, IsPassed, images_of, left_of};
     ghost use Rattle.panel_edges.specs.MemoryDisks.{moment_of};
 
     fn len(&mut self) -> Result<u64, Failed>
         ensures ok { IfOk result (λ n. n ≡ length self.old.bytes.items) }
-        ensures kept { HasKept self.old self.new }
-        ensures crash { Stays (images_of self.old) (images_of self.new) }
-        ensures time { Elapses (moment_of self.old) (moment_of self.new) (left_of self.old)
-            (left_of self.new) (images_of self.new) }
-        ensures cause { HasCause self.old.faults self.new.faults result }
-        ensures fails { IsErr result ↔ IsListed self.old.fails.items self.old.calls }
-        ensures calls { (self.new.calls ≡ counted self.old.calls)
-            × (self.new.fails.items ≡ self.old.fails.items) }
+        ensures read { HasRead self.old self.new result }
     {
-        if count_call(&mut self.calls, &self.fails) {
-            self.faults = self.faults.saturating_add(1);
-            return Err(Failed);
-        }
+        self.count_read()?;
         Ok(self.bytes.len() as u64)
     }
 
@@ -100,19 +90,9 @@ impl Disk for MemoryDisk {
         requires { at + length into.old ≤ length self.old.bytes.items }
         ensures ok { OnOk result
             (into.new ≡ take (length into.old) (drop at self.old.bytes.items)) }
-        ensures kept { HasKept self.old self.new }
-        ensures crash { Stays (images_of self.old) (images_of self.new) }
-        ensures time { Elapses (moment_of self.old) (moment_of self.new) (left_of self.old)
-            (left_of self.new) (images_of self.new) }
-        ensures cause { HasCause self.old.faults self.new.faults result }
-        ensures fails { IsErr result ↔ IsListed self.old.fails.items self.old.calls }
-        ensures calls { (self.new.calls ≡ counted self.old.calls)
-            × (self.new.fails.items ≡ self.old.fails.items) }
+        ensures read { HasRead self.old self.new result }
     {
-        if count_call(&mut self.calls, &self.fails) {
-            self.faults = self.faults.saturating_add(1);
-            return Err(Failed);
-        }
+        self.count_read()?;
         let at = at as usize;
         into.copy_from_slice(&self.bytes[at..at + into.len()]);
         Ok(())
@@ -178,8 +158,7 @@ impl Disk for MemoryDisk {
 impl MemoryDisk {
     ghost use Rattle.std.specs.Prelude.{◌⊎◌, ℕ, ◌<◌, [], ◌↔◌, take, IfOk, IsTrue};
     ghost use Rattle.panel_edges.specs.DiskLogs.{Sync, Write, cut_by};
-    ghost use Rattle.panel_edges.specs.Limits.{most_disk_bytes};
-    ghost use Rattle.panel_edges.specs.MemoryDisks.{HasLogged, IsPassed, left_of, log_of, moment_of};
+    ghost use Rattle.panel_edges.specs.MemoryDisks.{HasLogged, HasRead, IsPassed, left_of, log_of, moment_of};
     ghost use Rattle.panel_edges.specs.Overwritten.{overwritten};
 
     /// Reserves `MOST_DISK_BYTES` bytes, and a log of so many calls and so many written bytes.
@@ -239,6 +218,17 @@ impl MemoryDisk {
             Ok(file) => Ok(file),
             Err(_) => Err(NoMemory),
         }
+    }
+
+    // Counts a read, which fails where its number is listed.
+    fn count_read(&mut self) -> Result<(), Failed>
+        ensures { HasRead self.old self.new result }
+    {
+        if count_call(&mut self.calls, &self.fails) {
+            self.faults = self.faults.saturating_add(1);
+            return Err(Failed);
+        }
+        Ok(())
     }
 
     // Whether a write of so many bytes passes the log.

@@ -1,6 +1,7 @@
 ghost use Rattle.std.specs.Prelude.{◌≡◌, ◌<◌, ◌≤◌, [], ◌++◌, ◌↔◌, Some, None, length, take, drop, min, IfOk, IsErr};
 ghost use Rattle.std.specs.Prelude.{OnErr};
 ghost use Rattle.panel_edges.specs.Faults.{HasCause, IsListed, counted};
+ghost use Rattle.panel_edges.specs.Contents.{HasTaken};
 
 use crate::call_counts::count_call;
 use crate::copying::copy_from;
@@ -52,10 +53,8 @@ impl Stream for MemorySource {
 impl Source for MemorySource {
     fn read(&mut self, into: &mut [u8]) -> Result<usize, Failed>
         requires { 0 < length into.old }
-        ensures bound { IfOk result (λ n. n ≤ length into.new) }
-        ensures bytes { IfOk result (λ n. drop self.old.at self.old.bytes.items ≡ take n into.new
-            ++ drop self.new.at self.new.bytes.items) }
-        ensures ends { IfOk result (λ n. (n ≡ 0) ↔ (drop self.old.at self.old.bytes.items ≡ [])) }
+        ensures taken { IfOk result (HasTaken (drop self.old.at self.old.bytes.items)
+            (drop self.new.at self.new.bytes.items) into.new) }
         ensures err { OnErr result
             (drop self.new.at self.new.bytes.items ≡ drop self.old.at self.old.bytes.items) }
         ensures cause { HasCause self.old.faults self.new.faults result }

@@ -1,4 +1,5 @@
 ghost use Rattle.std.specs.Prelude.{◌≡◌, ◌≤◌, length, vec_capacity, Some};
+ghost use Rattle.panel_edges.specs.Limits.{most_disk_bytes};
 
 use crate::disks::Disk;
 use crate::failed::Failed;
@@ -12,13 +13,12 @@ use std::alloc::Global;
 pub struct SoundMemoryDisk {
     /// What a read gives.
     pub bytes: Vec<u8>,
-    ghost small: { length bytes.items ≤ 65536 },
-    ghost room: { 65536 ≤ vec_capacity bytes },
+    ghost small: { length bytes.items ≤ most_disk_bytes },
+    ghost room: { most_disk_bytes ≤ vec_capacity bytes },
 }
 
 impl SoundMemoryDisk {
     ghost use Rattle.std.specs.Prelude.{IfOk};
-    ghost use Rattle.panel_edges.specs.Limits.{most_disk_bytes};
 
     /// Reserves `MOST_DISK_BYTES` bytes.
     pub fn new(alloc: Global, bytes: Vec<u8>) -> Result<SoundMemoryDisk, NoMemory>
@@ -56,7 +56,6 @@ impl Disk for SoundMemoryDisk {
 
     ghost use Rattle.std.specs.Prelude.{◌+◌, Ok, take, drop};
     ghost use Rattle.panel_edges.specs.Disks.{Holds};
-    ghost use Rattle.panel_edges.specs.Limits.{most_disk_bytes};
 
     fn len(&mut self) -> Result<u64, Failed>
         ensures len { result ≡ Ok (length self.old.bytes.items) }

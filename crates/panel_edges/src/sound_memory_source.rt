@@ -1,4 +1,5 @@
 ghost use Rattle.std.specs.Prelude.{◌≡◌, ◌<◌, ◌≤◌, [], ◌++◌, ◌↔◌, Some, None, length, take, drop, min, IfOk};
+ghost use Rattle.panel_edges.specs.Contents.{HasTaken};
 
 use crate::copying::copy_from;
 use crate::failed::Failed;
@@ -37,10 +38,8 @@ impl Stream for SoundMemorySource {
 impl Source for SoundMemorySource {
     fn read(&mut self, into: &mut [u8]) -> Result<usize, Failed>
         requires { 0 < length into.old }
-        ensures bound { IfOk result (λ n. n ≤ length into.new) }
-        ensures bytes { IfOk result (λ n. drop self.old.at self.old.bytes.items ≡ take n into.new
-            ++ drop self.new.at self.new.bytes.items) }
-        ensures ends { IfOk result (λ n. (n ≡ 0) ↔ (drop self.old.at self.old.bytes.items ≡ [])) }
+        ensures taken { IfOk result (HasTaken (drop self.old.at self.old.bytes.items)
+            (drop self.new.at self.new.bytes.items) into.new) }
         // It never fails, and gives as many bytes as there are and fit.
         ensures count { result
             ≡ Ok (min (length into.old) (length (drop self.old.at self.old.bytes.items))) }
