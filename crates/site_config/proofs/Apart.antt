@@ -9,7 +9,7 @@ use Rattle.site_types.specs.Sections.{section_of}
 use Rattle.site_types.specs.Valid.{AreOnLoop, SectionsCrossNoZones}
 use Rattle.site_types.specs.declared.loop_plan.LoopPlan.{LoopPlan}
 use Rattle.site_types.specs.declared.named.Thing.{Thing}
-use Rattle.site_types.specs.declared.point.Point.{Point as PointOf}
+use Rattle.site_types.specs.declared.point.Point.{Point as PointPlan}
 use Rattle.site_types.specs.declared.site.Site.{Site}
 use Rattle.site_document.specs.declared.draft.Draft.{Draft}
 use Rattle.site_document.specs.Refusals.{section_crosses_zones}
@@ -136,8 +136,8 @@ stands_in plan spots spot is panel line place e =
 
 zones_agree : (look : List ℕ → Option Thing) (draft : Draft) (site : Site) → SeenAs look draft site
     → crossing_in (map (spot_of look) draft.points) draft.loops ≡ None → (i : ℕ) (plan : LoopPlan) → slice_get site.loops i ≡ Some plan
-    → (j : ℕ) (p : PointOf)
-    → slice_get site.points j ≡ Some p → (k : ℕ) (q : PointOf) → slice_get site.points k ≡ Some q → AreOnLoop plan p q
+    → (j : ℕ) (p : PointPlan)
+    → slice_get site.points j ≡ Some p → (k : ℕ) (q : PointPlan) → slice_get site.points k ≡ Some q → AreOnLoop plan p q
     → section_of plan.isolators p.address ≡ section_of plan.isolators q.address → p.zone ≡ q.zone
 unfolding placed_point
 zones_agree look draft site seen clean i plan at j p pt k q qt on same =
@@ -162,10 +162,10 @@ zones_agree look draft site seen clean i plan at j p pt k q qt on same =
 pub sections : (look : List ℕ → Option Thing) (draft : Draft) (site : Site) → SeenAs look draft site
     → crossing_in (map (spot_of look) draft.points) draft.loops ≡ None → SectionsCrossNoZones site
 sections look draft site seen clean =
-    all_by_place (λ (plan : LoopPlan). All (λ (p : PointOf). All (λ (q : PointOf). AreOnLoop plan p q →
+    all_by_place (λ (plan : LoopPlan). All (λ (p : PointPlan). All (λ (q : PointPlan). AreOnLoop plan p q →
     section_of plan.isolators p.address ≡ section_of plan.isolators q.address → p.zone ≡ q.zone) site.points) site.points) site.loops
-    (λ i plan at. all_by_place (λ (p : PointOf). All (λ (q : PointOf). AreOnLoop plan p q →
+    (λ i plan at. all_by_place (λ (p : PointPlan). All (λ (q : PointPlan). AreOnLoop plan p q →
     section_of plan.isolators p.address ≡ section_of plan.isolators q.address → p.zone ≡ q.zone) site.points) site.points
-    (λ j p pt. all_by_place (λ (q : PointOf). AreOnLoop plan p q → section_of plan.isolators p.address ≡ section_of plan.isolators q.address
+    (λ j p pt. all_by_place (λ (q : PointPlan). AreOnLoop plan p q → section_of plan.isolators p.address ≡ section_of plan.isolators q.address
     → p.zone ≡ q.zone) site.points
     (λ k q qt on same. zones_agree look draft site seen clean i plan at j p pt k q qt on same)))

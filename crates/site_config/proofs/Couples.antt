@@ -9,7 +9,7 @@ use Rattle.site_types.specs.Valid.{IsMutual, PartnersAreMutual, is_partner_type}
 use Rattle.site_types.specs.declared.named.Thing.{Thing}
 use Rattle.site_types.specs.declared.named.Thing.TheVariants.{Point, Zone, Output, Marker}
 use Rattle.site_types.specs.declared.site.Site.{Site}
-use Rattle.site_types.specs.declared.zone.Zone.{Zone as ZoneOf}
+use Rattle.site_types.specs.declared.zone.Zone.{Zone as ZonePlan}
 use Rattle.site_document.specs.declared.draft.Draft.{Draft}
 use Rattle.site_document.specs.declared.draft_zone.DraftZone.{DraftZone}
 use Rattle.site_document.specs.Refusals.{partner_not_mutual}
@@ -95,7 +95,7 @@ apart_so draft place n zone p name at bt look apart e =
     let names : name ≡ zone.name = sym (two_names draft n p name bt look) ∙ ap (λ (z : DraftZone). z.name) same in
     let alike : bytes_eq name zone.name ≡ true = (bytes_eq-Decides name zone.name).1 names in cc (alike, apart)
 
-mutual_by : (draft : Draft) (site : Site) (place other : ℕ) (zone partner : ZoneOf) (d q : DraftZone) (named : Option (List ℕ))
+mutual_by : (draft : Draft) (site : Site) (place other : ℕ) (zone partner : ZonePlan) (d q : DraftZone) (named : Option (List ℕ))
     → twice_in draft ≡ None
     → mutual_missing (named_in draft) draft.zones d named ≡ None → slice_get draft.zones place ≡ Some d → slice_get draft.zones other ≡ Some q
     → zone_view zone ≡ placed_zone (named_in draft) d → zone_view partner ≡ placed_zone (named_in draft) q

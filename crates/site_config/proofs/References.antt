@@ -10,14 +10,14 @@ use Rattle.std.specs.Prelude.{slice_get, All, codes, ◌++◌}
 use Rattle.site_types.specs.Limits.{most_panels}
 use Rattle.site_types.specs.Valid.{HasAddress, HasReferences, HasZone, IsTerm}
 use Rattle.site_types.specs.declared.loop_plan.LoopPlan.{LoopPlan}
-use Rattle.site_types.specs.declared.marker.Marker.{Marker as MarkerOf}
+use Rattle.site_types.specs.declared.marker.Marker.{Marker as MarkerPlan}
 use Rattle.site_types.specs.declared.named.Thing.{Thing}
 use Rattle.site_types.specs.declared.named.Thing.TheVariants.{Point, Zone, Output, Marker}
-use Rattle.site_types.specs.declared.output.Output.{Output as OutputOf}
-use Rattle.site_types.specs.declared.point.Point.{Point as PointOf}
+use Rattle.site_types.specs.declared.output.Output.{Output as OutputPlan}
+use Rattle.site_types.specs.declared.point.Point.{Point as PointPlan}
 use Rattle.site_types.specs.declared.site.Site.{Site}
 use Rattle.site_types.specs.declared.term.Term.{Term}
-use Rattle.site_types.specs.declared.zone.Zone.{Zone as ZoneOf}
+use Rattle.site_types.specs.declared.zone.Zone.{Zone as ZonePlan}
 use Rattle.site_document.specs.declared.draft.Draft.{Draft}
 use Rattle.site_document.specs.declared.draft_marker.DraftMarker.{DraftMarker}
 use Rattle.site_document.specs.declared.draft_output.DraftOutput.{DraftOutput}
@@ -129,7 +129,7 @@ some_place test [] e = absurd (cc e)
 some_place test (plan ∷ rest) e =
     some_by test plan rest (test plan) refl (λ f. some_place test rest (or_right (test plan) (list_any test rest) e f))
 
-point_zone : (look : List ℕ → Option Thing) (draft : Draft) (site : Site) → SeenAs look draft site → NoneMissing look draft → (k : ℕ) (p : PointOf)
+point_zone : (look : List ℕ → Option Thing) (draft : Draft) (site : Site) → SeenAs look draft site → NoneMissing look draft → (k : ℕ) (p : PointPlan)
     → slice_get site.points k ≡ Some p → HasZone site p.panel p.zone
 unfolding placed_point
 point_zone look draft site seen none k p at =
@@ -143,7 +143,7 @@ point_zone look draft site seen none k p at =
     (site_zone look draft site seen d.panel p.zone (zone_place (look d.zone)) (zone_there draft.zones d.panel (zone_place (look d.zone)) parts.1)
     (ap (λ (s : SeenPoint). s.zone) same))
 
-point_loop : (look : List ℕ → Option Thing) (draft : Draft) (site : Site) → SeenAs look draft site → NoneMissing look draft → (k : ℕ) (p : PointOf)
+point_loop : (look : List ℕ → Option Thing) (draft : Draft) (site : Site) → SeenAs look draft site → NoneMissing look draft → (k : ℕ) (p : PointPlan)
     → slice_get site.points k ≡ Some p → HasAddress site p.panel p.line p.address
 unfolding placed_point
 point_loop look draft site seen none k p at =
@@ -181,7 +181,7 @@ partner_at : (look : List ℕ → Option Thing) (zones : List DraftZone) (z : Dr
 unfolding partner_fault
 partner_at look zones z e = e
 
-partner_zone : (look : List ℕ → Option Thing) (draft : Draft) (site : Site) → SeenAs look draft site → NoneMissing look draft → (k : ℕ) (z : ZoneOf)
+partner_zone : (look : List ℕ → Option Thing) (draft : Draft) (site : Site) → SeenAs look draft site → NoneMissing look draft → (k : ℕ) (z : ZonePlan)
     → slice_get site.zones k ≡ Some z → (place : ℕ) → z.partner ≡ Some place → HasZone site z.panel place
 unfolding placed_zone
 partner_zone look draft site seen none k z at place is =
@@ -219,7 +219,7 @@ unfolding output_fault
 output_at look o e = passed (is_some (marker_place (look o.marker))) None (no_such o.marker) e
 
 output_marker : (draft : Draft) (site : Site) → SeenAs (named_in draft) draft site → twice_in draft ≡ None → NoneMissing (named_in draft) draft
-    → (k : ℕ) (o : OutputOf)
+    → (k : ℕ) (o : OutputPlan)
     → slice_get site.outputs k ≡ Some o → o.marker < length site.markers
 unfolding placed_output
 output_marker draft site seen once none k o at =
@@ -267,7 +267,7 @@ unfolding marker_fault
 marker_at look panels m e = all_none (term_fault look panels) m.terms e
 
 marker_terms : (draft : Draft) (site : Site) → SeenAs (named_in draft) draft site → twice_in draft ≡ None → draft.panels ≤ most_panels
-    → NoneMissing (named_in draft) draft → (k : ℕ) (m : MarkerOf) → slice_get site.markers k ≡ Some m → All (IsTerm site) m.terms
+    → NoneMissing (named_in draft) draft → (k : ℕ) (m : MarkerPlan) → slice_get site.markers k ≡ Some m → All (IsTerm site) m.terms
 unfolding placed_marker
 marker_terms draft site seen once few none k m at =
     let look = named_in draft in
@@ -281,11 +281,11 @@ pub references : (draft : Draft) (site : Site) → SeenAs (named_in draft) draft
     → no_such_in (named_in draft) draft ≡ None → HasReferences site
 references draft site seen once forms e =
     let none = none_missing (named_in draft) draft e in record {
-      zone_of_point = all_by_place (λ (p : PointOf). HasZone site p.panel p.zone) site.points (point_zone (named_in draft) draft site seen none);
+      zone_of_point = all_by_place (λ (p : PointPlan). HasZone site p.panel p.zone) site.points (point_zone (named_in draft) draft site seen none);
       loop_of_point =
-          all_by_place (λ (p : PointOf). HasAddress site p.panel p.line p.address) site.points (point_loop (named_in draft) draft site seen none);
-      partner_of_zone = all_by_place (λ (z : ZoneOf). (place : ℕ) → z.partner ≡ Some place → HasZone site z.panel place) site.zones
+          all_by_place (λ (p : PointPlan). HasAddress site p.panel p.line p.address) site.points (point_loop (named_in draft) draft site seen none);
+      partner_of_zone = all_by_place (λ (z : ZonePlan). (place : ℕ) → z.partner ≡ Some place → HasZone site z.panel place) site.zones
           (partner_zone (named_in draft) draft site seen none);
-      marker_of_output = all_by_place (λ (o : OutputOf). o.marker < length site.markers) site.outputs (output_marker draft site seen once none);
-      terms = all_by_place (λ (m : MarkerOf). All (IsTerm site) m.terms) site.markers (marker_terms draft site seen once forms.panels.1 none);
+      marker_of_output = all_by_place (λ (o : OutputPlan). o.marker < length site.markers) site.outputs (output_marker draft site seen once none);
+      terms = all_by_place (λ (m : MarkerPlan). All (IsTerm site) m.terms) site.markers (marker_terms draft site seen once forms.panels.1 none);
     }

@@ -10,8 +10,8 @@ use Rattle.site_document.specs.declared.key.Key.TheVariants as key
 use Rattle.site_document.specs.declared.place.Place.{Place}
 use Rattle.site_document.specs.declared.row_kind.RowKind.{RowKind}
 use Rattle.site_document.specs.declared.row_kind.RowKind.TheVariants as kind
-use Rattle.site_document.specs.declared.walk.Pass.{Pass}
-use Rattle.site_document.specs.declared.walk.Pass.TheVariants as pass
+use Rattle.site_document.specs.declared.pass.Pass.{Pass}
+use Rattle.site_document.specs.declared.pass.Pass.TheVariants as pass
 use Rattle.site_document.specs.Drafts.{collected, from_table}
 use Rattle.site_document.specs.Missing.{missing_at}
 use Rattle.site_document.specs.Ranges.{out_at}

@@ -20,8 +20,6 @@ mod placing;
 mod reading;
 mod section_point;
 mod spot;
-#[cfg(test)]
-mod tests;
 mod twice;
 
 pub use reading::read_site;

@@ -24,6 +24,7 @@ mod key_text;
 mod missing;
 mod needs;
 mod out_of_range;
+mod pass;
 mod place;
 mod ranges;
 mod reading;
@@ -33,8 +34,6 @@ mod row_kind;
 mod rules;
 mod tables;
 mod terms;
-#[cfg(test)]
-mod tests;
 mod unknown;
 mod walk;
 mod words;

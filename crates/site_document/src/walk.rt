@@ -15,6 +15,7 @@ ghost use Rattle.site_document.specs.Walk.{
 use crate::key::Key;
 use crate::missing::check_missing;
 use crate::out_of_range::check_range;
+use crate::pass::Pass;
 use crate::place::Place;
 use crate::refusal::SiteRefusal;
 use crate::refusals::wrong_row;
@@ -25,15 +26,6 @@ use crate::unknown::check_unknown;
 use crate::wrong_kind::check_kind;
 use std::alloc::Global;
 use toml::{Table, Value};
-
-/// A pass over the whole file, which looks for one kind of fault.
-#[derive(Clone, Copy, Debug, PartialEq, Eq)]
-pub enum Pass {
-    Missing,
-    WrongKind,
-    Unknown,
-    OutOfRange,
-}
 
 const PASSES: [Pass; 4] = [
     Pass::Missing,
@@ -56,135 +48,123 @@ pub fn check_document(alloc: Global, top: &Table) -> Result<(), SiteRefusal>
     ensures { Tells result (finding (table_view top.now)) }
 {
     'passes: for pass in &PASSES {
-        check_pass(alloc, *pass, top)?;
-    }
-    Ok(())
-}
-
-#[tactic(auto, unfolding(crate::specs::Walk::found_by))]
-fn check_pass(alloc: Global, pass: Pass, top: &Table) -> Result<(), SiteRefusal>
-    ensures { Tells result (found_by (table_view top.now) pass) }
-{
-    let whole = Place {
-        kind: RowKind::Top,
-        number: 0,
-    };
-    check_table(alloc, pass, &whole, top, top)?;
-    'kinds: for kind in &ROW_KINDS {
-        check_list(alloc, pass, top, *kind)?;
-    }
-    Ok(())
-}
-
-#[tactic(auto, unfolding(crate::specs::Walk::found_in_list))]
-fn check_list(alloc: Global, pass: Pass, top: &Table, kind: RowKind) -> Result<(), SiteRefusal>
-    ensures { Tells result (found_in_list pass (table_view top.now) kind) }
-{
-    check_rows(alloc, pass, kind, top, items_at(top, list_key(kind)))
-}
-
-fn check_rows(
-    alloc: Global,
-    pass: Pass,
-    kind: RowKind,
-    top: &Table,
-    rows: &[Value],
-) -> Result<(), SiteRefusal>
-    ensures { Tells result (found_in_rows pass kind (table_view top.now) 1 (items_view rows.now)) }
-{
-    'rows: for (index, row) in rows.iter().enumerate() {
-        let place = Place {
-            kind,
-            number: index + 1,
+        let walk = Walk {
+            alloc,
+            pass: *pass,
+            top,
         };
-        check_row(alloc, pass, &place, top, row)?;
+        walk.check_all()?;
     }
     Ok(())
 }
 
-#[tactic(auto, unfolding(crate::specs::Walk::found_in_row))]
-fn check_row(
+/// One pass over a document.
+#[derive(Drop)]
+struct Walk<'a> {
     alloc: Global,
     pass: Pass,
-    place: &Place,
-    top: &Table,
-    row: &Value,
-) -> Result<(), SiteRefusal>
-    ensures { Tells result (found_in_row pass place.now (table_view top.now) (view row.now)) }
-{
-    match row {
-        Value::Table(table) => check_table(alloc, pass, place, top, table),
-        Value::String(_) => check_stray(alloc, pass, place),
-        Value::Integer(_) => check_stray(alloc, pass, place),
-        Value::Float(_) => check_stray(alloc, pass, place),
-        Value::Boolean(_) => check_stray(alloc, pass, place),
-        Value::Datetime(_) => check_stray(alloc, pass, place),
-        Value::Array(_) => check_stray(alloc, pass, place),
-    }
+    /// The table of the whole file.
+    top: &'a Table,
 }
 
-fn check_stray(alloc: Global, pass: Pass, place: &Place) -> Result<(), SiteRefusal>
-    ensures { Tells result (found_stray pass place.now) }
-{
-    match pass {
-        Pass::WrongKind => Err(wrong_row(alloc, place)),
-        Pass::Missing => Ok(()),
-        Pass::Unknown => Ok(()),
-        Pass::OutOfRange => Ok(()),
+impl Walk<'_> {
+    #[tactic(auto, unfolding(crate::specs::Walk::found_by))]
+    fn check_all(&self) -> Result<(), SiteRefusal>
+        ensures { Tells result (found_by (table_view self.now.top.now) self.now.pass) }
+    {
+        let whole = Place {
+            kind: RowKind::Top,
+            number: 0,
+        };
+        self.check_table(&whole, self.top)?;
+        'kinds: for kind in &ROW_KINDS {
+            self.check_list(*kind)?;
+        }
+        Ok(())
     }
-}
 
-#[tactic(auto, unfolding(crate::specs::Walk::found_in))]
-fn check_table(
-    alloc: Global,
-    pass: Pass,
-    place: &Place,
-    top: &Table,
-    table: &Table,
-) -> Result<(), SiteRefusal>
-    ensures { Tells result (found_in pass place.now (table_view top.now) (table_view table.now)) }
-{
-    match pass {
-        Pass::Unknown => check_unknown(alloc, place, table),
-        Pass::Missing => check_keys(alloc, pass, place, top, table),
-        Pass::WrongKind => check_keys(alloc, pass, place, top, table),
-        Pass::OutOfRange => check_keys(alloc, pass, place, top, table),
+    #[tactic(auto, unfolding(crate::specs::Walk::found_in_list))]
+    fn check_list(&self, kind: RowKind) -> Result<(), SiteRefusal>
+        ensures { Tells result (found_in_list self.now.pass (table_view self.now.top.now) kind) }
+    {
+        self.check_rows(kind, items_at(self.top, list_key(kind)))
     }
-}
 
-fn check_keys(
-    alloc: Global,
-    pass: Pass,
-    place: &Place,
-    top: &Table,
-    table: &Table,
-) -> Result<(), SiteRefusal>
-    ensures { Tells result
-        (found_at_keys pass place.now (table_view top.now) (table_view table.now)) }
-{
-    let keys = keys_of(place.kind);
-    'keys: for key in keys {
-        check_key(alloc, pass, place, top, table, *key)?;
+    fn check_rows(&self, kind: RowKind, rows: &[Value]) -> Result<(), SiteRefusal>
+        ensures { Tells result (found_in_rows self.now.pass kind (table_view self.now.top.now) 1
+            (items_view rows.now)) }
+    {
+        'rows: for (index, row) in rows.iter().enumerate() {
+            let place = Place {
+                kind,
+                number: index + 1,
+            };
+            self.check_row(&place, row)?;
+        }
+        Ok(())
     }
-    Ok(())
-}
 
-#[tactic(auto, unfolding(crate::specs::Walk::found_at))]
-fn check_key(
-    alloc: Global,
-    pass: Pass,
-    place: &Place,
-    top: &Table,
-    table: &Table,
-    key: Key,
-) -> Result<(), SiteRefusal>
-    ensures { Tells result (found_at pass place.now (table_view top.now) (table_view table.now)
-        key) }
-{
-    match pass {
-        Pass::Missing => check_missing(alloc, place, table, key),
-        Pass::WrongKind => check_kind(alloc, place, table, key),
-        Pass::Unknown => Ok(()),
-        Pass::OutOfRange => check_range(alloc, place, top, table, key),
+    #[tactic(auto, unfolding(crate::specs::Walk::found_in_row))]
+    fn check_row(&self, place: &Place, row: &Value) -> Result<(), SiteRefusal>
+        ensures { Tells result (found_in_row self.now.pass place.now (table_view self.now.top.now)
+            (view row.now)) }
+    {
+        match row {
+            Value::Table(table) => self.check_table(place, table),
+            Value::String(_) => self.check_stray(place),
+            Value::Integer(_) => self.check_stray(place),
+            Value::Float(_) => self.check_stray(place),
+            Value::Boolean(_) => self.check_stray(place),
+            Value::Datetime(_) => self.check_stray(place),
+            Value::Array(_) => self.check_stray(place),
+        }
+    }
+
+    fn check_stray(&self, place: &Place) -> Result<(), SiteRefusal>
+        ensures { Tells result (found_stray self.now.pass place.now) }
+    {
+        match self.pass {
+            Pass::WrongKind => Err(wrong_row(self.alloc, place)),
+            Pass::Missing => Ok(()),
+            Pass::Unknown => Ok(()),
+            Pass::OutOfRange => Ok(()),
+        }
+    }
+
+    #[tactic(auto, unfolding(crate::specs::Walk::found_in))]
+    fn check_table(&self, place: &Place, table: &Table) -> Result<(), SiteRefusal>
+        ensures { Tells result (found_in self.now.pass place.now (table_view self.now.top.now)
+            (table_view table.now)) }
+    {
+        match self.pass {
+            Pass::Unknown => check_unknown(self.alloc, place, table),
+            Pass::Missing => self.check_keys(place, table),
+            Pass::WrongKind => self.check_keys(place, table),
+            Pass::OutOfRange => self.check_keys(place, table),
+        }
+    }
+
+    fn check_keys(&self, place: &Place, table: &Table) -> Result<(), SiteRefusal>
+        ensures { Tells result (found_at_keys self.now.pass place.now (table_view self.now.top.now)
+            (table_view table.now)) }
+    {
+        let keys = keys_of(place.kind);
+        'keys: for key in keys {
+            self.check_key(place, table, *key)?;
+        }
+        Ok(())
+    }
+
+    #[tactic(auto, unfolding(crate::specs::Walk::found_at))]
+    fn check_key(&self, place: &Place, table: &Table, key: Key) -> Result<(), SiteRefusal>
+        ensures { Tells result (found_at self.now.pass place.now (table_view self.now.top.now)
+            (table_view table.now) key) }
+    {
+        match self.pass {
+            Pass::Missing => check_missing(self.alloc, place, table, key),
+            Pass::WrongKind => check_kind(self.alloc, place, table, key),
+            Pass::Unknown => Ok(()),
+            Pass::OutOfRange => check_range(self.alloc, place, self.top, table, key),
+        }
     }
 }
