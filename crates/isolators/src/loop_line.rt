@@ -23,7 +23,7 @@ pub struct LoopLine {
 
 impl LoopLine {
     ghost use Rattle.std.specs.Prelude.{◌≡◌, ◌+◌, ◌≤◌, ◌<◌, ℕ};
-    ghost use Rattle.site_types.specs.declared.loop_plan.LoopPlan.{LoopPlan as Plan};
+    ghost use Rattle.site_types.specs.declared.loop_plan.LoopPlan.{LoopPlan as LoopPlanOf};
     ghost use Rattle.isolators.specs.Reach.{Cable, is_passed, is_reached, sound_cable, status_of, with_piece};
     ghost use Rattle.isolators.specs.Stands.{Cables, HoldShorts, PassAhead, PassBehind, StandsFor};
 
@@ -49,7 +49,7 @@ impl LoopLine {
 
     /// Takes a report on a piece of the cable, 0 to the last address of the loop.
     pub fn set_piece(&mut self, piece: u8, state: PieceState)
-        ensures { (plan : Plan) (cable : Cable) → StandsFor plan cable self.old
+        ensures { (plan : LoopPlanOf) (cable : Cable) → StandsFor plan cable self.old
             → StandsFor plan (with_piece cable piece state) self.new }
     {
         self.pieces[piece as usize] = state;
@@ -59,7 +59,7 @@ impl LoopLine {
     /// Whether an address, from 1 to the last of the loop, is reached.
     pub fn reach(&self, address: u8) -> bool
         requires { 1 ≤ address }
-        ensures { (plan : Plan) (cable : Cable) → StandsFor plan cable self.now
+        ensures { (plan : LoopPlanOf) (cable : Cable) → StandsFor plan cable self.now
             → address ≤ plan.last → result ≡ is_reached plan cable address }
     {
         let begins = self.begins[address as usize - 1];
@@ -70,7 +70,7 @@ impl LoopLine {
 
     /// What is wrong with the cable.
     pub fn status(&self) -> LineStatus
-        ensures { (plan : Plan) (cable : Cable) → StandsFor plan cable self.now
+        ensures { (plan : LoopPlanOf) (cable : Cable) → StandsFor plan cable self.now
             → result ≡ status_of plan cable }
     {
         self.status
@@ -78,7 +78,7 @@ impl LoopLine {
 
     // Draws from the pieces what they make of the loop.
     fn look(&mut self)
-        ensures { (plan : Plan) (cable : Cable) → Cables plan cable self.old
+        ensures { (plan : LoopPlanOf) (cable : Cable) → Cables plan cable self.old
             → StandsFor plan cable self.new }
     {
         self.shorted = self.shorted_sections();
@@ -88,7 +88,7 @@ impl LoopLine {
     }
 
     fn count(&self) -> usize
-        ensures value { (plan : Plan) (cable : Cable) → Cables plan cable self.now
+        ensures value { (plan : LoopPlanOf) (cable : Cable) → Cables plan cable self.now
             → result ≡ plan.last + 1 }
         ensures bound { result ≤ 256 }
     {
@@ -96,7 +96,7 @@ impl LoopLine {
     }
 
     fn shorted_sections(&self) -> [bool; NUMBERS]
-        ensures { (plan : Plan) (cable : Cable) → Cables plan cable self.now
+        ensures { (plan : LoopPlanOf) (cable : Cable) → Cables plan cable self.now
             → HoldShorts plan cable result }
     {
         let mut shorted = [false; NUMBERS];
@@ -110,7 +110,7 @@ impl LoopLine {
 
     fn can_pass(&self, piece: usize) -> bool
         requires { piece < 256 }
-        ensures { (plan : Plan) (cable : Cable) → Cables plan cable self.now
+        ensures { (plan : LoopPlanOf) (cable : Cable) → Cables plan cable self.now
             → HoldShorts plan cable self.now.shorted → result ≡ is_passed plan cable piece }
     {
         !matches!(self.pieces[piece], PieceState::Open)
@@ -118,7 +118,7 @@ impl LoopLine {
     }
 
     fn pieces_ahead(&self) -> usize
-        ensures { (plan : Plan) (cable : Cable) → Cables plan cable self.now
+        ensures { (plan : LoopPlanOf) (cable : Cable) → Cables plan cable self.now
             → HoldShorts plan cable self.now.shorted → PassAhead plan cable result }
     {
         for piece in 0..self.count() {
@@ -130,7 +130,7 @@ impl LoopLine {
     }
 
     fn pieces_behind(&self) -> usize
-        ensures { (plan : Plan) (cable : Cable) → Cables plan cable self.now
+        ensures { (plan : LoopPlanOf) (cable : Cable) → Cables plan cable self.now
             → HoldShorts plan cable self.now.shorted → PassBehind plan cable result }
     {
         for piece in (0..self.count()).rev() {
@@ -142,7 +142,7 @@ impl LoopLine {
     }
 
     fn faults(&self) -> LineStatus
-        ensures { (plan : Plan) (cable : Cable) → Cables plan cable self.now
+        ensures { (plan : LoopPlanOf) (cable : Cable) → Cables plan cable self.now
             → result ≡ status_of plan cable }
     {
         let mut broken = false;

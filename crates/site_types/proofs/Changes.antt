@@ -14,7 +14,7 @@ use Rattle.site_types.specs.declared.retained.Retained.{Retained}
 use Rattle.site_types.specs.declared.change.Change.{Change}
 use Rattle.site_types.specs.declared.change.Change.TheVariants.{Point, Zone, Output, Delays, Count, Clear, Test}
 use Rattle.site_types.specs.declared.item.Item.{Item}
-use Rattle.site_types.specs.declared.item.Item.TheVariants.{Point as ThePoint, Zone as TheZone, Output as TheOutput}
+use Rattle.site_types.specs.declared.item.Item.TheVariants.{Point as PointItem, Zone as ZoneItem, Output as OutputItem}
 use Rattle.site_types.specs.declared.operation.Operation.{Operation}
 use Rattle.site_types.specs.declared.operation.Operation.TheVariants.{Mute, Override, Silence, Resound, Reset, Cancel}
 use Rattle.site_types.specs.declared.operation.Operation.TheVariants.{Disable, Enable, Test as SetTest, Untest}
@@ -179,17 +179,17 @@ made_there P change_of make (Some x) change none some each e = subst P (some_is 
 
 -- what holds of the change of each item of a site, and of that of each test
 item_made : (P : Change → Type 0) (site : Site) (item : Item) (off : Bool) (change : Change)
-    → ((i : ℕ) (p : PointPlan) → item ≡ ThePoint i → slice_get site.points i ≡ Some p → P (Point p.panel p.line p.address off))
-    → ((i : ℕ) (z : ZonePlan) → item ≡ TheZone i → slice_get site.zones i ≡ Some z → P (Zone z.panel z.number off))
-    → ((i : ℕ) (o : OutputPlan) → item ≡ TheOutput i → slice_get site.outputs i ≡ Some o → P (Output o.panel o.number off))
+    → ((i : ℕ) (p : PointPlan) → item ≡ PointItem i → slice_get site.points i ≡ Some p → P (Point p.panel p.line p.address off))
+    → ((i : ℕ) (z : ZonePlan) → item ≡ ZoneItem i → slice_get site.zones i ≡ Some z → P (Zone z.panel z.number off))
+    → ((i : ℕ) (o : OutputPlan) → item ≡ OutputItem i → slice_get site.outputs i ≡ Some o → P (Output o.panel o.number off))
     → item_change site item off ≡ Some change → P change
-item_made P site (ThePoint i) off change point zone output e =
+item_made P site (PointItem i) off change point zone output e =
     made_there P (λ o. point_change o off) (λ (p : PointPlan). Point p.panel p.line p.address off) (slice_get site.points i) change refl (λ p. refl)
     (λ p is. point i p refl is) e
-item_made P site (TheZone i) off change point zone output e =
+item_made P site (ZoneItem i) off change point zone output e =
     made_there P (λ o. zone_change o off) (λ (z : ZonePlan). Zone z.panel z.number off) (slice_get site.zones i) change refl (λ z. refl)
     (λ z is. zone i z refl is) e
-item_made P site (TheOutput i) off change point zone output e =
+item_made P site (OutputItem i) off change point zone output e =
     made_there P (λ o. output_change o off) (λ (o : OutputPlan). Output o.panel o.number off) (slice_get site.outputs i) change refl (λ o. refl)
     (λ o is. output i o refl is) e
 

@@ -2,7 +2,7 @@
 use Rattle.std.proofs.Common.{◌≡◌, ◌==◌, ℕ, Bool, true, false, Option, Some, None, slice_get, refl}
 use Rattle.std.specs.Prelude.{is_some}
 use Rattle.site_types.specs.declared.item.Item.{Item}
-use Rattle.site_types.specs.declared.item.Item.TheVariants.{Point as ThePoint, Zone as TheZone, Output as TheOutput}
+use Rattle.site_types.specs.declared.item.Item.TheVariants.{Point as PointItem, Zone as ZoneItem, Output as OutputItem}
 use Rattle.site_types.specs.declared.operation.Operation.{Operation}
 use Rattle.site_types.specs.declared.operation.Operation.TheVariants.{Mute, Override, Silence, Resound, Reset, Cancel, Disable, Enable, Test, Untest, Delays, Clear}
 use Rattle.site_types.specs.declared.output.Output.{Output}
@@ -30,9 +30,9 @@ test_changes test on None h = cc
 test_changes test on (Some z) h = refl
 
 item_changes : (site : Site) (panel : ℕ) (item : Item) (off : Bool) → has_item site panel item ≡ true → true ≡ is_some (item_change site item off)
-item_changes site panel (ThePoint place) off h = point_changes (λ p. p.panel == panel) off (slice_get site.points place) h
-item_changes site panel (TheZone place) off h = zone_changes (λ z. z.panel == panel) off (slice_get site.zones place) h
-item_changes site panel (TheOutput place) off h = output_changes (λ o. o.panel == panel) off (slice_get site.outputs place) h
+item_changes site panel (PointItem place) off h = point_changes (λ p. p.panel == panel) off (slice_get site.points place) h
+item_changes site panel (ZoneItem place) off h = zone_changes (λ z. z.panel == panel) off (slice_get site.zones place) h
+item_changes site panel (OutputItem place) off h = output_changes (λ o. o.panel == panel) off (slice_get site.outputs place) h
 
 changes_kept : (site : Site) (panel : ℕ) (operation : Operation) → has_operands site panel operation ≡ true
     → is_kept_operation operation ≡ is_some (operation_change site panel operation)

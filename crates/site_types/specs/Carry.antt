@@ -12,7 +12,8 @@ use Rattle.site_types.specs.declared.retained.Retained.{Retained}
 use Rattle.site_types.specs.declared.change.Change.{Change}
 use Rattle.site_types.specs.declared.change.Change.TheVariants.{Point, Zone, Output, Test}
 use Rattle.site_types.specs.declared.named.Thing.{Thing}
-use Rattle.site_types.specs.declared.named.Thing.TheVariants.{Point as ThePoint, Zone as TheZone, Output as TheOutput}
+use Rattle.site_types.specs.declared.named.Thing.TheVariants.{Point as PointThing, Zone as ZoneThing}
+use Rattle.site_types.specs.declared.named.Thing.TheVariants.{Output as OutputThing}
 use Rattle.site_types.specs.declared.restriction.Restriction.{Restriction}
 use Rattle.site_types.specs.declared.restriction.Restriction.TheVariants.{PointOff, ZoneOff, OutputOff, InTest}
 use Rattle.site_types.specs.Bits.{has_bit, mask_of}
@@ -46,10 +47,10 @@ was_restricted old state InTest name = zone_was_tested old state name
 
 -- whether a thing of a site is restricted so, a thing of another kind being not
 abbrev pub is_restricted : Site → Retained → Restriction → Thing → Bool
-is_restricted site state PointOff (ThePoint place) = kept_point state (slice_get site.points place)
-is_restricted site state ZoneOff (TheZone place) = kept_zone state (slice_get site.zones place)
-is_restricted site state OutputOff (TheOutput place) = kept_output state (slice_get site.outputs place)
-is_restricted site state InTest (TheZone place) = kept_test state (slice_get site.zones place)
+is_restricted site state PointOff (PointThing place) = kept_point state (slice_get site.points place)
+is_restricted site state ZoneOff (ZoneThing place) = kept_zone state (slice_get site.zones place)
+is_restricted site state OutputOff (OutputThing place) = kept_output state (slice_get site.outputs place)
+is_restricted site state InTest (ZoneThing place) = kept_test state (slice_get site.zones place)
 is_restricted site state _ _ = false
 
 -- the disablements and tests of the new site that come from the old one

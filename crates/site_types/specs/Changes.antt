@@ -10,7 +10,7 @@ use Rattle.site_types.specs.declared.retained.Retained.{Retained}
 use Rattle.site_types.specs.declared.change.Change.{Change}
 use Rattle.site_types.specs.declared.change.Change.TheVariants.{Point, Zone, Output, Delays, Count, Clear, Test}
 use Rattle.site_types.specs.declared.item.Item.{Item}
-use Rattle.site_types.specs.declared.item.Item.TheVariants.{Point as ThePoint, Zone as TheZone, Output as TheOutput}
+use Rattle.site_types.specs.declared.item.Item.TheVariants.{Point as PointItem, Zone as ZoneItem, Output as OutputItem}
 use Rattle.site_types.specs.declared.operation.Operation.{Operation}
 use Rattle.site_types.specs.declared.operation.Operation.TheVariants.{Disable, Enable, Test as SetTest, Untest}
 use Rattle.site_types.specs.declared.operation.Operation.TheVariants.{Delays as SetDelays, Clear as ClearCounter}
@@ -95,9 +95,9 @@ test_change None on = None
 test_change (Some z) on = Some (Test z.panel z.number on)
 
 abbrev pub item_change : Site → Item → Bool → Option Change
-item_change site (ThePoint point) off = point_change (slice_get site.points point) off
-item_change site (TheZone zone) off = zone_change (slice_get site.zones zone) off
-item_change site (TheOutput output) off = output_change (slice_get site.outputs output) off
+item_change site (PointItem point) off = point_change (slice_get site.points point) off
+item_change site (ZoneItem zone) off = zone_change (slice_get site.zones zone) off
+item_change site (OutputItem output) off = output_change (slice_get site.outputs output) off
 
 -- the change that an operation at a panel makes: none where it is not kept, or the site has not what it names
 abbrev pub operation_change : Site → ℕ → Operation → Option Change

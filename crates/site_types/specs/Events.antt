@@ -3,9 +3,9 @@ use Rattle.std.specs.Prelude.{◌&&◌, ◌==◌, ℕ, Bool, true, false, nat_le
 use Rattle.std.specs.List.{list_any}
 use Rattle.site_types.specs.declared.site.Site.{Site}
 use Rattle.site_types.specs.declared.loop_plan.LoopPlan.{LoopPlan}
-use Rattle.site_types.specs.declared.zone.Zone.{Zone as ZoneOf}
-use Rattle.site_types.specs.declared.point.Point.{Point as PointOf}
-use Rattle.site_types.specs.declared.output.Output.{Output as OutputOf}
+use Rattle.site_types.specs.declared.zone.Zone.{Zone as ZonePlan}
+use Rattle.site_types.specs.declared.point.Point.{Point as PointPlan}
+use Rattle.site_types.specs.declared.output.Output.{Output as OutputPlan}
 use Rattle.site_types.specs.declared.output_kind.OutputKind.{OutputKind}
 use Rattle.site_types.specs.declared.output_kind.OutputKind.TheVariants.{Sounder, Routing, Protection, Relay}
 use Rattle.site_types.specs.declared.item.Item.{Item}
@@ -43,14 +43,14 @@ is_confirming Relay = false
 
 -- the thing at this place is of the panel
 abbrev pub has_zone : Site → ℕ → ℕ → Bool
-has_zone site panel place = is_some_with (λ (zone : ZoneOf). zone.panel == panel) (slice_get site.zones place)
+has_zone site panel place = is_some_with (λ (zone : ZonePlan). zone.panel == panel) (slice_get site.zones place)
 
 abbrev pub has_item : Site → ℕ → Item → Bool
 has_item site panel (PointItem place) =
-    is_some_with (λ (point : PointOf). point.panel == panel) (slice_get site.points place)
+    is_some_with (λ (point : PointPlan). point.panel == panel) (slice_get site.points place)
 has_item site panel (ZoneItem place) = has_zone site panel place
 has_item site panel (OutputItem place) =
-    is_some_with (λ (output : OutputOf). output.panel == panel) (slice_get site.outputs place)
+    is_some_with (λ (output : OutputPlan). output.panel == panel) (slice_get site.outputs place)
 
 -- what an operation names is of the panel
 abbrev pub has_operands : Site → ℕ → Operation → Bool
@@ -73,5 +73,5 @@ has_event site (Cable panel line piece state) = has_piece site panel line piece
 has_event site (Supply panel kind bad) = is_panel site panel
 has_event site (Link link up) = is_link site link
 has_event site (Confirmed output) =
-    is_some_with (λ (o : OutputOf). is_confirming o.kind) (slice_get site.outputs output)
+    is_some_with (λ (o : OutputPlan). is_confirming o.kind) (slice_get site.outputs output)
 has_event site (Op panel code operation) = is_panel site panel && has_operands site panel operation

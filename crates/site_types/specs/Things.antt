@@ -4,22 +4,22 @@ use Rattle.std.specs.List.{find}
 use Rattle.std.specs.Str.{bytes_eq}
 use Rattle.site_types.specs.declared.loop_plan.LoopPlan.{LoopPlan}
 use Rattle.site_types.specs.declared.site.Site.{Site}
-use Rattle.site_types.specs.declared.point.Point.{Point as PointOf}
-use Rattle.site_types.specs.declared.zone.Zone.{Zone as ZoneOf}
-use Rattle.site_types.specs.declared.output.Output.{Output as OutputOf}
-use Rattle.site_types.specs.declared.marker.Marker.{Marker as MarkerOf}
+use Rattle.site_types.specs.declared.point.Point.{Point as PointPlan}
+use Rattle.site_types.specs.declared.zone.Zone.{Zone as ZonePlan}
+use Rattle.site_types.specs.declared.output.Output.{Output as OutputPlan}
+use Rattle.site_types.specs.declared.marker.Marker.{Marker as MarkerPlan}
 use Rattle.site_types.specs.declared.named.Named.{Named}
 use Rattle.site_types.specs.declared.named.Thing.{Thing}
 use Rattle.site_types.specs.declared.named.Thing.TheVariants.{Point, Zone, Output, Marker}
 
 -- the name of a thing of the site, if there is one at its place
 abbrev pub name_at : Site → Thing → Option (List ℕ)
-name_at site (Point place) = option_map (λ (point : PointOf). point.name.bytes) (slice_get site.points place)
-name_at site (Zone place) = option_map (λ (zone : ZoneOf). zone.name.bytes) (slice_get site.zones place)
+name_at site (Point place) = option_map (λ (point : PointPlan). point.name.bytes) (slice_get site.points place)
+name_at site (Zone place) = option_map (λ (zone : ZonePlan). zone.name.bytes) (slice_get site.zones place)
 name_at site (Output place) =
-    option_map (λ (output : OutputOf). output.name.bytes) (slice_get site.outputs place)
+    option_map (λ (output : OutputPlan). output.name.bytes) (slice_get site.outputs place)
 name_at site (Marker place) =
-    option_map (λ (marker : MarkerOf). marker.name.bytes) (slice_get site.markers place)
+    option_map (λ (marker : MarkerPlan). marker.name.bytes) (slice_get site.markers place)
 
 -- the thing that a name stands for in a list of names
 abbrev pub thing_in : List Named → List ℕ → Option Thing
@@ -31,9 +31,9 @@ abbrev pub thing_named : Site → List ℕ → Option Thing
 thing_named site name = thing_in site.names name
 
 -- the output of a panel with a number
-abbrev pub numbered_output : Site → ℕ → ℕ → Option OutputOf
+abbrev pub numbered_output : Site → ℕ → ℕ → Option OutputPlan
 numbered_output site panel number =
-    find (λ (output : OutputOf). (output.panel == panel) && (output.number == number)) site.outputs
+    find (λ (output : OutputPlan). (output.panel == panel) && (output.number == number)) site.outputs
 
 -- the loop of a panel with a number
 abbrev pub loop_of : Site → ℕ → ℕ → Option LoopPlan
