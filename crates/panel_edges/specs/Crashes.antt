@@ -25,7 +25,7 @@ pub record Elapses (before after : ℕ) (past since : ℕ → List ℕ → Type 
   pub nothing_else : (t : ℕ) (c : List ℕ) → t ≤ before → since t c → past t c ⊎ images c
   pub keeps : (t : ℕ) (c : List ℕ) → t ≤ before → past t c → since t c
 
--- the same of a disk before and after a call
+-- time goes on so from a disk before a call to the disk after it
 abbrev pub ElapsesIn :
     {D : Type 0} → (D → ℕ) → (D → ℕ → List ℕ → Type 0) → D → D → (List ℕ → Type 0) → Type 0
 ElapsesIn moment left_since old new images =

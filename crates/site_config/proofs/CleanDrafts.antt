@@ -30,7 +30,7 @@ told_twice r draft loops claims same once e told =
     ap (first_twice []) e ∙ kept_twice draft ∙ sym (ap (λ o. or_later o (first_twice [] (claims_of draft))) loops_once) in
     subst (λ (o : Option Refusal). Tells r o) found told
 
--- and where nothing does, the names stand for what they stand for in the draft
+-- where no name or number is claimed twice, names stand for what they stand for in the draft
 pub named_so : (r : Result (BTreeMap (String Global) Thing) SiteRefusal) (draft : Draft) (claims : List Claim) → IsOfClean draft
     → Tells r (twice_in draft)
     → claims ≡ claims_by kept_place draft → IfOk r (λ names. (q : List ℕ) → look_up names q ≡ thing_named (onto [] claims) q)

@@ -20,8 +20,8 @@ use Rattle.site_document.specs.Rules.{form_of, keys_of}
 use Rattle.site_document.specs.Tables.{format_at, natural_at, text_at, text_in, type_at, value_at}
 use Rattle.site_document.specs.Texts.{key_word}
 use Rattle.site_document.specs.Unknown.{is_known}
-use Rattle.site_config.proofs.Rows.{IsClean, known_at, missing_keys, out_keys, place_of, wrong_keys}
-use Rattle.site_config.proofs.Values.{InRange, name_clean, number_clean, number_most}
+use Rattle.site_config.proofs.CleanRows.{IsClean, known_at, missing_keys, out_keys, place_of, wrong_keys}
+use Rattle.site_config.proofs.CleanKeys.{InRange, name_clean, number_clean, number_most}
 
 pick_small : (b : Bool) (n : ℕ) → b ≡ true → (if b then n else 0) ≡ n
 pick_small true n e = refl

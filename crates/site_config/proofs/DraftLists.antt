@@ -33,8 +33,8 @@ use Rattle.site_document.specs.Texts.{item_text, key_text, key_word}
 use Rattle.site_document.specs.Walk.{whole}
 use Rattle.site_document.specs.WrongKind.{first_misfit, fits, item_fits, text_passes, wrong_at, wrong_item, wrong_value}
 use Rattle.site_config.proofs.DraftForms.{HasPanels, byte_in, byte_small, format_small, last_in, panel_clean, short_small}
-use Rattle.site_config.proofs.Rows.{IsClean, missing_keys, out_keys, place_of, wrong_keys}
-use Rattle.site_config.proofs.Values.{InRange, name_clean, none_first, none_later, number_clean, number_most, passed}
+use Rattle.site_config.proofs.CleanRows.{IsClean, missing_keys, out_keys, place_of, wrong_keys}
+use Rattle.site_config.proofs.CleanKeys.{InRange, name_clean, none_first, none_later, number_clean, number_most, passed}
 
 -- ---- isolators
 

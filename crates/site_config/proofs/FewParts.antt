@@ -7,7 +7,7 @@ use Rattle.site_document.specs.declared.draft_output.DraftOutput.{DraftOutput}
 use Rattle.site_document.specs.declared.draft_point.DraftPoint.{DraftPoint}
 use Rattle.site_document.specs.declared.draft_zone.DraftZone.{DraftZone}
 use Rattle.site_config.specs.Claims.{twice_in}
-use Rattle.site_config.proofs.Alike.{all_by_place, by_place}
+use Rattle.site_config.proofs.ListsAlike.{all_by_place, by_place}
 use Rattle.site_config.proofs.DraftForms.{IsDraftOutput, IsDraftPoint, IsDraftZone}
 use Rattle.site_config.proofs.SiteForms.{HasDraftForms}
 use Rattle.site_config.proofs.Twins.{outputs_apart, points_apart, zones_apart}

@@ -1,20 +1,25 @@
-pub mod Alike
-pub mod Apart
+-- lists and maps of names and numbers
+pub mod ListsAlike
+pub mod NameEntries
+pub mod NumberMaps
+-- a document in which no pass finds anything, and its draft
+pub mod CleanKeys
+pub mod CleanRows
 pub mod CleanDrafts
-pub mod Couples
 pub mod DraftForms
 pub mod DraftLists
-pub mod FewParts
-pub mod Holders
-pub mod KeptClaims
-pub mod Later
-pub mod Listed
+-- what the reader finds in a draft
+pub mod DraftFaults
 pub mod ByName
-pub mod Numbers
-pub mod References
-pub mod Rows
+-- claims of names and numbers, and what a name of a draft stands for
+pub mod KeptClaims
+pub mod ClaimHolders
+pub mod NamedParts
+pub mod FewParts
+-- the site that is read is valid
 pub mod SiteForms
-pub mod Standing
+pub mod References
 pub mod Twins
+pub mod MutualPartners
+pub mod SectionZones
 pub mod Validity
-pub mod Values

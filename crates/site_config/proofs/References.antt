@@ -32,11 +32,11 @@ use Rattle.site_config.specs.NoSuch.{is_loop_of, is_panel_of, is_zone_of, marker
 use Rattle.site_config.specs.Placing.{SeenMarker, SeenOutput, SeenPoint, SeenZone, marker_view, output_view}
 use Rattle.site_config.specs.Placing.{partner_place, placed_marker, placed_output, placed_point, placed_term}
 use Rattle.site_config.specs.Placing.{placed_zone, point_view, zone_view}
-use Rattle.site_config.proofs.Alike.{all_by_place, all_from, as_long, by_place, like_at}
+use Rattle.site_config.proofs.ListsAlike.{all_by_place, all_from, as_long, by_place, like_at}
 use Rattle.site_config.proofs.DraftForms.{byte_small}
 use Rattle.site_config.proofs.SiteForms.{HasDraftForms, SeenAs}
-use Rattle.site_config.proofs.Standing.{borne_by}
-use Rattle.site_config.proofs.Values.{all_none, none_first, none_later, passed}
+use Rattle.site_config.proofs.NamedParts.{borne_by}
+use Rattle.site_config.proofs.CleanKeys.{all_none, none_first, none_later, passed}
 
 -- ---- what is found nowhere
 

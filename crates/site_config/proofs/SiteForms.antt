@@ -25,10 +25,10 @@ use Rattle.site_document.specs.Walk.{finding}
 use Rattle.site_config.specs.Placing.{SeenMarker, SeenOutput, SeenPoint, SeenSite, SeenZone, marker_view, output_view}
 use Rattle.site_config.specs.Placing.{partner_place, placed_marker, placed_output, placed_point, placed_site}
 use Rattle.site_config.specs.Placing.{placed_term, placed_zone, point_view, site_view, zone_view}
-use Rattle.site_config.proofs.Alike.{all_by_place, all_from, as_long, by_place, like_at}
+use Rattle.site_config.proofs.ListsAlike.{all_by_place, all_from, as_long, by_place, like_at}
 use Rattle.site_config.proofs.DraftForms.{IsDraftOutput, IsDraftPoint, IsDraftZone, format_small, output_clean, point_clean, zone_clean}
 use Rattle.site_config.proofs.DraftLists.{IsDraftLoop, IsDraftMarker, collected_most, loop_clean, marker_clean, panels_clean, top_clean}
-use Rattle.site_config.proofs.Rows.{clean_lists, clean_top, rows_all}
+use Rattle.site_config.proofs.CleanRows.{clean_lists, clean_top, rows_all}
 
 -- ---- the draft
 

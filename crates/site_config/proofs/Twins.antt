@@ -28,10 +28,10 @@ use Rattle.site_document.specs.Texts.{key_text}
 use Rattle.site_config.specs.Claims.{claims_of, first_twice, is_same_loop, loop_twice, named_in, output_claim, point_claim, twice_in, zone_claim}
 use Rattle.site_config.specs.NamedList.{AreListed, Rise, named_view, thing_among}
 use Rattle.site_config.specs.Placing.{SeenMarker, SeenOutput, SeenPoint, SeenZone, marker_view, output_view, placed_marker, placed_output, placed_point, placed_zone, point_view, zone_view}
-use Rattle.site_config.proofs.Alike.{all_by_place, inner, like_at}
+use Rattle.site_config.proofs.ListsAlike.{all_by_place, inner, like_at}
 use Rattle.site_config.proofs.SiteForms.{SeenAs}
-use Rattle.site_config.proofs.Standing.{bears, borne_by, draft_name, one_number, output_made, point_made, zone_made}
-use Rattle.site_config.proofs.Values.{none_first, none_later, not_failed}
+use Rattle.site_config.proofs.NamedParts.{bears, borne_by, draft_name, one_number, output_made, point_made, zone_made}
+use Rattle.site_config.proofs.CleanKeys.{none_first, none_later, not_failed}
 
 -- ---- names
 

@@ -11,12 +11,12 @@ use Rattle.site_config.specs.Crossing.{crossing_in, spot_of}
 use Rattle.site_config.specs.NoSuch.{no_such_in}
 use Rattle.site_config.specs.Partners.{unmutual_in}
 use Rattle.site_config.specs.Sites.{IsPlaced, IsSpelled, draft_finding, site_finding}
-use Rattle.site_config.proofs.Apart.{sections}
-use Rattle.site_config.proofs.Couples.{couples}
+use Rattle.site_config.proofs.SectionZones.{sections}
+use Rattle.site_config.proofs.MutualPartners.{couples}
 use Rattle.site_config.proofs.References.{references}
 use Rattle.site_config.proofs.SiteForms.{HasDraftForms, SeenAs, draft_forms, seen_as, site_forms}
 use Rattle.site_config.proofs.Twins.{names_listed, no_twins}
-use Rattle.site_config.proofs.Values.{none_first, none_later}
+use Rattle.site_config.proofs.CleanKeys.{none_first, none_later}
 
 -- nothing is wrong in a draft
 record IsSound (draft : Draft) : Type 0 where

@@ -292,8 +292,8 @@ kept_point-rest : (kept : Retained) (delays : ℕ) (counters : List ℕ) (o : Op
 kept_point-rest kept delays counters None = refl
 kept_point-rest kept delays counters (Some x) = refl
 
--- a point of the new site begins disabled exactly where a point of its name was disabled in the old one;
--- likewise a zone, an output, and a zone in test
+-- A point, a zone or an output of the new site begins disabled exactly where one of its kind and name was
+-- disabled in the old one, and a zone begins in test exactly where a zone of its name was in test.
 pub carried-point : (old new : Site) (state : Retained) → HasOwnPlaces new → (i : ℕ) (x : PointPlan) → slice_get new.points i ≡ Some x
     → at_opening new (carried old new state) (PointOff i) ≡ point_was_off old state x.name.bytes
 carried-point old new state own i x is =

@@ -44,7 +44,7 @@ set_at {X = X} xs i j x off was after is was_none after_none this others = go (e
     go (inr other) None e = after_none ∙ sym (ap (λ b. if b then off else was None) other.0 ∙ was_none)
     go (inr other) (Some y) e = others y e other.1 ∙ sym (ap (λ b. if b then off else was (Some y)) other.0)
 
--- what the change of a point makes of each setting; likewise those of a zone, an output, a test and delays
+-- what the change of a point, a zone, an output, a test or delays makes of each setting
 pub at_point : (site : Site) (kept : Retained) (i : ℕ) (p : PointPlan) (off : Bool) → HasOwnPlaces site → IsSized kept
     → slice_get site.points i ≡ Some p → (setting : Setting)
     → at_opening site (changed (Point p.panel p.line p.address off) kept) setting

@@ -42,7 +42,7 @@ pub in_force-yet : (site : Site) (kept : Retained) (setting : Setting) (x : ℕ)
 in_force-yet site kept setting x d done le =
     ap (λ b. if b then value_set d.operation else in_force site kept setting x done) (and_false (is_on setting d) (lt_false d.tick x le))
 
--- and after it
+-- after its own tick an operation on a setting decides it, and no other setting
 pub in_force-then : (site : Site) (kept : Retained) (setting : Setting) (x : ℕ) (d : Done) (done : List Done) → d.tick < x
     → in_force site kept setting x (d ∷ done) ≡ (if is_on setting d then value_set d.operation else in_force site kept setting x done)
 in_force-then site kept setting x d done lt =

@@ -20,8 +20,8 @@ use Rattle.site_types.specs.Bits.{has_bit, mask_of}
 use Rattle.site_types.specs.Done.{kept_point, kept_zone, kept_output, kept_test}
 use Rattle.site_types.specs.Changes.{changed_by, nothing_retained}
 
--- whether the old site has a point of this name that is disabled; likewise a zone, an output, and a zone in
--- test
+-- whether the old site has a point, a zone or an output of this name that is disabled, or a zone of this
+-- name that is in test
 abbrev pub point_was_off : Site → Retained → List ℕ → Bool
 point_was_off old state name =
     list_any (λ (p : PointPlan). bytes_eq p.name.bytes name && kept_point state (Some p)) old.points

@@ -18,15 +18,15 @@ output_of format = 6 * format
 abbrev pub network_of : ℕ → ℕ
 network_of format = 40 * format
 
--- of these, a zone stands settled in the word of its own panel
+-- of the ticks of `network_of`, those until a zone stands settled in the word of its own panel
 abbrev pub settled_of : ℕ → ℕ
 settled_of format = 16 * format
 
--- and a settled word has come to every joined panel and acts there
+-- of the ticks of `network_of`, those until a settled word has come to every joined panel and acts there
 abbrev pub spread_of : ℕ → ℕ
 spread_of format = 24 * format
 
--- added to a single detector's time of type A
+-- ticks that are added to a single detector's time in a zone of type A
 abbrev pub verify_of : ℕ → ℕ
 verify_of format = 12 * format
 

@@ -188,7 +188,7 @@ order_fault-none panels seats = (
       (first_missing-all_there (canonical_seats panels) seats (whole_from_order panels seats order)),
 )
 
--- the same of what `Order::new` answers
+-- what `Order::new` answers tells the fault of the list, and accepts it where there is none
 abbrev pub IsTold : ℕ → List Seat → Result (List Seat) BadOrder → Type 0
 IsTold panels seats result = MatchResult result (λ _. order_fault panels seats ≡ None) (λ fault. order_fault panels seats ≡ Some fault)
 

@@ -95,7 +95,7 @@ count_absent seat (x ∷ xs) absent =
     count_front seat x xs ∙ ap (λ b. cond b 1 0 + count_by (is_same_seat seat) xs) other ∙ zero-add (count_by (is_same_seat seat) xs) ∙ count_absent
     seat xs (λ there. absent (Contains-append_right (x ∷ []) xs seat there))
 
--- the same by counting
+-- each seat of the site is counted once in an order
 pub count_once : (panels : ℕ) (seats : List Seat) (seat : Seat) → IsOrder panels seats → Contains (canonical_seats panels) seat
     → count_by (is_same_seat seat) seats ≡ 1
 count_once panels seats seat order known =

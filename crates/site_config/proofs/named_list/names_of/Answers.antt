@@ -1,5 +1,5 @@
 use Rattle.std.proofs.lemmas.Result.{IfOk-weaker}
-use Rattle.site_config.proofs.Listed.{listed}
+use Rattle.site_config.proofs.NameEntries.{listed}
 use Rattle.site_config.proofs.named_list.names_of.Goals as goal
 
 pub returns : goal.returns

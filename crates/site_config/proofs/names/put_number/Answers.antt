@@ -1,4 +1,4 @@
-use Rattle.site_config.proofs.Numbers.{put}
+use Rattle.site_config.proofs.NumberMaps.{put}
 use Rattle.site_config.proofs.names.put_number.Goals as goal
 
 pub returns : goal.returns

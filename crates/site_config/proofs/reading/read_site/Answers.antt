@@ -1,5 +1,5 @@
 use Rattle.std.proofs.lemmas.Result.{IfOk-weaker, err_from_is_err_and}
-use Rattle.site_config.proofs.Later.{accepted, refused, refused_so}
+use Rattle.site_config.proofs.DraftFaults.{accepted, refused, refused_so}
 use Rattle.site_config.proofs.Validity.{valid_spelled}
 use Rattle.site_config.proofs.reading.read_site.Goals as goal
 

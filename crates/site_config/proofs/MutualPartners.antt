@@ -18,10 +18,10 @@ use Rattle.site_config.specs.Crossing.{place_or_zero}
 use Rattle.site_config.specs.NoSuch.{zone_place}
 use Rattle.site_config.specs.Partners.{is_mutual, is_named, mutual_fault, mutual_missing, unmutual_in, zone_at}
 use Rattle.site_config.specs.Placing.{SeenZone, partner_place, placed_zone, zone_view}
-use Rattle.site_config.proofs.Alike.{by_place, inner, like_at}
+use Rattle.site_config.proofs.ListsAlike.{by_place, inner, like_at}
 use Rattle.site_config.proofs.SiteForms.{SeenAs}
-use Rattle.site_config.proofs.Standing.{bears, borne_by}
-use Rattle.site_config.proofs.Values.{all_none, passed}
+use Rattle.site_config.proofs.NamedParts.{bears, borne_by}
+use Rattle.site_config.proofs.CleanKeys.{all_none, passed}
 
 faults : (look : List ℕ → Option Thing) (zones : List DraftZone) → unmutual_in look zones ≡ None
     → AllByRecursion (λ z. mutual_fault look zones z ≡ None) zones

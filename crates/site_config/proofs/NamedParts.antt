@@ -12,9 +12,9 @@ use Rattle.site_document.specs.declared.draft_point.DraftPoint.{DraftPoint}
 use Rattle.site_document.specs.declared.draft_zone.DraftZone.{DraftZone}
 use Rattle.site_config.specs.declared.claim.Claim.{Claim}
 use Rattle.site_config.specs.Claims.{claims_from, claims_of, first_twice, loop_twice, marker_claim, named_in, onto, output_claim, point_claim, twice_in, zone_claim}
-use Rattle.site_config.proofs.Alike.{inner}
-use Rattle.site_config.proofs.Holders.{IsHeld, IsIn, IsOf, fresh_names, fresh_numbers, held, in_either, in_from, in_left, in_right, is_held, name_test, named_holder, number_test, of_from}
-use Rattle.site_config.proofs.Values.{none_later}
+use Rattle.site_config.proofs.ListsAlike.{inner}
+use Rattle.site_config.proofs.ClaimHolders.{IsHeld, IsIn, IsOf, fresh_names, fresh_numbers, held, in_either, in_from, in_left, in_right, is_held, name_test, named_holder, number_test, of_from}
+use Rattle.site_config.proofs.CleanKeys.{none_later}
 
 -- the name of a thing of a draft
 abbrev pub draft_name : Draft → Thing → Option (List ℕ)

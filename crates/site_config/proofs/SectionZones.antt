@@ -17,9 +17,9 @@ use Rattle.site_config.specs.declared.section_point.SectionPoint.{SectionPoint}
 use Rattle.site_config.specs.declared.spot.Spot.{Spot}
 use Rattle.site_config.specs.Crossing.{crossing_at, crossing_in, has_two_zones, in_section, is_on, loop_crossing, on_loop, section_point, spot_of}
 use Rattle.site_config.specs.Placing.{SeenPoint, placed_point, point_view}
-use Rattle.site_config.proofs.Alike.{all_by_place, by_place, inner, like_at}
+use Rattle.site_config.proofs.ListsAlike.{all_by_place, by_place, inner, like_at}
 use Rattle.site_config.proofs.SiteForms.{SeenAs}
-use Rattle.site_config.proofs.Values.{all_none, none_first, none_later, not_failed}
+use Rattle.site_config.proofs.CleanKeys.{all_none, none_first, none_later, not_failed}
 
 abbrev Among : {X : Type 0} → X → List X → Type 0
 Among x [] = ⊥

@@ -8,8 +8,8 @@ use Rattle.site_types.specs.declared.named.Thing.{Thing}
 use Rattle.site_document.specs.Refusals.{twice}
 use Rattle.site_config.specs.declared.claim.Claim.{Claim}
 use Rattle.site_config.specs.Claims.{claims_from, first_twice, has_number, is_claimed, is_number_claimed, is_number_of, onto, thing_named}
-use Rattle.site_config.proofs.Alike.{inner}
-use Rattle.site_config.proofs.Values.{none_first, none_later, not_failed}
+use Rattle.site_config.proofs.ListsAlike.{inner}
+use Rattle.site_config.proofs.CleanKeys.{none_first, none_later, not_failed}
 
 -- the thing of the latest claim that passes the test
 abbrev pub holder : (Claim → List ℕ → Bool) → List Claim → List ℕ → Option Thing

@@ -22,7 +22,7 @@ use Rattle.site_document.specs.Texts.{key_text}
 use Rattle.site_document.specs.Unknown.{is_known, unknown_among, unknown_in}
 use Rattle.site_document.specs.Walk.{finding, found_at, found_by, found_in, found_in_list, found_in_row, found_in_rows, whole}
 use Rattle.site_document.specs.WrongKind.{wrong_at}
-use Rattle.site_config.proofs.Values.{all_none, none_first, none_later, passed}
+use Rattle.site_config.proofs.CleanKeys.{all_none, none_first, none_later, passed}
 
 abbrev pub place_of : RowKind → ℕ → Place
 place_of kind n = record { kind = kind; number = n }
