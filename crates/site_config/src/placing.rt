@@ -1,5 +1,4 @@
 ghost use Rattle.std.specs.Prelude.{◌≡◌, IfOk, map};
-ghost use Rattle.site_document.specs.Drafts.{byte_of as byte_from};
 ghost use Rattle.site_config.specs.Crossing.{place_or_zero};
 ghost use Rattle.site_config.specs.NamedList.{AreListed};
 ghost use Rattle.site_config.specs.NameMaps.{look_up};
@@ -22,7 +21,9 @@ ghost use Rattle.site_config.specs.Placing.{
 use crate::lookups::{marker_place, zone_place};
 use crate::named_list::names_of;
 use crate::names::{Names, thing_of};
-use site_document::{Draft, DraftMarker, DraftOutput, DraftPoint, DraftTerm, DraftZone, KeyText};
+use site_document::{
+    Draft, DraftMarker, DraftOutput, DraftPoint, DraftTerm, DraftZone, KeyText, byte_of,
+};
 use site_types::{Label, Marker, Output, Point, Site, Term, Zone, read_name};
 use std::alloc::{AllocError, Global};
 use tick_units::Items;
@@ -140,12 +141,6 @@ fn place_outputs(
         placed.push(place_output(names, output)?)?;
     }
     Ok(Items::from_vec(placed))
-}
-
-fn byte_of(number: u64) -> u8
-    ensures { result ≡ byte_from number }
-{
-    if number < 256 { number as u8 } else { 0 }
 }
 
 fn place_term(names: &Names, term: &DraftTerm) -> Term

@@ -45,7 +45,8 @@ use site_types::{Combine, LoopPlan, OutputKind, Rule, Waits, read_number};
 use std::alloc::{AllocError, Global};
 use toml::{Table, Value};
 
-fn byte_of(number: u64) -> u8
+/// The number of a byte; 0 where it is too great.
+pub fn byte_of(number: u64) -> u8
     ensures { result ≡ byte_from number }
 {
     if number < 256 { number as u8 } else { 0 }

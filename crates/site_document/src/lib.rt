@@ -43,6 +43,7 @@ pub use draft::Draft;
 pub use draft_marker::DraftMarker;
 pub use draft_output::DraftOutput;
 pub use draft_point::DraftPoint;
+pub use draft_reading::byte_of;
 pub use draft_term::DraftTerm;
 pub use draft_zone::DraftZone;
 pub use key_text::KeyText;

@@ -1,6 +1,7 @@
 ghost use Rattle.std.specs.Prelude.{◌≡◌, ◌≤◌};
 ghost use Rattle.site_types.specs.Carry.{carried, carried_counters, carried_delays, is_restricted, output_changes};
 ghost use Rattle.site_types.specs.Carry.{point_changes, test_changes, was_restricted, zone_changes};
+ghost use Rattle.site_types.specs.Limits.{most_panels};
 ghost use Rattle.site_types.specs.Valid.{IsValid};
 ghost use Rattle.site_types.specs.Changes.{changed_by};
 
@@ -136,7 +137,7 @@ fn is_restricted(site: &Site, state: &Retained, restriction: Restriction, thing:
 
 // The delays of the first panels.
 fn carry_delays(panels: u8, delays_off: u8) -> u8
-    requires { panels ≤ 8 }
+    requires { panels ≤ most_panels }
     ensures { result ≡ carried_delays panels delays_off }
 {
     let first = ((1_u16 << panels) - 1) as u8;
@@ -145,7 +146,7 @@ fn carry_delays(panels: u8, delays_off: u8) -> u8
 
 // The counters of the first panels.
 fn carry_counters(panels: u8, counters: &[u32; 8]) -> [u32; 8]
-    requires { panels ≤ 8 }
+    requires { panels ≤ most_panels }
     ensures { result ≡ carried_counters panels counters.now }
 {
     let mut carried = [0; 8];

@@ -3,6 +3,7 @@
 ghost use Rattle.std.specs.Prelude.{◌≡◌, ◌≤◌, Some, length, option_map};
 ghost use Rattle.std.specs.List.{list_all};
 ghost use Rattle.std.specs.Str.{IsUtf8};
+ghost use Rattle.site_types.specs.Limits.{name_bytes};
 ghost use Rattle.site_types.specs.Names.{begins_with_letter, code_of, is_code, is_code_byte, is_name, is_name_byte};
 ghost use Rattle.site_types.specs.Names.{name_of};
 
@@ -78,7 +79,7 @@ fn may_be_in_code(byte: u8) -> bool
 
 /// A label of a short text.
 fn copy(text: &[u8]) -> Option<Label>
-    ensures { IsUtf8 text.now → length text.now ≤ 16
+    ensures { IsUtf8 text.now → length text.now ≤ name_bytes
         → option_map (λ label. label.bytes) result ≡ Some text.now }
 {
     match str::from_utf8(text) {
