@@ -68,9 +68,9 @@ module _ (site : Site) (wired : IsWired site) (panel place : ℕ) (zone : Zone) 
           cc (h, g) in ap (λ (x : Zone). x.number) s
 
       -- not the zone itself: its partner or another one
-      partner_found : q ≢ place → (o : Option ℕ) → partner ≡ o → IsSecondBit site panel test number also o → ((n == number) && also) ≡ test q
-      partner_found apart None e s = off (n == number) s ∙ sym (rest q apart (λ x. let y : None ≡ Some q = sym e ∙ x in cc))
-      partner_found apart (Some p) e s = elim (eqb_tells q p) [
+      apart_from : q ≢ place → (o : Option ℕ) → partner ≡ o → IsSecondBit site panel test number also o → ((n == number) && also) ≡ test q
+      apart_from apart None e s = off (n == number) s ∙ sym (rest q apart (λ x. let y : None ≡ Some q = sym e ∙ x in cc))
+      apart_from apart (Some p) e s = elim (eqb_tells q p) [
         | inl same ↦ (let has = of_numbered site panel n q found in
             let numbers : n ≡ number = sym has.number_is ∙ same_zone q p has.zone s.zone same.1 has.is s.is ∙ sym s.number_is in
             ap (λ b. b && also) (eq-eqb n number numbers) ∙ sym s.tests ∙ ap test (sym same.1))
@@ -88,7 +88,7 @@ module _ (site : Site) (wired : IsWired site) (panel place : ℕ) (zone : Zone) 
           ∙ ap test (one place q (subst (λ m. numbered site panel m ≡ Some place) (sym same.1) own_number) found)
       go (inr other) =
           ap (λ b. if b then on else ((n == number) && also)) other.0
-          ∙ partner_found (λ e. other.1 (let has = of_numbered site panel n q found in sym has.number_is ∙ same_zone q place has.zone zone e has.is is))
+          ∙ apart_from (λ e. other.1 (let has = of_numbered site panel n q found in sym has.number_is ∙ same_zone q place has.zone zone e has.is is))
           partner refl second
 
   pub mask_is : (number : ℕ) (also : Bool) (partner : Option ℕ) (mask : ℕ) → mask < 2 ^ 32 → IsSecondBit site panel test number also partner

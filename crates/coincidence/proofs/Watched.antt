@@ -141,15 +141,15 @@ module _ {site : Site} {kept : Retained} {panel : ℕ} {done : List Done} {taken
       let same : z.number ≡ w.zone.number = ap (λ (x : ZoneWatch). x.number) (over_read place own r z e h) ∙ w.watches_zone.number in
       subst IsNumber (sym same) (stands.wired.zones w.point.zone w.zone w.is_zone).1
 
-  partner_number : (place : ℕ) (zone : ZonePlan) (seen : Observation) (partner_found : PartnerFinding) → (o : Option ZonePlan) → slice_get site.zones place ≡ o
-      → partner_is o seen partner_found → IsNumber partner_found.number
-  partner_number place zone seen partner_found None is h = absurd h
-  partner_number place zone seen partner_found (Some y) is h = subst IsNumber (sym h.0) (stands.wired.zones place y is).1
+  partner_number : (place : ℕ) (zone : ZonePlan) (seen : Observation) (found : PartnerFinding) → (o : Option ZonePlan) → slice_get site.zones place ≡ o
+      → partner_is o seen found → IsNumber found.number
+  partner_number place zone seen found None is h = absurd h
+  partner_number place zone seen found (Some y) is h = subst IsNumber (sym h.0) (stands.wired.zones place y is).1
 
-  pub partner_number_fits : (place : ℕ) (zone : ZonePlan) (seen : Observation) (partner_found : PartnerFinding) → slice_get site.zones place ≡ Some zone → (partner : Option ℕ)
-      → FindsPartner site zone partner seen partner_found → IsNumber partner_found.number
-  partner_number_fits place zone seen partner_found is None h = subst IsNumber (sym h.0) (stands.wired.zones place zone is).1
-  partner_number_fits place zone seen partner_found is (Some other) h = partner_number other zone seen partner_found (slice_get site.zones other) refl h
+  pub partner_number_fits : (place : ℕ) (zone : ZonePlan) (seen : Observation) (found : PartnerFinding) → slice_get site.zones place ≡ Some zone → (partner : Option ℕ)
+      → FindsPartner site zone partner seen found → IsNumber found.number
+  partner_number_fits place zone seen found is None h = subst IsNumber (sym h.0) (stands.wired.zones place zone is).1
+  partner_number_fits place zone seen found is (Some other) h = partner_number other zone seen found (slice_get site.zones other) refl h
 
   -- a switch was not set after a stamp
   pub off_since : (answer : Answer) (fits : Fits site panel done taken answer) (r : PointWatch) → r ≡ get_or decide.points.items answer.point r

@@ -1,5 +1,6 @@
 -- Tests over lists, and what stands at a place.
-use Rattle.std.proofs.Common.{◌≡◌, ◌⊎◌, inl, inr, ℕ, zero, suc, ◌+◌, ◌<◌, Bool, true, false, List, [], ◌∷◌, ◌++◌, length, take, Some, slice_get, ◌&&◌, ◌||◌, refl, sym, ◌∙◌, ap, subst, arith, zero-add}
+use Rattle.std.proofs.Common.{◌≡◌, ◌⊎◌, inl, inr, ℕ, zero, suc, ◌+◌, ◌<◌, ◌≤◌, Bool, true, false, List, [], ◌∷◌, ◌++◌, length, take, Some, slice_get, ◌&&◌, ◌||◌, nat_le, refl, sym, ◌∙◌, ap, subst, arith, zero-add}
+use Rattle.std.proofs.lemmas.Bool.Decides.{nat_tests}
 use Rattle.std.specs.List.{list_any, list_all}
 
 pub and_both : (a b : Bool) → (a && b) ≡ true → (a ≡ true) × (b ≡ true)
@@ -35,6 +36,14 @@ and_true false b h = refl
 pub or_false : (a b : Bool) → b ≡ false → (a || b) ≡ a
 or_false true b h = refl
 or_false false b h = h
+
+-- one of two places is not after the other, or the other is before it
+pub order_of : (j k : ℕ) → (j ≤ k) ⊎ (k < j)
+order_of j k = either (nat_le j k) refl
+  where
+    either : (b : Bool) → nat_le j k ≡ b → (j ≤ k) ⊎ (k < j)
+    either true e = inl (grind (arith, nat_tests, e))
+    either false e = inr (grind (arith, nat_tests, e))
 
 -- two tests that hold alike are one
 pub same_test : (a b : Bool) → (a ≡ true → b ≡ true) → (b ≡ true → a ≡ true) → a ≡ b
