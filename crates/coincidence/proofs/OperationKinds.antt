@@ -17,7 +17,7 @@ use Rattle.site_types.specs.declared.operation.Operation.{Operation}
 use Rattle.site_types.specs.declared.operation.Operation.TheVariants.{Mute, Override, Silence, Resound, Reset, Cancel, Test, Untest, Delays, Clear}
 use Rattle.site_types.specs.Events.{is_some_with, has_operands, has_zone}
 use Rattle.site_types.specs.Done.{Done, PointOff, ZoneOff, is_on}
-use Rattle.coincidence_rules.proofs.Lists.{get_small}
+use Rattle.coincidence_rules.proofs.Lists.{get_set, get_small}
 use Rattle.tick_units.specs.declared.last_done.LastDone.{LastDone}
 use Rattle.coincidence.specs.declared.point_watch.PointWatch.{PointWatch}
 use Rattle.coincidence.specs.declared.zone_watch.ZoneWatch.{ZoneWatch}
@@ -26,7 +26,6 @@ use Rattle.coincidence.specs.Parts.{switch_after}
 use Rattle.tick_units.specs.LastTicks.{last_after, last_if}
 use Rattle.coincidence.specs.Stands.{resets, IsOwnZone, DecidesFor, off_operation}
 use Rattle.coincidence.specs.Premises.{IsOwn, MayApply}
-use Rattle.coincidence.proofs.TakenAnswer.{get_set}
 use Rattle.coincidence.proofs.AppliedOperation.{done_now, point_then, zone_then, IsAfter, stands_after}
 
 -- the part with another zone, or another point, at a place

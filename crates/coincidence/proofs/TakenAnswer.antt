@@ -22,7 +22,7 @@ use Rattle.coincidence_rules.specs.Places.{lies_in, is_of, detects, is_detector}
 use Rattle.coincidence_rules.specs.Counted.{is_alarm, is_silent, is_counted}
 use Rattle.coincidence_rules.specs.Missing.{latest_of, begins_silent}
 use Rattle.coincidence_rules.specs.Kept.{run_then, run_of, latest_besides, is_type_C, may_pair}
-use Rattle.coincidence_rules.proofs.Lists.{get_either, same_place}
+use Rattle.coincidence_rules.proofs.Lists.{get_either, get_set, same_place}
 use Rattle.coincidence.specs.declared.point_stamp.PointStamp.{PointStamp}
 use Rattle.coincidence.specs.declared.recent.Recent.{Recent}
 use Rattle.coincidence.specs.declared.point_watch.PointWatch.{PointWatch}
@@ -32,18 +32,6 @@ use Rattle.coincidence.specs.Parts.{stamp_of, besides_by, besides, other_after, 
 use Rattle.coincidence.specs.Stands.{WatchesPoint, WatchesZone, DecidesFor}
 use Rattle.coincidence.specs.Premises.{IsOwn, MayTake}
 use Rattle.coincidence.proofs.Watched.{read_is, Watched, watched, zone_read, over_read}
-
--- what stands at a place after a write
-pub get_set : {X : Type 0} (xs : List X) (i k : ℕ) (v w : X) → slice_get (set xs i v) k ≡ Some w
-    → ((k ≡ i) × (v ≡ w)) ⊎ ((k ≢ i) × (slice_get xs k ≡ Some w))
-get_set [] i k v w h = absurd (cc)
-get_set (x ∷ xs) zero zero v w h = inl (refl, cc)
-get_set (x ∷ xs) zero (suc k) v w h = inr (omega arith, h)
-get_set (x ∷ xs) (suc i) zero v w h = inr (omega arith, h)
-get_set (x ∷ xs) (suc i) (suc k) v w h = ⊎_elim (λ a. inl (ap suc a.0, a.1)) (λ b. inr (λ e. b.0 (pred_same e), b.1)) (get_set xs i k v w h)
-  where
-    pred_same : suc k ≡ suc i → k ≡ i
-    pred_same e = omega (arith, e)
 
 -- one more answer: the newest first, the run, the latest of another point
 latest_more : (point : ℕ) (xs : List Answer) (x : Answer)

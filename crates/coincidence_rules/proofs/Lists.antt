@@ -1,6 +1,6 @@
 -- Tests over lists, and what stands at a place.
 use Rattle.std.proofs.Common.{◌≡◌, ◌⊎◌, inl, inr, ℕ, zero, suc, ◌+◌, ◌<◌, ◌≤◌, Bool, true, false, List, []}
-use Rattle.std.proofs.Common.{◌∷◌, ◌++◌, length, take, Some, slice_get, ◌&&◌, ◌||◌, nat_le, refl, sym, ◌∙◌, ap, subst, arith, zero-add}
+use Rattle.std.proofs.Common.{◌≢◌, ⊎_elim, set, ◌∷◌, ◌++◌, length, take, Some, slice_get, ◌&&◌, ◌||◌, nat_le, refl, sym, ◌∙◌, ap, subst, arith, zero-add}
 use Rattle.std.proofs.lemmas.Bool.Decides.{nat_tests}
 use Rattle.std.specs.List.{list_any, list_all}
 
@@ -142,3 +142,15 @@ module _ {X : Type 0} where
   take_get zero j (y ∷ ys) x less h = absurd (omega (arith, less))
   take_get (suc k) zero (y ∷ ys) x less h = h
   take_get (suc k) (suc j) (y ∷ ys) x less h = take_get k j ys x (omega (arith, less)) h
+
+-- what stands at a place after a write
+pub get_set : {X : Type 0} (xs : List X) (i k : ℕ) (v w : X) → slice_get (set xs i v) k ≡ Some w
+    → ((k ≡ i) × (v ≡ w)) ⊎ ((k ≢ i) × (slice_get xs k ≡ Some w))
+get_set [] i k v w h = absurd (cc)
+get_set (x ∷ xs) zero zero v w h = inl (refl, cc)
+get_set (x ∷ xs) zero (suc k) v w h = inr (omega arith, h)
+get_set (x ∷ xs) (suc i) zero v w h = inr (omega arith, h)
+get_set (x ∷ xs) (suc i) (suc k) v w h = ⊎_elim (λ a. inl (ap suc a.0, a.1)) (λ b. inr (λ e. b.0 (pred_same e), b.1)) (get_set xs i k v w h)
+  where
+    pred_same : suc k ≡ suc i → k ≡ i
+    pred_same e = omega (arith, e)
