@@ -28,7 +28,7 @@ use Rattle.panel_core.specs.declared.parts.Parts.{Parts}
 use Rattle.panel_core.specs.declared.system.System.{System}
 use Rattle.panel_rules.specs.Reports.{and_report, is_on_panel, reports}
 use Rattle.panel_core.specs.Stands.{PanelStands, StandsFor}
-use Rattle.panel_core.proofs.Panels.{panel_at, stands_changed}
+use Rattle.panel_core.proofs.Panels.{panel_at, stands_changed, stands_unchanged}
 
 -- a panel after an event of which its poller was told
 told : (site : Site) (kept : Retained) (panel : ℕ) (before : List Moment) (parts : Parts) (poller : Poller) (event : Event)
@@ -105,15 +105,8 @@ not_reported site panel event calls o = refl
 pub stands_after_other : (site : Site) (kept : Retained) (before : List Moment) (system : System) (event : Event) → StandsFor site kept before system
     → IsOther event → StandsFor site kept (Happened event ∷ before) system
 stands_after_other site kept before system event h o =
-    record {
-      valid = h.valid;
-      same = h.same;
-      tick = h.tick;
-      count = h.count;
-      each =
-          λ place q at. untold site kept (place + 1) before q event (h.each place q at)
-          (not_reported site (place + 1) event (reports site (place + 1) before) o);
-    }
+    stands_unchanged site kept before system (Happened event) refl h (λ panel q stood.
+    untold site kept panel before q event stood (not_reported site panel event (reports site panel before) o))
 
 -- a piece that the site has is of a panel and a loop
 pub record HasLine (site : Site) (panel line : ℕ) : Type 0 where

@@ -165,17 +165,24 @@ stands_after_turn site kept before system panel task parts h one p =
     stands_changed site kept before system panel parts (Turned panel task) refl h one p
     (λ other q apart stood. others_stay site kept other panel task before q apart stood)
 
-pub stands_after_keep : (site : Site) (kept : Retained) (before : List Moment) (system : System) (failed : Bool) → StandsFor site kept before system
-    → StandsFor site kept (Kept failed ∷ before) system
-stands_after_keep site kept before system failed h =
+-- at a moment at which no panel is changed, each stands for what it stood for
+pub stands_unchanged : (site : Site) (kept : Retained) (before : List Moment) (system : System) (moment : Moment)
+    → tick_of (moment ∷ before) ≡ tick_of before → StandsFor site kept before system
+    → ((panel : ℕ) (q : Parts) → PanelStands site kept panel before q → PanelStands site kept panel (moment ∷ before) q)
+    → StandsFor site kept (moment ∷ before) system
+stands_unchanged site kept before system moment same_tick h each =
     record {
       valid = h.valid;
       same = h.same;
-      tick = h.tick;
+      tick = h.tick ∙ sym same_tick;
       count = h.count;
-      each =
-          λ place q is. after_keep site kept (place + 1) failed before q (h.each place q is);
+      each = λ place q is. each (place + 1) q (h.each place q is);
     }
+
+pub stands_after_keep : (site : Site) (kept : Retained) (before : List Moment) (system : System) (failed : Bool) → StandsFor site kept before system
+    → StandsFor site kept (Kept failed ∷ before) system
+stands_after_keep site kept before system failed h =
+    stands_unchanged site kept before system (Kept failed) refl h (λ panel q stood. after_keep site kept panel failed before q stood)
 
 -- the panel at a place
 pub panel_at : (site : Site) (kept : Retained) (before : List Moment) (system : System) (panel : ℕ) (parts : Parts)
