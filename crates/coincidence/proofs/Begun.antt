@@ -6,6 +6,7 @@ use Rattle.site_types.specs.declared.point.Point.{Point as PointPlan}
 use Rattle.site_types.specs.declared.zone.Zone.{Zone as ZonePlan}
 use Rattle.site_types.specs.declared.retained.Retained.{Retained}
 use Rattle.site_types.specs.Done.{Setting, PointOff, ZoneOff, InTest, at_opening, kept_point, kept_zone, kept_test}
+use Rattle.site_types.specs.Profile.{missing_askings}
 use Rattle.site_types.specs.Valid.{IsValid}
 use Rattle.coincidence_rules.proofs.LastDone.{told_never}
 use Rattle.coincidence_rules.specs.Missing.{latest_of, begins_silent}
@@ -51,7 +52,7 @@ module _ (site : Site) (kept : Retained) where
     run = refl;
   }
     where
-      silent : (n : ℕ) → n ≤ 3 → begins_silent n (latest_of place []) ≡ nat_le n 0
+      silent : (n : ℕ) → n ≤ missing_askings → begins_silent n (latest_of place []) ≡ nat_le n 0
       silent zero le = none_le
       silent (suc n) le = sym (none_silent n)
 

@@ -1,8 +1,7 @@
 -- An operation of another panel changes nothing of what this panel's answers mean, so that the part stands
 -- for the operations of the whole site.
-use Rattle.std.proofs.Common.{◌≡◌, ◌≢◌, ℕ, suc, max, Bool, true, false, not, List, [], ◌∷◌, Option, Some, None, slice_get, ◌==◌, ◌&&◌, ◌||◌, nat_lt, if◌then◌else◌, refl, sym, ◌∙◌, ap, arith}
-use Rattle.std.proofs.lemmas.Bool.{eqb-true}
-use Rattle.std.proofs.lemmas.Bool.Decides.{nat_tests}
+use Rattle.std.proofs.Common.{◌≡◌, ◌≢◌, ℕ, suc, max, Bool, true, false, not, List, [], ◌∷◌, Option, Some, None, slice_get, ◌==◌, ◌&&◌, ◌||◌, nat_lt, if◌then◌else◌, refl, sym, ◌∙◌, ap}
+use Rattle.std.proofs.lemmas.Bool.{eqb-true, ne_eqb}
 use Rattle.tick_units.specs.declared.tick.Tick.{Tick}
 use Rattle.site_types.specs.declared.site.Site.{Site}
 use Rattle.site_types.specs.declared.point.Point.{Point as PointPlan}
@@ -25,9 +24,6 @@ use Rattle.coincidence.specs.declared.decide.Decide.{Decide}
 use Rattle.coincidence.specs.Premises.{IsOwn}
 use Rattle.coincidence.specs.Stands.{resets, moves, set_in, TellsSetting, DecidesFor}
 use Rattle.coincidence_rules.specs.Applied.{TellsLast}
-
-eq_false : (a b : ℕ) → a ≢ b → (a == b) ≡ false
-eq_false a b h = grind (arith, nat_tests)
 
 -- the operation is on nothing of the panel
 pub record IsElsewhere (site : Site) (panel : ℕ) (d : Done) : Type 0 where
@@ -65,8 +61,8 @@ module _ (site : Site) (panel tick at : ℕ) (apart : at ≢ panel) where
 
   points_not : (operation : Operation) → has_operands site at operation ≡ true → (place : ℕ) (point : PointPlan)
       → slice_get site.points place ≡ Some point → point.panel ≡ panel → is_on (PointOff place) (done_at operation) ≡ false
-  points_not (Disable (Point p)) h place point is own = eq_false place p (point_not place p point is own (slice_get site.points p) refl h)
-  points_not (Enable (Point p)) h place point is own = eq_false place p (point_not place p point is own (slice_get site.points p) refl h)
+  points_not (Disable (Point p)) h place point is own = ne_eqb place p (point_not place p point is own (slice_get site.points p) refl h)
+  points_not (Enable (Point p)) h place point is own = ne_eqb place p (point_not place p point is own (slice_get site.points p) refl h)
   points_not (Disable (Zone z)) h place point is own = refl
   points_not (Disable (Output o)) h place point is own = refl
   points_not (Enable (Zone z)) h place point is own = refl
@@ -84,10 +80,10 @@ module _ (site : Site) (panel tick at : ℕ) (apart : at ≢ panel) where
 
   module _ (place : ℕ) (zone : ZonePlan) (is : slice_get site.zones place ≡ Some zone) (own : zone.panel ≡ panel) where
     here_not : (z : ℕ) → is_some_with (λ (y : ZonePlan). y.panel == at) (slice_get site.zones z) ≡ true → (place == z) ≡ false
-    here_not z h = eq_false place z (zone_not place z zone is own (slice_get site.zones z) refl h)
+    here_not z h = ne_eqb place z (zone_not place z zone is own (slice_get site.zones z) refl h)
 
     there_not : (z : ℕ) → is_some_with (λ (y : ZonePlan). y.panel == at) (slice_get site.zones z) ≡ true → (z == place) ≡ false
-    there_not z h = eq_false z place (λ e. zone_not place z zone is own (slice_get site.zones z) refl h (sym e))
+    there_not z h = ne_eqb z place (λ e. zone_not place z zone is own (slice_get site.zones z) refl h (sym e))
 
     offs_not : (operation : Operation) → has_operands site at operation ≡ true → is_on (ZoneOff place) (done_at operation) ≡ false
     offs_not (Disable (Zone z)) h = here_not z h
@@ -156,7 +152,7 @@ module _ (site : Site) (panel tick at : ℕ) (apart : at ≢ panel) where
     cancelled_not Clear h = refl
 
     floors_not : (operation : Operation) → has_operands site at operation ≡ true → moves_floor site place (done_at operation) ≡ false
-    floors_not Reset h = ap (is_of_panel at) is ∙ eq_false at zone.panel (λ e. apart (e ∙ own))
+    floors_not Reset h = ap (is_of_panel at) is ∙ ne_eqb at zone.panel (λ e. apart (e ∙ own))
     floors_not (Disable (Zone z)) h = there_not z h
     floors_not (Test z) h = there_not z h
     floors_not (Disable (Point p)) h = refl
@@ -172,7 +168,7 @@ module _ (site : Site) (panel tick at : ℕ) (apart : at ≢ panel) where
     floors_not Clear h = refl
 
   reset_not : (operation : Operation) → resets panel (done_at operation) ≡ false
-  reset_not Reset = eq_false at panel apart
+  reset_not Reset = ne_eqb at panel apart
   reset_not (Disable item) = refl
   reset_not (Enable item) = refl
   reset_not (Test z) = refl

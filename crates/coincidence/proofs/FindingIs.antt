@@ -6,6 +6,7 @@ use Rattle.site_types.specs.declared.answer.Answer.{Answer}
 use Rattle.site_types.specs.declared.retained.Retained.{Retained}
 use Rattle.site_types.specs.Bits.{has_bit}
 use Rattle.site_types.specs.Done.{Done, is_blocked}
+use Rattle.site_types.specs.Profile.{missing_askings}
 use Rattle.site_types.specs.declared.rule.Rule.{Rule}
 use Rattle.site_types.specs.declared.rule.Rule.TheVariants.{Plain, A, B, C}
 use Rattle.site_types.proofs.Masks.{has_bit-zero}
@@ -17,16 +18,18 @@ use Rattle.coincidence_rules.specs.Counted.{is_alarm, is_counted}
 use Rattle.coincidence_rules.specs.Confirmed.{coincides, confirms, is_by_call_point, is_second}
 use Rattle.coincidence_rules.specs.Alarm.{calls, releases, releases_by}
 use Rattle.coincidence_rules.specs.Findings.{finding_among}
+use Rattle.coincidence_rules.specs.Wired.{HasPartner}
 use Rattle.coincidence.specs.declared.point_watch.PointWatch.{PointWatch}
 use Rattle.coincidence.specs.declared.zone_watch.ZoneWatch.{ZoneWatch}
-use Rattle.coincidence.specs.declared.sight.Sight.{Sight}
-use Rattle.coincidence.specs.declared.beside.Beside.{Beside}
+use Rattle.coincidence.specs.declared.observation.Observation.{Observation}
+use Rattle.coincidence.specs.declared.partner_finding.PartnerFinding.{PartnerFinding}
 use Rattle.coincidence.specs.declared.decide.Decide.{Decide}
-use Rattle.coincidence.specs.Sights.{own_confirmed, own_released, Sees, partner_is, SeesBeside}
+use Rattle.coincidence.specs.Observations.{own_confirmed, own_released, Observes, partner_is, FindsPartner}
 use Rattle.coincidence.specs.Stands.{DecidesFor, WatchesZone, Fits}
 use Rattle.coincidence.proofs.Watched.{read_is, Watched, watched, zone_watched}
-use Rattle.coincidence.proofs.Masked.{IsSecondBit, bit_of, mask_is}
-use Rattle.coincidence.proofs.Meant.{own_confirmed_is, own_released_is, partner_confirmed_is, partner_released_is, none_confirmed, none_released, none_called, none_counted, own_called, own_counted}
+use Rattle.coincidence.proofs.Masked.{IsOther, IsSecondBit, bit_of, mask_is}
+use Rattle.coincidence.proofs.ConfirmedZones.{own_confirmed_is, own_released_is, partner_confirmed_is, partner_released_is}
+use Rattle.coincidence.proofs.ConfirmedZones.{none_confirmed, none_released, none_called, none_counted, own_called, own_counted}
 
 -- the bits of a mask
 abbrev pub HasBits : ℕ → ℕ → Bool → ℕ → Bool → Type 0
@@ -39,59 +42,51 @@ same_finding stamp point c d f g m n r q a b e1 e2 e3 e4 e5 = cc
 
 module _ {site : Site} {kept : Retained} {panel : ℕ} {done : List Done} {all : List Answer} {decide : Decide} (stands :
     DecidesFor site kept panel done all decide) (answer : Answer) (fits : Fits site panel done all answer)
-    (r : PointWatch) (z : ZoneWatch) (e : r ≡ get_or decide.points.items answer.point r) (h : z ≡ get_or decide.zones.items r.zone z) (sight :
-    Sight) (beside : Beside) where
+    (r : PointWatch) (z : ZoneWatch) (e : r ≡ get_or decide.points.items answer.point r) (h : z ≡ get_or decide.zones.items r.zone z) (seen :
+    Observation) (found : PartnerFinding) where
   abbrev w : Watched site kept panel done all decide answer.point
   w = watched stands answer.point fits.own
 
   z_watches : WatchesZone site kept done all w.point.zone w.zone z
   z_watches = zone_watched stands answer.point fits.own r z e h
 
-  abbrev IsSeen : Type 0
-  IsSeen = Sees site kept done all answer w.point w.zone sight
+  abbrev IsObserved : Type 0
+  IsObserved = Observes site kept done all answer w.point w.zone seen
 
-  -- the second bit of what confirms, and of what releases
-  second_confirmed : IsSeen → (o : Option ℕ) → w.zone.partner ≡ o → SeesBeside site w.zone o sight beside
-      → IsSecondBit site panel (λ q. confirms site kept done all q answer) beside.number beside.confirmed o
-  second_confirmed sees None p b = b.1
-  second_confirmed sees (Some other) p b =
+  -- the second bit of what confirms, and of what releases, where the zone has a partner
+  partner_bit : (test : ℕ → Bool) (also : Bool) (other : ℕ) (p : w.zone.partner ≡ Some other) → FindsPartner site w.zone (Some other) seen found
+      → ((has : HasPartner site w.point.zone w.zone other) → partner_is (Some has.partner) seen found → test other ≡ also)
+      → IsOther site panel test found.number also other
+  partner_bit test also other p b tests =
       let has = stands.wired.partners w.point.zone other w.zone w.is_zone p in
-      let tells = subst (λ y. partner_is y sight beside) has.is b in
-      record {
-        zone = has.partner;
-        is = has.is;
-        at = has.at_panel ∙ w.zone_at;
-        number_is = tells.0;
-        tests =
-            sym (tells.1 ∙ partner_confirmed_is site kept done all answer w.point w.zone sight stands.wired w.is_point w.is_zone stands.order
-            fits.late sees other p has.partner has.is has.type);
-      }
+      let tells : partner_is (Some has.partner) seen found = subst (λ y. partner_is y seen found) has.is b in
+      record { zone = has.partner; is = has.is; at = has.at_panel ∙ w.zone_at; number_is = tells.0; tests = tests has tells }
 
-  second_released : IsSeen → (o : Option ℕ) → w.zone.partner ≡ o → SeesBeside site w.zone o sight beside
-      → IsSecondBit site panel (λ q. releases site kept done all q answer) beside.number beside.released o
-  second_released sees None p b = b.2
-  second_released sees (Some other) p b =
-      let has = stands.wired.partners w.point.zone other w.zone w.is_zone p in
-      let tells = subst (λ y. partner_is y sight beside) has.is b in
-      record {
-        zone = has.partner;
-        is = has.is;
-        at = has.at_panel ∙ w.zone_at;
-        number_is = tells.0;
-        tests =
-            sym (tells.2 ∙ partner_released_is site kept done all answer w.point w.zone sight stands.wired w.is_point w.is_zone stands.order fits.late
-            sees other p has.partner has.is has.type);
-      }
+  second_confirmed : IsObserved → (o : Option ℕ) → w.zone.partner ≡ o → FindsPartner site w.zone o seen found
+      → IsSecondBit site panel (λ q. confirms site kept done all q answer) found.number found.confirmed o
+  second_confirmed observes None p b = b.1
+  second_confirmed observes (Some other) p b =
+      partner_bit _ _ other p b (λ has tells.
+      sym (tells.1 ∙ partner_confirmed_is site kept done all answer w.point w.zone seen stands.wired w.is_point w.is_zone stands.order
+      fits.late observes other p has.partner has.is has.type))
+
+  second_released : IsObserved → (o : Option ℕ) → w.zone.partner ≡ o → FindsPartner site w.zone o seen found
+      → IsSecondBit site panel (λ q. releases site kept done all q answer) found.number found.released o
+  second_released observes None p b = b.2
+  second_released observes (Some other) p b =
+      partner_bit _ _ other p b (λ has tells.
+      sym (tells.2 ∙ partner_released_is site kept done all answer w.point w.zone seen stands.wired w.is_point w.is_zone stands.order
+      fits.late observes other p has.partner has.is has.type))
 
   own_bits : (mask : ℕ) (on : Bool) (other : ℕ) (also : Bool) → HasBits mask z.number on other also → (k : ℕ) → k < 32
       → has_bit mask k ≡ bit_of w.zone.number on other also (k + 1)
   own_bits mask on other also bits k small = bits k small ∙ ap (λ n. bit_of n on other also (k + 1)) z_watches.number
 
-  pub finding_is : IsSeen → SeesBeside site w.zone w.zone.partner sight beside → (counted confirmed manual released : ℕ) (missing : Bool)
+  pub finding_is : IsObserved → FindsPartner site w.zone w.zone.partner seen found → (counted confirmed manual released : ℕ) (missing : Bool)
       → counted < 2 ^ 32 → confirmed < 2 ^ 32 → manual < 2 ^ 32 → released < 2 ^ 32
-      → HasBits counted z.number sight.counted z.number false → HasBits confirmed z.number (own_confirmed z.rule sight) beside.number beside.confirmed
-      → HasBits manual z.number (sight.counted && sight.manual) z.number false
-      → HasBits released z.number (own_released z.rule sight) beside.number beside.released → missing ≡ nat_le 3 r.silent
+      → HasBits counted z.number seen.counted z.number false → HasBits confirmed z.number (own_confirmed z.rule seen) found.number found.confirmed
+      → HasBits manual z.number (seen.counted && seen.manual) z.number false
+      → HasBits released z.number (own_released z.rule seen) found.number found.released → missing ≡ nat_le missing_askings r.silent
       → ◌≡◌ {A = Finding} (record {
         stamp = answer.stamp;
         point = answer.point;
@@ -102,32 +97,32 @@ module _ {site : Site} {kept : Retained} {panel : ℕ} {done : List Done} {all :
             released;
         missing = missing;
       }) (finding_among site kept panel done all answer)
-  finding_is sees partner counted confirmed manual released missing c f m l cs fs ms ls miss =
+  finding_is observes partner counted confirmed manual released missing c f m l cs fs ms ls miss =
       same_finding answer.stamp answer.point counted _ confirmed _ manual _ released _ missing _
       (mask_is site stands.wired panel w.point.zone w.zone w.is_zone w.zone_at (λ q. is_counted site kept done answer && is_of site q answer.point)
-      sight.counted
-      (own_counted site kept done all answer w.point w.zone sight stands.wired w.is_point w.is_zone stands.order fits.late sees)
-      z.number false None counted c refl (λ q apart x. none_counted site kept done all answer w.point w.zone sight stands.wired w.is_point w.is_zone
-      stands.order fits.late sees q apart) (own_bits counted sight.counted z.number false cs))
+      seen.counted
+      (own_counted site kept done all answer w.point w.zone seen stands.wired w.is_point w.is_zone stands.order fits.late observes)
+      z.number false None counted c refl (λ q apart x. none_counted site kept done all answer w.point w.zone seen stands.wired w.is_point w.is_zone
+      stands.order fits.late observes q apart) (own_bits counted seen.counted z.number false cs))
       (mask_is site stands.wired panel w.point.zone w.zone w.is_zone w.zone_at (λ q. confirms site kept done all q answer)
-      (own_confirmed z.rule sight)
-      (sym (ap (λ y. own_confirmed y sight) z_watches.rule ∙ own_confirmed_is site kept done all answer w.point w.zone sight stands.wired w.is_point
-      w.is_zone stands.order fits.late sees))
-      beside.number beside.confirmed w.zone.partner confirmed f (second_confirmed sees w.zone.partner refl partner)
-      (λ q apart x. none_confirmed site kept done all answer w.point w.zone sight stands.wired w.is_point w.is_zone stands.order fits.late sees q
-      apart x) (own_bits confirmed (own_confirmed z.rule sight) beside.number beside.confirmed fs))
-      (mask_is site stands.wired panel w.point.zone w.zone w.is_zone w.zone_at (λ q. calls site kept done q answer) (sight.counted && sight.manual)
-      (own_called site kept done all answer w.point w.zone sight stands.wired w.is_point w.is_zone stands.order fits.late sees)
-      z.number false None manual m refl (λ q apart x. none_called site kept done all answer w.point w.zone sight stands.wired w.is_point w.is_zone
-      stands.order fits.late sees q apart) (own_bits manual (sight.counted && sight.manual) z.number false ms))
-      (mask_is site stands.wired panel w.point.zone w.zone w.is_zone w.zone_at (λ q. releases site kept done all q answer) (own_released z.rule sight)
-      (sym (ap (λ y. own_released y sight) z_watches.rule ∙ own_released_is site kept done all answer w.point w.zone sight stands.wired w.is_point
-      w.is_zone stands.order fits.late sees))
-      beside.number beside.released w.zone.partner released l (second_released sees w.zone.partner refl partner)
-      (λ q apart x. none_released site kept done all answer w.point w.zone sight stands.wired w.is_point w.is_zone stands.order fits.late sees q apart
-      x) (own_bits released (own_released z.rule sight) beside.number beside.released ls))
-      (miss ∙ ap (λ (o : PointWatch). nat_le 3 o.silent) (read_is decide.points.items answer.point r w.watch e w.is_watch) ∙ sym
-      (w.watches.silent 3 (omega arith)))
+      (own_confirmed z.rule seen)
+      (sym (ap (λ y. own_confirmed y seen) z_watches.rule ∙ own_confirmed_is site kept done all answer w.point w.zone seen stands.wired w.is_point
+      w.is_zone stands.order fits.late observes))
+      found.number found.confirmed w.zone.partner confirmed f (second_confirmed observes w.zone.partner refl partner)
+      (λ q apart x. none_confirmed site kept done all answer w.point w.zone seen stands.wired w.is_point w.is_zone stands.order fits.late observes q
+      apart x) (own_bits confirmed (own_confirmed z.rule seen) found.number found.confirmed fs))
+      (mask_is site stands.wired panel w.point.zone w.zone w.is_zone w.zone_at (λ q. calls site kept done q answer) (seen.counted && seen.manual)
+      (own_called site kept done all answer w.point w.zone seen stands.wired w.is_point w.is_zone stands.order fits.late observes)
+      z.number false None manual m refl (λ q apart x. none_called site kept done all answer w.point w.zone seen stands.wired w.is_point w.is_zone
+      stands.order fits.late observes q apart) (own_bits manual (seen.counted && seen.manual) z.number false ms))
+      (mask_is site stands.wired panel w.point.zone w.zone w.is_zone w.zone_at (λ q. releases site kept done all q answer) (own_released z.rule seen)
+      (sym (ap (λ y. own_released y seen) z_watches.rule ∙ own_released_is site kept done all answer w.point w.zone seen stands.wired w.is_point
+      w.is_zone stands.order fits.late observes))
+      found.number found.released w.zone.partner released l (second_released observes w.zone.partner refl partner)
+      (λ q apart x. none_released site kept done all answer w.point w.zone seen stands.wired w.is_point w.is_zone stands.order fits.late observes q apart
+      x) (own_bits released (own_released z.rule seen) found.number found.released ls))
+      (miss ∙ ap (λ (o : PointWatch). nat_le missing_askings o.silent) (read_is decide.points.items answer.point r w.watch e w.is_watch) ∙ sym
+      (w.watches.silent missing_askings (omega arith)))
 
 -- ---- an answer that doesn't count tells of no zone
 
@@ -156,7 +151,7 @@ no_release site kept done all q answer (Some C) uncounted =
 
 pub quiet_is : {site : Site} {kept : Retained} {panel : ℕ} {done : List Done} {all : List Answer} {decide : Decide}
     → DecidesFor site kept panel done all decide → (answer : Answer) → Fits site panel done all answer → is_alarm answer.heard ≡ false →
-    (r : PointWatch) → r ≡ get_or decide.points.items answer.point r → (missing : Bool) → missing ≡ nat_le 3 r.silent →
+    (r : PointWatch) → r ≡ get_or decide.points.items answer.point r → (missing : Bool) → missing ≡ nat_le missing_askings r.silent →
     ◌≡◌ {A = Finding} (record { stamp = answer.stamp; point = answer.point; counted = 0; confirmed = 0; manual = 0; released = 0; missing = missing })
     (finding_among site kept panel done all answer)
 quiet_is {site} {kept} {panel} {done} {all} {decide} stands answer fits quiet r e missing miss =
@@ -169,5 +164,5 @@ quiet_is {site} {kept} {panel} {done} {all} {decide} stands answer fits quiet r 
     (no_mask site panel (λ q. calls site kept done q answer) (λ q. ap (λ b. b && is_by_call_point site q answer.point) uncounted))
     (no_mask site panel (λ q. releases site kept done all q answer)
     (λ q. no_release site kept done all q answer (rule_of (slice_get site.zones q)) uncounted))
-    (miss ∙ ap (λ (o : PointWatch). nat_le 3 o.silent) (read_is decide.points.items answer.point r w.watch e w.is_watch) ∙ sym
-    (w.watches.silent 3 (omega arith)))
+    (miss ∙ ap (λ (o : PointWatch). nat_le missing_askings o.silent) (read_is decide.points.items answer.point r w.watch e w.is_watch) ∙ sym
+    (w.watches.silent missing_askings (omega arith)))

@@ -1,12 +1,15 @@
-pub mod Watched
-pub mod Judged
-pub mod Masked
-pub mod Meant
-pub mod FindingIs
-pub mod Seen
-pub mod Noted
-pub mod Applied
-pub mod Operated
-pub mod Turned
+-- what is kept, where the code reads it: at the start, and of a point, its zone and the partner
 pub mod Begun
+pub mod Watched
+-- answers: what is judged and observed of one, which zones it confirms, its finding, and what is kept after it
+pub mod Judged
+pub mod Observations
+pub mod ConfirmedZones
+pub mod Masked
+pub mod FindingIs
+pub mod TakenAnswer
+pub mod Turned
+-- operations: what is kept after one, by its kind, and that those of other panels change nothing
+pub mod AppliedOperation
+pub mod OperationKinds
 pub mod Elsewhere

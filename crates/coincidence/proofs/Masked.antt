@@ -1,6 +1,7 @@
 -- A mask with the bits of a zone and its partner is the mask of a test that no other zone passes.
-use Rattle.std.proofs.Common.{◌≡◌, ◌≢◌, ◌⊎◌, inl, inr, ℕ, ◌+◌, ◌<◌, ◌^◌, Bool, true, false, Option, Some, None, slice_get, ◌==◌, ◌&&◌, if◌then◌else◌, refl, sym, ◌∙◌, ap, subst, arith}
-use Rattle.std.proofs.lemmas.Bool.Decides.{nat_tests, eqb_tells}
+use Rattle.std.proofs.Common.{◌≡◌, ◌≢◌, ◌⊎◌, inl, inr, ℕ, ◌+◌, ◌<◌, ◌^◌, Bool, true, false, Option, Some, None, slice_get, ◌==◌, ◌&&◌, if◌then◌else◌, refl, sym, ◌∙◌, ap, subst}
+use Rattle.std.proofs.lemmas.Bool.{eq-eqb, ne_eqb}
+use Rattle.std.proofs.lemmas.Bool.Decides.{eqb_tells}
 use Rattle.site_types.specs.declared.site.Site.{Site}
 use Rattle.site_types.specs.declared.zone.Zone.{Zone}
 use Rattle.site_types.specs.Bits.{has_bit}
@@ -23,12 +24,6 @@ IsSecondBit site panel test number also (Some other) = IsOther site panel test n
 abbrev pub bit_of : ℕ → Bool → ℕ → Bool → ℕ → Bool
 bit_of number on other also n = if n == number then on else ((n == other) && also)
 
-eq_true : (a b : ℕ) → a ≡ b → (a == b) ≡ true
-eq_true a b h = grind (arith, nat_tests)
-
-eq_false : (a b : ℕ) → a ≢ b → (a == b) ≡ false
-eq_false a b h = grind (arith, nat_tests)
-
 module _ (site : Site) (wired : IsWired site) (panel place : ℕ) (zone : Zone) (is : slice_get site.zones place ≡ Some zone) (at : zone.panel ≡ panel)
     (test : ℕ → Bool) (on : Bool) (tests : test place ≡ on) where
   own_number : numbered site panel zone.number ≡ Some place
@@ -42,7 +37,7 @@ module _ (site : Site) (wired : IsWired site) (panel place : ℕ) (zone : Zone) 
       → bit_of zone.number on number also n ≡ false
   none_has n number also partner second none =
       let apart : n ≢ zone.number = (λ e. clash n zone.number place none own_number e) in
-      ap (λ b. if b then on else ((n == number) && also)) (eq_false n zone.number apart) ∙ other partner second
+      ap (λ b. if b then on else ((n == number) && also)) (ne_eqb n zone.number apart) ∙ other partner second
     where
       clash : (a b q : ℕ) → numbered site panel a ≡ None → numbered site panel b ≡ Some q → a ≡ b → ⊥
       clash a b q x y e = let z : numbered site panel b ≡ None = subst (λ m. numbered site panel m ≡ None) e x in cc (z, y)
@@ -53,7 +48,7 @@ module _ (site : Site) (wired : IsWired site) (panel place : ℕ) (zone : Zone) 
 
       other : (o : Option ℕ) → IsSecondBit site panel test number also o → ((n == number) && also) ≡ false
       other None e = off (n == number) e
-      other (Some q) s = ap (λ b. b && also) (eq_false n number (λ e. clash n s.zone.number q none (number_of q s.zone s.is s.at) (e ∙ s.number_is)))
+      other (Some q) s = ap (λ b. b && also) (ne_eqb n number (λ e. clash n s.zone.number q none (number_of q s.zone s.is s.at) (e ∙ s.number_is)))
 
   -- the number of a zone
   some_has : (n number : ℕ) (also : Bool) (partner : Option ℕ) → IsSecondBit site panel test number also partner
@@ -73,15 +68,15 @@ module _ (site : Site) (wired : IsWired site) (panel place : ℕ) (zone : Zone) 
           cc (h, g) in ap (λ (x : Zone). x.number) s
 
       -- not the zone itself: its partner or another one
-      beside : q ≢ place → (o : Option ℕ) → partner ≡ o → IsSecondBit site panel test number also o → ((n == number) && also) ≡ test q
-      beside apart None e s = off (n == number) s ∙ sym (rest q apart (λ x. let y : None ≡ Some q = sym e ∙ x in cc))
-      beside apart (Some p) e s = elim (eqb_tells q p) [
+      apart_from : q ≢ place → (o : Option ℕ) → partner ≡ o → IsSecondBit site panel test number also o → ((n == number) && also) ≡ test q
+      apart_from apart None e s = off (n == number) s ∙ sym (rest q apart (λ x. let y : None ≡ Some q = sym e ∙ x in cc))
+      apart_from apart (Some p) e s = elim (eqb_tells q p) [
         | inl same ↦ (let has = of_numbered site panel n q found in
             let numbers : n ≡ number = sym has.number_is ∙ same_zone q p has.zone s.zone same.1 has.is s.is ∙ sym s.number_is in
-            ap (λ b. b && also) (eq_true n number numbers) ∙ sym s.tests ∙ ap test (sym same.1))
+            ap (λ b. b && also) (eq-eqb n number numbers) ∙ sym s.tests ∙ ap test (sym same.1))
         | inr other ↦
             ap (λ b. b && also)
-            (eq_false n number
+            (ne_eqb n number
             (λ x. other.1 (one q p found (subst (λ m. numbered site panel m ≡ Some p) (sym (x ∙ s.number_is)) (number_of p s.zone s.is s.at)))))
             ∙ sym (rest q apart (λ x. other.1 (let y : Some p ≡ Some q = sym e ∙ x in cc)))
       ]
@@ -93,7 +88,7 @@ module _ (site : Site) (wired : IsWired site) (panel place : ℕ) (zone : Zone) 
           ∙ ap test (one place q (subst (λ m. numbered site panel m ≡ Some place) (sym same.1) own_number) found)
       go (inr other) =
           ap (λ b. if b then on else ((n == number) && also)) other.0
-          ∙ beside (λ e. other.1 (let has = of_numbered site panel n q found in sym has.number_is ∙ same_zone q place has.zone zone e has.is is))
+          ∙ apart_from (λ e. other.1 (let has = of_numbered site panel n q found in sym has.number_is ∙ same_zone q place has.zone zone e has.is is))
           partner refl second
 
   pub mask_is : (number : ℕ) (also : Bool) (partner : Option ℕ) (mask : ℕ) → mask < 2 ^ 32 → IsSecondBit site panel test number also partner

@@ -11,11 +11,11 @@ use Rattle.site_types.specs.Done.{Done, Setting, PointOff, ZoneOff, InTest, is_o
 use Rattle.coincidence_rules.proofs.Lists.{get_small, get_left, get_right}
 use Rattle.coincidence.specs.declared.point_watch.PointWatch.{PointWatch}
 use Rattle.coincidence.specs.declared.zone_watch.ZoneWatch.{ZoneWatch}
-use Rattle.coincidence.specs.declared.beside.Beside.{Beside}
-use Rattle.coincidence.specs.declared.sight.Sight.{Sight}
+use Rattle.coincidence.specs.declared.partner_finding.PartnerFinding.{PartnerFinding}
+use Rattle.coincidence.specs.declared.observation.Observation.{Observation}
 use Rattle.coincidence.specs.declared.decide.Decide.{Decide}
-use Rattle.coincidence.specs.Sights.{SeesBeside, partner_is}
-use Rattle.coincidence.specs.Stands.{set_in, WatchesPoint, WatchesZone, DecidesFor, Fits, CanSee, CanTake, IsPlaceIn, IsOwnPartner}
+use Rattle.coincidence.specs.Observations.{FindsPartner, partner_is}
+use Rattle.coincidence.specs.Stands.{set_in, WatchesPoint, WatchesZone, DecidesFor, Fits, CanObserve, CanTake, IsPlaceIn, IsOwnPartner}
 use Rattle.coincidence.specs.Premises.{IsOwn, MayTake}
 
 module _ {X : Type 0} where
@@ -141,15 +141,15 @@ module _ {site : Site} {kept : Retained} {panel : ℕ} {done : List Done} {taken
       let same : z.number ≡ w.zone.number = ap (λ (x : ZoneWatch). x.number) (over_read place own r z e h) ∙ w.watches_zone.number in
       subst IsNumber (sym same) (stands.wired.zones w.point.zone w.zone w.is_zone).1
 
-  partner_number : (place : ℕ) (zone : ZonePlan) (sight : Sight) (beside : Beside) → (o : Option ZonePlan) → slice_get site.zones place ≡ o
-      → partner_is o sight beside → IsNumber beside.number
-  partner_number place zone sight beside None is h = absurd h
-  partner_number place zone sight beside (Some y) is h = subst IsNumber (sym h.0) (stands.wired.zones place y is).1
+  partner_number : (place : ℕ) (zone : ZonePlan) (seen : Observation) (found : PartnerFinding) → (o : Option ZonePlan) → slice_get site.zones place ≡ o
+      → partner_is o seen found → IsNumber found.number
+  partner_number place zone seen found None is h = absurd h
+  partner_number place zone seen found (Some y) is h = subst IsNumber (sym h.0) (stands.wired.zones place y is).1
 
-  pub beside_fits : (place : ℕ) (zone : ZonePlan) (sight : Sight) (beside : Beside) → slice_get site.zones place ≡ Some zone → (partner : Option ℕ)
-      → SeesBeside site zone partner sight beside → IsNumber beside.number
-  beside_fits place zone sight beside is None h = subst IsNumber (sym h.0) (stands.wired.zones place zone is).1
-  beside_fits place zone sight beside is (Some other) h = partner_number other zone sight beside (slice_get site.zones other) refl h
+  pub partner_number_fits : (place : ℕ) (zone : ZonePlan) (seen : Observation) (found : PartnerFinding) → slice_get site.zones place ≡ Some zone → (partner : Option ℕ)
+      → FindsPartner site zone partner seen found → IsNumber found.number
+  partner_number_fits place zone seen found is None h = subst IsNumber (sym h.0) (stands.wired.zones place zone is).1
+  partner_number_fits place zone seen found is (Some other) h = partner_number other zone seen found (slice_get site.zones other) refl h
 
   -- a switch was not set after a stamp
   pub off_since : (answer : Answer) (fits : Fits site panel done taken answer) (r : PointWatch) → r ≡ get_or decide.points.items answer.point r
@@ -190,8 +190,8 @@ fits_next site kept panel done taken answer may = record {
     before : (k : ℕ) → k < length taken → k ≤ length taken + 0
     before k less = omega (arith, less)
 
-pub can_see : (decide : Decide) (answer : Answer) → CanTake decide (answer ∷ []) → CanSee decide answer
-can_see decide answer can = record {
+pub can_observe : (decide : Decide) (answer : Answer) → CanTake decide (answer ∷ []) → CanObserve decide answer
+can_observe decide answer can = record {
   site = can.site;
   kept = can.kept;
   panel = can.panel;
@@ -199,5 +199,5 @@ can_see decide answer can = record {
   taken = can.taken;
   stands =
       can.stands;
-  fits = fits_next can.site can.kept can.panel can.done can.taken answer can.may;
+  may = fits_next can.site can.kept can.panel can.done can.taken answer can.may;
 }

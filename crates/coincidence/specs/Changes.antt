@@ -9,6 +9,8 @@ use Rattle.site_types.specs.Done.{Done}
 use Rattle.coincidence_rules.specs.declared.finding.Finding.{Finding}
 use Rattle.coincidence_rules.specs.Findings.{finding_of, findings_after}
 use Rattle.coincidence.specs.declared.decide.Decide.{Decide}
+use Rattle.coincidence.specs.declared.judgement.Judgement.{Judgement}
+use Rattle.coincidence.specs.Observations.{Judges}
 use Rattle.coincidence.specs.Premises.{MayTake, MayApply}
 use Rattle.coincidence.specs.Stands.{DecidesFor}
 
@@ -18,6 +20,14 @@ TakesAnswers old answers decide =
     (site : Site) (kept : Retained) (panel : ℕ) (done : List Done) (taken : List Answer)
     → DecidesFor site kept panel done taken old → MayTake site panel done taken answers
     → DecidesFor site kept panel done (taken ++ answers) decide
+
+-- an answer of which this is said is taken after those before
+abbrev pub TakesJudged : Decide → Answer → Judgement → Decide → Type 0
+TakesJudged old answer judgement decide =
+    (site : Site) (kept : Retained) (panel : ℕ) (done : List Done) (taken : List Answer)
+    → DecidesFor site kept panel done taken old → MayTake site panel done taken (answer ∷ [])
+    → Judges site kept done answer judgement
+    → DecidesFor site kept panel done (taken ++ answer ∷ []) decide
 
 -- one finding more lies in the lane for each of these answers, in their order
 abbrev pub PutsFindings : Decide → List Answer → LaneState Finding → LaneState Finding → Type 0

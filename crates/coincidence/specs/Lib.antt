@@ -1,6 +1,6 @@
 pub mod Parts
 pub mod Stands
-pub mod Sights
+pub mod Observations
 pub mod Premises
 pub mod Changes
-pub mod Observed
+pub mod Queries

@@ -9,8 +9,9 @@ use Rattle.site_types.specs.declared.point.Point.{Point as PointPlan}
 use Rattle.site_types.specs.declared.zone.Zone.{Zone as ZonePlan}
 use Rattle.site_types.specs.declared.retained.Retained.{Retained}
 use Rattle.site_types.specs.Done.{kept_point, kept_zone, kept_test}
+use Rattle.site_types.specs.Profile.{missing_askings}
 use Rattle.tick_units.specs.LastTicks.{last_if, never_done}
-use Rattle.coincidence.specs.declared.recent.Sighting.{Sighting}
+use Rattle.coincidence.specs.declared.point_stamp.PointStamp.{PointStamp}
 use Rattle.coincidence.specs.declared.recent.Recent.{Recent}
 use Rattle.coincidence.specs.declared.point_watch.PointWatch.{PointWatch}
 use Rattle.coincidence.specs.declared.zone_watch.ZoneWatch.{ZoneWatch}
@@ -22,11 +23,11 @@ switch_at x switch = if nat_lt switch.since.0 x then switch.now else switch.was
 abbrev pub switch_after : Bool → Tick → Switch → Switch
 switch_after value at switch = record { was = switch.now; now = value; since = at }
 
-abbrev pub stamp_of : Option Sighting → Option Tick
+abbrev pub stamp_of : Option PointStamp → Option Tick
 stamp_of None = None
 stamp_of (Some seen) = Some seen.stamp
 
-abbrev pub besides_by : ℕ → Option Sighting → Option Sighting → Option Tick
+abbrev pub besides_by : ℕ → Option PointStamp → Option PointStamp → Option Tick
 besides_by point None other = stamp_of other
 besides_by point (Some seen) other = if seen.point == point then stamp_of other else Some seen.stamp
 
@@ -34,10 +35,11 @@ besides_by point (Some seen) other = if seen.point == point then stamp_of other 
 abbrev pub besides : ℕ → Recent → Option Tick
 besides point recent = besides_by point recent.latest recent.other
 
-abbrev pub other_after : ℕ → Option Sighting → Option Sighting → Option Sighting
+abbrev pub other_after : ℕ → Option PointStamp → Option PointStamp → Option PointStamp
 other_after point None other = other
 other_after point (Some seen) other = if seen.point == point then other else Some seen
 
+-- the latest two after one more answer of a point
 abbrev pub noted : ℕ → Tick → Recent → Recent
 noted point stamp recent = record {
   latest = Some (record { point = point; stamp = stamp });
@@ -45,11 +47,12 @@ noted point stamp recent = record {
       other_after point recent.latest recent.other;
 }
 
--- how many of the last answers were silent, to three
+-- how many of the last answers were silent, to those that make a point missing
 abbrev pub silent_then : Heard → ℕ → ℕ
-silent_then Silent n = if nat_lt n 3 then n + 1 else n
+silent_then Silent n = if nat_lt n missing_askings then n + 1 else n
 silent_then _ n = 0
 
+-- a point after an answer, with whether it counts and the floor before it
 abbrev pub point_noted : Heard → Bool → Tick → Tick → PointWatch → PointWatch
 point_noted heard counted floor stamp watch =
     record watch { silent = silent_then heard watch.silent; run = run_then counted floor.0 stamp watch.run }
@@ -64,11 +67,12 @@ abbrev pub zone_tested : Bool → Tick → ZoneWatch → ZoneWatch
 zone_tested on at watch =
     record watch { test = switch_after on at watch.test; moved = last_if on at watch.moved }
 
+-- a zone after an answer of one of its points, which may make a pair or not
 abbrev pub zone_noted : Bool → ℕ → Tick → ZoneWatch → ZoneWatch
 zone_noted pairs point stamp watch =
     if pairs then record watch { recent = noted point stamp watch.recent } else watch
 
--- what is kept at the start
+-- a switch, a point and a zone as they are kept at the start
 abbrev pub switch_begun : Bool → Switch
 switch_begun value = record { was = value; now = value; since = record { 0 = 0 } }
 
@@ -95,7 +99,7 @@ zone_begun zone off test =
       recent = record { latest = None; other = None };
     }
 
--- by what is retained
+-- a point and a zone as they are kept at the start, with what is retained of them
 abbrev pub point_from : Retained → PointPlan → PointWatch
 point_from kept point = point_begun point (kept_point kept (Some point))
 

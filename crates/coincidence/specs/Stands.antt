@@ -14,6 +14,7 @@ use Rattle.site_types.specs.declared.operation.Operation.{Operation}
 use Rattle.site_types.specs.declared.operation.Operation.TheVariants.{Reset, Disable, Enable, Test}
 use Rattle.site_types.specs.Done.{Done, Setting, PointOff, ZoneOff, InTest, is_on, in_force, floor_before, cancels}
 use Rattle.site_types.specs.Done.{AreBy}
+use Rattle.site_types.specs.Profile.{missing_askings}
 use Rattle.coincidence_rules.specs.Applied.{TellsLast}
 use Rattle.coincidence_rules.specs.Counted.{is_counted}
 use Rattle.coincidence_rules.specs.Missing.{latest_of, begins_silent}
@@ -26,6 +27,7 @@ use Rattle.coincidence_rules.specs.Kept.{latest_besides, run_of, may_pair}
 use Rattle.coincidence_rules.specs.Wired.{IsWired}
 use Rattle.coincidence.specs.Premises.{IsOwn, MayTake, MayApply}
 
+-- the operation is a reset
 abbrev pub is_reset : Operation → Bool
 is_reset Reset = true
 is_reset _ = false
@@ -34,6 +36,7 @@ is_reset _ = false
 abbrev pub resets : ℕ → Done → Bool
 resets panel d = is_reset d.operation && (d.panel == panel)
 
+-- the operation disables the zone or begins its test
 abbrev pub is_move : ℕ → Operation → Bool
 is_move zone (Disable (Zone other)) = other == zone
 is_move zone (Test other) = other == zone
@@ -54,16 +57,18 @@ pub record TellsSetting (site : Site) (kept : Retained) (setting : Setting) (don
   pub at : (x : ℕ) → switch.since.0 ≤ x → in_force site kept setting x done ≡ switch_at x switch
   pub since : switch.since.0 ≡ set_in setting done
 
+-- what is kept of a point tells of the operations done and the answers taken
 pub record WatchesPoint (site : Site) (kept : Retained) (done : List Done) (taken : List Answer) (place :
     ℕ) (point : PointPlan) (watch : PointWatch) : Type 0 where
   pub zone : watch.zone ≡ point.zone
   pub manual : watch.manual ≡ point.manual
   pub off : TellsSetting site kept (PointOff place) done watch.off
-  pub silent : (n : ℕ) → n ≤ 3 → begins_silent n (latest_of place taken) ≡ nat_le n watch.silent
-  pub few : watch.silent ≤ 3
+  pub silent : (n : ℕ) → n ≤ missing_askings → begins_silent n (latest_of place taken) ≡ nat_le n watch.silent
+  pub few : watch.silent ≤ missing_askings
   pub run : watch.run ≡ run_of (is_counted site kept done) (λ x. floor_before site point.zone x done) place
       None taken
 
+-- what is kept of a zone tells of them
 pub record WatchesZone (site : Site) (kept : Retained) (done : List Done) (taken : List Answer) (place :
     ℕ) (zone : ZonePlan) (watch : ZoneWatch) : Type 0 where
   pub number : watch.number ≡ zone.number
@@ -76,6 +81,7 @@ pub record WatchesZone (site : Site) (kept : Retained) (done : List Done) (taken
   pub recent : (point : ℕ)
       → besides point watch.recent ≡ latest_besides (may_pair site kept done place zone.rule) point None taken
 
+-- the part stands for the operations done and the answers taken
 pub record DecidesFor (site : Site) (kept : Retained) (panel : ℕ) (done : List Done) (taken : List Answer)
     (decide : Decide) : Type 0 where
   pub wired : IsWired site
@@ -101,52 +107,53 @@ pub record Fits (site : Site) (panel : ℕ) (done : List Done) (taken : List Ans
   pub since : AreBy answer.stamp.0 done
   pub late : (k : ℕ) (other : Answer) → slice_get taken k ≡ Some other → other.stamp.0 ≤ answer.stamp.0
 
--- the part stands for something with which the answer fits
-pub record CanSee (decide : Decide) (answer : Answer) : Type 0 where
+-- the part stands for something of which a relation holds
+pub record StandsWith (decide : Decide) (Holds : Site → Retained → ℕ → List Done → List Answer → Type 0) :
+    Type 0 where
   pub site : Site
   pub kept : Retained
   pub panel : ℕ
   pub done : List Done
   pub taken : List Answer
   pub stands : DecidesFor site kept panel done taken decide
-  pub fits : Fits site panel done taken answer
+  pub may : Holds site kept panel done taken
+
+-- it stands for something with which the answer fits
+abbrev pub CanObserve : Decide → Answer → Type 0
+CanObserve decide answer =
+    StandsWith decide (λ site kept panel done taken. Fits site panel done taken answer)
+
+-- for something after which the answers may be taken
+abbrev pub CanTake : Decide → List Answer → Type 0
+CanTake decide answers =
+    StandsWith decide (λ site kept panel done taken. MayTake site panel done taken answers)
+
+-- for something after which the operation may be applied in a tick
+abbrev pub CanApply : Decide → Operation → ℕ → Type 0
+CanApply decide operation tick =
+    StandsWith decide (λ site kept panel done taken. MayApply site panel done taken operation tick)
 
 -- what a turn takes of a lane
 abbrev pub taken_by : LaneState Answer → List Answer
 taken_by lane = take (turn_count lane) lane.items
 
-pub record CanTake (decide : Decide) (answers : List Answer) : Type 0 where
-  pub site : Site
-  pub kept : Retained
-  pub panel : ℕ
-  pub done : List Done
-  pub taken : List Answer
-  pub stands : DecidesFor site kept panel done taken decide
-  pub may : MayTake site panel done taken answers
-
+-- the zone is of the panel
 pub record IsOwnZone (site : Site) (panel place : ℕ) : Type 0 where
   pub zone : ZonePlan
   pub is : slice_get site.zones place ≡ Some zone
   pub at : zone.panel ≡ panel
 
+-- a thing is disabled or enabled
 abbrev pub off_operation : Bool → Item → Operation
 off_operation true item = Disable item
 off_operation false item = Enable item
-
-pub record CanApply (decide : Decide) (operation : Operation) (tick : ℕ) : Type 0 where
-  pub site : Site
-  pub kept : Retained
-  pub panel : ℕ
-  pub done : List Done
-  pub taken : List Answer
-  pub stands : DecidesFor site kept panel done taken decide
-  pub may : MayApply site panel done taken operation tick
 
 -- a partner, if there is one, is one of so many zones
 abbrev pub IsPlaceIn : Option ℕ → ℕ → Type 0
 IsPlaceIn None count = Unit {0}
 IsPlaceIn (Some place) count = place < count
 
+-- a partner, if there is one, is a zone of the panel
 abbrev pub IsOwnPartner : Site → ℕ → Option ℕ → Type 0
 IsOwnPartner site panel None = Unit {0}
 IsOwnPartner site panel (Some place) = IsOwnZone site panel place

@@ -2,11 +2,12 @@ ghost use Rattle.std.specs.Prelude.{◌≡◌, ◌<◌, ◌≤◌, [], ◌∷◌
 ghost use Rattle.site_types.specs.Valid.{IsValid};
 ghost use Rattle.tick_units.specs.Lane.{HasRoom, after_turn};
 
-use crate::beside::Beside;
 use crate::bits::two_bits;
+use crate::judgement::Judgement;
+use crate::observation::Observation;
+use crate::partner_finding::PartnerFinding;
 use crate::point_watch::PointWatch;
 use crate::rules::{after, counts_unless, is_on, may_pair};
-use crate::sight::Sight;
 use crate::watches::{watch_points, watch_zones};
 use crate::zone_watch::ZoneWatch;
 use arrayvec::ArrayVec;
@@ -33,10 +34,10 @@ pub struct Decide {
 
 impl Decide {
     ghost use Rattle.coincidence_rules.specs.Counted.{is_alarm};
-    ghost use Rattle.coincidence.specs.Changes.{AppliesOperation, FindsNext, PutsFindings, TakesAnswers};
-    ghost use Rattle.coincidence.specs.Observed.{FindsLast, SeesAnswer, TellsBeside, TellsCounted, TellsFar};
-    ghost use Rattle.coincidence.specs.Observed.{TellsFloor, TellsSecond};
-    ghost use Rattle.coincidence.specs.Stands.{DecidesFor, IsPlaceIn, CanSee, CanTake, taken_by, CanApply};
+    ghost use Rattle.coincidence.specs.Changes.{AppliesOperation, FindsNext, PutsFindings, TakesAnswers, TakesJudged};
+    ghost use Rattle.coincidence.specs.Queries.{FindsJudged, FindsLast, ObservesJudged, TellsCounted, TellsFloor};
+    ghost use Rattle.coincidence.specs.Queries.{TellsJudgement, TellsPartnerFinding, TellsPartnerSecond, TellsSecond};
+    ghost use Rattle.coincidence.specs.Stands.{DecidesFor, IsPlaceIn, CanObserve, CanTake, taken_by, CanApply};
     ghost use Rattle.coincidence.specs.Stands.{off_operation};
 
     /// Begins with what is kept of a panel's site.
@@ -112,22 +113,16 @@ impl Decide {
         ensures taken { TakesAnswers self.old (answer.now ∷ []) self.new }
         ensures found { FindsNext self.old answer.now result }
     {
-        self.note(answer);
-        self.find(answer)
-    }
-
-    // Takes note of an answer.
-    fn note(&mut self, answer: &Answer)
-        requires { CanTake self.old (answer.now ∷ []) }
-        ensures { TakesAnswers self.old (answer.now ∷ []) self.new }
-    {
         match answer.heard {
-            Heard::Alarm => self.note_alarm(answer),
-            Heard::Quiet | Heard::Silent => self.note_quiet(answer),
+            Heard::Alarm => self.take_alarm(answer),
+            Heard::Quiet | Heard::Silent => {
+                self.note_quiet(answer);
+                self.quiet_finding(answer)
+            }
         }
     }
 
-    // The same of an answer that is no alarm: it ends the run of its point, and makes no pair.
+    // Takes note of an answer that is no alarm: it ends the run of its point, and makes no pair.
     fn note_quiet(&mut self, answer: &Answer)
         requires { CanTake self.old (answer.now ∷ []) }
         ensures { is_alarm answer.now.heard ≡ false
@@ -137,40 +132,9 @@ impl Decide {
         watch.note(answer.heard, false, Tick(0), answer.stamp);
     }
 
-    // The same of an alarm.
-    fn note_alarm(&mut self, answer: &Answer)
-        requires { CanTake self.old (answer.now ∷ []) }
-        ensures { TakesAnswers self.old (answer.now ∷ []) self.new }
-    {
-        let counted = self.counts(answer);
-        let place = answer.point as usize;
-        let zone = self.points[place].zone as usize;
-        let floor = self.floor_at(zone, answer.stamp);
-        let watch = &mut self.points[place];
-        watch.note(answer.heard, counted, floor, answer.stamp);
-        let manual = watch.manual;
-        let watch = &mut self.zones[zone];
-        watch.note(
-            may_pair(counted, manual, watch.rule),
-            answer.point,
-            answer.stamp,
-        );
-    }
-
-    // What an answer means, which was the last one taken.
-    fn find(&self, answer: &Answer) -> Finding
-        requires { CanSee self.now answer.now }
-        ensures { FindsLast self.now answer.now result }
-    {
-        match answer.heard {
-            Heard::Alarm => self.alarm_finding(answer),
-            Heard::Quiet | Heard::Silent => self.quiet_finding(answer),
-        }
-    }
-
-    // The same of an answer that is no alarm: it tells of no zone.
+    // What an answer means that is no alarm and was the last one taken: it tells of no zone.
     fn quiet_finding(&self, answer: &Answer) -> Finding
-        requires { CanSee self.now answer.now }
+        requires { CanObserve self.now answer.now }
         ensures { is_alarm answer.now.heard ≡ false → FindsLast self.now answer.now result }
     {
         let point = &self.points[answer.point as usize];
@@ -185,63 +149,106 @@ impl Decide {
         }
     }
 
-    // The same of an alarm.
-    fn alarm_finding(&self, answer: &Answer) -> Finding
-        requires { CanSee self.now answer.now }
-        ensures { FindsLast self.now answer.now result }
+    // Takes an alarm.
+    fn take_alarm(&mut self, answer: &Answer) -> Finding
+        requires { CanTake self.old (answer.now ∷ []) }
+        ensures taken { TakesAnswers self.old (answer.now ∷ []) self.new }
+        ensures found { FindsNext self.old answer.now result }
     {
-        let sight = self.sight(answer);
+        let judgement = self.judge(answer);
+        self.note_alarm(answer, &judgement);
+        self.alarm_finding(answer, &judgement)
+    }
+
+    // What the operations done before an answer say of it.
+    fn judge(&self, answer: &Answer) -> Judgement
+        requires { CanObserve self.now answer.now }
+        ensures { TellsJudgement self.now answer.now result }
+    {
+        let zone = self.points[answer.point as usize].zone as usize;
+        Judgement {
+            counted: self.counts(answer),
+            floor: self.floor_at(zone, answer.stamp),
+        }
+    }
+
+    // Takes note of an alarm of which this is said.
+    fn note_alarm(&mut self, answer: &Answer, judgement: &Judgement)
+        requires { CanTake self.old (answer.now ∷ []) }
+        ensures { TakesJudged self.old answer.now judgement.now self.new }
+    {
+        let watch = &mut self.points[answer.point as usize];
+        let zone = watch.zone as usize;
+        let manual = watch.manual;
+        watch.note(
+            answer.heard,
+            judgement.counted,
+            judgement.floor,
+            answer.stamp,
+        );
+        let watch = &mut self.zones[zone];
+        watch.note(
+            may_pair(judgement.counted, manual, watch.rule),
+            answer.point,
+            answer.stamp,
+        );
+    }
+
+    // What an alarm means of which this is said and which was the last answer taken.
+    fn alarm_finding(&self, answer: &Answer, judgement: &Judgement) -> Finding
+        requires { CanObserve self.now answer.now }
+        ensures { FindsJudged self.now answer.now judgement.now result }
+    {
+        let observation = self.observe(answer, judgement);
         let point = &self.points[answer.point as usize];
         let zone = &self.zones[point.zone as usize];
-        let beside = self.beside(zone, &sight);
+        let partner_finding = self.partner_finding(zone, &observation);
         let number = zone.number;
         Finding {
             stamp: answer.stamp,
             point: answer.point,
-            counted: two_bits(number, sight.counted, number, false),
+            counted: two_bits(number, observation.counted, number, false),
             confirmed: two_bits(
                 number,
-                sight.confirms_own(zone.rule),
-                beside.number,
-                beside.confirmed,
+                observation.confirms_own(zone.rule),
+                partner_finding.number,
+                partner_finding.confirmed,
             ),
-            manual: two_bits(number, sight.calls(), number, false),
+            manual: two_bits(number, observation.calls(), number, false),
             released: two_bits(
                 number,
-                sight.releases_own(zone.rule),
-                beside.number,
-                beside.released,
+                observation.releases_own(zone.rule),
+                partner_finding.number,
+                partner_finding.released,
             ),
             missing: point.is_missing(),
         }
     }
 
-    // All that is seen of an answer.
-    fn sight(&self, answer: &Answer) -> Sight
-        requires { CanSee self.now answer.now }
-        ensures { SeesAnswer self.now answer.now result }
+    // All by which an answer is found to confirm or release a zone.
+    fn observe(&self, answer: &Answer, judgement: &Judgement) -> Observation
+        requires { CanObserve self.now answer.now }
+        ensures { ObservesJudged self.now answer.now judgement.now result }
     {
         let point = &self.points[answer.point as usize];
         let place = point.zone as usize;
         let partner = self.zones[place].partner;
-        let counted = self.counts(answer);
-        let floor = self.floor_at(place, answer.stamp);
-        let near = self.second(place, answer);
-        let far = self.far(partner, answer);
-        Sight {
+        let own_second = self.second(place, judgement.floor, answer);
+        let partner_second = self.partner_second(partner, answer);
+        Observation {
             stamp: answer.stamp,
-            counted,
+            counted: judgement.counted,
             manual: point.manual,
             run: point.run,
-            floor,
-            near,
-            far,
+            floor: judgement.floor,
+            own_second,
+            partner_second,
         }
     }
 
     // Whether an answer counts.
     fn counts(&self, answer: &Answer) -> bool
-        requires { CanSee self.now answer.now }
+        requires { CanObserve self.now answer.now }
         ensures { TellsCounted self.now answer.now result }
     {
         if !matches!(answer.heard, Heard::Alarm) {
@@ -268,12 +275,11 @@ impl Decide {
         )
     }
 
-    // The latest answer of another point of a zone that makes a pair with this one.
-    fn second(&self, zone: usize, answer: &Answer) -> Option<Tick>
+    // The latest answer of another point of a zone with this floor that makes a pair with this one.
+    fn second(&self, zone: usize, floor: Tick, answer: &Answer) -> Option<Tick>
         requires { zone < length self.now.zones.items }
-        ensures { TellsSecond self.now zone answer.now result }
+        ensures { TellsSecond self.now zone floor.0 answer.now result }
     {
-        let floor = self.floor_at(zone, answer.stamp);
         let watch = &self.zones[zone];
         after(
             watch.bar(floor, answer.stamp),
@@ -281,34 +287,37 @@ impl Decide {
         )
     }
 
-    // The same for the partner of a zone.
-    fn far(&self, partner: Option<u16>, answer: &Answer) -> Option<Tick>
+    // The latest answer of a point of a zone's partner, where it has one, that makes a pair with this one.
+    fn partner_second(&self, partner: Option<u16>, answer: &Answer) -> Option<Tick>
         requires { IsPlaceIn partner (length self.now.zones.items) }
-        ensures { TellsFar self.now partner answer.now result }
+        ensures { TellsPartnerSecond self.now partner answer.now result }
     {
         match partner {
             None => None,
-            Some(other) => self.second(other as usize, answer),
+            Some(other) => {
+                let floor = self.floor_at(other as usize, answer.stamp);
+                self.second(other as usize, floor, answer)
+            }
         }
     }
 
     // What an answer means for the partner of its zone.
-    fn beside(&self, zone: &ZoneWatch, sight: &Sight) -> Beside
+    fn partner_finding(&self, zone: &ZoneWatch, observation: &Observation) -> PartnerFinding
         requires { IsPlaceIn zone.now.partner (length self.now.zones.items) }
-        ensures { TellsBeside self.now zone.now sight.now result }
+        ensures { TellsPartnerFinding self.now zone.now observation.now result }
     {
         match zone.partner {
-            None => Beside {
+            None => PartnerFinding {
                 number: zone.number,
                 confirmed: false,
                 released: false,
             },
             Some(other) => {
                 let partner = &self.zones[other as usize];
-                Beside {
+                PartnerFinding {
                     number: partner.number,
-                    confirmed: sight.confirms_partner(partner.rule),
-                    released: sight.releases_partner(partner.rule),
+                    confirmed: observation.confirms_partner(partner.rule),
+                    released: observation.releases_partner(partner.rule),
                 }
             }
         }

@@ -19,13 +19,15 @@
 //! each answer, whatever the site, and takes no memory; only [`Decide::new`] does.
 #![tactic(auto)]
 
-mod beside;
 mod bits;
 mod decide;
+mod judgement;
+mod observation;
+mod partner_finding;
+mod point_stamp;
 mod point_watch;
 mod recent;
 mod rules;
-mod sight;
 mod watches;
 mod zone_watch;
 

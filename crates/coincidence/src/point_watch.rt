@@ -1,12 +1,12 @@
 ghost use Rattle.std.specs.Prelude.{◌≡◌, ◌≤◌};
 ghost use Rattle.coincidence.specs.Parts.{point_begun, point_noted, switch_after};
-ghost use Rattle.coincidence_rules.specs.Counted.{is_silent};
+ghost use Rattle.site_types.specs.Profile.{missing_askings};
 
 use site_types::{Heard, Point};
 use tick_units::{Switch, Tick};
 
-/// How many silent answers make a point missing.
-pub const SILENT_ASKINGS: u8 = 3;
+/// Silent askings in a row that make a point missing: `missing_askings` of the profile.
+pub const MISSING_ASKINGS: u8 = 3;
 
 /// What is kept of a point.
 #[derive(Clone, Copy)]
@@ -16,7 +16,7 @@ pub struct PointWatch {
     pub manual: bool,
     /// Whether it is disabled.
     pub off: Switch,
-    /// How many of its last answers were silent, at most `SILENT_ASKINGS`.
+    /// How many of its last answers were silent, at most `MISSING_ASKINGS`.
     pub silent: u8,
     /// The stamp at which its answers began to count without a break and without a floor.
     pub run: Option<Tick>,
@@ -45,9 +45,9 @@ impl PointWatch {
     }
 
     pub fn is_missing(&self) -> bool
-        ensures { result ≡ nat_le 3 self.now.silent }
+        ensures { result ≡ nat_le missing_askings self.now.silent }
     {
-        self.silent >= SILENT_ASKINGS
+        self.silent >= MISSING_ASKINGS
     }
 
     pub fn set_off(&mut self, off: bool, at: Tick)
@@ -66,7 +66,7 @@ fn silent_after(silent: u8, heard: Heard) -> u8
     ensures { result ≡ silent_then heard silent }
 {
     match heard {
-        Heard::Silent => if silent < SILENT_ASKINGS {
+        Heard::Silent => if silent < MISSING_ASKINGS {
             silent + 1
         } else {
             silent

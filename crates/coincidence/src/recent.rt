@@ -1,20 +1,14 @@
 ghost use Rattle.std.specs.Prelude.{◌≡◌};
 ghost use Rattle.coincidence.specs.Parts.{besides, noted};
 
+use crate::point_stamp::PointStamp;
 use tick_units::Tick;
-
-/// A point and the stamp of an answer of it.
-#[derive(Clone, Copy)]
-pub struct Sighting {
-    pub point: u16,
-    pub stamp: Tick,
-}
 
 /// The latest answer that counted, and the latest one of another point than that one's.
 #[derive(Clone, Copy)]
 pub struct Recent {
-    latest: Option<Sighting>,
-    other: Option<Sighting>,
+    latest: Option<PointStamp>,
+    other: Option<PointStamp>,
 }
 
 impl Recent {
@@ -36,7 +30,7 @@ impl Recent {
                 self.other = self.latest;
             }
         }
-        self.latest = Some(Sighting { point, stamp });
+        self.latest = Some(PointStamp { point, stamp });
     }
 
     /// The stamp of the latest answer of another point than this one.

@@ -13,7 +13,7 @@ use Rattle.coincidence_rules.specs.Places.{is_of, is_detector, partner_of, on_zo
 use Rattle.coincidence_rules.specs.Counted.{is_counted}
 use Rattle.coincidence_rules.specs.Confirmed.{is_second, is_near, is_uncancelled}
 use Rattle.coincidence_rules.specs.InOrder.{AreInOrder}
-use Rattle.coincidence_rules.proofs.Lists.{and_both, both_and, or_either, or_left, or_right, any_place, place_any, take_get}
+use Rattle.coincidence_rules.proofs.Lists.{order_of, and_both, both_and, or_either, or_left, or_right, any_place, place_any, take_get}
 
 -- some answer passes a test with those taken up to it, itself the last
 abbrev pub any_found : (List Answer → Answer → Bool) → List Answer → List Answer → Bool
@@ -148,13 +148,6 @@ module _ (site : Site) (kept : Retained) (done : List Done) where
     pub linked : links one other
     pub of_one : is_of site one answer.point ≡ true
     pub has_other : list_any (test other answer) (take (suc place) answers) ≡ true
-
-  order_of : (j k : ℕ) → (j ≤ k) ⊎ (k < j)
-  order_of j k = either (nat_le j k) refl
-    where
-      either : (b : Bool) → nat_le j k ≡ b → (j ≤ k) ⊎ (k < j)
-      either true e = inl (grind (arith, nat_tests, e))
-      either false e = inr (grind (arith, nat_tests, e))
 
   pub paired : (fits : Answer → Bool) (test : ℕ → Answer → Answer → Bool) (links : ℕ → ℕ → Type 0) → ((x y : ℕ) → links x y → links y x)
       → (answers : List Answer) (k : ℕ) (a : Answer) → IsPairing fits test → AreInOrder answers

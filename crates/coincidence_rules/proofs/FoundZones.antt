@@ -17,7 +17,7 @@ use Rattle.coincidence_rules.specs.Counted.{is_counted}
 use Rattle.coincidence_rules.specs.Confirmed.{is_second, is_near, is_uncancelled, is_between, is_first_of_run, counts_throughout, is_verified, coincides, is_by_call_point, confirms}
 use Rattle.coincidence_rules.specs.Alarm.{calls, has_second, releases_by, releases}
 use Rattle.coincidence_rules.specs.InOrder.{AreInOrder}
-use Rattle.coincidence_rules.proofs.Lists.{and_both, both_and, or_either, or_left, or_right, same_test, any_place, place_any, all_place, place_all, get_take, take_get}
+use Rattle.coincidence_rules.proofs.Lists.{order_of, and_both, both_and, or_either, or_left, or_right, same_test, any_place, place_any, all_place, place_all, get_take, take_get}
 use Rattle.coincidence_rules.proofs.Found.{passes_from, from_passes, AreLinked, turned_link, pair_from, from_link}
 use Rattle.coincidence_rules.proofs.Found.{Paired, paired, pairing_second, pairing_near, pairing_uncancelled}
 use Rattle.coincidence_rules.proofs.Found.{detected, any_found}
@@ -51,13 +51,6 @@ found_is test answers stamps by' =
     (record { place = f.place; answer = f.answer; is = f.is; passes = both_and _ _ (subst (λ s. stamps s ≡ true) (sym f.at) both.0) f.passes }))
 
 module _ (site : Site) (kept : Retained) (done : List Done) (answers : List Answer) (order : AreInOrder answers) (zone : ℕ) where
-  order_of : (j k : ℕ) → (j ≤ k) ⊎ (k < j)
-  order_of j k = either (nat_le j k) refl
-    where
-      either : (b : Bool) → nat_le j k ≡ b → (j ≤ k) ⊎ (k < j)
-      either true e = inl (grind (arith, nat_tests, e))
-      either false e = inr (grind (arith, nat_tests, e))
-
   le_is : (a b : ℕ) → nat_le a b ≡ true → a ≤ b
   le_is a b h = grind (arith, nat_tests)
 

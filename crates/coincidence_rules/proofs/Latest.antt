@@ -31,11 +31,12 @@ abbrev pub on_stamp : (Tick → Bool) → Option Tick → Bool
 on_stamp test None = false
 on_stamp test (Some stamp) = test stamp
 
-abbrev IsBy : Option Tick → ℕ → Type 0
+-- a stamp, if there is one, is not after this
+abbrev pub IsBy : Option Tick → ℕ → Type 0
 IsBy None from = Unit {0}
 IsBy (Some first) from = first.0 ≤ from
 
-by_later : (o : Option Tick) (from stamp : ℕ) → from ≤ stamp → IsBy o from → IsBy o stamp
+pub by_later : (o : Option Tick) (from stamp : ℕ) → from ≤ stamp → IsBy o from → IsBy o stamp
 by_later None from stamp le h = tt
 by_later (Some first) from stamp le h = omega (arith, le, h)
 

@@ -1,5 +1,7 @@
 -- Tests over lists, and what stands at a place.
-use Rattle.std.proofs.Common.{◌≡◌, ◌⊎◌, inl, inr, ℕ, zero, suc, ◌+◌, ◌<◌, Bool, true, false, List, [], ◌∷◌, ◌++◌, length, take, Some, slice_get, ◌&&◌, ◌||◌, refl, sym, ◌∙◌, ap, subst, arith, zero-add}
+use Rattle.std.proofs.Common.{◌≡◌, ◌⊎◌, inl, inr, ℕ, zero, suc, ◌+◌, ◌<◌, ◌≤◌, Bool, true, false, List, []}
+use Rattle.std.proofs.Common.{◌≢◌, ⊎_elim, set, ◌∷◌, ◌++◌, length, take, Some, slice_get, ◌&&◌, ◌||◌, nat_le, refl, sym, ◌∙◌, ap, subst, arith, zero-add}
+use Rattle.std.proofs.lemmas.Bool.Decides.{nat_tests}
 use Rattle.std.specs.List.{list_any, list_all}
 
 pub and_both : (a b : Bool) → (a && b) ≡ true → (a ≡ true) × (b ≡ true)
@@ -35,6 +37,14 @@ and_true false b h = refl
 pub or_false : (a b : Bool) → b ≡ false → (a || b) ≡ a
 or_false true b h = refl
 or_false false b h = h
+
+-- one of two places is not after the other, or the other is before it
+pub order_of : (j k : ℕ) → (j ≤ k) ⊎ (k < j)
+order_of j k = either (nat_le j k) refl
+  where
+    either : (b : Bool) → nat_le j k ≡ b → (j ≤ k) ⊎ (k < j)
+    either true e = inl (grind (arith, nat_tests, e))
+    either false e = inr (grind (arith, nat_tests, e))
 
 -- two tests that hold alike are one
 pub same_test : (a b : Bool) → (a ≡ true → b ≡ true) → (b ≡ true → a ≡ true) → a ≡ b
@@ -132,3 +142,15 @@ module _ {X : Type 0} where
   take_get zero j (y ∷ ys) x less h = absurd (omega (arith, less))
   take_get (suc k) zero (y ∷ ys) x less h = h
   take_get (suc k) (suc j) (y ∷ ys) x less h = take_get k j ys x (omega (arith, less)) h
+
+-- what stands at a place after a write
+pub get_set : {X : Type 0} (xs : List X) (i k : ℕ) (v w : X) → slice_get (set xs i v) k ≡ Some w
+    → ((k ≡ i) × (v ≡ w)) ⊎ ((k ≢ i) × (slice_get xs k ≡ Some w))
+get_set [] i k v w h = absurd (cc)
+get_set (x ∷ xs) zero zero v w h = inl (refl, cc)
+get_set (x ∷ xs) zero (suc k) v w h = inr (omega arith, h)
+get_set (x ∷ xs) (suc i) zero v w h = inr (omega arith, h)
+get_set (x ∷ xs) (suc i) (suc k) v w h = ⊎_elim (λ a. inl (ap suc a.0, a.1)) (λ b. inr (λ e. b.0 (pred_same e), b.1)) (get_set xs i k v w h)
+  where
+    pred_same : suc k ≡ suc i → k ≡ i
+    pred_same e = omega (arith, e)

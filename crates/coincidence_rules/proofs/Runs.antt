@@ -5,7 +5,7 @@ use Rattle.tick_units.specs.declared.tick.Tick.{Tick}
 use Rattle.site_types.specs.declared.answer.Answer.{Answer}
 use Rattle.site_types.proofs.Done.{lt_tells}
 use Rattle.coincidence_rules.specs.Kept.{run_then, run_of, is_long}
-use Rattle.coincidence_rules.proofs.Latest.{AreOrdered, ordered_last}
+use Rattle.coincidence_rules.proofs.Latest.{AreOrdered, IsBy, by_later, ordered_last}
 
 -- a floor by stamps: it rises, and one that is seen at a later stamp alone lies at or after the earlier one
 pub record IsFloor (floor : ℕ → ℕ) : Type 0 where
@@ -43,14 +43,6 @@ module _ (counted : Answer → Bool) (floor : ℕ → ℕ) (is_floor : IsFloor f
 
   long_not : (first stamp : ℕ) → stamp ≤ last → first ≤ floor stamp → is_long_at first ≡ false
   long_not first stamp within before = let up = is_floor.up stamp last within in grind (arith, nat_tests, within, before, up)
-
-  abbrev IsBy : Option Tick → ℕ → Type 0
-  IsBy None from = Unit {0}
-  IsBy (Some first) from = first.0 ≤ from
-
-  by_later : (o : Option Tick) (from stamp : ℕ) → from ≤ stamp → IsBy o from → IsBy o stamp
-  by_later None from stamp le h = tt
-  by_later (Some first) from stamp le h = omega (arith, le, h)
 
   goes_on : (l y a n : Bool) → (a ≡ true → y ≡ true) → ((l && y) || ((a && l) || n)) ≡ ((l && y) || n)
   goes_on true true a n h = refl

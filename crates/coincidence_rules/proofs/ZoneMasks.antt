@@ -1,7 +1,7 @@
 -- The bits of a mask of zones are the tests of the zones with their numbers.
 use Rattle.std.proofs.Common.{◌≡◌, ℕ, ◌+◌, ◌-◌, ◌<◌, ◌^◌, Bool, true, false, List, [], ◌∷◌, length, Some, None, slice_get, get_or, ◌==◌, nat_lt, refl, ◌∙◌, ap, subst, cond, arith}
 use Rattle.std.specs.List.{position, position_or_len}
-use Rattle.std.proofs.lemmas.Bool.{eqb-true}
+use Rattle.std.proofs.lemmas.Bool.{eqb-true, eq-eqb}
 use Rattle.std.proofs.lemmas.Bool.Decides.{nat_tests}
 use Rattle.std.proofs.lemmas.Option.{slice_get-get_or, get_or_from_slice_get}
 use Rattle.std.proofs.lemmas.List.Sums.{position_or_len_is}
@@ -24,9 +24,6 @@ pub zones_from_bits : (site : Site) (panel : ℕ) (test : ℕ → Bool) (mask : 
 unfolding zones_where
 zones_from_bits site panel test mask below same = mask_from_bits 32 mask (λ j. on_zone test (numbered site panel (j + 1))) below same
 
-eq_true : (a b : ℕ) → a ≡ b → (a == b) ≡ true
-eq_true a b h = grind (arith, nat_tests)
-
 -- a zone is found by its number
 pub numbered_of : (site : Site) (place : ℕ) (zone : Zone) → IsWired site → slice_get site.zones place ≡ Some zone
     → numbered site zone.panel zone.number ≡ Some place
@@ -43,8 +40,8 @@ numbered_of site place zone wired is = found (position_or_len test site.zones) f
 
     passes : test (get_or site.zones place zone) ≡ true
     passes =
-        ap test here ∙ both_and (zone.panel == zone.panel) (zone.number == zone.number) (eq_true zone.panel zone.panel refl)
-        (eq_true zone.number zone.number refl)
+        ap test here ∙ both_and (zone.panel == zone.panel) (zone.number == zone.number) (eq-eqb zone.panel zone.panel refl)
+        (eq-eqb zone.number zone.number refl)
 
     only : (k : ℕ) → k < place → (b : Bool) → test (get_or site.zones k zone) ≡ b → b ≡ false
     only k less false e = refl

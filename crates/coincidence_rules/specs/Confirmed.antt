@@ -21,13 +21,13 @@ is_second site kept done zone answer other =
     && (nat_lt (floor_before site zone answer.stamp.0 done) other.stamp.0
     && nat_le other.stamp.0 answer.stamp.0)
 
--- the same of a detector, at most so many ticks before
+-- the other answer is such a second one, of a detector, at most so many ticks before
 abbrev pub is_near : Site → Retained → List Done → ℕ → ℕ → Answer → Answer → Bool
 is_near site kept done within zone answer other =
     (is_second site kept done zone answer other && is_detector site other.point)
     && nat_le answer.stamp.0 (other.stamp.0 + within)
 
--- the same, and after each cancelling of the zone that came before the answer
+-- it is one that also lies after each cancelling of the zone that came before the answer
 abbrev pub is_uncancelled : Site → Retained → List Done → ℕ → ℕ → Answer → Answer → Bool
 is_uncancelled site kept done within zone answer other =
     is_near site kept done within zone answer other
@@ -70,7 +70,7 @@ coincides site kept done answers zone (Some (A verify within)) answer =
     && (is_verified site kept done answers verify zone answer
     || list_any (is_near site kept done within zone answer) answers)
 coincides site kept done answers zone (Some (B within)) answer =
-    pairs_up site zone answer.point (λ near. list_any (is_uncancelled site kept done within near answer)
+    pairs_up site zone answer.point (λ other. list_any (is_uncancelled site kept done within other answer)
     answers)
 coincides site kept done answers zone (Some C) answer = is_of site zone answer.point
 

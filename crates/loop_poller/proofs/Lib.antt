@@ -1,6 +1,9 @@
+-- which addresses are asked in a tick, and the places of their answers
 pub mod Windows
-pub mod Lanes
 pub mod Positions
-pub mod Lines
-pub mod Filling
 pub mod Places
+-- a loop: its points as they are found, and what it has in a valid site
+pub mod Filling
+pub mod Lines
+-- what a turn puts into the lane
+pub mod Lanes

@@ -17,10 +17,10 @@ use Rattle.coincidence_rules.proofs.ZoneMasks.{of_numbered}
 use Rattle.panel_conditions.specs.declared.outside.Outside.{Outside}
 use Rattle.panel_conditions.specs.Answered.{answered_word, answered_faults}
 use Rattle.panel_conditions.specs.Missing.{is_off}
-use Rattle.panel_conditions.specs.Words.{word_at, faults_at}
+use Rattle.panel_conditions.specs.Words.{with_missing, word_at, faults_at}
 use Rattle.panel_conditions.specs.Zones.{alarm_found, hand_found, release_found, first_found}
 use Rattle.panel_conditions.proofs.Tells.{alarm_tells, hand_tells, release_tells, first_state_tells, missing_tells}
-use Rattle.panel_conditions.proofs.Yet.{points_same, same_words}
+use Rattle.panel_conditions.proofs.BeforeOperation.{points_same, same_words}
 
 -- two tests that agree on a panel's zones make one mask
 own_same : (site : Site) (panel : ℕ) (p q : ℕ → Bool) → ((place : ℕ) (zone : Zone) → slice_get site.zones place ≡ Some zone → zone.panel ≡ panel
@@ -66,12 +66,4 @@ word_by_answers site kept panel tick done answers fault wired order =
 pub faults_by_answers : (site : Site) (kept : Retained) (panel tick : ℕ) (done : List Done) (answers : List Answer) (outside : Outside) →
     faults_at site kept panel done (findings_of site kept panel done answers) tick outside ≡ answered_faults site kept panel done answers tick outside
 faults_by_answers site kept panel tick done answers outside =
-    ap (λ m. record {
-      missing = m;
-      broken = outside.broken;
-      shorted = outside.shorted;
-      supply = outside.supply;
-      silent = outside.silent;
-      links = outside.links;
-      unconfirmed = outside.unconfirmed;
-    }) (points_same site panel _ _ (λ place. ap (λ b. b && not (is_off site kept done place tick)) (missing_tells site kept panel place done answers)))
+    ap (λ m. with_missing m outside) (points_same site panel _ _ (λ place. ap (λ b. b && not (is_off site kept done place tick)) (missing_tells site kept panel place done answers)))

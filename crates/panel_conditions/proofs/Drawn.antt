@@ -86,19 +86,19 @@ sign_of First tick k watches signs small e =
 
 -- the mask of a sign, where the zones to look at are drawn anew
 pub drawn_is : (tick now : ℕ) (zones : Zones) (sign : Sign) → Settled tick zones → tick ≤ now →
-    mask_of 32 (λ k. if has_bit (bit_or zones.stirred zones.signs.first) k then watch_shows sign now (slice_get zones.watches.items k) else has_bit
+    mask_of 32 (λ k. if has_bit (bit_or zones.changed zones.signs.first) k then watch_shows sign now (slice_get zones.watches.items k) else has_bit
     (sign_mask sign zones.signs) k)
     ≡ sign_at sign now zones.watches.items
 drawn_is tick now zones sign h le =
-    mask_same 32 (λ k. if has_bit (bit_or zones.stirred zones.signs.first) k then watch_shows sign now (slice_get zones.watches.items k) else has_bit
+    mask_same 32 (λ k. if has_bit (bit_or zones.changed zones.signs.first) k then watch_shows sign now (slice_get zones.watches.items k) else has_bit
     (sign_mask sign zones.signs) k)
     (λ k. watch_shows sign now (slice_get zones.watches.items k))
     (λ k small.
     ap (λ b. if b then watch_shows sign now (slice_get zones.watches.items k) else has_bit (sign_mask sign zones.signs) k)
-    (has_bit-or zones.stirred zones.signs.first k)
-    ∙ one k small (has_bit zones.stirred k) (has_bit zones.signs.first k) refl refl)
+    (has_bit-or zones.changed zones.signs.first k)
+    ∙ one k small (has_bit zones.changed k) (has_bit zones.signs.first k) refl refl)
   where
-    one : (k : ℕ) → k < 32 → (s f : Bool) → has_bit zones.stirred k ≡ s → has_bit zones.signs.first k ≡ f →
+    one : (k : ℕ) → k < 32 → (s f : Bool) → has_bit zones.changed k ≡ s → has_bit zones.signs.first k ≡ f →
         (if s || f then watch_shows sign now (slice_get zones.watches.items k) else has_bit (sign_mask sign zones.signs) k)
         ≡ watch_shows sign now (slice_get zones.watches.items k)
     one k small true f es ef = refl
@@ -107,8 +107,8 @@ drawn_is tick now zones sign h le =
 
 pub settled_drawn : (tick now : ℕ) (zones after : Zones) → Settled tick zones → after.watches.items ≡ zones.watches.items → after.moved ≡ zones.moved
     → after.signs ≡ signs_at now zones.watches.items →
-    after.stirred ≡ (if nat_lt zones.moved.0 now then 0 else 2 ^ 32 - 1) → Settled now after
-settled_drawn tick now zones after h watches moved signs stirred = record {
+    after.changed ≡ (if nat_lt zones.moved.0 now then 0 else 2 ^ 32 - 1) → Settled now after
+settled_drawn tick now zones after h watches moved signs changed = record {
   moved =
       λ k watch at. subst (λ m. (watch.floor.tick.0 ≤ m.0) × (watch.cancelled.tick.0 ≤ m.0)) (sym moved)
       (h.moved k watch (subst (λ l. slice_get l k ≡ Some watch) watches at));
@@ -129,12 +129,12 @@ settled_drawn tick now zones after h watches moved signs stirred = record {
         watch_stays now x watch (omega (arith, a, less)) (omega (arith, b, less)) le sign off
 
     later : (sign : Sign) (k x : ℕ) → k < 32 → now ≤ x → ((nat_lt zones.moved.0 now ≡ true) × (zones.moved.0 < now))
-        ⊎ ((nat_lt zones.moved.0 now ≡ false) × (now ≤ zones.moved.0)) → has_bit after.stirred k ≡ false →
+        ⊎ ((nat_lt zones.moved.0 now ≡ false) × (now ≤ zones.moved.0)) → has_bit after.changed k ≡ false →
         watch_shows First now (slice_get zones.watches.items k) ≡ false → (o : Option ZoneWatch) → slice_get zones.watches.items k ≡ o
         → watch_shows sign x (slice_get zones.watches.items k) ≡ watch_shows sign now (slice_get zones.watches.items k)
     later sign k x small le (inl less) calm off o e = stays sign k x le less.1 (slice_get zones.watches.items k) refl off
     later sign k x small le (inr other) calm off o e =
-        absurd (let on = ap (λ m. has_bit m k) (stirred ∙ ap (λ b. if b then 0 else 2 ^ 32 - 1) other.0) ∙ all_bits k small in
+        absurd (let on = ap (λ m. has_bit m k) (changed ∙ ap (λ b. if b then 0 else 2 ^ 32 - 1) other.0) ∙ all_bits k small in
         let no_way : true ≡ false = sym on ∙ calm in cc)
 
 -- ---- a finding
@@ -255,14 +255,14 @@ or_left true b h = absurd (cc)
 
 pub settled_more : (tick : ℕ) (f : Finding) (before after : Zones) → AreNumbered before.watches.items
     → ((k : ℕ) → slice_get after.watches.items k ≡ option_map (zone_taken f) (slice_get before.watches.items k)) →
-    after.stirred ≡ bit_or before.stirred (told_by f) → after.signs ≡ before.signs → after.moved ≡ before.moved → Settled tick before
+    after.changed ≡ bit_or before.changed (told_by f) → after.signs ≡ before.signs → after.moved ≡ before.moved → Settled tick before
     → Settled tick after
-settled_more tick f before after numbered taken stirred signs moved h = record {
+settled_more tick f before after numbered taken changed signs moved h = record {
   moved = λ k watch at. moved_at k watch (slice_get before.watches.items k) refl (sym (taken k) ∙ at);
   held = λ sign k x small le calm first.
       let off =
-      or_left (has_bit before.stirred k) (has_bit (told_by f) k)
-      (sym (has_bit-or before.stirred (told_by f) k) ∙ ap (λ m. has_bit m k) (sym stirred) ∙ calm) in
+      or_left (has_bit before.changed k) (has_bit (told_by f) k)
+      (sym (has_bit-or before.changed (told_by f) k) ∙ ap (λ m. has_bit m k) (sym changed) ∙ calm) in
       ap (watch_shows sign x) (taken k ∙ same k off.1 (slice_get before.watches.items k) refl)
       ∙ h.held sign k x small le off.0 (ap (λ s. has_bit s.first k) (sym signs) ∙ first)
       ∙ ap (λ s. has_bit (sign_mask sign s) k) (sym signs);
@@ -290,9 +290,9 @@ last_within false at last bound a b = a
 last_within true at last bound a b = elim (lt_tells last.tick.0 at.0) [ inl less ↦ rw less.0 b | inr other ↦ rw other.0 a ]
 
 pub settled_after : (tick : ℕ) (operation : Operation) (at : Tick) (before after : Zones)
-    → after.watches.items ≡ map (zone_done operation at) before.watches.items → after.stirred ≡ 2 ^ 32 - 1 →
+    → after.watches.items ≡ map (zone_done operation at) before.watches.items → after.changed ≡ 2 ^ 32 - 1 →
     after.moved ≡ later_tick before.moved at → Settled tick before → Settled tick after
-settled_after tick operation at before after done stirred moved h = record {
+settled_after tick operation at before after done changed moved h = record {
   moved = λ k watch here.
       let w = get_map (zone_done operation at) before.watches.items k watch (subst (λ l. slice_get l k ≡ Some watch) done here) in
       let bounds = h.moved k w.0 w.1 in
@@ -304,17 +304,17 @@ settled_after tick operation at before after done stirred moved h = record {
         last_within _ at w.0.floor (later_tick before.moved at).0 (omega (arith, a, left)) (later_right before.moved at),
         last_within _ at w.0.cancelled (later_tick before.moved at).0 (omega (arith, b, left)) (later_right before.moved at),
       ));
-  held = λ sign k x small le calm first. absurd (let on = ap (λ m. has_bit m k) stirred ∙ all_bits k small in let no_way : true ≡ false =
+  held = λ sign k x small le calm first. absurd (let on = ap (λ m. has_bit m k) changed ∙ all_bits k small in let no_way : true ≡ false =
       sym on ∙ calm in cc);
 }
 
 -- at first all zones are to be looked at
-pub settled_first : (site : Site) (panel : ℕ) (zones : Zones) → zones.watches.items ≡ are_first_watches site panel 32 → zones.stirred ≡ 2 ^ 32 - 1
+pub settled_first : (site : Site) (panel : ℕ) (zones : Zones) → zones.watches.items ≡ are_first_watches site panel 32 → zones.changed ≡ 2 ^ 32 - 1
     → Settled 0 zones
-settled_first site panel zones first stirred = record {
+settled_first site panel zones first changed = record {
   moved = λ k watch here.
       subst (λ (v : ZoneWatch). (v.floor.tick.0 ≤ zones.moved.0) × (v.cancelled.tick.0 ≤ zones.moved.0))
       (sym (first_at site panel 32 k watch (subst (λ l. slice_get l k ≡ Some watch) first here))) (omega arith, omega arith);
-  held = λ sign k x small le calm none. absurd (let on = ap (λ m. has_bit m k) stirred ∙ all_bits k small in let no_way : true ≡ false =
+  held = λ sign k x small le calm none. absurd (let on = ap (λ m. has_bit m k) changed ∙ all_bits k small in let no_way : true ≡ false =
       sym on ∙ calm in cc);
 }

@@ -27,10 +27,10 @@ use Rattle.panel_conditions.specs.Stands.{HasZoneNumber, set_or_none, point_is_o
 use Rattle.site_types.specs.Changes.{HasOwnPlaces}
 use Rattle.site_types.specs.declared.zone.Zone.{Zone}
 use Rattle.site_types.specs.Done.{moves_floor, cancels, kept_point}
-use Rattle.panel_conditions.proofs.Told.{told_from}
+use Rattle.panel_conditions.proofs.PointSwitches.{told_from}
 use Rattle.coincidence_rules.proofs.LastDone.{told_never}
 use Rattle.panel_conditions.proofs.Masked.{none_past}
-use Rattle.panel_conditions.proofs.Yet.{points_same}
+use Rattle.panel_conditions.proofs.BeforeOperation.{points_same}
 use Rattle.panel_conditions.proofs.PointSets.{none_is}
 use Rattle.panel_conditions.proofs.Addressed.{neq_false, put_point}
 

@@ -17,7 +17,7 @@ use Rattle.panel_conditions.specs.Turns.{HoldTurn, findings_taken, latest_tick}
 use Rattle.panel_conditions.specs.Words.{faults_after, word_after}
 use Rattle.panel_conditions.specs.Shown.{is_news, is_in_fire_alarm, last_news, sounds, entries_after}
 use Rattle.panel_conditions.specs.Stands.{HoldsFor, Settled, Shows, ShowsThen, MayTurn, MayApply, shown_at, shown_then, newly_then}
-use Rattle.panel_conditions.proofs.Yet.{faults-yet, word-yet, news-yet, entries-yet, buzzer-yet}
+use Rattle.panel_conditions.proofs.BeforeOperation.{faults-yet, word-yet, news-yet, entries-yet, buzzer-yet}
 
 tick_if : (b : Bool) (s t : Tick) → (if b then s else t).0 ≡ (if b then s.0 else t.0)
 tick_if true s t = refl

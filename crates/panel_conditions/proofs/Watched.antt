@@ -22,19 +22,20 @@ use Rattle.coincidence_rules.specs.declared.finding.Finding.{Finding}
 use Rattle.coincidence_rules.proofs.ZoneMasks.{of_numbered}
 use Rattle.panel_conditions.specs.declared.zone_watch.ZoneWatch.{ZoneWatch}
 use Rattle.panel_conditions.specs.declared.asked.Asked.TheVariants.{OfZone}
+use Rattle.panel_conditions.specs.declared.point_switch.PointSwitch.{PointSwitch}
 use Rattle.panel_conditions.specs.declared.points.Points.{Points}
 use Rattle.tick_units.specs.declared.last_done.LastDone.{LastDone}
 use Rattle.panel_conditions.specs.PointSets.{loop_address, address_in, put_at, put_all, either_set, set_without}
-use Rattle.panel_conditions.specs.Parts.{zone_taken, zone_done, points_at, points_taken, points_done, points_shown, item_set, is_asked, raises, on_watched}
+use Rattle.panel_conditions.specs.Parts.{zone_taken, zone_done, points_at, points_taken, points_done, points_shown, item_set, is_asked, raises, on_watched, switch_points}
 use Rattle.tick_units.specs.LastTicks.{last_if}
 use Rattle.panel_conditions.specs.Points.{points_where}
 use Rattle.panel_conditions.specs.Missing.{missing_found, zone_is_off, shows_missing}
 use Rattle.panel_conditions.specs.Stands.{AreNumbered, WatchesZone, WatchesZones, WatchesPoints, TellsPoints, set_or_none, point_is_off, zone_of_is_off}
 use Rattle.coincidence_rules.specs.Applied.{TellsLast}
 use Rattle.panel_conditions.proofs.Latest.{stamp_more, last-push}
-use Rattle.panel_conditions.proofs.Told.{told_same, told_points}
+use Rattle.panel_conditions.proofs.PointSwitches.{told_same, told_points}
 use Rattle.coincidence_rules.proofs.LastDone.{told_last}
-use Rattle.panel_conditions.proofs.Yet.{points_same}
+use Rattle.panel_conditions.proofs.BeforeOperation.{points_same}
 use Rattle.panel_conditions.proofs.PointSets.{either_is, without_is, none_is}
 use Rattle.panel_conditions.proofs.Addressed.{but_at, neq_false, put_place}
 
@@ -260,84 +261,78 @@ eq_swap m n = elim (eqb_tells m n) [ inl same ↦ same.0 ∙ sym (eq-eqb n m (sy
 
 module _ (site : Site) (kept : Retained) (panel : ℕ) (done : List Done) (taken : List Finding) (at : Tick) (since : AreBy at.0 done) (points : Points)
     (h : WatchesPoints site kept panel done taken points) where
-  -- an operation that disables or enables nothing
-  no_item : (operation : Operation) → ((place : ℕ) → is_on (PointOff place) (record { tick = at.0; panel = panel; operation = operation }) ≡ false) →
-      ((zone : ℕ) → is_on (ZoneOff zone) (record { tick = at.0; panel = panel; operation = operation }) ≡ false) →
-      WatchesPoints site kept panel (record { tick = at.0; panel = panel; operation = operation } ∷ done) taken points
-  no_item operation no_point no_zone = record {
-    own = h.own;
-    addresses = h.addresses;
-    of_zones = h.of_zones;
-    missing = h.missing;
-    told = h.told;
-    off = told_same site panel (point_is_off site kept done) (point_is_off site kept (d ∷ done)) done d points.off h.off (λ x place. ap (λ b. if b && nat_lt at.0 x then value_set operation else in_force site kept (PointOff place) x done) (no_point place));
-    zone_off =
+  module _ (operation : Operation) where
+    abbrev d : Done
+    d = record { tick = at.0; panel = panel; operation = operation }
+
+    abbrev TellsOff : PointSwitch → Type 0
+    TellsOff switch = TellsPoints site panel (point_is_off site kept (d ∷ done)) (d ∷ done) switch
+
+    abbrev TellsZoneOff : PointSwitch → Type 0
+    TellsZoneOff switch = TellsPoints site panel (zone_of_is_off site kept (d ∷ done)) (d ∷ done) switch
+
+    -- it changes the points and zones that are off, and nothing else that is kept of points
+    with_off : (off zone_off : PointSwitch) → TellsOff off → TellsZoneOff zone_off
+        → WatchesPoints site kept panel (d ∷ done) taken (record points { off = off; zone_off = zone_off })
+    with_off off zone_off tells zone_tells = record {
+      own = h.own;
+      addresses = h.addresses;
+      of_zones = h.of_zones;
+      missing = h.missing;
+      told = h.told;
+      off = tells;
+      zone_off = zone_tells;
+    }
+
+    -- it disables or enables no point
+    no_point_off : ((place : ℕ) → is_on (PointOff place) d ≡ false) → TellsOff points.off
+    no_point_off none =
+        told_same site panel (point_is_off site kept done) (point_is_off site kept (d ∷ done)) done d points.off h.off
+        (λ x place. ap (λ b. if b && nat_lt at.0 x then value_set operation else in_force site kept (PointOff place) x done) (none place))
+
+    -- it disables or enables no zone
+    no_zone_off : ((zone : ℕ) → is_on (ZoneOff zone) d ≡ false) → TellsZoneOff points.zone_off
+    no_zone_off none =
         told_same site panel (zone_of_is_off site kept done) (zone_of_is_off site kept (d ∷ done)) done d points.zone_off h.zone_off
-        (λ x place. zone_same x (slice_get site.points place));
-  }
-    where
-      d : Done
-      d = record { tick = at.0; panel = panel; operation = operation }
+        (λ x place. zone_same x (slice_get site.points place))
+      where
+        zone_same : (x : ℕ) (o : Option PointPlan) → zone_is_off site kept (d ∷ done) o x ≡ zone_is_off site kept done o x
+        zone_same x None = refl
+        zone_same x (Some p) = ap (λ b. if b && nat_lt at.0 x then value_set operation else in_force site kept (ZoneOff p.zone) x done) (none p.zone)
 
-      zone_same : (x : ℕ) (o : Option PointPlan) → zone_is_off site kept (d ∷ done) o x ≡ zone_is_off site kept done o x
-      zone_same x None = refl
-      zone_same x (Some p) = ap (λ b. if b && nat_lt at.0 x then value_set operation else in_force site kept (ZoneOff p.zone) x done) (no_zone p.zone)
+    no_item : ((place : ℕ) → is_on (PointOff place) d ≡ false) → ((zone : ℕ) → is_on (ZoneOff zone) d ≡ false)
+        → WatchesPoints site kept panel (d ∷ done) taken points
+    no_item no_point no_zone = with_off points.off points.zone_off (no_point_off no_point) (no_zone_off no_zone)
 
-  -- one that disables or enables an item
-  one_item : (operation : Operation) (item : Item) (on : Bool)
-      → ((setting : Setting) → is_on setting (record { tick = at.0; panel = panel; operation = operation }) ≡ same_setting setting (item_off item)) →
-      value_set operation ≡ on
-      → WatchesPoints site kept panel (record { tick = at.0; panel = panel; operation = operation } ∷ done) taken (item_set item on at points)
-  one_item operation (Point p) on is value = record {
-    own = h.own;
-    addresses = h.addresses;
-    of_zones = h.of_zones;
-    missing = h.missing;
-    told = h.told;
-    off = told_points site panel (point_is_off site kept done) (point_is_off site kept (d ∷ done)) done d points.off h.off (λ place. p == place) on
+    -- it disables or enables an item
+    one_item : (item : Item) (on : Bool) → ((setting : Setting) → is_on setting d ≡ same_setting setting (item_off item)) → value_set operation ≡ on
+        → WatchesPoints site kept panel (d ∷ done) taken (item_set item on at points)
+    one_item (Point p) on is value =
+        with_off (switch_points (put_at (address_in (slice_get points.addresses.items p)) on) at points.off) points.zone_off
+        (told_points site panel (point_is_off site kept done) (point_is_off site kept (d ∷ done)) done d points.off h.off (λ place. p == place) on
         (put_at (address_in (slice_get points.addresses.items p)) on) at refl since
         (λ x place.
         ap (λ b. if b && nat_lt at.0 x then value_set operation else in_force site kept (PointOff place) x done)
         (is (PointOff place) ∙ eq_swap place p)
         ∙ ap (λ v. if (p == place) && nat_lt at.0 x then v else in_force site kept (PointOff place) x done) value)
-        (λ q. ap (λ l. put_at (address_in (slice_get l p)) on (points_where site panel q)) h.addresses ∙ put_place site panel p on q h.own);
-    zone_off =
-        told_same site panel (zone_of_is_off site kept done) (zone_of_is_off site kept (d ∷ done)) done d points.zone_off h.zone_off
-        (λ x place. zone_same x (slice_get site.points place));
-  }
-    where
-      d : Done
-      d = record { tick = at.0; panel = panel; operation = operation }
-
-      zone_same : (x : ℕ) (o : Option PointPlan) → zone_is_off site kept (d ∷ done) o x ≡ zone_is_off site kept done o x
-      zone_same x None = refl
-      zone_same x (Some q) =
-          ap (λ b. if b && nat_lt at.0 x then value_set operation else in_force site kept (ZoneOff q.zone) x done) (is (ZoneOff q.zone))
-  one_item operation (Zone z) on is value = record {
-    own = h.own;
-    addresses = h.addresses;
-    of_zones = h.of_zones;
-    missing = h.missing;
-    told = h.told;
-    off = told_same site panel (point_is_off site kept done) (point_is_off site kept (d ∷ done)) done d points.off h.off (λ x place. ap (λ b. if b && nat_lt at.0 x then value_set operation else in_force site kept (PointOff place) x done) (is (PointOff place)));
-    zone_off =
-        told_points site panel (zone_of_is_off site kept done) (zone_of_is_off site kept (d ∷ done)) done d points.zone_off h.zone_off
+        (λ q. ap (λ l. put_at (address_in (slice_get l p)) on (points_where site panel q)) h.addresses ∙ put_place site panel p on q h.own))
+        (no_zone_off (λ zone. is (ZoneOff zone)))
+    one_item (Zone z) on is value =
+        with_off points.off (switch_points (put_all (slice_get points.of_zones.items z) on) at points.zone_off)
+        (no_point_off (λ place. is (PointOff place)))
+        (told_points site panel (zone_of_is_off site kept done) (zone_of_is_off site kept (d ∷ done)) done d points.zone_off h.zone_off
         (λ place. is_asked site kept (OfZone z) (slice_get site.points place)) on
         (put_all (slice_get points.of_zones.items z) on) at refl since (λ x place. zone_next x (slice_get site.points place))
         (λ q. put_zone site panel on (slice_get points.of_zones.items z) (λ place. is_asked site kept (OfZone z) (slice_get site.points place)) q
-        (h.of_zones z));
-  }
-    where
-      d : Done
-      d = record { tick = at.0; panel = panel; operation = operation }
-
-      zone_next : (x : ℕ) (o : Option PointPlan)
-          → zone_is_off site kept (d ∷ done) o x ≡ (if is_asked site kept (OfZone z) o && nat_lt at.0 x then on else zone_is_off site kept done o x)
-      zone_next x None = refl
-      zone_next x (Some p) =
-          ap (λ b. if b && nat_lt at.0 x then value_set operation else in_force site kept (ZoneOff p.zone) x done) (is (ZoneOff p.zone))
-          ∙ ap (λ v. if (p.zone == z) && nat_lt at.0 x then v else in_force site kept (ZoneOff p.zone) x done) value
-  one_item operation (Output o) on is value = no_item operation (λ place. is (PointOff place)) (λ zone. is (ZoneOff zone))
+        (h.of_zones z)))
+      where
+        zone_next : (x : ℕ) (o : Option PointPlan)
+            → zone_is_off site kept (d ∷ done) o x ≡ (if is_asked site kept (OfZone z) o && nat_lt at.0 x then on else zone_is_off site kept done o x)
+        zone_next x None = refl
+        zone_next x (Some p) =
+            ap (λ b. if b && nat_lt at.0 x then value_set operation else in_force site kept (ZoneOff p.zone) x done) (is (ZoneOff p.zone))
+            ∙ ap (λ v. if (p.zone == z) && nat_lt at.0 x then v else in_force site kept (ZoneOff p.zone) x done) value
+    one_item (Output o) on is value = no_item (λ place. is (PointOff place)) (λ zone. is (ZoneOff zone))
 
   pub points_after : (operation : Operation)
       → WatchesPoints site kept panel (record { tick = at.0; panel = panel; operation = operation } ∷ done) taken (points_done operation at points)

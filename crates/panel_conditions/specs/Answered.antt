@@ -13,30 +13,22 @@ use Rattle.coincidence_rules.specs.Missing.{is_missing}
 use Rattle.panel_conditions.specs.declared.outside.Outside.{Outside}
 use Rattle.panel_conditions.specs.Points.{points_where}
 use Rattle.panel_conditions.specs.Missing.{is_off}
+use Rattle.panel_conditions.specs.Words.{with_missing, word_with}
 
 -- the word at a tick
 abbrev pub answered_word : Site → Retained → ℕ → List Done → List Answer → ℕ → Bool → Word
 answered_word site kept panel done answers tick fault =
-    record {
-      stamp = record { 0 = tick };
+    word_with tick fault
+    (record {
       alarm = zones_where site panel (λ zone. is_in_alarm site kept done answers zone tick);
       manual = zones_where site panel (λ zone. is_by_hand site kept done answers zone tick);
       released = zones_where site panel (λ zone. is_released site kept done answers zone tick);
       first = zones_where site panel (λ zone. is_first site kept done answers zone tick);
-      fault = fault;
-    }
+    })
 
 -- the faults at a tick
 abbrev pub answered_faults : Site → Retained → ℕ → List Done → List Answer → ℕ → Outside → FaultSet
 answered_faults site kept panel done answers tick outside =
-    record {
-      missing =
-          points_where site panel (λ place. is_missing answers place
-          && not (is_off site kept done place tick));
-      broken = outside.broken;
-      shorted = outside.shorted;
-      supply = outside.supply;
-      silent = outside.silent;
-      links = outside.links;
-      unconfirmed = outside.unconfirmed;
-    }
+    with_missing
+    (points_where site panel (λ place. is_missing answers place && not (is_off site kept done place tick)))
+    outside

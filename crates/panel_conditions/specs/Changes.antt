@@ -1,5 +1,5 @@
--- What a turn, findings and an operation make of the part that holds, whatever it stood for.
-use Rattle.std.specs.Prelude.{◌≤◌, ℕ, List, ◌∷◌, ◌++◌, take}
+-- What a turn, findings and an operation make of the part that holds, and what it tells, whatever it stands for.
+use Rattle.std.specs.Prelude.{◌≡◌, ◌≤◌, ℕ, List, ◌∷◌, ◌++◌, take}
 use Rattle.tick_units.specs.Lane.{LaneState, turn_count}
 use Rattle.site_types.specs.declared.operation.Operation.{Operation}
 use Rattle.site_types.specs.declared.retained.Retained.{Retained}
@@ -8,7 +8,9 @@ use Rattle.site_types.specs.Done.{Done, AreBy}
 use Rattle.coincidence_rules.specs.declared.finding.Finding.{Finding}
 use Rattle.panel_conditions.specs.declared.hold.Hold.{Hold}
 use Rattle.panel_conditions.specs.declared.outside.Outside.{Outside}
-use Rattle.panel_conditions.specs.Stands.{HoldsFor, MayApply, MayTurn, Settled, ShownStays, ShowsThen, Watches}
+use Rattle.panel_conditions.specs.declared.points.Points.{Points}
+use Rattle.panel_conditions.specs.Stands.{HoldsFor, MayApply, MayTurn, Settled}
+use Rattle.panel_conditions.specs.Stands.{ShownStays, ShowsThen, Watches, WatchesPoints}
 use Rattle.panel_conditions.specs.Turns.{HoldTurn}
 
 -- the findings that a turn moves from the lane
@@ -40,6 +42,13 @@ WatchesMore old findings hold =
     (site : Site) (kept : Retained) (panel : ℕ) (done : List Done) (taken : List Finding)
     → Watches site kept panel done taken old → Watches site kept panel done (taken ++ findings) hold
 
+-- by points, these findings are taken after those before
+abbrev pub WatchesPointsMore : Points → List Finding → Points → Type 0
+WatchesPointsMore old findings points =
+    (site : Site) (kept : Retained) (panel : ℕ) (done : List Done) (taken : List Finding)
+    → WatchesPoints site kept panel done taken old
+    → WatchesPoints site kept panel done (taken ++ findings) points
+
 -- zones that were settled stay so
 abbrev pub StaysSettled : Hold → Hold → Type 0
 StaysSettled old hold =
@@ -54,3 +63,9 @@ ShowsWhatFollows old now outside hold =
     → Watches site kept panel done taken old → Settled tick old.zones → tick ≤ now → AreBy now done
     → ShownStays done old → old.shown.word.stamp.0 ≤ now
     → ShowsThen site kept panel done taken now outside old hold
+
+-- what it tells is what a definition says of the operations done and the turns made
+abbrev pub ShowsAs : {X : Type 0} → Hold → X → (Site → Retained → ℕ → List Done → List HoldTurn → X) → Type 0
+ShowsAs hold told definition =
+    (site : Site) (kept : Retained) (panel : ℕ) (done : List Done) (turns : List HoldTurn)
+    → HoldsFor site kept panel done turns hold → told ≡ definition site kept panel done turns

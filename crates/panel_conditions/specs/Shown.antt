@@ -18,7 +18,7 @@ use Rattle.panel_conditions.specs.Words.{faults_after, word_after}
 abbrev pub has_more : ℕ → ℕ → ℕ → Bool
 has_more bits shown before = any_below bits (λ k. has_bit shown k && not (has_bit before k))
 
--- the same of the two numbers of a loop
+-- one loop, of two numbers, has a bit that the other hasn't
 abbrev pub line_has_more : List ℕ → List ℕ → Bool
 line_has_more shown before =
     has_more 128 (slice_index shown 0) (slice_index before 0)

@@ -29,18 +29,19 @@ use Rattle.panel_conditions.specs.declared.shown.Shown.{Shown}
 use Rattle.panel_conditions.specs.declared.hold.Hold.{Hold}
 use Rattle.panel_conditions.specs.declared.outside.Outside.{Outside}
 use Rattle.panel_conditions.specs.PointSets.{loop_address, set_without}
-use Rattle.panel_conditions.specs.declared.signs.Signs.{Signs}
 use Rattle.panel_conditions.specs.Parts.{points_at, points_shown, is_asked, watch_shows, sign_mask}
 use Rattle.tick_units.specs.LastTicks.{last_at, never_done}
 use Rattle.panel_conditions.specs.Points.{points_where}
 use Rattle.panel_conditions.specs.Turns.{HoldTurn, findings_taken, latest_tick, AreRising}
 use Rattle.panel_conditions.specs.Missing.{missing_found, zone_is_off}
-use Rattle.panel_conditions.specs.Words.{has_fault, word_at, faults_at, word_after, faults_after}
+use Rattle.panel_conditions.specs.Words.{has_fault, with_missing, faults_at, faults_after}
+use Rattle.panel_conditions.specs.Words.{word_with, word_at, word_after}
 use Rattle.site_types.specs.Words.{empty_word, no_faults}
 use Rattle.panel_conditions.specs.Shown.{is_news, is_in_fire_alarm, sounds, last_news, buzzer_after, entries_after}
 
 -- ---- at first
 
+-- how long a first state lasts, by the type of a zone
 abbrev pub within_rule : Rule → Option ℕ
 within_rule (B within) = Some within
 within_rule _ = None
@@ -50,10 +51,12 @@ abbrev pub within_of : Option ZonePlan → Option ℕ
 within_of None = None
 within_of (Some z) = within_rule z.rule
 
+-- how long one of the zone at a place lasts
 abbrev pub within_at : Site → Option ℕ → Option ℕ
 within_at site None = None
 within_at site (Some place) = within_of (slice_get site.zones place)
 
+-- of a zone with this place and bit nothing was told
 abbrev pub no_zone_yet : Option ℕ → ℕ → Option ℕ → ZoneWatch
 no_zone_yet place bit within =
     record {
@@ -68,11 +71,12 @@ no_zone_yet place bit within =
       told = record { 0 = 0 };
     }
 
+-- what is kept of a panel's zone, by its bit, at first
 abbrev pub first_watch : Site → ℕ → ℕ → ZoneWatch
 first_watch site panel bit =
     no_zone_yet (numbered site panel (bit + 1)) bit (within_at site (numbered site panel (bit + 1)))
 
--- the first so many
+-- of the first so many
 unfoldable pub are_first_watches : Site → ℕ → ℕ → List ZoneWatch
 are_first_watches site panel zero = []
 are_first_watches site panel (suc n) = are_first_watches site panel n ++ first_watch site panel n ∷ []
@@ -89,6 +93,7 @@ HasPlaces site point = IsPanelNumber point.panel × IsPlace point.line point.add
 
 -- ---- what is shown
 
+-- before the first turn
 abbrev pub nothing_shown : Shown
 nothing_shown = record {
   word = empty_word;
@@ -104,9 +109,11 @@ abbrev pub entries_then : ℕ → Word → Word → ℕ
 entries_then entries word before =
     if is_in_fire_alarm word && not (is_in_fire_alarm before) then min (entries + 1) (2 ^ 64 - 1) else entries
 
+-- when something was newly shown, with a word and faults after what was shown
 abbrev pub newly_then : Shown → Word → FaultSet → Tick
 newly_then shown word faults = if is_news word faults shown.word shown.faults then word.stamp else shown.newly
 
+-- what is shown with a word and faults after what was shown, where the last mute was done in this tick
 abbrev pub shown_then : Shown → Word → FaultSet → Tick → Shown
 shown_then shown word faults muted =
     record {
@@ -123,7 +130,7 @@ shown_then shown word faults muted =
 abbrev pub point_is_off : Site → Retained → List Done → ℕ → ℕ → Bool
 point_is_off site kept done x place = in_force site kept (PointOff place) x done
 
--- its zone is
+-- the zone of the point at a place is disabled at x
 abbrev pub zone_of_is_off : Site → Retained → List Done → ℕ → ℕ → Bool
 zone_of_is_off site kept done x place = zone_is_off site kept done (slice_get site.points place) x
 
@@ -138,6 +145,7 @@ abbrev pub latest_stamp : (Finding → Bool) → List Finding → ℕ
 latest_stamp test [] = 0
 latest_stamp test (f ∷ rest) = max (if test f then f.stamp.0 else 0) (latest_stamp test rest)
 
+-- what is kept of a zone tells of the operations done and the findings taken
 pub record WatchesZone (site : Site) (panel : ℕ) (done : List Done) (taken : List Finding) (k : ℕ) (watch :
     ZoneWatch) : Type 0 where
   pub place : watch.place ≡ numbered site panel (k + 1)
@@ -152,6 +160,7 @@ pub record WatchesZone (site : Site) (panel : ℕ) (done : List Done) (taken : L
   pub released : watch.released.0 ≡ latest_stamp (λ f. has_bit f.released k) taken
   pub told : watch.told.0 ≡ latest_stamp (λ f. has_bit f.counted k && not (has_bit f.manual k)) taken
 
+-- what is kept of the 32 zones does
 pub record WatchesZones (site : Site) (panel : ℕ) (done : List Done) (taken : List Finding) (watches :
     List ZoneWatch) : Type 0 where
   pub count : length watches ≡ 32
@@ -162,12 +171,12 @@ pub record WatchesZones (site : Site) (panel : ℕ) (done : List Done) (taken : 
 abbrev pub AreNumbered : List ZoneWatch → Type 0
 AreNumbered watches = (k : ℕ) (watch : ZoneWatch) → slice_get watches k ≡ Some watch → watch.bit ≡ k
 
--- from a tick on, zones that aren't stirred nor in first state show what they showed when it was drawn last;
--- no operation is later than the latest
+-- from a tick on, zones of which nothing was told and that aren't in first state show what they showed when it
+-- was drawn last; no operation is later than the latest
 pub record Settled (tick : ℕ) (zones : Zones) : Type 0 where
   pub moved : (k : ℕ) (watch : ZoneWatch) → slice_get zones.watches.items k ≡ Some watch
       → (watch.floor.tick.0 ≤ zones.moved.0) × (watch.cancelled.tick.0 ≤ zones.moved.0)
-  pub held : (sign : Sign) (k x : ℕ) → k < 32 → tick ≤ x → has_bit zones.stirred k ≡ false
+  pub held : (sign : Sign) (k x : ℕ) → k < 32 → tick ≤ x → has_bit zones.changed k ≡ false
       → has_bit zones.signs.first k ≡ false
       → watch_shows sign x (slice_get zones.watches.items k) ≡ has_bit (sign_mask sign zones.signs) k
 
@@ -219,28 +228,9 @@ pub record Shows (site : Site) (kept : Retained) (panel : ℕ) (done : List Done
 
 -- what follows at a tick from what is kept, with what the other parts tell
 abbrev pub faults_now : ℕ → Outside → Hold → FaultSet
-faults_now tick outside hold =
-    record {
-      missing = points_shown tick hold.points;
-      broken = outside.broken;
-      shorted = outside.shorted;
-      supply = outside.supply;
-      silent = outside.silent;
-      links = outside.links;
-      unconfirmed = outside.unconfirmed;
-    }
+faults_now tick outside hold = with_missing (points_shown tick hold.points) outside
 
-abbrev pub word_with : ℕ → Bool → Signs → Word
-word_with tick fault signs = record {
-  stamp = record { 0 = tick };
-  alarm = signs.alarm;
-  manual =
-      signs.manual;
-  released = signs.released;
-  first = signs.first;
-  fault = fault;
-}
-
+-- all that is shown of it
 abbrev pub shown_now : ℕ → Outside → Hold → Shown
 shown_now tick outside hold =
     shown_then hold.shown (word_with tick (has_fault (faults_now tick outside hold)) hold.zones.signs)
@@ -286,6 +276,7 @@ pub record TakesFindings (before after : Hold) : Type 0 where
   pub zone_off : after.points.zone_off ≡ before.points.zone_off
   pub muted : after.muted ≡ before.muted
 
+-- the part stands for the operations done and the turns made
 pub record HoldsFor (site : Site) (kept : Retained) (panel : ℕ) (done : List Done) (turns : List HoldTurn)
     (hold : Hold) : Type 0 where
   pub watches : Watches site kept panel done (findings_taken turns) hold

@@ -10,6 +10,7 @@ use Rattle.coincidence_rules.specs.declared.finding.Finding.{Finding}
 use Rattle.coincidence_rules.specs.Places.{zones_where}
 use Rattle.site_types.specs.Words.{empty_word, no_faults}
 use Rattle.panel_conditions.specs.declared.outside.Outside.{Outside}
+use Rattle.panel_conditions.specs.declared.signs.Signs.{Signs}
 use Rattle.panel_conditions.specs.Points.{points_where}
 use Rattle.panel_conditions.specs.Turns.{HoldTurn, findings_taken}
 use Rattle.panel_conditions.specs.Zones.{alarm_found, hand_found, release_found, first_found}
@@ -34,11 +35,11 @@ has_fault f =
     || (not (f.supply == 0)
     || (not (f.silent == 0) || (not (f.links == 0) || not (f.unconfirmed == 0))))))
 
--- the faults at a tick: missing points by the findings taken, the others as the other parts tell them
-abbrev pub faults_at : Site → Retained → ℕ → List Done → List Finding → ℕ → Outside → FaultSet
-faults_at site kept panel done taken tick outside =
+-- the faults of a panel with these missing points, where the other parts tell this
+abbrev pub with_missing : PointSet → Outside → FaultSet
+with_missing missing outside =
     record {
-      missing = points_where site panel (shows_missing site kept done taken tick);
+      missing = missing;
       broken = outside.broken;
       shorted = outside.shorted;
       supply = outside.supply;
@@ -47,17 +48,33 @@ faults_at site kept panel done taken tick outside =
       unconfirmed = outside.unconfirmed;
     }
 
+-- the word that these signs of the zones make at a tick
+abbrev pub word_with : ℕ → Bool → Signs → Word
+word_with tick fault signs =
+    record {
+      stamp = record { 0 = tick };
+      alarm = signs.alarm;
+      manual = signs.manual;
+      released = signs.released;
+      first = signs.first;
+      fault = fault;
+    }
+
+-- the faults at a tick: missing points by the findings taken, the others as the other parts tell them
+abbrev pub faults_at : Site → Retained → ℕ → List Done → List Finding → ℕ → Outside → FaultSet
+faults_at site kept panel done taken tick outside =
+    with_missing (points_where site panel (shows_missing site kept done taken tick)) outside
+
 -- the word at a tick
 abbrev pub word_at : Site → ℕ → List Done → List Finding → ℕ → Bool → Word
 word_at site panel done taken tick fault =
-    record {
-      stamp = record { 0 = tick };
+    word_with tick fault
+    (record {
       alarm = zones_where site panel (λ zone. alarm_found site done taken zone tick);
       manual = zones_where site panel (λ zone. hand_found site done taken zone tick);
       released = zones_where site panel (λ zone. release_found site done taken zone tick);
       first = zones_where site panel (λ zone. first_found site done taken zone tick);
-      fault = fault;
-    }
+    })
 
 -- the faults shown after these turns
 abbrev pub faults_after : Site → Retained → ℕ → List Done → List HoldTurn → FaultSet
@@ -71,3 +88,7 @@ word_after site kept panel done [] = empty_word
 word_after site kept panel done (turn ∷ before) =
     word_at site panel done (findings_taken (turn ∷ before)) turn.tick
     (has_fault (faults_after site kept panel done (turn ∷ before)))
+
+-- the zones in alarm after these turns
+abbrev pub alarms_after : Site → Retained → ℕ → List Done → List HoldTurn → ℕ
+alarms_after site kept panel done turns = (word_after site kept panel done turns).alarm

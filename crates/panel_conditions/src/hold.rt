@@ -1,14 +1,11 @@
 ghost use Rattle.std.specs.Prelude.{◌≡◌, ◌<◌, ◌≤◌, ◌^◌, [], ◌∷◌, ℕ, List, IfOk};
 ghost use Rattle.tick_units.specs.Lane.{after_turn};
-ghost use Rattle.site_types.specs.declared.site.Site.{Site as SitePlan};
-ghost use Rattle.site_types.specs.declared.retained.Retained.{Retained as Kept};
-ghost use Rattle.site_types.specs.Done.{Done};
 ghost use Rattle.site_types.specs.Valid.{IsValid};
-ghost use Rattle.panel_conditions.specs.Turns.{HoldTurn};
 
+use crate::news::has_fault;
 use crate::outside::Outside;
 use crate::points::Points;
-use crate::shown::{Shown, has_fault};
+use crate::shown::Shown;
 use crate::signs::Signs;
 use crate::zones::Zones;
 use arrayvec::ArrayVec;
@@ -29,12 +26,11 @@ pub struct Hold {
 }
 
 impl Hold {
-    ghost use Rattle.panel_conditions.specs.Words.{faults_after, word_after};
+    ghost use Rattle.panel_conditions.specs.Words.{alarms_after, faults_after, word_after};
     ghost use Rattle.panel_conditions.specs.Shown.{buzzer_after, entries_after};
     ghost use Rattle.panel_conditions.specs.Changes.{AppliesOperation, MakesTurn, ShowsWhatFollows, StaysSettled};
-    ghost use Rattle.panel_conditions.specs.Changes.{WatchesMore, moved_from, turn_from};
-    ghost use Rattle.panel_conditions.specs.Stands.{HoldsFor, IsUnchanged, Settled, TakesFindings, faults_now};
-    ghost use Rattle.panel_conditions.specs.Stands.{shown_now};
+    ghost use Rattle.panel_conditions.specs.Changes.{ShowsAs, WatchesMore, moved_from, turn_from};
+    ghost use Rattle.panel_conditions.specs.Stands.{HoldsFor, IsUnchanged, Settled, TakesFindings, shown_now};
 
     /// Nothing found or shown, with what is retained in force.
     pub fn new(alloc: Global, site: &Site, panel: u8, kept: &Retained) -> Result<Hold, NoMemory>
@@ -75,45 +71,35 @@ impl Hold {
 
     /// The panel's word, made in its latest turn.
     pub fn word(&self) -> Word
-        ensures { (site : SitePlan) (kept : Kept) (panel : ℕ) (done : List Done) (turns :
-            List HoldTurn) → HoldsFor site kept panel done turns self.now
-            → result ≡ word_after site kept panel done turns }
+        ensures { ShowsAs self.now result word_after }
     {
         self.shown.word
     }
 
     /// The zones in alarm, bit `number - 1`.
     pub fn zones(&self) -> u32
-        ensures { (site : SitePlan) (kept : Kept) (panel : ℕ) (done : List Done) (turns :
-            List HoldTurn) → HoldsFor site kept panel done turns self.now
-            → result ≡ (word_after site kept panel done turns).alarm }
+        ensures { ShowsAs self.now result alarms_after }
     {
         self.shown.word.alarm
     }
 
     /// The faults that are shown.
     pub fn faults(&self) -> FaultSet
-        ensures { (site : SitePlan) (kept : Kept) (panel : ℕ) (done : List Done) (turns :
-            List HoldTurn) → HoldsFor site kept panel done turns self.now
-            → result ≡ faults_after site kept panel done turns }
+        ensures { ShowsAs self.now result faults_after }
     {
         self.shown.faults
     }
 
     /// What the buzzer sounds.
     pub fn buzzer(&self) -> Buzzer
-        ensures { (site : SitePlan) (kept : Kept) (panel : ℕ) (done : List Done) (turns :
-            List HoldTurn) → HoldsFor site kept panel done turns self.now
-            → result ≡ buzzer_after site kept panel done turns }
+        ensures { ShowsAs self.now result buzzer_after }
     {
         self.shown.buzzer
     }
 
     /// How often the panel entered the fire alarm condition since opening.
     pub fn counter_entries(&self) -> u64
-        ensures { (site : SitePlan) (kept : Kept) (panel : ℕ) (done : List Done) (turns :
-            List HoldTurn) → HoldsFor site kept panel done turns self.now
-            → result ≡ entries_after site kept panel done turns }
+        ensures { ShowsAs self.now result entries_after }
     {
         self.shown.entries
     }
@@ -186,66 +172,30 @@ impl Hold {
         ensures rest { (self.new.zones ≡ self.old.zones) × (self.new.points ≡ self.old.points)
             × (self.new.muted ≡ self.old.muted) }
     {
-        let faults = self.faults_at(now, outside);
-        let word = self.word_at(now, has_fault(&faults));
+        let faults = outside.with_missing(self.points.showing(now));
+        let word = self.zones.signs().word(now, has_fault(&faults));
         let muted = self.muted.before(now);
         self.shown = self.shown.after(word, faults, muted);
         self.missing = *self.points.missing();
     }
-
-    fn faults_at(&self, now: Tick, outside: &Outside) -> FaultSet
-        ensures { result ≡ faults_now now.0 outside.now self.now }
-    {
-        FaultSet {
-            missing: self.points.showing(now),
-            broken: outside.broken,
-            shorted: outside.shorted,
-            supply: outside.supply,
-            silent: outside.silent,
-            links: outside.links,
-            unconfirmed: outside.unconfirmed,
-        }
-    }
-
-    // The word of zones that were drawn at a tick.
-    fn word_at(&self, now: Tick, fault: bool) -> Word
-        ensures { result ≡ word_with now.0 fault self.now.zones.signs }
-    {
-        let signs = self.zones.signs();
-        Word {
-            stamp: now,
-            alarm: signs.alarm,
-            manual: signs.manual,
-            released: signs.released,
-            first: signs.first,
-            fault,
-        }
-    }
 }
 
 ghost use Rattle.std.specs.Prelude.{true};
-ghost use Rattle.panel_conditions.specs.Stands.{outside_of, word_with};
+ghost use Rattle.panel_conditions.specs.Words.{word_with};
+ghost use Rattle.panel_conditions.specs.Stands.{outside_of};
 
 // Whether a word tells the signs of the zones.
 fn has_signs(word: &Word, signs: &Signs) -> bool
     ensures { result ≡ true → word.now ≡ word_with word.now.stamp.0 word.now.fault signs.now }
 {
-    word.alarm == signs.alarm
-        && word.manual == signs.manual
-        && word.released == signs.released
-        && word.first == signs.first
+    *word == signs.word(word.stamp, word.fault)
 }
 
 // Whether faults are those that the other parts tell.
 fn has_told(faults: &FaultSet, outside: &Outside) -> bool
     ensures { result ≡ true → outside.now ≡ outside_of faults.now }
 {
-    faults.broken == outside.broken
-        && faults.shorted == outside.shorted
-        && faults.supply == outside.supply
-        && faults.silent == outside.silent
-        && faults.links == outside.links
-        && faults.unconfirmed == outside.unconfirmed
+    *outside == Outside::of(faults)
 }
 
 fn is_same_set(a: &PointSet, b: &PointSet) -> bool

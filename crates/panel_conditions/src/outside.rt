@@ -1,3 +1,9 @@
+ghost use Rattle.std.specs.Prelude.{◌≡◌};
+ghost use Rattle.panel_conditions.specs.Stands.{outside_of};
+ghost use Rattle.panel_conditions.specs.Words.{with_missing};
+
+use site_types::{FaultSet, PointSet};
+
 /// What the other parts of a panel tell at a turn.
 #[derive(Clone, Copy, Debug, Default, PartialEq, Eq)]
 pub struct Outside {
@@ -13,4 +19,35 @@ pub struct Outside {
     pub links: u8,
     /// Bit `number - 1` for each output without confirmation.
     pub unconfirmed: u32,
+}
+
+impl Outside {
+    /// What the other parts told where a panel shows these faults.
+    pub fn of(faults: &FaultSet) -> Outside
+        ensures { result ≡ outside_of faults.now }
+    {
+        Outside {
+            supply: faults.supply,
+            broken: faults.broken,
+            shorted: faults.shorted,
+            silent: faults.silent,
+            links: faults.links,
+            unconfirmed: faults.unconfirmed,
+        }
+    }
+
+    /// The faults of a panel with these missing points.
+    pub fn with_missing(&self, missing: PointSet) -> FaultSet
+        ensures { result ≡ with_missing missing self.now }
+    {
+        FaultSet {
+            missing,
+            broken: self.broken,
+            shorted: self.shorted,
+            supply: self.supply,
+            silent: self.silent,
+            links: self.links,
+            unconfirmed: self.unconfirmed,
+        }
+    }
 }

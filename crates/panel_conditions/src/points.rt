@@ -2,10 +2,6 @@ ghost use Rattle.std.specs.Prelude.{◌≡◌, ◌≢◌, ◌⊎◌, ◌-◌, �
 ghost use Rattle.std.specs.Prelude.{IfOk, Some, option_copied};
 ghost use Rattle.site_types.specs.Bits.{has_bit, no_set};
 ghost use Rattle.site_types.specs.Valid.{IsValid};
-ghost use Rattle.site_types.specs.declared.site.Site.{Site as SitePlan};
-ghost use Rattle.site_types.specs.declared.retained.Retained.{Retained as Kept};
-ghost use Rattle.site_types.specs.Done.{Done};
-ghost use Rattle.coincidence_rules.specs.declared.finding.Finding.{Finding as Found};
 
 use crate::asked::Asked;
 use crate::loop_address::LoopAddress;
@@ -34,6 +30,7 @@ pub struct Points {
 impl Points {
     ghost use Rattle.panel_conditions.specs.PointSets.{address_in};
     ghost use Rattle.panel_conditions.specs.Parts.{item_set, points_done, points_shown, points_taken};
+    ghost use Rattle.panel_conditions.specs.Changes.{WatchesPointsMore};
     ghost use Rattle.panel_conditions.specs.Stands.{WatchesPoints};
 
     /// The points of a panel, of which nothing was found, with what is retained in force.
@@ -58,9 +55,7 @@ impl Points {
 
     /// Takes note of a finding.
     pub fn take(&mut self, finding: &Finding)
-        ensures watches { (site : SitePlan) (kept : Kept) (panel : ℕ) (done : List Done) (taken :
-            List Found) → WatchesPoints site kept panel done taken self.old
-            → WatchesPoints site kept panel done (taken ++ finding.now ∷ []) self.new }
+        ensures watches { WatchesPointsMore self.old (finding.now ∷ []) self.new }
         ensures off { (self.new.off ≡ self.old.off) × (self.new.zone_off ≡ self.old.zone_off) }
     {
         let place = finding.point as usize;

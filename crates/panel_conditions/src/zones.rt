@@ -21,7 +21,7 @@ pub struct Zones {
     /// What they showed when it was drawn last.
     signs: Signs,
     /// The zones that may show anything new.
-    stirred: u32,
+    changed: u32,
     /// The tick of the latest operation.
     moved: Tick,
 }
@@ -34,7 +34,7 @@ impl Zones {
     /// The zones of a panel, of which nothing was told.
     pub fn new(alloc: Global, site: &Site, panel: u8) -> Result<Zones, NoMemory>
         ensures { IfOk result (λ zones. (zones.watches.items ≡ are_first_watches site.now panel 32)
-            × (zones.stirred ≡ 2 ^ 32 - 1)) }
+            × (zones.changed ≡ 2 ^ 32 - 1)) }
     {
         let mut watches = Vec::with_capacity(alloc, 32)?;
         for bit in 0..32u8 {
@@ -43,7 +43,7 @@ impl Zones {
         Ok(Zones {
             watches,
             signs: Signs::none(),
-            stirred: u32::MAX,
+            changed: u32::MAX,
             moved: Tick(0),
         })
     }
@@ -54,7 +54,7 @@ impl Zones {
             → slice_get self.new.watches.items k ≡ option_map (zone_taken finding.now)
             (slice_get self.old.watches.items k) }
         ensures count { length self.new.watches.items ≡ length self.old.watches.items }
-        ensures stirred { self.new.stirred ≡ bit_or self.old.stirred (told_by finding.now) }
+        ensures changed { self.new.changed ≡ bit_or self.old.changed (told_by finding.now) }
         ensures signs { self.new.signs ≡ self.old.signs }
         ensures moved { self.new.moved ≡ self.old.moved }
     {
@@ -64,7 +64,7 @@ impl Zones {
             self.take_at(k, finding);
             k = next_bit(told, k + 1);
         }
-        self.stirred |= told;
+        self.changed |= told;
     }
 
     // Takes note of a finding that tells of the zone at a place.
@@ -73,7 +73,7 @@ impl Zones {
             → slice_get self.new.watches.items j ≡ option_map (zone_taken_at k finding.now j)
             (slice_get self.old.watches.items j) }
         ensures count { length self.new.watches.items ≡ length self.old.watches.items }
-        ensures rest { (self.new.stirred ≡ self.old.stirred) × (self.new.signs ≡ self.old.signs)
+        ensures rest { (self.new.changed ≡ self.old.changed) × (self.new.signs ≡ self.old.signs)
             × (self.new.moved ≡ self.old.moved) }
     {
         let place = k as usize;
@@ -87,14 +87,14 @@ impl Zones {
     pub fn apply(&mut self, operation: &Operation, at: Tick)
         ensures watches { self.new.watches.items ≡ map (zone_done operation.now at)
             self.old.watches.items }
-        ensures stirred { self.new.stirred ≡ 2 ^ 32 - 1 }
+        ensures changed { self.new.changed ≡ 2 ^ 32 - 1 }
         ensures moved { self.new.moved ≡ later_tick self.old.moved at }
     {
         for k in 0..self.watches.len() {
             let watch = &mut self.watches[k];
             watch.apply(operation, at);
         }
-        self.stirred = u32::MAX;
+        self.changed = u32::MAX;
         if self.moved.0 < at.0 {
             self.moved = at;
         }
@@ -109,7 +109,7 @@ impl Zones {
         ensures settled { (tick : ℕ) → Settled tick self.old → tick ≤ now.0
             → Settled now.0 self.new }
     {
-        let look = self.stirred | self.signs.first;
+        let look = self.changed | self.signs.first;
         let alarm = self.drawn(Sign::Alarm, self.signs.alarm, look, now);
         let manual = self.drawn(Sign::Manual, self.signs.manual, look, now);
         let released = self.drawn(Sign::Released, self.signs.released, look, now);
@@ -120,7 +120,7 @@ impl Zones {
             released,
             first,
         };
-        self.stirred = stirred_after(self.moved, now);
+        self.changed = changed_after(self.moved, now);
     }
 
     /// The tick of the latest operation.
@@ -173,7 +173,7 @@ fn told(finding: &Finding) -> u32
 
 // The zones to look at after they were drawn at a tick: all, if an operation of that tick or a later one is
 // yet to come in force.
-fn stirred_after(moved: Tick, now: Tick) -> u32
+fn changed_after(moved: Tick, now: Tick) -> u32
     ensures { result ≡ (if nat_lt moved.0 now.0 then 0 else 2 ^ 32 - 1) }
 {
     if moved.0 < now.0 { 0 } else { u32::MAX }

@@ -5,7 +5,6 @@ use Rattle.std.specs.Vec.{with_item}
 use Rattle.std.proofs.lemmas.Bool.{eqb-true}
 use Rattle.std.proofs.lemmas.Bool.Decides.{eqb_tells}
 use Rattle.std.proofs.lemmas.Option.{slice_get_read}
-use Rattle.std.proofs.Math.ListN.{length-set}
 use Rattle.site_types.specs.declared.event.Event.{Event}
 use Rattle.site_types.specs.declared.event.Event.TheVariants.{Point, Cable}
 use Rattle.site_types.specs.declared.point.Point.{Point as PointPlan}
@@ -29,7 +28,7 @@ use Rattle.panel_core.specs.declared.parts.Parts.{Parts}
 use Rattle.panel_core.specs.declared.system.System.{System}
 use Rattle.panel_rules.specs.Reports.{and_report, is_on_panel, reports}
 use Rattle.panel_core.specs.Stands.{PanelStands, StandsFor}
-use Rattle.panel_core.proofs.Panels.{get_set, panel_at}
+use Rattle.panel_core.proofs.Panels.{panel_at, stands_changed, stands_unchanged}
 
 -- a panel after an event of which its poller was told
 told : (site : Site) (kept : Retained) (panel : ℕ) (before : List Moment) (parts : Parts) (poller : Poller) (event : Event)
@@ -78,47 +77,19 @@ pub stands_after_point : (site : Site) (kept : Retained) (before : List Moment) 
     → PanelStands site kept plan.panel (Happened (Point point state) ∷ before) parts
     → StandsFor site kept (Happened (Point point state) ∷ before) (record system { panels = with_item system.panels (plan.panel - 1) parts })
 stands_after_point site kept before system plan point state parts h one is p =
-    record {
-      valid = h.valid;
-      same = h.same;
-      tick = h.tick;
-      count = length-set system.panels.items (plan.panel - 1) parts ∙ h.count;
-      each = λ place q at. (
-          elim (get_set system.panels.items (plan.panel - 1) place q parts at) [
-            | inl g ↦
-                (let same : plan.panel ≡ place + 1 = omega (arith, g.0) in
-                subst (λ n. PanelStands site kept n (Happened (Point point state) ∷ before) q) same
-                (subst (λ r. PanelStands site kept plan.panel (Happened (Point point state) ∷ before) r) (sym g.1) p))
-            | inr g ↦
-                (let apart : (plan.panel == (place + 1)) ≡ false = not_there plan.panel (place + 1) (λ e. g.0 (omega (arith, e))) in
-                let away : is_on_panel (place + 1) (slice_get site.points point) ≡ false = ap (is_on_panel (place + 1)) is ∙ apart in
-                untold site kept (place + 1) before q (Point point state) (h.each place q g.1)
-                (ap (λ b. if b then Reported point state ∷ reports site (place + 1) before else reports site (place + 1) before) away))
-          ]);
-    }
+    stands_changed site kept before system plan.panel parts (Happened (Point point state)) refl h one p (λ other q n stood.
+    let away : is_on_panel other (slice_get site.points point) ≡ false = ap (is_on_panel other) is ∙ not_there plan.panel other n in
+    untold site kept other before q (Point point state) stood
+    (ap (λ b. if b then Reported point state ∷ reports site other before else reports site other before) away))
 
 pub stands_after_piece : (site : Site) (kept : Retained) (before : List Moment) (system : System) (panel line piece : ℕ) (state : PieceState) (parts :
     Parts) → StandsFor site kept before system → 1 ≤ panel → PanelStands site kept panel (Happened (Cable panel line piece state) ∷ before) parts
     → StandsFor site kept (Happened (Cable panel line piece state) ∷ before) (record system { panels = with_item system.panels (panel - 1) parts })
 stands_after_piece site kept before system panel line piece state parts h one p =
-    record {
-      valid = h.valid;
-      same = h.same;
-      tick = h.tick;
-      count = length-set system.panels.items (panel - 1) parts ∙ h.count;
-      each = λ place q at. (
-          elim (get_set system.panels.items (panel - 1) place q parts at) [
-            | inl g ↦
-                (let same : panel ≡ place + 1 = omega (arith, g.0) in
-                subst (λ n. PanelStands site kept n (Happened (Cable panel line piece state) ∷ before) q) same
-                (subst (λ r. PanelStands site kept panel (Happened (Cable panel line piece state) ∷ before) r) (sym g.1) p))
-            | inr g ↦
-                (let apart : (panel == (place + 1)) ≡ false = not_there panel (place + 1) (λ e. g.0 (omega (arith, e))) in
-                untold site kept (place + 1) before q (Cable panel line piece state) (h.each place q g.1)
-                (ap (λ b. if b && (nat_le 1 line && nat_le line 4) then Cabled line piece state
-                ∷ reports site (place + 1) before else reports site (place + 1) before) apart))
-          ]);
-    }
+    stands_changed site kept before system panel parts (Happened (Cable panel line piece state)) refl h one p (λ other q n stood.
+    untold site kept other before q (Cable panel line piece state) stood
+    (ap (λ b. if b && (nat_le 1 line && nat_le line 4) then Cabled line piece state ∷ reports site other before else reports site other before)
+    (not_there panel other n)))
 
 -- an event that concerns no poller
 abbrev pub IsOther : Event → Type 0
@@ -134,15 +105,8 @@ not_reported site panel event calls o = refl
 pub stands_after_other : (site : Site) (kept : Retained) (before : List Moment) (system : System) (event : Event) → StandsFor site kept before system
     → IsOther event → StandsFor site kept (Happened event ∷ before) system
 stands_after_other site kept before system event h o =
-    record {
-      valid = h.valid;
-      same = h.same;
-      tick = h.tick;
-      count = h.count;
-      each =
-          λ place q at. untold site kept (place + 1) before q event (h.each place q at)
-          (not_reported site (place + 1) event (reports site (place + 1) before) o);
-    }
+    stands_unchanged site kept before system (Happened event) refl h (λ panel q stood.
+    untold site kept panel before q event stood (not_reported site panel event (reports site panel before) o))
 
 -- a piece that the site has is of a panel and a loop
 pub record HasLine (site : Site) (panel line : ℕ) : Type 0 where

@@ -1,6 +1,6 @@
 -- What befalls one panel, and what it is to the others.
 use Rattle.std.proofs.Common.{◌≡◌, ℕ, ◌+◌, ◌≤◌, ◌==◌, List, [], ◌∷◌, ◌++◌, length, length-append, Some, slice_get}
-use Rattle.std.proofs.Common.{◌⊎◌, inl, inr, zero, suc, ◌-◌, ◌≢◌, Contains, Bool, true, false, refl, sym, ◌∙◌, ap}
+use Rattle.std.proofs.Common.{◌⊎◌, inl, inr, zero, suc, ◌-◌, ◌≢◌, Contains, Bool, false, refl, sym, ◌∙◌, ap}
 use Rattle.std.proofs.Common.{subst, arith}
 use Rattle.tick_units.specs.Lane.{LaneState, with_put}
 use Rattle.tick_units.specs.declared.task.Task.{Task}
@@ -19,7 +19,7 @@ use Rattle.panel_core.specs.declared.parts.Parts.{Parts}
 use Rattle.panel_rules.specs.Reports.{reports}
 use Rattle.panel_core.specs.Lanes.{answer_lane, finding_lane, decided}
 use Rattle.std.proofs.lemmas.Bool.Decides.{eqb_tells}
-use Rattle.std.proofs.Math.ListN.{set, length-set}
+use Rattle.std.proofs.Math.ListN.{length-set}
 use Rattle.std.specs.Vec.{with_item}
 use Rattle.tick_units.specs.declared.task.Task.TheVariants.{Supply, Desk, Link, Effect, Drive, Keep}
 use Rattle.tick_units.specs.declared.seat.Seat.{Seat}
@@ -27,6 +27,8 @@ use Rattle.tick_units.specs.Orders.{canonical_seats, keep_seat}
 use Rattle.tick_units.proofs.Canonical.{IsPanelSeat, Contains-canonical_seats-cases}
 use Rattle.panel_core.specs.declared.system.System.{System}
 use Rattle.panel_core.specs.Stands.{PanelStands, StandsFor}
+use Rattle.coincidence_rules.proofs.Lists.{get_set}
+use Rattle.loop_poller.specs.Stands.{StandsFor as PollsFor}
 use Rattle.panel_rules.proofs.Places.{get_either}
 use Rattle.panel_rules.proofs.Reports.{asked_told}
 use Rattle.panel_core.proofs.Steps.{polled, decided_after_poll, findings_after_poll}
@@ -52,17 +54,35 @@ after_poll site kept panel before parts lane now h tick put =
       holds = h.holds;
     }
 
+-- a moment that changes nothing of what a panel stands for
+record LeavesPanel (site : Site) (kept : Retained) (panel : ℕ) (before : List Moment) (moment : Moment) : Type 0 where
+  told : reports site panel (moment ∷ before) ≡ reports site panel before
+  answers : answer_lane site panel (moment ∷ before) ≡ answer_lane site panel before
+  decided_same : decided site panel (moment ∷ before) ≡ decided site panel before
+  findings : finding_lane site kept [] panel (moment ∷ before) ≡ finding_lane site kept [] panel before
+  turns : hold_turns site kept [] panel (moment ∷ before) ≡ hold_turns site kept [] panel before
+
+after_nothing : (site : Site) (kept : Retained) (panel : ℕ) (before : List Moment) (parts : Parts) (moment : Moment)
+    → LeavesPanel site kept panel before moment → PanelStands site kept panel before parts → PanelStands site kept panel (moment ∷ before) parts
+after_nothing site kept panel before parts moment leaves h = record {
+  member = h.member;
+  polls = subst (λ calls. PollsFor site panel calls parts.poller) (sym leaves.told) h.polls;
+  answers = h.answers ∙ sym leaves.answers;
+  decides = subst (λ taken. DecidesFor site kept panel [] taken parts.decide) (sym leaves.decided_same) h.decides;
+  findings = h.findings ∙ sym leaves.findings;
+  holds = subst (λ turns. HoldsFor site kept panel [] turns parts.hold) (sym leaves.turns) h.holds;
+}
+
 pub after_begin : (site : Site) (kept : Retained) (panel : ℕ) (before : List Moment) (parts : Parts) → PanelStands site kept panel before parts
     → PanelStands site kept panel (Began ∷ before) parts
-after_begin site kept panel before parts h = record {
-  member = h.member;
-  polls = h.polls;
-  answers = h.answers;
-  decides = h.decides;
-  findings =
-      h.findings;
-  holds = h.holds;
-}
+after_begin site kept panel before parts h =
+    after_nothing site kept panel before parts Began (record { told = refl; answers = refl; decided_same = refl; findings = refl; turns = refl }) h
+
+pub after_keep : (site : Site) (kept : Retained) (panel : ℕ) (failed : Bool) (before : List Moment) (parts : Parts)
+    → PanelStands site kept panel before parts → PanelStands site kept panel (Kept failed ∷ before) parts
+after_keep site kept panel failed before parts h =
+    after_nothing site kept panel before parts (Kept failed)
+    (record { told = refl; answers = refl; decided_same = refl; findings = refl; turns = refl }) h
 
 -- the moment of a panel's turn
 pub turn_is : (panel : ℕ) (task : Task) → task ≢ Keep → turn_of false panel task ≡ Turned panel task
@@ -105,74 +125,64 @@ lane_stays site panel other task before e = refl
 pub others_stay : (site : Site) (kept : Retained) (panel other : ℕ) (task : Task) (before : List Moment) (parts : Parts) → other ≢ panel
     → PanelStands site kept panel before parts → PanelStands site kept panel (Turned other task ∷ before) parts
 others_stay site kept panel other task before parts n h =
-    record {
-      member = h.member;
-      polls = h.polls;
-      answers = h.answers ∙ sym (lane_stays site panel other task before apart);
-      decides = subst (λ taken. DecidesFor site kept panel [] taken parts.decide) (sym (decided_stay site panel other task before apart)) h.decides;
-      findings = h.findings ∙ sym (findings_stay site kept panel other task before apart);
-      holds = subst (λ turns. HoldsFor site kept panel [] turns parts.hold) (sym (turns_stay site kept panel other task before apart)) h.holds;
-    }
+    after_nothing site kept panel before parts (Turned other task) (record {
+      told = refl;
+      answers = lane_stays site panel other task before apart;
+      decided_same = decided_stay site panel other task before apart;
+      findings = findings_stay site kept panel other task before apart;
+      turns = turns_stay site kept panel other task before apart;
+    }) h
   where
     apart : (other == panel) ≡ false
     apart = elim (eqb_tells other panel) [ inl t ↦ absurd (n t.1) | inr t ↦ t.0 ]
 
-pub after_keep : (site : Site) (kept : Retained) (panel : ℕ) (failed : Bool) (before : List Moment) (parts : Parts)
-    → PanelStands site kept panel before parts → PanelStands site kept panel (Kept failed ∷ before) parts
-after_keep site kept panel failed before parts h = record {
-  member = h.member;
-  polls = h.polls;
-  answers = h.answers;
-  decides = h.decides;
-  findings =
-      h.findings;
-  holds = h.holds;
-}
-
--- what stands in a list after one item was put in place of another
-pub get_set : {X : Type 0} (xs : List X) (i k : ℕ) (x y : X) → slice_get (set xs i y) k ≡ Some x
-    → ((k ≡ i) × (x ≡ y)) ⊎ ((k ≢ i) × (slice_get xs k ≡ Some x))
-get_set [] i k x y h = cc
-get_set (z ∷ xs) zero zero x y h = let e : y ≡ x = cc in inl (refl, sym e)
-get_set (z ∷ xs) zero (suc k) x y h = inr (λ e. omega (arith, e), h)
-get_set (z ∷ xs) (suc i) zero x y h = inr (λ e. omega (arith, e), h)
-get_set (z ∷ xs) (suc i) (suc k) x y h =
-    elim (get_set xs i k x y h) [
-      | inl g ↦ inl (ap suc g.0, g.1)
-      | inr g ↦ inr (λ e. g.0 (omega (arith, e)), g.1)
-    ]
+-- at a moment of one panel the others stand for what they stood for
+pub stands_changed : (site : Site) (kept : Retained) (before : List Moment) (system : System) (panel : ℕ) (parts : Parts) (moment : Moment)
+    → tick_of (moment ∷ before) ≡ tick_of before → StandsFor site kept before system → 1 ≤ panel
+    → PanelStands site kept panel (moment ∷ before) parts
+    → ((other : ℕ) (q : Parts) → panel ≢ other → PanelStands site kept other before q → PanelStands site kept other (moment ∷ before) q)
+    → StandsFor site kept (moment ∷ before) (record system { panels = with_item system.panels (panel - 1) parts })
+stands_changed site kept before system panel parts moment same_tick h one p others =
+    record {
+      valid = h.valid;
+      same = h.same;
+      tick = h.tick ∙ sym same_tick;
+      count = length-set system.panels.items (panel - 1) parts ∙ h.count;
+      each = λ place q is. (
+          elim (get_set system.panels.items (panel - 1) place parts q is) [
+            | inl g ↦
+                (let at : panel ≡ place + 1 = omega (arith, g.0) in
+                subst (λ n. PanelStands site kept n (moment ∷ before) q) at (subst (PanelStands site kept panel (moment ∷ before)) g.1 p))
+            | inr g ↦ others (place + 1) q (λ e. g.0 (omega (arith, e))) (h.each place q g.1)
+          ]);
+    }
 
 -- a panel had its turn
 pub stands_after_turn : (site : Site) (kept : Retained) (before : List Moment) (system : System) (panel : ℕ) (task : Task) (parts : Parts)
     → StandsFor site kept before system → 1 ≤ panel → PanelStands site kept panel (Turned panel task ∷ before) parts
     → StandsFor site kept (Turned panel task ∷ before) (record system { panels = with_item system.panels (panel - 1) parts })
 stands_after_turn site kept before system panel task parts h one p =
+    stands_changed site kept before system panel parts (Turned panel task) refl h one p
+    (λ other q apart stood. others_stay site kept other panel task before q apart stood)
+
+-- at a moment at which no panel is changed, each stands for what it stood for
+pub stands_unchanged : (site : Site) (kept : Retained) (before : List Moment) (system : System) (moment : Moment)
+    → tick_of (moment ∷ before) ≡ tick_of before → StandsFor site kept before system
+    → ((panel : ℕ) (q : Parts) → PanelStands site kept panel before q → PanelStands site kept panel (moment ∷ before) q)
+    → StandsFor site kept (moment ∷ before) system
+stands_unchanged site kept before system moment same_tick h each =
     record {
       valid = h.valid;
       same = h.same;
-      tick = h.tick;
-      count = length-set system.panels.items (panel - 1) parts ∙ h.count;
-      each = λ place q is. (
-          elim (get_set system.panels.items (panel - 1) place q parts is) [
-            | inl g ↦
-                (let at : panel ≡ place + 1 = omega (arith, g.0) in
-                subst (λ n. PanelStands site kept n (Turned panel task ∷ before) q) at
-                (subst (λ r. PanelStands site kept panel (Turned panel task ∷ before) r) (sym g.1) p))
-            | inr g ↦ others_stay site kept (place + 1) panel task before q (λ e. g.0 (omega (arith, e))) (h.each place q g.1)
-          ]);
+      tick = h.tick ∙ sym same_tick;
+      count = h.count;
+      each = λ place q is. each (place + 1) q (h.each place q is);
     }
 
 pub stands_after_keep : (site : Site) (kept : Retained) (before : List Moment) (system : System) (failed : Bool) → StandsFor site kept before system
     → StandsFor site kept (Kept failed ∷ before) system
 stands_after_keep site kept before system failed h =
-    record {
-      valid = h.valid;
-      same = h.same;
-      tick = h.tick;
-      count = h.count;
-      each =
-          λ place q is. after_keep site kept (place + 1) failed before q (h.each place q is);
-    }
+    stands_unchanged site kept before system (Kept failed) refl h (λ panel q stood. after_keep site kept panel failed before q stood)
 
 -- the panel at a place
 pub panel_at : (site : Site) (kept : Retained) (before : List Moment) (system : System) (panel : ℕ) (parts : Parts)
@@ -203,42 +213,26 @@ panel_added site kept xs ys x n e l each new place parts is =
     last (suc k) far h = cc
 
 -- a task that has no part here yet
-abbrev is_idle : Task → Bool
-is_idle Poll = false
-is_idle Decide = false
-is_idle Hold = false
-is_idle _ = true
-
 abbrev IsIdle : Task → Type 0
 IsIdle task = (task ≡ Supply) ⊎ ((task ≡ Desk) ⊎ ((task ≡ Link) ⊎ ((task ≡ Effect) ⊎ ((task ≡ Drive) ⊎ (task ≡ Keep)))))
 
-idle_from : (task : Task) → IsIdle task → is_idle task ≡ true
-idle_from task (inl e) = ap is_idle e
-idle_from task (inr (inl e)) = ap is_idle e
-idle_from task (inr (inr (inl e))) = ap is_idle e
-idle_from task (inr (inr (inr (inl e)))) = ap is_idle e
-idle_from task (inr (inr (inr (inr (inl e))))) = ap is_idle e
-idle_from task (inr (inr (inr (inr (inr e))))) = ap is_idle e
-
-idle_stays : (site : Site) (kept : Retained) (panel : ℕ) (before : List Moment) (parts : Parts) (task : Task) → is_idle task ≡ true
-    → PanelStands site kept panel before parts → PanelStands site kept panel (Turned panel task ∷ before) parts
-idle_stays site kept panel before parts Poll idle h = cc
-idle_stays site kept panel before parts Decide idle h = cc
-idle_stays site kept panel before parts Hold idle h = cc
-idle_stays site kept panel before parts Supply idle h =
-    record { member = h.member; polls = h.polls; answers = h.answers; decides = h.decides; findings = h.findings; holds = h.holds }
-idle_stays site kept panel before parts Desk idle h =
-    record { member = h.member; polls = h.polls; answers = h.answers; decides = h.decides; findings = h.findings; holds = h.holds }
-idle_stays site kept panel before parts Link idle h =
-    record { member = h.member; polls = h.polls; answers = h.answers; decides = h.decides; findings = h.findings; holds = h.holds }
-idle_stays site kept panel before parts Effect idle h =
-    record { member = h.member; polls = h.polls; answers = h.answers; decides = h.decides; findings = h.findings; holds = h.holds }
-idle_stays site kept panel before parts Drive idle h =
-    record { member = h.member; polls = h.polls; answers = h.answers; decides = h.decides; findings = h.findings; holds = h.holds }
-idle_stays site kept panel before parts Keep idle h =
-    record { member = h.member; polls = h.polls; answers = h.answers; decides = h.decides; findings = h.findings; holds = h.holds }
-
 -- its turn changes nothing
+idle_leaves : (site : Site) (kept : Retained) (panel : ℕ) (before : List Moment) (task : Task) → IsIdle task
+    → LeavesPanel site kept panel before (Turned panel task)
+idle_leaves site kept panel before task idle = go idle
+  where
+    leaves : {one : Task} → task ≡ one → LeavesPanel site kept panel before (Turned panel one) → LeavesPanel site kept panel before (Turned panel task)
+    leaves e h = subst (λ t. LeavesPanel site kept panel before (Turned panel t)) (sym e) h
+
+    go : IsIdle task → LeavesPanel site kept panel before (Turned panel task)
+    go (inl e) = leaves e (record { told = refl; answers = refl; decided_same = refl; findings = refl; turns = refl })
+    go (inr (inl e)) = leaves e (record { told = refl; answers = refl; decided_same = refl; findings = refl; turns = refl })
+    go (inr (inr (inl e))) = leaves e (record { told = refl; answers = refl; decided_same = refl; findings = refl; turns = refl })
+    go (inr (inr (inr (inl e)))) = leaves e (record { told = refl; answers = refl; decided_same = refl; findings = refl; turns = refl })
+    go (inr (inr (inr (inr (inl e))))) = leaves e (record { told = refl; answers = refl; decided_same = refl; findings = refl; turns = refl })
+    go (inr (inr (inr (inr (inr e))))) = leaves e (record { told = refl; answers = refl; decided_same = refl; findings = refl; turns = refl })
+
 pub after_idle : (site : Site) (kept : Retained) (panel : ℕ) (before : List Moment) (parts : Parts) (task : Task) → IsIdle task
     → PanelStands site kept panel before parts → PanelStands site kept panel (Turned panel task ∷ before) parts
-after_idle site kept panel before parts task idle h = idle_stays site kept panel before parts task (idle_from task idle) h
+after_idle site kept panel before parts task idle h =
+    after_nothing site kept panel before parts (Turned panel task) (idle_leaves site kept panel before task idle) h

@@ -1,3 +1,5 @@
-pub mod Chains
+-- words read and written in the table of what panels keep
 pub mod Places
+-- a turn, and that turn by turn the newest word over all chains is kept
 pub mod Turns
+pub mod Chains

@@ -1,4 +1,4 @@
-use Rattle.panel_conditions.proofs.Again.{same_sets}
+use Rattle.panel_conditions.proofs.Unchanged.{same_sets}
 use Rattle.panel_conditions.proofs.hold.is_same_set.Goals as goal
 
 pub returns : goal.returns

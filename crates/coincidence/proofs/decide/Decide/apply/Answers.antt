@@ -1,9 +1,10 @@
-use Rattle.std.proofs.Common.{◌<◌, ◌∷◌, sym, subst}
+use Rattle.std.proofs.Common.{◌<◌, ◌∷◌, refl, sym, subst}
+use Rattle.std.proofs.lemmas.Bool.{eq-eqb}
 use Rattle.site_types.specs.declared.operation.Operation.TheVariants.{Test, Untest}
 use Rattle.coincidence.specs.Stands.{CanApply, DecidesFor}
 use Rattle.coincidence.specs.Premises.{MayApply}
-use Rattle.coincidence.proofs.Applied.{done_now, zone_since}
-use Rattle.coincidence.proofs.Operated.{same_place, own_zone, own_small, reset_stands, cancel_stands, test_stands, untest_stands, idle_is, idle_stands}
+use Rattle.coincidence.proofs.AppliedOperation.{done_now, zone_since}
+use Rattle.coincidence.proofs.OperationKinds.{own_zone, own_small, reset_stands, cancel_stands, test_stands, untest_stands, idle_is, idle_stands}
 use Rattle.coincidence.proofs.decide.Decide.apply.Goals as goal
 
 pub set_test-requires : goal.set_test-requires
@@ -11,7 +12,7 @@ set_test-requires c =
     let zone = c.in-Test.zone in
     let q : CanApply c.args.self.now (Test zone) c.args.at.0 = subst (λ o. CanApply c.args.self.now o c.args.at.0) c.in-Test.is c.requires in
     (zone_since q.stands (Test zone) c.args.at q.may zone (own_zone q.site q.panel zone q.may.own) c.index_mut-in-Test.result.now
-    c.index_mut-in-Test.ensures.value).1 (same_place zone)
+    c.index_mut-in-Test.ensures.value).1 (eq-eqb zone zone refl)
 
 pub index_mut-requires-in-Untest : goal.index_mut-requires-in-Untest
 index_mut-requires-in-Untest c =
@@ -24,26 +25,26 @@ set_test-requires-in-Untest c =
     let zone = c.in-Untest.zone in
     let q : CanApply c.args.self.now (Untest zone) c.args.at.0 = subst (λ o. CanApply c.args.self.now o c.args.at.0) c.in-Untest.is c.requires in
     (zone_since q.stands (Untest zone) c.args.at q.may zone (own_zone q.site q.panel zone q.may.own) c.index_mut-in-Untest.result.now
-    c.index_mut-in-Untest.ensures.value).1 (same_place zone)
+    c.index_mut-in-Untest.ensures.value).1 (eq-eqb zone zone refl)
 
 pub returns-in-Reset : goal.returns-in-Reset
 returns-in-Reset c site kept panel done taken stands may =
-    reset_stands stands c.args.at c.args.operation.now c.raise.new.self c.in-Reset.is c.raise.ensures may
+    reset_stands stands c.args.at c.args.operation.now may c.raise.new.self c.in-Reset.is c.raise.ensures
 
 pub returns-in-Cancel : goal.returns-in-Cancel
 returns-in-Cancel c site kept panel done taken stands may =
-    cancel_stands stands c.args.at c.args.operation.now c.in-Cancel.zone c.index_mut.result.now c.cancel.new.self c.in-Cancel.is
-    c.index_mut.ensures.value c.cancel.ensures may
+    cancel_stands stands c.args.at c.args.operation.now may c.in-Cancel.zone c.index_mut.result.now c.cancel.new.self c.index_mut.ensures.value
+    c.in-Cancel.is c.cancel.ensures
 
 pub returns-in-Test : goal.returns-in-Test
 returns-in-Test c site kept panel done taken stands may =
-    test_stands stands c.args.at c.args.operation.now c.in-Test.zone c.index_mut-in-Test.result.now c.set_test.new.self c.in-Test.is
-    c.index_mut-in-Test.ensures.value c.set_test.ensures may
+    test_stands stands c.args.at c.args.operation.now may c.in-Test.zone c.index_mut-in-Test.result.now c.set_test.new.self
+    c.index_mut-in-Test.ensures.value c.in-Test.is c.set_test.ensures
 
 pub returns-in-Untest : goal.returns-in-Untest
 returns-in-Untest c site kept panel done taken stands may =
-    untest_stands stands c.args.at c.args.operation.now c.in-Untest.zone c.index_mut-in-Untest.result.now c.set_test-in-Untest.new.self c.in-Untest.is
-    c.index_mut-in-Untest.ensures.value c.set_test-in-Untest.ensures may
+    untest_stands stands c.args.at c.args.operation.now may c.in-Untest.zone c.index_mut-in-Untest.result.now c.set_test-in-Untest.new.self
+    c.index_mut-in-Untest.ensures.value c.in-Untest.is c.set_test-in-Untest.ensures
 
 pub returns-in-Disable : goal.returns-in-Disable
 returns-in-Disable c site kept panel done taken stands may =
@@ -57,4 +58,4 @@ returns-in-Enable c site kept panel done taken stands may =
 
 pub returns-in-Mute : goal.returns-in-Mute
 returns-in-Mute c site kept panel done taken stands may =
-    idle_stands stands c.args.at c.args.operation.now (idle_is c.args.operation.now c.in-Mute.is) may
+    idle_stands stands c.args.at c.args.operation.now may (idle_is c.args.at panel c.args.operation.now c.in-Mute.is)

@@ -8,19 +8,19 @@ use Rattle.coincidence.proofs.decide.Decide.counts.Goals as goal
 pub index-zone-requires : goal.index-zone-requires
 index-zone-requires c =
     subst (λ n. c.index-point.result.now.zone < n) (sym c.args.self.now.zones.ok.0)
-    (zone_small c.requires.stands c.args.answer.now.point c.requires.fits.own c.index-point.result.now c.index-point.ensures)
+    (zone_small c.requires.stands c.args.answer.now.point c.requires.may.own c.index-point.result.now c.index-point.ensures)
 
 pub is_on-off-requires : goal.is_on-off-requires
-is_on-off-requires c = off_since c.requires.stands c.args.answer.now c.requires.fits c.index-point.result.now c.index-point.ensures
+is_on-off-requires c = off_since c.requires.stands c.args.answer.now c.requires.may c.index-point.result.now c.index-point.ensures
 
 pub is_on-zone_off-requires : goal.is_on-zone_off-requires
 is_on-zone_off-requires c =
-    zone_off_since c.requires.stands c.args.answer.now c.requires.fits c.index-point.result.now c.index-zone.result.now c.index-point.ensures
+    zone_off_since c.requires.stands c.args.answer.now c.requires.may c.index-point.result.now c.index-zone.result.now c.index-point.ensures
     c.index-zone.ensures
 
 pub is_on-test-requires : goal.is_on-test-requires
 is_on-test-requires c =
-    test_since c.requires.stands c.args.answer.now c.requires.fits c.index-point.result.now c.index-zone.result.now c.index-point.ensures
+    test_since c.requires.stands c.args.answer.now c.requires.may c.index-point.result.now c.index-zone.result.now c.index-point.ensures
     c.index-zone.ensures
 
 pub returns : goal.returns

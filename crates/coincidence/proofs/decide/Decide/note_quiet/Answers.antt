@@ -1,6 +1,6 @@
 use Rattle.std.proofs.Common.{◌<◌, refl, sym, subst}
 use Rattle.coincidence.proofs.Watched.{point_small}
-use Rattle.coincidence.proofs.Noted.{quiet_noted}
+use Rattle.coincidence.proofs.TakenAnswer.{quiet_noted}
 use Rattle.coincidence.proofs.decide.Decide.note_quiet.Goals as goal
 
 pub index_mut-watch-requires : goal.index_mut-watch-requires

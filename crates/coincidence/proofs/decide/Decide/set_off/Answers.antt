@@ -1,8 +1,8 @@
 use Rattle.std.proofs.Common.{◌<◌, sym, subst}
 use Rattle.site_types.specs.declared.item.Item.TheVariants.{Point, Zone}
 use Rattle.coincidence.specs.Stands.{CanApply, off_operation}
-use Rattle.coincidence.proofs.Applied.{zone_since, point_since}
-use Rattle.coincidence.proofs.Operated.{own_zone_off, own_point_off, on_zone_off, on_point_off, own_small, zone_off_stands, point_off_stands, output_off_stands}
+use Rattle.coincidence.proofs.AppliedOperation.{zone_since, point_since}
+use Rattle.coincidence.proofs.OperationKinds.{own_zone_off, own_point_off, on_zone_off, on_point_off, own_small, zone_off_stands, point_off_stands, output_off_stands}
 use Rattle.coincidence.proofs.decide.Decide.set_off.Goals as goal
 
 pub set_off-requires : goal.set_off-requires
@@ -33,14 +33,14 @@ set_off-requires-in-Zone c =
 
 pub returns-in-Point : goal.returns-in-Point
 returns-in-Point c site kept panel done taken stands may =
-    point_off_stands stands c.args.at c.args.off c.args.item.now c.in-Point.point c.index_mut.result.now c.set_off.new.self c.in-Point.is
-    c.index_mut.ensures.value c.set_off.ensures may
+    point_off_stands stands c.args.at c.args.off c.args.item.now may c.in-Point.point c.index_mut.result.now c.set_off.new.self c.in-Point.is
+    c.index_mut.ensures.value c.set_off.ensures
 
 pub returns-in-Zone : goal.returns-in-Zone
 returns-in-Zone c site kept panel done taken stands may =
-    zone_off_stands stands c.args.at c.args.off c.args.item.now c.in-Zone.zone c.index_mut-in-Zone.result.now c.set_off-in-Zone.new.self c.in-Zone.is
-    c.index_mut-in-Zone.ensures.value c.set_off-in-Zone.ensures may
+    zone_off_stands stands c.args.at c.args.off c.args.item.now may c.in-Zone.zone c.index_mut-in-Zone.result.now c.set_off-in-Zone.new.self
+    c.in-Zone.is c.index_mut-in-Zone.ensures.value c.set_off-in-Zone.ensures
 
 pub returns-in-Output : goal.returns-in-Output
 returns-in-Output c site kept panel done taken stands may =
-    output_off_stands stands c.args.at c.args.off c.args.item.now c.in-Output.field-0 c.in-Output.is may
+    output_off_stands stands c.args.at c.args.off c.args.item.now may c.in-Output.field-0 c.in-Output.is

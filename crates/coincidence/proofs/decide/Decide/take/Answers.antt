@@ -1,22 +1,17 @@
-use Rattle.std.proofs.Common.{◌++◌, ◌∷◌, []}
-use Rattle.coincidence.proofs.Seen.{fits_last}
+use Rattle.coincidence.proofs.Observations.{observes_last, fits_last}
+use Rattle.coincidence.proofs.TakenAnswer.{no_alarm}
 use Rattle.coincidence.proofs.decide.Decide.take.Goals as goal
 
-pub find-requires : goal.find-requires
-find-requires c =
-    let q = c.requires in
-    let answer = c.args.answer.now in
-    record {
-      site = q.site;
-      kept = q.kept;
-      panel = q.panel;
-      done = q.done;
-      taken = q.taken ++ answer ∷ [];
-      stands = c.note.ensures q.site q.kept q.panel q.done q.taken q.stands q.may;
-      fits = fits_last q.site q.kept q.panel q.done q.taken answer q.may;
-    }
+pub quiet_finding-requires : goal.quiet_finding-requires
+quiet_finding-requires c = let q = c.requires in
+    observes_last _ c.args.answer.now q
+    (c.note_quiet.ensures (no_alarm c.args.answer.now.heard c.in-Quiet.is) q.site q.kept q.panel q.done q.taken q.stands q.may)
 
-pub returns-clause-found : goal.returns-clause-found
-returns-clause-found c site kept panel done taken stands may =
-    c.find.ensures site kept panel done taken (c.note.ensures site kept panel done taken stands may)
+pub returns-in-Quiet-clause-taken : goal.returns-in-Quiet-clause-taken
+returns-in-Quiet-clause-taken c = c.note_quiet.ensures (no_alarm c.args.answer.now.heard c.in-Quiet.is)
+
+pub returns-in-Quiet-clause-found : goal.returns-in-Quiet-clause-found
+returns-in-Quiet-clause-found c site kept panel done taken stands may =
+    let quiet = no_alarm c.args.answer.now.heard c.in-Quiet.is in
+    c.quiet_finding.ensures quiet site kept panel done taken (c.note_quiet.ensures quiet site kept panel done taken stands may)
     (fits_last site kept panel done taken c.args.answer.now may)

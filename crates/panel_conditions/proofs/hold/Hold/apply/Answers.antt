@@ -3,7 +3,7 @@ use Rattle.site_types.specs.Done.{mutes}
 use Rattle.panel_conditions.specs.Stands.{WatchesPoints}
 use Rattle.coincidence_rules.specs.Applied.{TellsLast}
 use Rattle.panel_conditions.specs.Turns.{latest_tick}
-use Rattle.panel_conditions.proofs.Again.{shown_in, stays_done}
+use Rattle.panel_conditions.proofs.Unchanged.{shown_in, stays_done}
 use Rattle.panel_conditions.proofs.Drawn.{settled_after}
 use Rattle.panel_conditions.proofs.Watched.{zones_after, points_after, muted_after}
 use Rattle.panel_conditions.proofs.Turned.{shows_after, few_after}
@@ -26,7 +26,7 @@ returns c site kept panel done turns h may = record {
   };
   shows = shows_after site kept panel done turns c.args.operation.now c.args.at c.args.self.now h may;
   settled = settled_after (latest_tick turns) c.args.operation.now c.args.at c.args.self.now.zones c.apply.new.self c.apply.ensures.watches
-      c.apply.ensures.stirred c.apply.ensures.moved h.settled;
+      c.apply.ensures.changed c.apply.ensures.moved h.settled;
   stays =
       stays_done done (record { tick = c.args.at.0; panel = panel; operation = c.args.operation.now }) c.args.at c.args.self.now _ refl
       c.apply.ensures.moved refl

@@ -2,7 +2,7 @@ use Rattle.std.proofs.Common.{[], sym, subst, arith}
 use Rattle.site_types.specs.Done.{mutes}
 use Rattle.panel_conditions.specs.Stands.{Shows}
 use Rattle.coincidence_rules.specs.Applied.{TellsLast}
-use Rattle.panel_conditions.proofs.Again.{stays_first}
+use Rattle.panel_conditions.proofs.Unchanged.{stays_first}
 use Rattle.coincidence_rules.proofs.LastDone.{told_never}
 use Rattle.panel_conditions.proofs.Drawn.{settled_first}
 use Rattle.panel_conditions.proofs.Firsts.{zones_first, shows_nothing}

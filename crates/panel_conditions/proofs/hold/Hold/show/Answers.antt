@@ -1,48 +1,36 @@
 use Rattle.std.proofs.Common.{◌∙◌, refl, ap, sym, subst}
 use Rattle.site_types.specs.Done.{mutes}
 use Rattle.panel_conditions.specs.Parts.{signs_at}
-use Rattle.panel_conditions.specs.Stands.{Settled, ShownStays, Watches, WatchesPoints, WatchesZones}
+use Rattle.panel_conditions.specs.Stands.{Settled, WatchesPoints, WatchesZones}
 use Rattle.coincidence_rules.specs.Applied.{TellsLast}
-use Rattle.panel_conditions.proofs.Again.{shown_is, stays_now, stays_taken, unchanged_is}
+use Rattle.panel_conditions.proofs.Unchanged.{drawn, shown_is, stays_now, unchanged_is}
 use Rattle.panel_conditions.proofs.hold.Hold.show.Goals as goal
 
 pub returns-then-is_unchanged-clause-shows : goal.returns-then-is_unchanged-clause-shows
 returns-then-is_unchanged-clause-shows c site kept panel done taken tick h settled le since stays turned =
-    let was = c.args.self.now in
-    let drawn = record was { zones = c.draw.new.self } in
-    let watches : Watches site kept panel done taken drawn =
-    record { zones = subst (WatchesZones site panel done taken) (sym c.draw.ensures.watches) h.zones; points = h.points; muted = h.muted } in
-    let still : ShownStays done drawn =
-    stays_taken done was drawn (record { shown = refl; missing = refl; moved = c.draw.ensures.moved; off = refl; zone_off = refl; muted = refl })
-    stays in
+    let still = drawn c.args.self.now c.draw.new.self h stays c.draw.ensures.watches c.draw.ensures.moved in
     let signs = c.draw.ensures.signs tick settled le ∙ ap (signs_at c.args.now.0) (sym c.draw.ensures.watches) in
     let same = c.is_unchanged.ensures c.if-is_unchanged.true in
-    let again = unchanged_is watches c.args.now.0 c.args.outside.now same still turned in
+    let again = unchanged_is still.watches c.args.now.0 c.args.outside.now same still.stays turned in
     record {
-      watches = record { zones = watches.zones; points = h.points; muted = h.muted };
-      shown = again ∙ shown_is watches c.args.now.0 c.args.outside.now signs since;
-      stays = stays_now watches c.args.now.0 c.args.outside.now _ still.by again (sym same.missing) refl refl refl;
+      watches = record { zones = still.watches.zones; points = h.points; muted = h.muted };
+      shown = again ∙ shown_is still.watches c.args.now.0 c.args.outside.now signs since;
+      stays = stays_now still.watches c.args.now.0 c.args.outside.now _ still.stays.by again (sym same.missing) refl refl refl;
     }
 
 pub returns-else-is_unchanged-clause-shows : goal.returns-else-is_unchanged-clause-shows
 returns-else-is_unchanged-clause-shows c site kept panel done taken tick h settled le since stays turned =
-    let was = c.args.self.now in
-    let drawn = record was { zones = c.draw.new.self } in
-    let watches : Watches site kept panel done taken drawn =
-    record { zones = subst (WatchesZones site panel done taken) (sym c.draw.ensures.watches) h.zones; points = h.points; muted = h.muted } in
-    let still : ShownStays done drawn =
-    stays_taken done was drawn (record { shown = refl; missing = refl; moved = c.draw.ensures.moved; off = refl; zone_off = refl; muted = refl })
-    stays in
+    let still = drawn c.args.self.now c.draw.new.self h stays c.draw.ensures.watches c.draw.ensures.moved in
     let signs = c.draw.ensures.signs tick settled le ∙ ap (signs_at c.args.now.0) (sym c.draw.ensures.watches) in
     let rest = c.show_anew.ensures.rest in
     record {
       watches = record {
-        zones = subst (λ z. WatchesZones site panel done taken z.watches.items) (sym rest.0) watches.zones;
+        zones = subst (λ z. WatchesZones site panel done taken z.watches.items) (sym rest.0) still.watches.zones;
         points = subst (WatchesPoints site kept panel done taken) (sym rest.1) h.points;
         muted = subst (TellsLast (mutes panel) done) (sym rest.2) h.muted;
       };
-      shown = c.show_anew.ensures.shown ∙ shown_is watches c.args.now.0 c.args.outside.now signs since;
-      stays = stays_now watches c.args.now.0 c.args.outside.now c.show_anew.new.self still.by c.show_anew.ensures.shown c.show_anew.ensures.missing
+      shown = c.show_anew.ensures.shown ∙ shown_is still.watches c.args.now.0 c.args.outside.now signs since;
+      stays = stays_now still.watches c.args.now.0 c.args.outside.now c.show_anew.new.self still.stays.by c.show_anew.ensures.shown c.show_anew.ensures.missing
           rest.0 rest.1 rest.2;
     }
 

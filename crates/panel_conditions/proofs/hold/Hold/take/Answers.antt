@@ -14,5 +14,5 @@ returns-clause-watches c site kept panel done taken h = record {
 pub returns-clause-settled : goal.returns-clause-settled
 returns-clause-settled c site kept panel done taken tick h settled =
     let numbered = are_numbered site panel done taken c.args.self.now.zones.watches.items h.zones in
-    settled_more tick c.args.finding.now c.args.self.now.zones c.take.new.self numbered (c.take.ensures.watches numbered) c.take.ensures.stirred
+    settled_more tick c.args.finding.now c.args.self.now.zones c.take.new.self numbered (c.take.ensures.watches numbered) c.take.ensures.changed
     c.take.ensures.signs c.take.ensures.moved settled

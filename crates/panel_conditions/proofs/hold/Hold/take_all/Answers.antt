@@ -1,7 +1,7 @@
 use Rattle.std.proofs.Common.{◌++◌, take, subst}
 use Rattle.std.proofs.lemmas.List.{take_all}
 use Rattle.panel_conditions.specs.Stands.{Watches}
-use Rattle.panel_conditions.proofs.Again.{takes_more}
+use Rattle.panel_conditions.proofs.Unchanged.{takes_more}
 use Rattle.panel_conditions.proofs.Turned.{batch_more}
 use Rattle.panel_conditions.proofs.hold.Hold.take_all.Goals as goal
 

@@ -1,7 +1,7 @@
 use Rattle.std.proofs.Common.{◌≡◌, ◌∙◌, ◌≤◌, ◌++◌, take, ap, arith}
 use Rattle.tick_units.specs.Lane.{turn_count}
 use Rattle.panel_conditions.specs.Turns.{findings_taken, latest_tick}
-use Rattle.panel_conditions.proofs.Again.{shown_in, stays_taken}
+use Rattle.panel_conditions.proofs.Unchanged.{shown_in, stays_taken}
 use Rattle.panel_conditions.proofs.Turned.{holds_turn}
 use Rattle.panel_conditions.proofs.hold.Hold.turn.Goals as goal
 

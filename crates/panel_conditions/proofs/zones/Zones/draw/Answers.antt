@@ -16,4 +16,4 @@ returns-clause-signs c tick h le =
 
 pub returns-clause-settled : goal.returns-clause-settled
 returns-clause-settled c tick h le =
-    settled_drawn tick c.args.now.0 c.args.self.now _ h refl refl (returns-clause-signs c tick h le) c.stirred_after-self.ensures
+    settled_drawn tick c.args.now.0 c.args.self.now _ h refl refl (returns-clause-signs c tick h le) c.changed_after-self.ensures

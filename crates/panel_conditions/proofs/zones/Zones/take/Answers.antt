@@ -12,7 +12,7 @@ loop-k-init c = record {
       λ j. up_none c.next_bit-k.result (told_by c.args.finding.now) j _ (slice_get c.args.self.now.watches.items j)
       (λ i le less. ap (λ m. has_bit m i) (sym c.told-told.ensures) ∙ c.next_bit-k.ensures.none i le less);
   count = refl;
-  stirred = refl;
+  changed = refl;
   signs = refl;
   moved = refl;
 }
@@ -30,7 +30,7 @@ loop-k-preserved c =
           (slice_get c.loop-k.self.watches.items j) (slice_get c.take_at.new.self.watches.items j)
           up on (λ i le less. told i ∙ c.next_bit-k-in-loop-k.ensures.none i le less) (c.loop-k.invariant.watches j) (c.take_at.ensures.watches j);
       count = c.take_at.ensures.count ∙ c.loop-k.invariant.count;
-      stirred = c.take_at.ensures.rest.0 ∙ c.loop-k.invariant.stirred;
+      changed = c.take_at.ensures.rest.0 ∙ c.loop-k.invariant.changed;
       signs = c.take_at.ensures.rest.1 ∙ c.loop-k.invariant.signs;
       moved = c.take_at.ensures.rest.2 ∙ c.loop-k.invariant.moved;
     }

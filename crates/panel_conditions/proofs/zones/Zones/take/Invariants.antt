@@ -9,7 +9,7 @@ invariant-loop-k l = record {
   on : l.k < 32 → has_bit l.told l.k ≡ true;
   watches : (j : ℕ) → slice_get l.self.watches.items j ≡ told_up_to l.k l.finding j (slice_get l.initial.self.watches.items j);
   count : length l.self.watches.items ≡ length l.initial.self.watches.items;
-  stirred : l.self.stirred ≡ l.initial.self.stirred;
+  changed : l.self.changed ≡ l.initial.self.changed;
   signs : l.self.signs ≡ l.initial.self.signs;
   moved : l.self.moved ≡ l.initial.self.moved;
 }

@@ -11,11 +11,12 @@ use Rattle.coincidence_rules.specs.declared.finding.Finding.{Finding}
 use Rattle.coincidence_rules.specs.Counted.{is_counted}
 use Rattle.coincidence_rules.specs.Findings.{finding_of}
 use Rattle.coincidence_rules.specs.Kept.{second_of}
-use Rattle.coincidence.specs.declared.beside.Beside.{Beside}
+use Rattle.coincidence.specs.declared.partner_finding.PartnerFinding.{PartnerFinding}
 use Rattle.coincidence.specs.declared.decide.Decide.{Decide}
-use Rattle.coincidence.specs.declared.sight.Sight.{Sight}
+use Rattle.coincidence.specs.declared.judgement.Judgement.{Judgement}
+use Rattle.coincidence.specs.declared.observation.Observation.{Observation}
 use Rattle.coincidence.specs.declared.zone_watch.ZoneWatch.{ZoneWatch}
-use Rattle.coincidence.specs.Sights.{Sees, SeesBeside, far_of}
+use Rattle.coincidence.specs.Observations.{Judges, Observes, FindsPartner, partner_second_of}
 use Rattle.coincidence.specs.Stands.{DecidesFor, Fits, IsOwnPartner, WatchesZone}
 
 -- the finding is that of the answer taken last
@@ -26,13 +27,29 @@ FindsLast decide answer finding =
     → Fits site panel done (taken ++ answer ∷ []) answer
     → finding ≡ finding_of site kept panel done taken answer
 
--- this is all that is seen of an answer at its point and in the point's zone
-abbrev pub SeesAnswer : Decide → Answer → Sight → Type 0
-SeesAnswer decide answer sight =
+-- this is what the operations done before an answer say of it
+abbrev pub TellsJudgement : Decide → Answer → Judgement → Type 0
+TellsJudgement decide answer judgement =
     (site : Site) (kept : Retained) (panel : ℕ) (done : List Done) (taken : List Answer)
     → DecidesFor site kept panel done taken decide → Fits site panel done taken answer
+    → Judges site kept done answer judgement
+
+-- the finding is that of the answer taken last, where this is said of it
+abbrev pub FindsJudged : Decide → Answer → Judgement → Finding → Type 0
+FindsJudged decide answer judgement finding =
+    (site : Site) (kept : Retained) (panel : ℕ) (done : List Done) (taken : List Answer)
+    → DecidesFor site kept panel done (taken ++ answer ∷ []) decide
+    → Fits site panel done (taken ++ answer ∷ []) answer → Judges site kept done answer judgement
+    → finding ≡ finding_of site kept panel done taken answer
+
+-- this is all that is observed of an answer at its point and in the point's zone, where this is said of it
+abbrev pub ObservesJudged : Decide → Answer → Judgement → Observation → Type 0
+ObservesJudged decide answer judgement seen =
+    (site : Site) (kept : Retained) (panel : ℕ) (done : List Done) (taken : List Answer)
+    → DecidesFor site kept panel done taken decide → Fits site panel done taken answer
+    → Judges site kept done answer judgement
     → (point : Point) (zone : Zone) → slice_get site.points answer.point ≡ Some point
-    → slice_get site.zones point.zone ≡ Some zone → Sees site kept done taken answer point zone sight
+    → slice_get site.zones point.zone ≡ Some zone → Observes site kept done taken answer point zone seen
 
 -- whether the answer counts
 abbrev pub TellsCounted : Decide → Answer → Bool → Type 0
@@ -49,26 +66,27 @@ TellsFloor decide zone tick floor =
     → (plan : Zone) → slice_get site.zones zone ≡ Some plan → plan.panel ≡ panel
     → floor ≡ floor_before site zone tick done
 
--- the latest answer of another point of the zone that makes a pair with this one
-abbrev pub TellsSecond : Decide → ℕ → Answer → Option Tick → Type 0
-TellsSecond decide zone answer second =
+-- the latest answer of another point of the zone, with its floor before this one, that makes a pair with it
+abbrev pub TellsSecond : Decide → ℕ → ℕ → Answer → Option Tick → Type 0
+TellsSecond decide zone floor answer second =
     (site : Site) (kept : Retained) (panel : ℕ) (done : List Done) (taken : List Answer)
     → DecidesFor site kept panel done taken decide → AreBy answer.stamp.0 done
     → (plan : Zone) → slice_get site.zones zone ≡ Some plan → plan.panel ≡ panel
+    → floor ≡ floor_before site zone answer.stamp.0 done
     → second ≡ second_of site kept done taken zone plan.rule answer
 
--- the same for the partner of a zone
-abbrev pub TellsFar : Decide → Option ℕ → Answer → Option Tick → Type 0
-TellsFar decide partner answer far =
+-- the latest answer of a point of a zone's partner, if there is one, that makes a pair with this one
+abbrev pub TellsPartnerSecond : Decide → Option ℕ → Answer → Option Tick → Type 0
+TellsPartnerSecond decide partner answer second =
     (site : Site) (kept : Retained) (panel : ℕ) (done : List Done) (taken : List Answer)
     → DecidesFor site kept panel done taken decide → AreBy answer.stamp.0 done
     → IsOwnPartner site panel partner
-    → far ≡ far_of site kept done taken partner answer
+    → second ≡ partner_second_of site kept done taken partner answer
 
--- what an answer that is seen means for the partner of its zone
-abbrev pub TellsBeside : Decide → ZoneWatch → Sight → Beside → Type 0
-TellsBeside decide watch sight beside =
+-- what an answer of which this is observed means for the partner of its zone
+abbrev pub TellsPartnerFinding : Decide → ZoneWatch → Observation → PartnerFinding → Type 0
+TellsPartnerFinding decide watch seen found =
     (site : Site) (kept : Retained) (panel : ℕ) (done : List Done) (taken : List Answer)
     → DecidesFor site kept panel done taken decide
     → (place : ℕ) (plan : Zone) → slice_get site.zones place ≡ Some plan → plan.panel ≡ panel
-    → WatchesZone site kept done taken place plan watch → SeesBeside site plan plan.partner sight beside
+    → WatchesZone site kept done taken place plan watch → FindsPartner site plan plan.partner seen found

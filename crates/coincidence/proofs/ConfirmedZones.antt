@@ -1,8 +1,7 @@
 -- What is seen of an answer tells which zones it confirms and releases.
 use Rattle.std.proofs.Common.{◌≡◌, ◌≢◌, ℕ, Bool, true, false, not, List, Option, Some, None, slice_get, ◌==◌, ◌&&◌, ◌||◌, is_some, refl, sym, ◌∙◌, ap, subst, arith}
 use Rattle.std.specs.List.{list_any}
-use Rattle.std.proofs.lemmas.Bool.{eqb-true}
-use Rattle.std.proofs.lemmas.Bool.Decides.{nat_tests}
+use Rattle.std.proofs.lemmas.Bool.{eqb-true, eq-eqb, ne_eqb}
 use Rattle.tick_units.specs.declared.tick.Tick.{Tick}
 use Rattle.site_types.specs.declared.site.Site.{Site}
 use Rattle.site_types.specs.declared.point.Point.{Point as PointPlan}
@@ -22,20 +21,14 @@ use Rattle.site_types.specs.Valid.{is_partner_type}
 use Rattle.coincidence_rules.specs.Wired.{IsWired, HasPartner}
 use Rattle.coincidence_rules.proofs.Seconds.{AreUpTo, near_by_second, uncancelled_by_second, any_by_second}
 use Rattle.coincidence_rules.proofs.Verified.{verified_by_run}
-use Rattle.coincidence.specs.declared.sight.Sight.{Sight}
-use Rattle.coincidence.specs.Sights.{own_coincides, own_confirmed, own_released, partner_confirmed, partner_released, second_by, far_of, Sees}
-
-eq_true : (a b : ℕ) → a ≡ b → (a == b) ≡ true
-eq_true a b h = grind (arith, nat_tests)
-
-eq_false : (a b : ℕ) → a ≢ b → (a == b) ≡ false
-eq_false a b h = grind (arith, nat_tests)
+use Rattle.coincidence.specs.declared.observation.Observation.{Observation}
+use Rattle.coincidence.specs.Observations.{own_coincides, own_confirmed, own_released, partner_confirmed, partner_released, second_by, partner_second_of, Observes}
 
 -- a point of a site, its zone, and what is seen of an answer of it among all answers
-module _ (site : Site) (kept : Retained) (done : List Done) (all : List Answer) (answer : Answer) (point : PointPlan) (zone : ZonePlan) (sight :
-    Sight) (wired : IsWired site)
+module _ (site : Site) (kept : Retained) (done : List Done) (all : List Answer) (answer : Answer) (point : PointPlan) (zone : ZonePlan) (seen :
+    Observation) (wired : IsWired site)
     (is_point : slice_get site.points answer.point ≡ Some point) (is_zone : slice_get site.zones point.zone ≡ Some zone) (order : AreInOrder all)
-    (late : AreUpTo answer.stamp.0 all) (sees : Sees site kept done all answer point zone sight) where
+    (late : AreUpTo answer.stamp.0 all) (observes : Observes site kept done all answer point zone seen) where
   abbrev place : ℕ
   place = point.zone
 
@@ -43,22 +36,22 @@ module _ (site : Site) (kept : Retained) (done : List Done) (all : List Answer) 
   of_is z = ap (lies_in z) is_point
 
   of_own : is_of site place answer.point ≡ true
-  of_own = of_is place ∙ eq_true place place refl
+  of_own = of_is place ∙ eq-eqb place place refl
 
   of_other : (z : ℕ) → z ≢ place → is_of site z answer.point ≡ false
-  of_other z apart = of_is z ∙ eq_false place z (λ e. apart (sym e))
+  of_other z apart = of_is z ∙ ne_eqb place z (λ e. apart (sym e))
 
-  by_hand : is_manual site answer.point ≡ sight.manual
-  by_hand = ap is_call_point is_point ∙ sym sees.manual
+  by_hand : is_manual site answer.point ≡ seen.manual
+  by_hand = ap is_call_point is_point ∙ sym observes.manual
 
-  detector_is : is_detector site answer.point ≡ not sight.manual
-  detector_is = ap detects is_point ∙ ap not (sym sees.manual)
+  detector_is : is_detector site answer.point ≡ not seen.manual
+  detector_is = ap detects is_point ∙ ap not (sym observes.manual)
 
   abbrev x : ℕ
   x = answer.stamp.0
 
-  stamp_is : sight.stamp.0 ≡ x
-  stamp_is = ap (λ (t : Tick). t.0) sees.stamp
+  stamp_is : seen.stamp.0 ≡ x
+  stamp_is = ap (λ (t : Tick). t.0) observes.stamp
 
   -- the partner is another zone, which has this one as its partner
   partner_apart : (other : ℕ) → zone.partner ≡ Some other → other ≢ place
@@ -146,15 +139,15 @@ module _ (site : Site) (kept : Retained) (done : List Done) (all : List Answer) 
       go (Some y) e = ap (λ o. on_zone (λ w. is_of site w answer.point) (partner_of o)) e ∙ by_partner y.partner y e refl
 
   -- what the rule asks of the answer for its own zone
-  near_is : (rule : Rule) → zone.rule ≡ rule → sight.near ≡ second_of site kept done all place rule answer
-  near_is rule e = sees.near ∙ ap (λ r. second_of site kept done all place r answer) e
+  own_second_is : (rule : Rule) → zone.rule ≡ rule → seen.own_second ≡ second_of site kept done all place rule answer
+  own_second_is rule e = observes.own_second ∙ ap (λ r. second_of site kept done all place r answer) e
 
-  far_is : (other : ℕ) → zone.partner ≡ Some other → (y : ZonePlan) → slice_get site.zones other ≡ Some y
-      → sight.far ≡ second_of site kept done all other y.rule answer
-  far_is other e y is = sees.far ∙ ap (λ o. far_of site kept done all o answer) e ∙ ap (λ o. second_by site kept done all other o answer) is
+  partner_second_is : (other : ℕ) → zone.partner ≡ Some other → (y : ZonePlan) → slice_get site.zones other ≡ Some y
+      → seen.partner_second ≡ second_of site kept done all other y.rule answer
+  partner_second_is other e y is = observes.partner_second ∙ ap (λ o. partner_second_of site kept done all o answer) e ∙ ap (λ o. second_by site kept done all other o answer) is
 
-  no_far : zone.partner ≡ None → sight.far ≡ None
-  no_far e = sees.far ∙ ap (λ o. far_of site kept done all o answer) e
+  no_partner_second : zone.partner ≡ None → seen.partner_second ≡ None
+  no_partner_second e = observes.partner_second ∙ ap (λ o. partner_second_of site kept done all o answer) e
 
   partner_B : (own : ℕ) (other : Rule) → is_partner_type (B own) other ≡ true → (w : ℕ) × (other ≡ B w)
   partner_B own Plain h = cc
@@ -168,42 +161,42 @@ module _ (site : Site) (kept : Retained) (done : List Done) (all : List Answer) 
   partner_C (B w) h = cc
   partner_C C h = refl
 
-  far_B : (within : ℕ) → zone.rule ≡ B within → (limit : ℕ) (o : Option ℕ) → zone.partner ≡ o
-      → is_within limit sight.stamp.0 sight.far ≡ on_zone (λ z. list_any (is_uncancelled site kept done limit z answer) all) o
-  far_B within rule limit None e = ap (is_within limit sight.stamp.0) (no_far e)
-  far_B within rule limit (Some other) e =
+  partner_second_B : (within : ℕ) → zone.rule ≡ B within → (limit : ℕ) (o : Option ℕ) → zone.partner ≡ o
+      → is_within limit seen.stamp.0 seen.partner_second ≡ on_zone (λ z. list_any (is_uncancelled site kept done limit z answer) all) o
+  partner_second_B within rule limit None e = ap (is_within limit seen.stamp.0) (no_partner_second e)
+  partner_second_B within rule limit (Some other) e =
       let has = wired.partners place other zone is_zone e in
       let type = partner_B within has.partner.rule (subst (λ r. is_partner_type r has.partner.rule ≡ true) rule has.type) in
-      ap (is_within limit sight.stamp.0) (far_is other e has.partner has.is ∙ ap (λ r. second_of site kept done all other r answer) type.1)
+      ap (is_within limit seen.stamp.0) (partner_second_is other e has.partner has.is ∙ ap (λ r. second_of site kept done all other r answer) type.1)
       ∙ ap (λ t. is_within limit t (second_of site kept done all other (B type.0) answer)) stamp_is
       ∙ uncancelled_by_second site kept done all type.0 limit other answer order late
 
-  far_C : zone.rule ≡ C → (o : Option ℕ) → zone.partner ≡ o → is_some sight.far ≡ on_zone (λ z. list_any (is_second site kept done z answer) all) o
-  far_C rule None e = ap is_some (no_far e)
-  far_C rule (Some other) e =
+  partner_second_C : zone.rule ≡ C → (o : Option ℕ) → zone.partner ≡ o → is_some seen.partner_second ≡ on_zone (λ z. list_any (is_second site kept done z answer) all) o
+  partner_second_C rule None e = ap is_some (no_partner_second e)
+  partner_second_C rule (Some other) e =
       let has = wired.partners place other zone is_zone e in
       let type = partner_C has.partner.rule (subst (λ r. is_partner_type r has.partner.rule ≡ true) rule has.type) in
-      ap is_some (far_is other e has.partner has.is ∙ ap (λ r. second_of site kept done all other r answer) type) ∙ any_by_second site kept done all
+      ap is_some (partner_second_is other e has.partner has.is ∙ ap (λ r. second_of site kept done all other r answer) type) ∙ any_by_second site kept done all
       other answer order late
 
-  coincides_is : (rule : Rule) → zone.rule ≡ rule → own_coincides rule sight ≡ coincides site kept done all place (Some rule) answer
+  coincides_is : (rule : Rule) → zone.rule ≡ rule → own_coincides rule seen ≡ coincides site kept done all place (Some rule) answer
   coincides_is Plain e = sym of_own
   coincides_is C e = sym of_own
   coincides_is (A verify within) e =
-      ap (λ b. is_long verify sight.floor.0 sight.stamp.0 sight.run || b)
-      (ap (is_within within sight.stamp.0) (near_is (A verify within) e) ∙ ap
+      ap (λ b. is_long verify seen.floor.0 seen.stamp.0 seen.run || b)
+      (ap (is_within within seen.stamp.0) (own_second_is (A verify within) e) ∙ ap
       (λ t. is_within within t (second_of site kept done all place (A verify within) answer)) stamp_is ∙ near_by_second site kept done all verify
       within place answer order late)
       ∙ ap (λ b. b || list_any (is_near site kept done within place answer) all)
-      (ap (λ f. is_long verify f sight.stamp.0 sight.run) sees.floor ∙ ap (λ t. is_long verify (floor_before site place x done) t sight.run) stamp_is
-      ∙ ap (is_long verify (floor_before site place x done) x) sees.run ∙ sym (verified_by_run site kept done verify place answer all order late))
+      (ap (λ f. is_long verify f seen.stamp.0 seen.run) observes.floor ∙ ap (λ t. is_long verify (floor_before site place x done) t seen.run) stamp_is
+      ∙ ap (is_long verify (floor_before site place x done) x) observes.run ∙ sym (verified_by_run site kept done verify place answer all order late))
       ∙ ap (λ b. b && (is_verified site kept done all verify place answer || list_any (is_near site kept done within place answer) all)) (sym of_own)
   coincides_is (B within) e =
-      ap (λ b. b || is_within within sight.stamp.0 sight.far)
-      (ap (is_within within sight.stamp.0) (near_is (B within) e) ∙ ap
+      ap (λ b. b || is_within within seen.stamp.0 seen.partner_second)
+      (ap (is_within within seen.stamp.0) (own_second_is (B within) e) ∙ ap
       (λ t. is_within within t (second_of site kept done all place (B within) answer)) stamp_is ∙ uncancelled_by_second site kept done all within
       within place answer order late)
-      ∙ ap (λ b. list_any (is_uncancelled site kept done within place answer) all || b) (far_B within e within zone.partner refl)
+      ∙ ap (λ b. list_any (is_uncancelled site kept done within place answer) all || b) (partner_second_B within e within zone.partner refl)
       ∙ sym (pairs_own (λ z. list_any (is_uncancelled site kept done within z answer) all))
 
   rule_is : rule_of (slice_get site.zones place) ≡ Some zone.rule
@@ -216,12 +209,12 @@ module _ (site : Site) (kept : Retained) (done : List Done) (all : List Answer) 
   hand_or true false false c a b = cc
   hand_or false d m c a b = cc
 
-  pub own_confirmed_is : own_confirmed zone.rule sight ≡ confirms site kept done all place answer
+  pub own_confirmed_is : own_confirmed zone.rule seen ≡ confirms site kept done all place answer
   own_confirmed_is =
-      ap (λ b. b && (sight.manual || own_coincides zone.rule sight)) sees.counted
-      ∙ ap (λ b. is_counted site kept done answer && (sight.manual || b)) (coincides_is zone.rule refl)
+      ap (λ b. b && (seen.manual || own_coincides zone.rule seen)) observes.counted
+      ∙ ap (λ b. is_counted site kept done answer && (seen.manual || b)) (coincides_is zone.rule refl)
       ∙ ap (λ b. is_counted site kept done answer && b)
-      (hand_or (is_of site place answer.point) (is_detector site answer.point) sight.manual
+      (hand_or (is_of site place answer.point) (is_detector site answer.point) seen.manual
       (coincides site kept done all place (Some zone.rule) answer) of_own detector_is)
       ∙ ap (λ m. is_counted site kept done answer
       && ((is_of site place answer.point && m) || (is_detector site answer.point && coincides site kept done all place (Some zone.rule) answer)))
@@ -230,17 +223,17 @@ module _ (site : Site) (kept : Retained) (done : List Done) (all : List Answer) 
       && (is_by_call_point site place answer.point || (is_detector site answer.point && coincides site kept done all place r answer)))
       (sym rule_is)
 
-  own_released_by : (rule : Rule) → zone.rule ≡ rule → own_released rule sight ≡ releases_by site kept done all place (Some rule) answer
-  own_released_by Plain e = ap (λ r. own_confirmed r sight) (sym e) ∙ own_confirmed_is
-  own_released_by (A verify within) e = ap (λ r. own_confirmed r sight) (sym e) ∙ own_confirmed_is
-  own_released_by (B within) e = ap (λ r. own_confirmed r sight) (sym e) ∙ own_confirmed_is
+  own_released_by : (rule : Rule) → zone.rule ≡ rule → own_released rule seen ≡ releases_by site kept done all place (Some rule) answer
+  own_released_by Plain e = ap (λ r. own_confirmed r seen) (sym e) ∙ own_confirmed_is
+  own_released_by (A verify within) e = ap (λ r. own_confirmed r seen) (sym e) ∙ own_confirmed_is
+  own_released_by (B within) e = ap (λ r. own_confirmed r seen) (sym e) ∙ own_confirmed_is
   own_released_by C e =
-      ap (λ b. b && (sight.manual || (is_some sight.near || is_some sight.far))) sees.counted
-      ∙ ap (λ b. is_counted site kept done answer && (sight.manual || (b || is_some sight.far)))
-      (ap is_some (near_is C e) ∙ any_by_second site kept done all place answer order late)
-      ∙ ap (λ b. is_counted site kept done answer && (sight.manual || (list_any (is_second site kept done place answer) all || b)))
-      (far_C e zone.partner refl)
-      ∙ ap (λ b. is_counted site kept done answer && (sight.manual || b)) (sym (pairs_own (λ z. list_any (is_second site kept done z answer) all)))
+      ap (λ b. b && (seen.manual || (is_some seen.own_second || is_some seen.partner_second))) observes.counted
+      ∙ ap (λ b. is_counted site kept done answer && (seen.manual || (b || is_some seen.partner_second)))
+      (ap is_some (own_second_is C e) ∙ any_by_second site kept done all place answer order late)
+      ∙ ap (λ b. is_counted site kept done answer && (seen.manual || (list_any (is_second site kept done place answer) all || b)))
+      (partner_second_C e zone.partner refl)
+      ∙ ap (λ b. is_counted site kept done answer && (seen.manual || b)) (sym (pairs_own (λ z. list_any (is_second site kept done z answer) all)))
       ∙ ap (λ m. is_counted site kept done answer && (m || pairs_up site place answer.point (λ z. list_any (is_second site kept done z answer) all)))
       (sym by_hand)
       ∙ ap (λ o. is_counted site kept done answer
@@ -253,7 +246,7 @@ module _ (site : Site) (kept : Retained) (done : List Done) (all : List Answer) 
       spread true h p = refl
       spread false h p = refl
 
-  pub own_released_is : own_released zone.rule sight ≡ releases site kept done all place answer
+  pub own_released_is : own_released zone.rule seen ≡ releases site kept done all place answer
   own_released_is = own_released_by zone.rule refl ∙ ap (λ r. releases_by site kept done all place r answer) (sym rule_is)
 
   -- what it means for the partner
@@ -266,7 +259,7 @@ module _ (site : Site) (kept : Retained) (done : List Done) (all : List Answer) 
 
   partner_confirmed_by : (other : ℕ) → zone.partner ≡ Some other → (y : ZonePlan) → slice_get site.zones other ≡ Some y → (rule : Rule)
       → y.rule ≡ rule → is_partner_type zone.rule rule ≡ true
-      → partner_confirmed rule sight
+      → partner_confirmed rule seen
       ≡ (is_counted site kept done answer
       && (is_by_call_point site other answer.point || (is_detector site answer.point && coincides site kept done all other (Some rule) answer)))
   partner_confirmed_by other e y is Plain r t = absurd (none zone.rule t)
@@ -288,20 +281,20 @@ module _ (site : Site) (kept : Retained) (done : List Done) (all : List Answer) 
       (is_of site other answer.point) (is_manual site answer.point) (of_other other (partner_apart other e))
       (of_other other (partner_apart other e)))
   partner_confirmed_by other e y is (B within) r t =
-      ap (λ b. b && (not sight.manual && is_within within sight.stamp.0 sight.far)) sees.counted
-      ∙ ap (λ b. is_counted site kept done answer && (not sight.manual && b))
-      (ap (is_within within sight.stamp.0) (far_is other e y is ∙ ap (λ q. second_of site kept done all other q answer) r) ∙ ap
+      ap (λ b. b && (not seen.manual && is_within within seen.stamp.0 seen.partner_second)) observes.counted
+      ∙ ap (λ b. is_counted site kept done answer && (not seen.manual && b))
+      (ap (is_within within seen.stamp.0) (partner_second_is other e y is ∙ ap (λ q. second_of site kept done all other q answer) r) ∙ ap
       (λ s. is_within within s (second_of site kept done all other (B within) answer)) stamp_is
       ∙ uncancelled_by_second site kept done all within within other answer order late ∙ sym
       (pairs_partner other e (λ z. list_any (is_uncancelled site kept done within z answer) all)))
-      ∙ ap (λ b. is_counted site kept done answer && b) (partner_hand (is_of site other answer.point) (is_detector site answer.point) sight.manual
+      ∙ ap (λ b. is_counted site kept done answer && b) (partner_hand (is_of site other answer.point) (is_detector site answer.point) seen.manual
       (coincides site kept done all other (Some (B within)) answer) (of_other other (partner_apart other e)) detector_is)
       ∙ ap (λ m. is_counted site kept done answer
       && ((is_of site other answer.point && m) || (is_detector site answer.point && coincides site kept done all other (Some (B within)) answer)))
       (sym by_hand)
 
   pub partner_confirmed_is : (other : ℕ) → zone.partner ≡ Some other → (y : ZonePlan) → slice_get site.zones other ≡ Some y
-      → is_partner_type zone.rule y.rule ≡ true → partner_confirmed y.rule sight ≡ confirms site kept done all other answer
+      → is_partner_type zone.rule y.rule ≡ true → partner_confirmed y.rule seen ≡ confirms site kept done all other answer
   partner_confirmed_is other e y is t =
       partner_confirmed_by other e y is y.rule refl t
       ∙ ap (λ r. is_counted site kept done answer
@@ -310,13 +303,13 @@ module _ (site : Site) (kept : Retained) (done : List Done) (all : List Answer) 
 
   partner_released_by : (other : ℕ) → zone.partner ≡ Some other → (y : ZonePlan) → slice_get site.zones other ≡ Some y
       → is_partner_type zone.rule y.rule ≡ true → (rule : Rule) → y.rule ≡ rule
-      → partner_released rule sight ≡ releases_by site kept done all other (Some rule) answer
-  partner_released_by other e y is t Plain r = ap (λ q. partner_confirmed q sight) (sym r) ∙ partner_confirmed_is other e y is t
-  partner_released_by other e y is t (A verify within) r = ap (λ q. partner_confirmed q sight) (sym r) ∙ partner_confirmed_is other e y is t
-  partner_released_by other e y is t (B within) r = ap (λ q. partner_confirmed q sight) (sym r) ∙ partner_confirmed_is other e y is t
+      → partner_released rule seen ≡ releases_by site kept done all other (Some rule) answer
+  partner_released_by other e y is t Plain r = ap (λ q. partner_confirmed q seen) (sym r) ∙ partner_confirmed_is other e y is t
+  partner_released_by other e y is t (A verify within) r = ap (λ q. partner_confirmed q seen) (sym r) ∙ partner_confirmed_is other e y is t
+  partner_released_by other e y is t (B within) r = ap (λ q. partner_confirmed q seen) (sym r) ∙ partner_confirmed_is other e y is t
   partner_released_by other e y is t C r =
-      ap (λ b. b && is_some sight.far) sees.counted
-      ∙ ap (λ b. is_counted site kept done answer && b) (ap is_some (far_is other e y is ∙ ap (λ q. second_of site kept done all other q answer) r) ∙
+      ap (λ b. b && is_some seen.partner_second) observes.counted
+      ∙ ap (λ b. is_counted site kept done answer && b) (ap is_some (partner_second_is other e y is ∙ ap (λ q. second_of site kept done all other q answer) r) ∙
       any_by_second site kept done all other answer order late ∙ sym
       (pairs_partner other e (λ z. list_any (is_second site kept done z answer) all)))
       ∙ sym (only (is_counted site kept done answer) (is_of site other answer.point) (is_manual site answer.point)
@@ -328,7 +321,7 @@ module _ (site : Site) (kept : Retained) (done : List Done) (all : List Answer) 
       only true true m h a = cc
 
   pub partner_released_is : (other : ℕ) → zone.partner ≡ Some other → (y : ZonePlan) → slice_get site.zones other ≡ Some y
-      → is_partner_type zone.rule y.rule ≡ true → partner_released y.rule sight ≡ releases site kept done all other answer
+      → is_partner_type zone.rule y.rule ≡ true → partner_released y.rule seen ≡ releases site kept done all other answer
   partner_released_is other e y is t =
       partner_released_by other e y is t y.rule refl ∙ ap (λ r. releases_by site kept done all other r answer) (sym (ap rule_of is))
 
@@ -371,13 +364,13 @@ module _ (site : Site) (kept : Retained) (done : List Done) (all : List Answer) 
   none_released z apart no_partner = none_released_by z apart no_partner (rule_of (slice_get site.zones z))
 
   -- and for its own zone: whether it counts, and is of a manual call point
-  pub own_called : (is_counted site kept done answer && is_by_call_point site place answer.point) ≡ (sight.counted && sight.manual)
+  pub own_called : (is_counted site kept done answer && is_by_call_point site place answer.point) ≡ (seen.counted && seen.manual)
   own_called =
       ap (λ b. is_counted site kept done answer && (b && is_manual site answer.point)) of_own
-      ∙ ap (λ m. is_counted site kept done answer && m) by_hand ∙ ap (λ b. b && sight.manual) (sym sees.counted)
+      ∙ ap (λ m. is_counted site kept done answer && m) by_hand ∙ ap (λ b. b && seen.manual) (sym observes.counted)
 
-  pub own_counted : (is_counted site kept done answer && is_of site place answer.point) ≡ sight.counted
-  own_counted = ap (λ b. is_counted site kept done answer && b) of_own ∙ ends (is_counted site kept done answer) ∙ sym sees.counted
+  pub own_counted : (is_counted site kept done answer && is_of site place answer.point) ≡ seen.counted
+  own_counted = ap (λ b. is_counted site kept done answer && b) of_own ∙ ends (is_counted site kept done answer) ∙ sym observes.counted
     where
       ends : (b : Bool) → (b && true) ≡ b
       ends true = refl

@@ -2,6 +2,7 @@
 use Rattle.std.proofs.Common.{◌≡◌, ◌≢◌, ◌⊎◌, inl, inr, ⊎_elim, ℕ, zero, suc, ◌+◌, ◌≤◌, Bool, true, false, not, List}
 use Rattle.std.proofs.Common.{[], ◌∷◌, ◌++◌, set, length-set, reverse, filter, Option, Some, None, slice_get, get_or}
 use Rattle.std.proofs.Common.{◌==◌, ◌&&◌, ◌||◌, nat_lt, nat_le, if◌then◌else◌, refl, sym, ◌∙◌, ap, subst, arith}
+use Rattle.std.proofs.lemmas.Bool.{eq-eqb, ne_eqb}
 use Rattle.std.proofs.lemmas.Bool.Decides.{nat_tests, eqb_tells}
 use Rattle.std.proofs.lemmas.List.{reverse-append, set-get_or}
 use Rattle.std.proofs.lemmas.Option.{get_or_from_slice_get}
@@ -16,12 +17,13 @@ use Rattle.site_types.specs.declared.heard.Heard.TheVariants.{Quiet, Alarm, Sile
 use Rattle.site_types.specs.declared.answer.Answer.{Answer}
 use Rattle.site_types.specs.declared.retained.Retained.{Retained}
 use Rattle.site_types.specs.Done.{Done, floor_before, is_blocked}
+use Rattle.site_types.specs.Profile.{missing_askings}
 use Rattle.coincidence_rules.specs.Places.{lies_in, is_of, detects, is_detector}
 use Rattle.coincidence_rules.specs.Counted.{is_alarm, is_silent, is_counted}
 use Rattle.coincidence_rules.specs.Missing.{latest_of, begins_silent}
 use Rattle.coincidence_rules.specs.Kept.{run_then, run_of, latest_besides, is_type_C, may_pair}
-use Rattle.coincidence_rules.proofs.Lists.{get_either}
-use Rattle.coincidence.specs.declared.recent.Sighting.{Sighting}
+use Rattle.coincidence_rules.proofs.Lists.{get_either, get_set, same_place}
+use Rattle.coincidence.specs.declared.point_stamp.PointStamp.{PointStamp}
 use Rattle.coincidence.specs.declared.recent.Recent.{Recent}
 use Rattle.coincidence.specs.declared.point_watch.PointWatch.{PointWatch}
 use Rattle.coincidence.specs.declared.zone_watch.ZoneWatch.{ZoneWatch}
@@ -30,18 +32,6 @@ use Rattle.coincidence.specs.Parts.{stamp_of, besides_by, besides, other_after, 
 use Rattle.coincidence.specs.Stands.{WatchesPoint, WatchesZone, DecidesFor}
 use Rattle.coincidence.specs.Premises.{IsOwn, MayTake}
 use Rattle.coincidence.proofs.Watched.{read_is, Watched, watched, zone_read, over_read}
-
--- what stands at a place after a write
-pub get_set : {X : Type 0} (xs : List X) (i k : ℕ) (v w : X) → slice_get (set xs i v) k ≡ Some w
-    → ((k ≡ i) × (v ≡ w)) ⊎ ((k ≢ i) × (slice_get xs k ≡ Some w))
-get_set [] i k v w h = absurd (cc)
-get_set (x ∷ xs) zero zero v w h = inl (refl, cc)
-get_set (x ∷ xs) zero (suc k) v w h = inr (omega arith, h)
-get_set (x ∷ xs) (suc i) zero v w h = inr (omega arith, h)
-get_set (x ∷ xs) (suc i) (suc k) v w h = ⊎_elim (λ a. inl (ap suc a.0, a.1)) (λ b. inr (λ e. b.0 (pred_same e), b.1)) (get_set xs i k v w h)
-  where
-    pred_same : suc k ≡ suc i → k ≡ i
-    pred_same e = omega (arith, e)
 
 -- one more answer: the newest first, the run, the latest of another point
 latest_more : (point : ℕ) (xs : List Answer) (x : Answer)
@@ -71,16 +61,16 @@ besides_more test point stamp (y ∷ xs) x = besides_more test point (if test y 
 besides-noted : (q p : ℕ) (stamp : Tick) (recent : Recent) → besides q (noted p stamp recent) ≡ (if p == q then besides q recent else Some stamp)
 besides-noted q p stamp recent = go recent.latest (eqb_tells p q)
   where
-    shown : (seen : Sighting) (b : Bool) → p ≡ q
+    shown : (seen : PointStamp) (b : Bool) → p ≡ q
         → stamp_of (if b then recent.other else Some seen) ≡ (if b then stamp_of recent.other else Some seen.stamp)
     shown seen true e = refl
     shown seen false e = refl
 
-    same : (latest : Option Sighting) → p ≡ q → stamp_of (other_after p latest recent.other) ≡ besides_by q latest recent.other
+    same : (latest : Option PointStamp) → p ≡ q → stamp_of (other_after p latest recent.other) ≡ besides_by q latest recent.other
     same None e = refl
     same (Some seen) e = shown seen (seen.point == p) e ∙ ap (λ n. if seen.point == n then stamp_of recent.other else Some seen.stamp) e
 
-    go : (latest : Option Sighting) → ((p == q) ≡ true) × (p ≡ q) ⊎ (((p == q) ≡ false) × (p ≢ q))
+    go : (latest : Option PointStamp) → ((p == q) ≡ true) × (p ≡ q) ⊎ (((p == q) ≡ false) × (p ≢ q))
         → (if p == q then stamp_of (other_after p latest recent.other) else Some stamp)
         ≡ (if p == q then besides_by q latest recent.other else Some stamp)
     go latest (inl at) =
@@ -90,24 +80,14 @@ besides-noted q p stamp recent = go recent.latest (eqb_tells p q)
         ap (λ b. if b then stamp_of (other_after p latest recent.other) else Some stamp) at.0 ∙ sym
         (ap (λ b. if b then besides_by q latest recent.other else Some stamp) at.0)
 
-eq_true : (a b : ℕ) → a ≡ b → (a == b) ≡ true
-eq_true a b h = grind (arith, nat_tests)
-
-eq_false : (a b : ℕ) → a ≢ b → (a == b) ≡ false
-eq_false a b h = grind (arith, nat_tests)
-
--- how many of the last answers were silent
-Tells_silent : List Answer → ℕ → Type 0
-Tells_silent latest silent = (n : ℕ) → n ≤ 3 → begins_silent n latest ≡ nat_le n silent
-
 not_le : (n : ℕ) → nat_le (suc n) 0 ≡ false
 not_le n = grind (arith, nat_tests)
 
 zero_le : (n : ℕ) → true ≡ nat_le 0 n
 zero_le n = grind (arith, nat_tests)
 
-silent_more : (heard : Heard) (x : Answer) (latest : List Answer) (silent : ℕ) → x.heard ≡ heard → silent ≤ 3
-    → ((n : ℕ) → n ≤ 3 → begins_silent n latest ≡ nat_le n silent) → (n : ℕ) → n ≤ 3
+silent_more : (heard : Heard) (x : Answer) (latest : List Answer) (silent : ℕ) → x.heard ≡ heard → silent ≤ missing_askings
+    → ((n : ℕ) → n ≤ missing_askings → begins_silent n latest ≡ nat_le n silent) → (n : ℕ) → n ≤ 3
     → begins_silent n (x ∷ latest) ≡ nat_le n (silent_then heard silent)
 silent_more Quiet x latest silent e few h zero le = refl
 silent_more Quiet x latest silent e few h (suc n) le = ap (λ b. is_silent b && begins_silent n latest) e ∙ sym (not_le n)
@@ -115,18 +95,18 @@ silent_more Alarm x latest silent e few h zero le = refl
 silent_more Alarm x latest silent e few h (suc n) le = ap (λ b. is_silent b && begins_silent n latest) e ∙ sym (not_le n)
 silent_more Silent x latest silent e few h zero le = zero_le (silent_then Silent silent)
 silent_more Silent x latest silent e few h (suc n) le =
-    ap (λ b. is_silent b && begins_silent n latest) e ∙ h n (omega (arith, le)) ∙ next (nat_lt silent 3) refl
+    ap (λ b. is_silent b && begins_silent n latest) e ∙ h n (omega (arith, le)) ∙ next (nat_lt silent missing_askings) refl
   where
-    next : (b : Bool) → nat_lt silent 3 ≡ b → nat_le n silent ≡ nat_le (suc n) (if b then silent + 1 else silent)
+    next : (b : Bool) → nat_lt silent missing_askings ≡ b → nat_le n silent ≡ nat_le (suc n) (if b then silent + 1 else silent)
     next true t = grind (arith, nat_tests, t)
     next false t = grind (arith, nat_tests, t, le, few)
 
-silent_few : (heard : Heard) (silent : ℕ) → silent ≤ 3 → silent_then heard silent ≤ 3
+silent_few : (heard : Heard) (silent : ℕ) → silent ≤ missing_askings → silent_then heard silent ≤ missing_askings
 silent_few Quiet silent few = omega arith
 silent_few Alarm silent few = omega arith
-silent_few Silent silent few = next (nat_lt silent 3) refl
+silent_few Silent silent few = next (nat_lt silent missing_askings) refl
   where
-    next : (b : Bool) → nat_lt silent 3 ≡ b → (if b then silent + 1 else silent) ≤ 3
+    next : (b : Bool) → nat_lt silent missing_askings ≡ b → (if b then silent + 1 else silent) ≤ missing_askings
     next true t = grind (arith, nat_tests, t)
     next false t = few
 
@@ -137,7 +117,7 @@ module _ {site : Site} {kept : Retained} {done : List Done} {taken : List Answer
       → WatchesPoint site kept done taken place point watch
       → WatchesPoint site kept done (taken ++ answer ∷ []) place point (point_noted answer.heard counted floor answer.stamp watch)
   point_more place point watch answer counted floor here c f h =
-      let test : (answer.point == place) ≡ true = eq_true answer.point place (sym here) in
+      let test : (answer.point == place) ≡ true = eq-eqb answer.point place (sym here) in
       let latest : latest_of place (taken ++ answer ∷ []) ≡ answer ∷ latest_of place taken =
       latest_more place taken answer ∙ ap (λ b. if b then answer ∷ latest_of place taken else latest_of place taken) test in
       record {
@@ -157,7 +137,7 @@ module _ {site : Site} {kept : Retained} {done : List Done} {taken : List Answer
   point_less : (place : ℕ) (point : PointPlan) (watch : PointWatch) (answer : Answer) → place ≢ answer.point
       → WatchesPoint site kept done taken place point watch → WatchesPoint site kept done (taken ++ answer ∷ []) place point watch
   point_less place point watch answer apart h =
-      let test : (answer.point == place) ≡ false = eq_false answer.point place (λ e. apart (sym e)) in
+      let test : (answer.point == place) ≡ false = ne_eqb answer.point place (λ e. apart (sym e)) in
       let latest : latest_of place (taken ++ answer ∷ []) ≡ latest_of place taken =
       latest_more place taken answer ∙ ap (λ b. if b then answer ∷ latest_of place taken else latest_of place taken) test in
       record {
@@ -196,20 +176,11 @@ module _ {site : Site} {kept : Retained} {done : List Done} {taken : List Answer
           turn true old = refl
           turn false old = refl
 
-      go : (b : Bool) → b ≡ may_pair site kept done place zone.rule answer
-          → WatchesZone site kept done (taken ++ answer ∷ []) place zone (zone_noted b answer.point answer.stamp watch)
-      go true e = record {
-        number = h.number;
-        rule = h.rule;
-        partner = h.partner;
-        off = h.off;
-        test = h.test;
-        moved = h.moved;
-        cancelled =
-            h.cancelled;
-        recent = λ point. noted_is point (sym e);
-      }
-      go false e = record {
+      -- all but the recent answers stays
+      keeps : (recent : Recent)
+          → ((point : ℕ) → besides point recent ≡ latest_besides (may_pair site kept done place zone.rule) point None (taken ++ answer ∷ []))
+          → WatchesZone site kept done (taken ++ answer ∷ []) place zone (record watch { recent = recent })
+      keeps recent is = record {
         number = h.number;
         rule = h.rule;
         partner = h.partner;
@@ -217,12 +188,17 @@ module _ {site : Site} {kept : Retained} {done : List Done} {taken : List Answer
         test = h.test;
         moved = h.moved;
         cancelled = h.cancelled;
-        recent = λ point.
-            let old = latest_besides (may_pair site kept done place zone.rule) point None taken in
-            h.recent point ∙ sym
-            (besides_more (may_pair site kept done place zone.rule) point None taken answer ∙ ap
-            (λ b. if b && not (answer.point == point) then Some answer.stamp else old) (sym e));
+        recent = is;
       }
+
+      go : (b : Bool) → b ≡ may_pair site kept done place zone.rule answer
+          → WatchesZone site kept done (taken ++ answer ∷ []) place zone (zone_noted b answer.point answer.stamp watch)
+      go true e = keeps (noted answer.point answer.stamp watch.recent) (λ point. noted_is point (sym e))
+      go false e = keeps watch.recent (λ point.
+          let old = latest_besides (may_pair site kept done place zone.rule) point None taken in
+          h.recent point ∙ sym
+          (besides_more (may_pair site kept done place zone.rule) point None taken answer ∙ ap
+          (λ b. if b && not (answer.point == point) then Some answer.stamp else old) (sym e)))
 
 module _ {site : Site} {kept : Retained} {panel : ℕ} {done : List Done} {taken : List Answer} {decide : Decide} (stands :
     DecidesFor site kept panel done taken decide) (answer : Answer) (may : MayTake site panel done taken (answer ∷ []))
@@ -240,12 +216,6 @@ module _ {site : Site} {kept : Retained} {panel : ℕ} {done : List Done} {taken
   abbrev pairs : Bool
   pairs = counted && (is_type_C z.rule || not r.manual)
 
-  some_same : {X : Type 0} (x y : X) → Some x ≡ Some y → x ≡ y
-  some_same x y s = cc
-
-  same_place : {X : Type 0} (xs : List X) (i j : ℕ) (x y : X) → i ≡ j → slice_get xs i ≡ Some x → slice_get xs j ≡ Some y → x ≡ y
-  same_place xs i j x y s f g = let at : slice_get xs j ≡ Some x = subst (λ k. slice_get xs k ≡ Some x) s f in cc (at, g)
-
   and_left : (a b : Bool) → a ≡ true → b ≡ (a && b)
   and_left true b s = refl
   and_left false b s = cc
@@ -261,12 +231,12 @@ module _ {site : Site} {kept : Retained} {panel : ℕ} {done : List Done} {taken
       ∙ ap (λ q. is_counted site kept done answer && (is_type_C q || not r.manual)) rule
       ∙ ap (λ m. is_counted site kept done answer && (is_type_C w.zone.rule || not m)) manual
       ∙ ap (λ d. is_counted site kept done answer && (is_type_C w.zone.rule || d)) (sym (ap detects w.is_point))
-      ∙ and_left (is_of site w.point.zone answer.point) _ (ap (lies_in w.point.zone) w.is_point ∙ eq_true w.point.zone w.point.zone refl)
+      ∙ and_left (is_of site w.point.zone answer.point) _ (ap (lies_in w.point.zone) w.is_point ∙ eq-eqb w.point.zone w.point.zone refl)
 
   not_of : (place : ℕ) (zone : ZonePlan) → place ≢ r.zone → false ≡ may_pair site kept done place zone.rule answer
   not_of place zone apart =
       let off : is_of site place answer.point ≡ false =
-      ap (lies_in place) w.is_point ∙ eq_false w.point.zone place (λ s. apart (sym s ∙ sym (zone_read stands answer.point own r e))) in
+      ap (lies_in place) w.is_point ∙ ne_eqb w.point.zone place (λ s. apart (sym s ∙ sym (zone_read stands answer.point own r e))) in
       sym (ap (λ b. b && (is_counted site kept done answer && (is_type_C zone.rule || is_detector site answer.point))) off)
 
   points_more : counted ≡ is_counted site kept done answer → floor.0 ≡ floor_before site r.zone answer.stamp.0 done
@@ -326,42 +296,18 @@ module _ {site : Site} {kept : Retained} {panel : ℕ} {done : List Done} {taken
     own = own_more;
   }
 
-  -- the same, by what the code's calls say of the new values
-  pub stands_noted : (q s : PointWatch) (y : ZoneWatch) (b : Bool) → q ≡ get_or decide.points.items answer.point q
-      → s ≡ point_noted answer.heard counted floor answer.stamp q → b ≡ (counted && (is_type_C z.rule || not s.manual))
-      → y ≡ zone_noted b answer.point answer.stamp z → counted ≡ is_counted site kept done answer
-      → floor.0 ≡ floor_before site r.zone answer.stamp.0 done
+  -- by what the code's calls say of the new values
+  pub stands_noted : (s : PointWatch) (y : ZoneWatch) (b : Bool) → s ≡ p → b ≡ pairs → y ≡ zone_noted b answer.point answer.stamp z
+      → counted ≡ is_counted site kept done answer → floor.0 ≡ floor_before site r.zone answer.stamp.0 done
       → DecidesFor site kept panel done (taken ++ answer ∷ [])
-      (record {
-        panel = decide.panel;
-        points = with_item decide.points answer.point s;
-        zones = with_item decide.zones r.zone y;
-        reset =
-            decide.reset;
-      })
-  stands_noted q s y b eq es eb ey c f =
-      let same : q ≡ r =
-      read_is decide.points.items answer.point q w.watch eq w.is_watch ∙ sym (read_is decide.points.items answer.point r w.watch e w.is_watch) in
-      let point : p ≡ s = sym (es ∙ ap (point_noted answer.heard counted floor answer.stamp) same) in
-      let manual : s.manual ≡ r.manual = ap (λ (o : PointWatch). o.manual) (sym point) in
-      let zone : zone_noted pairs answer.point answer.stamp z ≡ y =
-      sym (ey ∙ ap (λ t. zone_noted t answer.point answer.stamp z) (eb ∙ ap (λ m. counted && (is_type_C z.rule || not m)) manual)) in
-      subst (λ (o : ZoneWatch). DecidesFor site kept panel done (taken ++ answer ∷ []) (record {
-        panel = decide.panel;
-        points =
-            with_item decide.points answer.point s;
-        zones = with_item decide.zones r.zone o;
-        reset = decide.reset;
-      })) zone
-      (subst
-      (λ (o : PointWatch). DecidesFor site kept panel done (taken ++ answer ∷ [])
-      (record {
-        panel = decide.panel;
-        points = with_item decide.points answer.point o;
-        zones =
-            with_item decide.zones r.zone (zone_noted pairs answer.point answer.stamp z);
-        reset = decide.reset;
-      })) point (stands_more c f))
+      (record decide { points = with_item decide.points answer.point s; zones = with_item decide.zones r.zone y })
+  stands_noted s y b es eb ey c f =
+      subst (λ (o : PointWatch × ZoneWatch). DecidesFor site kept panel done (taken ++ answer ∷ [])
+      (record decide { points = with_item decide.points answer.point o.0; zones = with_item decide.zones r.zone o.1 }))
+      (both (sym es) (sym (ey ∙ ap (λ t. zone_noted t answer.point answer.stamp z) eb))) (stands_more c f)
+    where
+      both : {q w : PointWatch} {t u : ZoneWatch} → q ≡ w → t ≡ u → ◌≡◌ {A = PointWatch × ZoneWatch} (q, t) (w, u)
+      both e f = cc
 
 -- an answer that is no alarm
 pub quiet_noted : {site : Site} {kept : Retained} {panel : ℕ} {done : List Done} {taken : List Answer} {decide : Decide} (stands :
@@ -386,9 +332,9 @@ quiet_noted {site} {kept} {panel} {done} {taken} {decide} stands answer may quie
     w.over w.over w.is_over
     in
     let noted =
-    stands_noted stands answer may q w.over eq (sym there) counted floor q s w.over false eq
+    stands_noted stands answer may q w.over eq (sym there) counted floor s w.over false
     (es ∙ sym (ap (λ b. point_noted answer.heard b floor answer.stamp q) uncounted))
-    (sym (ap (λ b. b && (is_type_C w.over.rule || not s.manual)) uncounted)) refl refl refl
+    (sym (ap (λ b. b && (is_type_C w.over.rule || not q.manual)) uncounted)) refl refl refl
     in
     let items : set decide.zones.items q.zone w.over ≡ decide.zones.items =
     ap (set decide.zones.items q.zone) (sym there) ∙ set-get_or decide.zones.items q.zone w.over

@@ -1,14 +1,15 @@
 ghost use Rattle.std.specs.Prelude.{◌≡◌, ◌&&◌, is_some};
 ghost use Rattle.coincidence_rules.specs.Kept.{is_long, is_within};
-ghost use Rattle.coincidence.specs.Sights.{own_coincides, own_confirmed, own_released, partner_confirmed};
-ghost use Rattle.coincidence.specs.Sights.{partner_released};
+ghost use Rattle.coincidence.specs.Observations.{own_coincides, own_confirmed, own_released, partner_confirmed};
+ghost use Rattle.coincidence.specs.Observations.{partner_released};
 
 use site_types::Rule;
 use tick_units::Tick;
 
-/// What is seen of an answer: whether it counts, and the earlier answers with which it may make a pair.
+/// All by which an answer is found to confirm or release a zone: whether it counts, how long its point has been in
+/// alarm, and the earlier answers with which it may make a pair.
 #[derive(Clone, Copy)]
-pub struct Sight {
+pub struct Observation {
     pub stamp: Tick,
     pub counted: bool,
     /// Whether it is of a manual call point.
@@ -17,13 +18,13 @@ pub struct Sight {
     pub run: Option<Tick>,
     /// The floor of its zone.
     pub floor: Tick,
-    /// The latest answer of another point of its zone.
-    pub near: Option<Tick>,
-    /// The latest answer of a point of the zone's partner.
-    pub far: Option<Tick>,
+    /// The stamp of the latest answer of another point of its zone that makes a pair with it.
+    pub own_second: Option<Tick>,
+    /// The stamp of the latest answer of a point of its zone's partner that makes a pair with it.
+    pub partner_second: Option<Tick>,
 }
 
-impl Sight {
+impl Observation {
     /// Whether the answer counts and is of a manual call point.
     pub fn calls(&self) -> bool
         ensures { result ≡ self.now.counted && self.now.manual }
@@ -44,9 +45,9 @@ impl Sight {
         match rule {
             Rule::Plain | Rule::C => true,
             Rule::A { verify, within } => self.is_verified(verify)
-                || self.is_within(self.near, within),
-            Rule::B { within } => self.is_within(self.near, within)
-                || self.is_within(self.far, within),
+                || self.is_within(self.own_second, within),
+            Rule::B { within } => self.is_within(self.own_second, within)
+                || self.is_within(self.partner_second, within),
         }
     }
 
@@ -55,7 +56,8 @@ impl Sight {
         ensures { result ≡ own_released rule self.now }
     {
         match rule {
-            Rule::C => self.counted && (self.manual || self.near.is_some() || self.far.is_some()),
+            Rule::C => self.counted
+                && (self.manual || self.own_second.is_some() || self.partner_second.is_some()),
             Rule::Plain | Rule::A { .. } | Rule::B { .. } => self.confirms_own(rule),
         }
     }
@@ -65,7 +67,9 @@ impl Sight {
         ensures { result ≡ partner_confirmed rule self.now }
     {
         match rule {
-            Rule::B { within } => self.counted && !self.manual && self.is_within(self.far, within),
+            Rule::B { within } => self.counted
+                && !self.manual
+                && self.is_within(self.partner_second, within),
             Rule::Plain | Rule::A { .. } | Rule::C => false,
         }
     }
@@ -75,7 +79,7 @@ impl Sight {
         ensures { result ≡ partner_released rule self.now }
     {
         match rule {
-            Rule::C => self.counted && self.far.is_some(),
+            Rule::C => self.counted && self.partner_second.is_some(),
             Rule::Plain | Rule::A { .. } | Rule::B { .. } => self.confirms_partner(rule),
         }
     }

@@ -19,7 +19,7 @@ use Rattle.panel_conditions.specs.Points.{addressed, on_point, addresses_where, 
 use Rattle.panel_conditions.specs.Turns.{HoldTurn, findings_taken, latest_tick, AreRising}
 use Rattle.panel_conditions.specs.Zones.{tells, found_since, alarm_found, tells_first, first_found_by}
 use Rattle.panel_conditions.specs.Missing.{missing_found, zone_is_off, shows_missing}
-use Rattle.panel_conditions.specs.Words.{has_fault, faults_at, word_at, faults_after, word_after}
+use Rattle.panel_conditions.specs.Words.{with_missing, has_fault, faults_at, word_at, faults_after, word_after}
 use Rattle.panel_conditions.specs.Shown.{is_news, is_in_fire_alarm, last_news, sounds, buzzer_after, entries_after}
 
 point_same : (p q : ℕ → Bool) → ((place : ℕ) → p place ≡ q place) → (o : Option ℕ) → on_point p o ≡ on_point q o
@@ -83,15 +83,7 @@ module _ (site : Site) (kept : Retained) (panel : ℕ) (d : Done) (done : List D
 
     faults_at-yet : (outside : Outside) → faults_at site kept panel (d ∷ done) taken tick outside ≡ faults_at site kept panel done taken tick outside
     faults_at-yet outside =
-        ap (λ m. record {
-          missing = m;
-          broken = outside.broken;
-          shorted = outside.shorted;
-          supply = outside.supply;
-          silent = outside.silent;
-          links = outside.links;
-          unconfirmed = outside.unconfirmed;
-        }) (points_same site panel _ _ missing-yet)
+        ap (λ m. with_missing m outside) (points_same site panel _ _ missing-yet)
 
     word_at-yet : (fault : Bool) → word_at site panel (d ∷ done) taken tick fault ≡ word_at site panel done taken tick fault
     word_at-yet fault =

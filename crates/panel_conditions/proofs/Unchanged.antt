@@ -19,14 +19,15 @@ use Rattle.tick_units.specs.declared.last_done.LastDone.{LastDone}
 use Rattle.panel_conditions.specs.declared.outside.Outside.{Outside}
 use Rattle.panel_conditions.specs.declared.point_switch.PointSwitch.{PointSwitch}
 use Rattle.panel_conditions.specs.declared.shown.Shown.{Shown}
+use Rattle.panel_conditions.specs.declared.zones.Zones.{Zones}
 use Rattle.panel_conditions.specs.declared.sign.Sign.TheVariants.{Alarm, Manual, Released, First}
 use Rattle.panel_conditions.specs.Parts.{later_tick, points_at, points_shown, signs_at}
 use Rattle.tick_units.specs.LastTicks.{last_at}
 use Rattle.panel_conditions.specs.PointSets.{set_without}
 use Rattle.panel_conditions.specs.Shown.{has_more, has_more_points, is_in_fire_alarm, is_news, on_lines, sounds}
-use Rattle.panel_conditions.specs.Stands.{HoldsFor, IsUnchanged, ShownStays, TakesFindings, Watches, entries_then, faults_now, newly_then, nothing_shown, shown_at, shown_now, shown_then, word_with}
+use Rattle.panel_conditions.specs.Stands.{HoldsFor, IsUnchanged, ShownStays, TakesFindings, Watches, WatchesZones, entries_then, faults_now, newly_then, nothing_shown, shown_at, shown_now, shown_then}
 use Rattle.panel_conditions.specs.Turns.{HoldTurn, latest_tick}
-use Rattle.panel_conditions.specs.Words.{faults_at, has_fault, word_after, word_at}
+use Rattle.panel_conditions.specs.Words.{faults_at, with_missing, word_with, has_fault, word_after, word_at}
 use Rattle.panel_conditions.proofs.Drawn.{later_left, later_right}
 use Rattle.panel_conditions.proofs.Masked.{zones_shown}
 use Rattle.panel_conditions.proofs.Turned.{shown_same}
@@ -118,16 +119,7 @@ module _ {site : Site} {kept : Retained} {panel : ℕ} {done : List Done} {taken
   shown_is tick outside signs since =
       let shown = zones_shown site panel done taken hold.zones.watches.items tick in
       let faults : faults_now tick outside hold ≡ faults_at site kept panel done taken tick outside =
-      ap (λ (m : PointSet). record {
-        missing = m;
-        broken = outside.broken;
-        shorted = outside.shorted;
-        supply = outside.supply;
-        silent =
-            outside.silent;
-        links = outside.links;
-        unconfirmed = outside.unconfirmed;
-      })
+      ap (λ m. with_missing m outside)
       (missing_shown site kept panel done taken hold.points tick since h.points)
       in
       let fault = has_fault (faults_now tick outside hold) in
@@ -155,26 +147,7 @@ module _ {site : Site} {kept : Retained} {panel : ℕ} {done : List Done} {taken
       ∙ stays.missing same.moved
       in
       let faults : faults_now tick outside hold ≡ was.faults =
-      ap (λ (m : PointSet). record {
-        missing = m;
-        broken = outside.broken;
-        shorted = outside.shorted;
-        supply = outside.supply;
-        silent =
-            outside.silent;
-        links = outside.links;
-        unconfirmed = outside.unconfirmed;
-      }) missing
-      ∙ ap (λ (o : Outside). record {
-        missing = was.faults.missing;
-        broken = o.broken;
-        shorted = o.shorted;
-        supply = o.supply;
-        silent =
-            o.silent;
-        links = o.links;
-        unconfirmed = o.unconfirmed;
-      }) same.outside_is
+      ap (λ m. with_missing m outside) missing ∙ ap (with_missing was.faults.missing) same.outside_is
       in
       let word : word_with tick (has_fault (faults_now tick outside hold)) hold.zones.signs ≡ record was.word { stamp = record { 0 = tick } } =
       ap (λ f. word_with tick (has_fault f) hold.zones.signs) faults
@@ -287,3 +260,18 @@ stamp_after site kept panel done (turn ∷ before) = refl
 pub shown_in : (site : Site) (kept : Retained) (panel : ℕ) (done : List Done) (turns : List HoldTurn) (hold : Hold)
     → HoldsFor site kept panel done turns hold → hold.shown.word.stamp.0 ≡ latest_tick turns
 shown_in site kept panel done turns hold h = ap (λ w. w.stamp.0) h.shows.word ∙ stamp_after site kept panel done turns
+
+-- what is kept, with zones that were drawn anew
+pub record IsDrawn (site : Site) (kept : Retained) (panel : ℕ) (done : List Done) (taken : List Finding) (was : Hold) (zones : Zones) : Type 0 where
+  pub watches : Watches site kept panel done taken (record was { zones = zones })
+  pub stays : ShownStays done (record was { zones = zones })
+
+pub drawn : {site : Site} {kept : Retained} {panel : ℕ} {done : List Done} {taken : List Finding} (was : Hold) (zones : Zones)
+    → Watches site kept panel done taken was → ShownStays done was → zones.watches.items ≡ was.zones.watches.items → zones.moved ≡ was.zones.moved
+    → IsDrawn site kept panel done taken was zones
+drawn {site} {panel = panel} {done = done} {taken = taken} was zones h stays watches moved = record {
+  watches = record { zones = subst (WatchesZones site panel done taken) (sym watches) h.zones; points = h.points; muted = h.muted };
+  stays =
+      stays_taken done was (record was { zones = zones }) (record { shown = refl; missing = refl; moved = moved; off = refl; zone_off = refl; muted = refl })
+      stays;
+}

@@ -9,7 +9,7 @@ use Rattle.panel_conditions.specs.declared.point_switch.PointSwitch.{PointSwitch
 use Rattle.panel_conditions.specs.Parts.{points_from, switch_points}
 use Rattle.panel_conditions.specs.Points.{points_where}
 use Rattle.panel_conditions.specs.Stands.{TellsPoints}
-use Rattle.panel_conditions.proofs.Yet.{points_same}
+use Rattle.panel_conditions.proofs.BeforeOperation.{points_same}
 
 -- ---- sets of points
 

@@ -1,8 +1,7 @@
 -- What is kept after an operation stands for one more operation.
-use Rattle.std.proofs.Common.{◌≡◌, ◌≢◌, ℕ, suc, ◌<◌, ◌≤◌, Bool, true, false, not, List, [], ◌∷◌, length, Option, Some}
+use Rattle.std.proofs.Common.{◌≡◌, ℕ, suc, ◌<◌, ◌≤◌, Bool, true, false, not, List, [], ◌∷◌, length, Option, Some}
 use Rattle.std.proofs.Common.{None, slice_get, get_or, ◌==◌, ◌&&◌, ◌||◌, nat_lt, if◌then◌else◌, refl, sym, ◌∙◌, ap}
 use Rattle.std.proofs.Common.{subst, arith}
-use Rattle.std.proofs.lemmas.Bool.Decides.{nat_tests}
 use Rattle.tick_units.specs.declared.tick.Tick.{Tick}
 use Rattle.tick_units.specs.declared.switch.Switch.{Switch}
 use Rattle.site_types.specs.declared.site.Site.{Site}
@@ -142,16 +141,9 @@ pub record IsAfter (at : Tick) (panel : ℕ) (operation : Operation) (old next :
   pub point_count : length next.points.items ≡ length old.points.items
   pub zone_count : length next.zones.items ≡ length old.zones.items
   pub points : (place : ℕ) (watch : PointWatch) → slice_get next.points.items place ≡ Some watch
-      → (was : PointWatch) × (slice_get old.points.items place ≡ Some was)
-      × (watch ≡ record was { off = if is_on (PointOff place) (done_now at panel operation) then switch_after (value_set operation) at was.off else was.off })
+      → (was : PointWatch) × (slice_get old.points.items place ≡ Some was) × (watch ≡ point_then at panel operation place was)
   pub zones : (place : ℕ) (watch : ZoneWatch) → slice_get next.zones.items place ≡ Some watch
-      → (was : ZoneWatch) × (slice_get old.zones.items place ≡ Some was)
-      × (watch ≡ record was {
-        off = if is_on (ZoneOff place) (done_now at panel operation) then switch_after (value_set operation) at was.off else was.off;
-        test = if is_on (InTest place) (done_now at panel operation) then switch_after (value_set operation) at was.test else was.test;
-        moved = last_if (moves place (done_now at panel operation)) at was.moved;
-        cancelled = last_if (cancels place (done_now at panel operation)) at was.cancelled;
-      })
+      → (was : ZoneWatch) × (slice_get old.zones.items place ≡ Some was) × (watch ≡ zone_then at panel operation place was)
   pub reset : next.reset ≡ last_if (resets panel (done_now at panel operation)) at old.reset
 
 pub stands_after : (site : Site) (kept : Retained) (panel : ℕ) (done : List Done) (taken : List Answer) (old next : Decide) (at : Tick) (operation :
@@ -181,12 +173,6 @@ stands_after site kept panel done taken old next at operation stands may after =
       order = stands.order;
       own = stands.own;
     }
-
-eq_true : (a b : ℕ) → a ≡ b → (a == b) ≡ true
-eq_true a b h = grind (arith, nat_tests)
-
-eq_false : (a b : ℕ) → a ≢ b → (a == b) ≡ false
-eq_false a b h = grind (arith, nat_tests)
 
 -- a switch was last set before the tick
 pub zone_since : {site : Site} {kept : Retained} {panel : ℕ} {done : List Done} {taken : List Answer} {decide : Decide}
