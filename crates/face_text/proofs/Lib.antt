@@ -9,12 +9,10 @@ pub mod Listing
 pub mod NamedThings
 pub mod Pages
 pub mod Parting
-pub mod Plain
 pub mod Rest
 pub mod SameFaces
 pub mod ToldPages
 pub mod ToldAnswers
-pub mod Spaces
 pub mod ToldBlocks
 pub mod ToldForms
 pub mod Accepted

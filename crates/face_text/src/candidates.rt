@@ -1,17 +1,16 @@
 //! Which entry a line may be that of. Whether it is, the entry's own line tells.
 
-ghost use Rattle.std.specs.Prelude.{◌≡◌, ◌^◌, IfSome};
+ghost use Rattle.std.specs.Prelude.{◌≡◌, IfSome};
 ghost use Rattle.site_types.specs.Valid.{IsValid};
 ghost use Rattle.face_text.specs.Spelled.{IsOf64Bits, answer_spelled, change_spelled, denied_spelled, entry_spelled};
-ghost use Rattle.face_text.specs.Spelled.{number_below, panel_spelled, plain_spelled, reply_spelled, sound_of};
-ghost use Rattle.face_text.specs.Spelled.{truth_of};
+ghost use Rattle.face_text.specs.Spelled.{panel_spelled, plain_spelled, reply_spelled, sound_of};
 
 use crate::change::Change;
 use crate::entry::Entry;
-use crate::fields::{field, is_word};
 use crate::op_answer::OpAnswer;
 use crate::reply::Reply;
-use crate::thing_reading::{read_octet, read_thing, truth_place};
+use crate::thing_reading::{read_thing, truth_place};
+use line_fields::{field, is_word, read_count, read_octet, read_truth};
 use site_types::{Buzzer, Site, read_number};
 use tick_units::Tick;
 
@@ -122,33 +121,6 @@ fn read_denied(text: &[u8]) -> Option<Reply>
     let needs = read_octet(field(text, 4))?;
     let has = read_octet(field(text, 6))?;
     Some(Reply::Denied { needs, has })
-}
-
-fn read_count(text: &[u8]) -> Option<u32>
-    ensures { result ≡ number_below (2 ^ 32) text.now }
-{
-    match read_number(text) {
-        Some(number) => {
-            if number <= u32::MAX as u64 {
-                Some(number as u32)
-            } else {
-                None
-            }
-        }
-        None => None,
-    }
-}
-
-fn read_truth(word: &[u8]) -> Option<bool>
-    ensures { result ≡ truth_of word.now }
-{
-    if is_word(word, b"on") {
-        Some(true)
-    } else if is_word(word, b"off") {
-        Some(false)
-    } else {
-        None
-    }
 }
 
 fn read_sound(word: &[u8]) -> Option<Buzzer>

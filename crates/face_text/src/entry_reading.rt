@@ -9,7 +9,7 @@ use crate::candidates::candidate;
 use crate::entry::Entry;
 use crate::entry_forms::is_entry;
 use crate::entry_lines::{entry_line, opening_line};
-use crate::fields::is_word;
+use line_fields::is_word;
 use site_types::Site;
 
 /// The entry whose line this is, without its end. A line may have any bytes and any length.

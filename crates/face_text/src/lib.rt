@@ -39,7 +39,6 @@ mod entry_lines;
 mod entry_reading;
 mod face;
 mod face_list;
-mod fields;
 mod group;
 mod held;
 mod laws;

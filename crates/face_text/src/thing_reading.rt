@@ -2,14 +2,14 @@
 
 ghost use Rattle.std.specs.Prelude.{◌≡◌};
 ghost use Rattle.site_types.specs.Valid.{IsValid};
-ghost use Rattle.face_text.specs.Spelled.{disabled_spelled, fault_spelled, number_below, number_spelled};
+ghost use Rattle.face_text.specs.Spelled.{disabled_spelled, fault_spelled, number_spelled};
 ghost use Rattle.face_text.specs.Spelled.{output_named as output_of_name, point_named as point_of_name, supply_of};
 ghost use Rattle.face_text.specs.Spelled.{thing_spelled, truth_place as place_of_truth, zone_named as zone_of_name};
 
-use crate::fields::is_word;
 use crate::group::Group;
 use crate::numbered::Numbered;
-use site_types::{Output, Point, Site, Thing, Zone, read_number};
+use line_fields::{is_word, read_octet};
+use site_types::{Output, Point, Site, Thing, Zone};
 
 /// The thing that the words behind a panel's number spell.
 pub fn read_thing(site: &Site, word: &[u8], first: &[u8], second: &[u8]) -> Option<Numbered>
@@ -60,22 +60,6 @@ pub fn truth_place(group: Group) -> usize
         | Group::PointsOff(_)
         | Group::ZonesOff
         | Group::OutputsOff => 4,
-    }
-}
-
-/// The number of a field, if it can be that of a panel, a loop or a link, or a level.
-pub fn read_octet(text: &[u8]) -> Option<u8>
-    ensures { result ≡ number_below 256 text.now }
-{
-    match read_number(text) {
-        Some(number) => {
-            if number < 256 {
-                Some(number as u8)
-            } else {
-                None
-            }
-        }
-        None => None,
     }
 }
 

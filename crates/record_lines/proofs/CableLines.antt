@@ -10,8 +10,9 @@ use Rattle.site_types.specs.declared.site.Site.{Site}
 use Rattle.site_types.specs.declared.loop_plan.LoopPlan.{LoopPlan}
 use Rattle.site_types.specs.declared.event.Event.TheVariants.{Cable}
 use Rattle.site_types.specs.declared.piece_state.PieceState.{PieceState}
-use Rattle.record_lines.specs.Events.{cable_of, has_numbers, is_number, octet_of}
-use Rattle.record_lines.specs.Fields.{field_count}
+use Rattle.record_lines.specs.Events.{cable_of, has_numbers}
+use Rattle.line_fields.specs.Numbers.{is_number, number_below}
+use Rattle.line_fields.specs.Fields.{field_count}
 use Rattle.site_types.specs.Fields.{field}
 use Rattle.record_lines.specs.Forms.{form_of}
 use Rattle.record_lines.specs.Printed.{event_text, joined, piece_state_word}
@@ -19,8 +20,9 @@ use Rattle.record_lines.specs.Words.{piece_state_of}
 use Rattle.record_lines.specs.declared.form.Form.TheVariants.{Cable as CableForm}
 use Rattle.record_lines.specs.declared.line.Line.TheVariants.{Event as EventLine}
 use Rattle.record_lines.specs.declared.standing.Standing.{Standing}
-use Rattle.record_lines.proofs.Joins.{HasFields, fields_of, fit_more, joined_text}
-use Rattle.record_lines.proofs.Plain.{are_fit, number_fit, octet_small}
+use Rattle.line_fields.proofs.Joined.{HasFields}
+use Rattle.record_lines.proofs.Joins.{fields_of, fit_more, joined_text}
+use Rattle.line_fields.proofs.Plain.{are_fit, number_fit, octet_small}
 use Rattle.record_lines.proofs.PrintedNames.{at_place}
 use Rattle.record_lines.proofs.PrintedWords.{piece_word}
 use Rattle.record_lines.proofs.Rows.{cable_row}
@@ -100,9 +102,9 @@ cable_back : (text : List ℕ) (panel line piece : ℕ) (state : PieceState) →
     → HasFields text (codes "cable") (cable_fields panel line piece state) →
     cable_of state text ≡ Some (Cable panel line piece state)
 cable_back text panel line piece state are has =
-    ap (option_and_then (λ p. option_and_then (λ l. option_map (λ n. Cable p l n state) (octet_of (field 3 text))) (octet_of (field 2 text))))
+    ap (option_and_then (λ p. option_and_then (λ l. option_map (λ n. Cable p l n state) (number_below 256 (field 3 text))) (number_below 256 (field 2 text))))
     (octet_back (field 1 text) panel (has.at 1) are.panel_is)
-    ∙ ap (option_and_then (λ l. option_map (λ n. Cable panel l n state) (octet_of (field 3 text))))
+    ∙ ap (option_and_then (λ l. option_map (λ n. Cable panel l n state) (number_below 256 (field 3 text))))
     (octet_back (field 2 text) line (has.at 2) are.line_is)
     ∙ ap (option_map (λ n. Cable panel line n state)) (octet_back (field 3 text) piece (has.at 3) are.piece_is)
 

@@ -20,7 +20,7 @@ use Rattle.site_types.specs.declared.operation.Operation.TheVariants.{Cancel as 
 use Rattle.site_types.specs.declared.operation.Operation.TheVariants.{Enable as EnableItem, Test as TestZone}
 use Rattle.site_types.specs.declared.operation.Operation.TheVariants.{Untest as UntestZone, Delays, Clear}
 use Rattle.record_lines.specs.Events.{code_in, event_view, item_of, label_view, labelled, op_of, operation_of, output_in, point_in, zone_in}
-use Rattle.record_lines.specs.Fields.{field_count}
+use Rattle.line_fields.specs.Fields.{field_count}
 use Rattle.site_types.specs.Fields.{field}
 use Rattle.record_lines.specs.Forms.{action_of, form_of, is_code_field, named_action_of, plain_action_of, zone_action_of}
 use Rattle.record_lines.specs.Printed.{action_fields, code_text, event_text, item_fields, joined, name_text, on_word}
@@ -32,8 +32,9 @@ use Rattle.record_lines.specs.declared.form.Kind.{Kind}
 use Rattle.record_lines.specs.declared.form.Kind.TheVariants.{Point as PointKind, Zone as ZoneKind, Output as OutputKind}
 use Rattle.record_lines.specs.declared.line.Line.TheVariants.{Event as EventLine}
 use Rattle.record_lines.specs.declared.standing.Standing.{Standing}
-use Rattle.record_lines.proofs.Joins.{HasFields, fields_of, fit_more, joined_text}
-use Rattle.record_lines.proofs.Plain.{are_fit, code_fit, is_fit, number_fit, octet_small}
+use Rattle.line_fields.proofs.Joined.{HasFields}
+use Rattle.record_lines.proofs.Joins.{fields_of, fit_more, joined_text}
+use Rattle.line_fields.proofs.Plain.{are_fit, code_fit, is_fit, number_fit, octet_small}
 use Rattle.record_lines.proofs.PrintedNames.{IsNamed, output_there, point_with, zone_there}
 use Rattle.record_lines.proofs.PrintedWords.{word_of_on}
 use Rattle.record_lines.proofs.Rows.{op_row}

@@ -10,7 +10,7 @@ use Rattle.site_types.specs.declared.event.Event.TheVariants.{Point, Confirmed}
 use Rattle.site_types.specs.declared.named.Thing.TheVariants.{Point as PointThing, Output as OutputThing}
 use Rattle.site_types.specs.declared.point_state.PointState.{PointState}
 use Rattle.record_lines.specs.Events.{event_of, output_in, point_in}
-use Rattle.record_lines.specs.Fields.{field_count}
+use Rattle.line_fields.specs.Fields.{field_count}
 use Rattle.site_types.specs.Fields.{field}
 use Rattle.record_lines.specs.Forms.{form_of}
 use Rattle.record_lines.specs.Printed.{event_text, joined, name_text, point_state_word}
@@ -18,7 +18,8 @@ use Rattle.record_lines.specs.Words.{point_state_of}
 use Rattle.record_lines.specs.declared.form.Form.TheVariants.{Point as PointForm, Routing as RoutingForm}
 use Rattle.record_lines.specs.declared.line.Line.TheVariants.{Event as EventLine}
 use Rattle.record_lines.specs.declared.standing.Standing.{Standing}
-use Rattle.record_lines.proofs.Joins.{HasFields, fields_of, fit_more, joined_text}
+use Rattle.line_fields.proofs.Joined.{HasFields}
+use Rattle.record_lines.proofs.Joins.{fields_of, fit_more, joined_text}
 use Rattle.record_lines.proofs.PrintedNames.{output_there, point_there}
 use Rattle.record_lines.proofs.PrintedWords.{point_word}
 use Rattle.record_lines.proofs.Rows.{point_row, routing_row}

@@ -8,7 +8,7 @@ use Rattle.site_types.specs.declared.site.Site.{Site}
 use Rattle.site_types.proofs.Spelling.{decimal-number_of, number_parts}
 use Rattle.tick_units.specs.Ticks.{last_tick}
 use Rattle.tick_units.specs.declared.seat.Seat.{Seat}
-use Rattle.record_lines.specs.Fields.{each_field, field_count, space_count}
+use Rattle.line_fields.specs.Fields.{each_field, field_count, space_count}
 use Rattle.site_types.specs.Fields.{after_space, field}
 use Rattle.record_lines.specs.Forms.{is_seat}
 use Rattle.record_lines.specs.Judged.{SpellsOrder, SpellsTick, judged, judged_as, line_view, order_after, order_line, order_with, ordered, tick_as}
@@ -21,7 +21,7 @@ use Rattle.record_lines.specs.declared.standing.Standing.{Standing}
 use Rattle.record_lines.specs.declared.why.Why.{Why}
 use Rattle.record_lines.specs.declared.why.Why.TheVariants.{BadNumber, BadOrder, BadTick, BeforeFirstTick, TickLimit}
 use Rattle.record_lines.proofs.Joins.{fields_of, fit_more}
-use Rattle.record_lines.proofs.Plain.{number_fit}
+use Rattle.line_fields.proofs.Plain.{number_fit}
 use Rattle.record_lines.proofs.Rows.{order_row, tick_row}
 use Rattle.record_lines.proofs.Verdicts.{counted, number_back, passed}
 

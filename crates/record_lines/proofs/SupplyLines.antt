@@ -9,7 +9,7 @@ use Rattle.site_types.specs.declared.site.Site.{Site}
 use Rattle.site_types.specs.declared.event.Event.TheVariants.{Supply, Link}
 use Rattle.site_types.specs.declared.supply_kind.SupplyKind.{SupplyKind}
 use Rattle.record_lines.specs.Events.{link_of, supply_of}
-use Rattle.record_lines.specs.Fields.{field_count}
+use Rattle.line_fields.specs.Fields.{field_count}
 use Rattle.site_types.specs.Fields.{field}
 use Rattle.record_lines.specs.Forms.{form_of}
 use Rattle.record_lines.specs.Printed.{bad_word, event_text, joined, supply_word, up_word}
@@ -17,8 +17,9 @@ use Rattle.record_lines.specs.Words.{is_bad_of, is_up_of, supply_kind_of}
 use Rattle.record_lines.specs.declared.form.Form.TheVariants.{Supply as SupplyForm, Link as LinkForm}
 use Rattle.record_lines.specs.declared.line.Line.TheVariants.{Event as EventLine}
 use Rattle.record_lines.specs.declared.standing.Standing.{Standing}
-use Rattle.record_lines.proofs.Joins.{HasFields, fields_of, fit_more, joined_text}
-use Rattle.record_lines.proofs.Plain.{number_fit, octet_small}
+use Rattle.line_fields.proofs.Joined.{HasFields}
+use Rattle.record_lines.proofs.Joins.{fields_of, fit_more, joined_text}
+use Rattle.line_fields.proofs.Plain.{number_fit, octet_small}
 use Rattle.record_lines.proofs.PrintedWords.{kind_word, word_of_bad, word_of_up}
 use Rattle.record_lines.proofs.Rows.{link_row, supply_row}
 use Rattle.record_lines.proofs.Verdicts.{IsTextOf, begun, counted, event_from, judged_from, number_there, octet_back}

@@ -8,7 +8,8 @@ use Rattle.site_types.specs.Numbers.{number_of}
 use Rattle.site_types.specs.declared.site.Site.{Site}
 use Rattle.site_types.specs.declared.event.Event.{Event}
 use Rattle.site_types.proofs.Spelling.{number_of-decimal}
-use Rattle.record_lines.specs.Events.{event_of, has_numbers, is_number, octet_of}
+use Rattle.record_lines.specs.Events.{event_of, has_numbers}
+use Rattle.line_fields.specs.Numbers.{is_number, number_below}
 use Rattle.record_lines.specs.Forms.{form_of}
 use Rattle.record_lines.specs.Judged.{content_of, event_in, event_line, judged, judged_as, line_view, may_stand}
 use Rattle.record_lines.specs.declared.form.Form.{Form}
@@ -40,7 +41,7 @@ number_back field n is small = ap number_of is ∙ number_of-decimal n small
 pub number_there : (field : List ℕ) (n : ℕ) → field ≡ decimal n → n < 2 ^ 64 → is_number field ≡ true
 number_there field n is small = ap is_some (number_back field n is small)
 
-pub octet_back : (field : List ℕ) (n : ℕ) → field ≡ decimal n → n < 256 → octet_of field ≡ Some n
+pub octet_back : (field : List ℕ) (n : ℕ) → field ≡ decimal n → n < 256 → number_below 256 field ≡ Some n
 octet_back field n is small =
     ap (option_and_then (λ number. if nat_lt number 256 then Some number else None)) (number_back field n is (omega (arith, small)))
     ∙ cond-true (nat_lt n 256) (Some n) None (lt-ltb n 256 small)

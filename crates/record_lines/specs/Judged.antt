@@ -7,7 +7,7 @@ use Rattle.site_types.specs.declared.site.Site.{Site}
 use Rattle.site_types.specs.declared.event.Event.{Event}
 use Rattle.tick_units.specs.Ticks.{last_tick}
 use Rattle.tick_units.specs.declared.seat.Seat.{Seat}
-use Rattle.record_lines.specs.Fields.{space_count}
+use Rattle.line_fields.specs.Fields.{space_count}
 use Rattle.site_types.specs.Fields.{after_space, field}
 use Rattle.record_lines.specs.Forms.{form_of, is_seat}
 use Rattle.record_lines.specs.Seats.{is_numbered, order_of, seat_of, seats_of}

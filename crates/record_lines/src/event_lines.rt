@@ -6,9 +6,8 @@ ghost use Rattle.record_lines.specs.Events.{operation_of, output_of, point_of, s
 ghost use Rattle.record_lines.specs.ReadBack.{HasCode, IsCode};
 ghost use Rattle.site_types.specs.Valid.{IsValid};
 
-use crate::fields::field;
 use crate::form::{Action, Form, Kind};
-use crate::number_fields::octet;
+use line_fields::{field, read_octet};
 use site_types::{Event, Item, Label, Operation, PieceState, Site, SupplyKind, Thing, read_code};
 
 /// The event of a line whose fixed words and numbers are of their forms. Where a name or a number names
@@ -39,9 +38,9 @@ fn cable(state: PieceState, text: &[u8]) -> Option<Event>
     ensures event { result ≡ cable_of state text.now }
     ensures code { IfSome result HasCode }
 {
-    let panel = octet(field(text, 1))?;
-    let line = octet(field(text, 2))?;
-    let piece = octet(field(text, 3))?;
+    let panel = read_octet(field(text, 1))?;
+    let line = read_octet(field(text, 2))?;
+    let piece = read_octet(field(text, 3))?;
     Some(Event::Cable {
         panel,
         line,
@@ -54,7 +53,7 @@ fn supply(kind: SupplyKind, bad: bool, text: &[u8]) -> Option<Event>
     ensures event { result ≡ supply_of kind bad text.now }
     ensures code { IfSome result HasCode }
 {
-    let panel = octet(field(text, 1))?;
+    let panel = read_octet(field(text, 1))?;
     Some(Event::Supply { panel, kind, bad })
 }
 
@@ -62,7 +61,7 @@ fn link(up: bool, text: &[u8]) -> Option<Event>
     ensures event { result ≡ link_of up text.now }
     ensures code { IfSome result HasCode }
 {
-    let link = octet(field(text, 1))?;
+    let link = read_octet(field(text, 1))?;
     Some(Event::Link { link, up })
 }
 
@@ -71,7 +70,7 @@ fn op(site: &Site, action: Action, text: &[u8]) -> Option<Event>
     ensures event { option_map event_view result ≡ op_of site.now action text.now }
     ensures code { IfSome result HasCode }
 {
-    let panel = octet(field(text, 1))?;
+    let panel = read_octet(field(text, 1))?;
     let operation = operation(site, action, text)?;
     Some(Event::Op {
         panel,

@@ -5,12 +5,10 @@ ghost use Rattle.record_lines.specs.Forms.{action_of, cable_form, end_form, form
 ghost use Rattle.record_lines.specs.Forms.{named_action_of, op_form, order_form, plain_action_of, point_form};
 ghost use Rattle.record_lines.specs.Forms.{routing_form, supply_form, tick_form, zone_action_of};
 
-use crate::fields::{field, field_count};
 use crate::form::{Action, Form};
 use crate::order_lines::are_seats;
-use crate::words::{
-    is_bad, is_on, is_up, is_word, item_kind, piece_state, point_state, supply_kind,
-};
+use crate::words::{is_bad, is_up, item_kind, piece_state, point_state, supply_kind};
+use line_fields::{field, field_count, is_word, read_truth};
 use site_types::{Operation, read_code};
 
 /// The row of a line, if there is one.
@@ -196,7 +194,7 @@ fn zone_action(word: &[u8], next: &[u8]) -> Option<Action>
     ensures { result ≡ zone_action_of word.now next.now }
 {
     if is_word(word, b"delays") {
-        match is_on(next) {
+        match read_truth(next) {
             Some(on) => Some(Action::Plain(Operation::Delays(on))),
             None => None,
         }

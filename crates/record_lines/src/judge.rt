@@ -9,7 +9,6 @@ ghost use Rattle.record_lines.specs.declared.standing.Standing.{Standing as Stan
 ghost use Rattle.site_types.specs.Valid.{IsValid};
 
 use crate::event_lines::read_event;
-use crate::fields::{behind_word, field};
 use crate::form::Form;
 use crate::form_words::form;
 use crate::line::Line;
@@ -17,6 +16,7 @@ use crate::number_fields::has_numbers;
 use crate::order_lines::{make_order, order_seats, read_seats};
 use crate::standing::Standing;
 use crate::why::Why;
+use line_fields::{behind_word, field};
 use site_types::{Site, read_number};
 use tick_units::{LAST_TICK, Seat, Tick};
 

@@ -1,7 +1,7 @@
 //! The line that gives a tick its order.
 
 ghost use Rattle.std.specs.Prelude.{◌≡◌, ◌≤◌, IfOk, IfSome, length, true};
-ghost use Rattle.record_lines.specs.Fields.{each_field, space_count as spaces_in};
+ghost use Rattle.line_fields.specs.Fields.{each_field, space_count as spaces_in};
 ghost use Rattle.site_types.specs.Fields.{after_space as behind_space};
 ghost use Rattle.record_lines.specs.Forms.{is_seat as is_seat_field};
 ghost use Rattle.record_lines.specs.Judged.{SpellsOrder, SpellsSeat};
@@ -10,10 +10,10 @@ ghost use Rattle.record_lines.specs.Seats.{is_numbered as is_numbered_seat, orde
 ghost use Rattle.record_lines.specs.Seats.{place_of, seat_of as seat_in, seats_of};
 ghost use Rattle.tick_units.specs.Orders.{IsOrder, IsPanelCount};
 
-use crate::fields::{after_space, before_space, behind_word, space_count, split_field};
 use crate::why::Why;
-use crate::words::{is_word, task};
+use crate::words::task;
 use arrayvec::ArrayVec;
+use line_fields::{after_space, before_space, behind_word, is_word, space_count, split_field};
 use site_types::read_number;
 use tick_units::{BadOrder, Order, Seat, Task};
 

@@ -1,5 +1,5 @@
 use Rattle.record_lines.specs.Seats.{is_numbered}
-use Rattle.record_lines.proofs.Spaces.{each_on}
+use Rattle.line_fields.proofs.Spaces.{each_on}
 use Rattle.record_lines.proofs.order_lines.are_numbered.Goals as goal
 
 pub loop-seat-preserved : goal.loop-seat-preserved

@@ -1,5 +1,5 @@
 use Rattle.std.proofs.Common.{◌≡◌, ◌-◌}
-use Rattle.record_lines.specs.Fields.{each_field}
+use Rattle.line_fields.specs.Fields.{each_field}
 use Rattle.site_types.specs.Fields.{after_space}
 use Rattle.record_lines.specs.Seats.{is_numbered}
 use Rattle.record_lines.proofs.order_lines.are_numbered.Given as goal

@@ -1,5 +1,5 @@
 use Rattle.record_lines.specs.Forms.{is_seat}
-use Rattle.record_lines.proofs.Spaces.{each_on}
+use Rattle.line_fields.proofs.Spaces.{each_on}
 use Rattle.record_lines.proofs.order_lines.are_seats.Goals as goal
 
 pub loop-seat-preserved : goal.loop-seat-preserved

@@ -1,5 +1,5 @@
 use Rattle.std.proofs.Common.{arith}
-use Rattle.record_lines.proofs.Spaces.{seats_on}
+use Rattle.record_lines.proofs.SeatFields.{seats_on}
 use Rattle.record_lines.proofs.order_lines.read_seats.Goals as goal
 
 pub loop-seat-preserved : goal.loop-seat-preserved

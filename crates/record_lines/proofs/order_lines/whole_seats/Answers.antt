@@ -1,7 +1,8 @@
 use Rattle.std.proofs.Common.{arith, sym}
 use Rattle.record_lines.specs.Forms.{is_seat}
 use Rattle.record_lines.specs.Seats.{is_numbered}
-use Rattle.record_lines.proofs.Spaces.{each_on, seats_on}
+use Rattle.line_fields.proofs.Spaces.{each_on}
+use Rattle.record_lines.proofs.SeatFields.{seats_on}
 use Rattle.record_lines.proofs.order_lines.whole_seats.Goals as goal
 
 pub loop-seat-preserved : goal.loop-seat-preserved

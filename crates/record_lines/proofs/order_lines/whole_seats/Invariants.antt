@@ -1,5 +1,5 @@
 use Rattle.std.proofs.Common.{◌≡◌, ◌-◌, ◌++◌, length}
-use Rattle.record_lines.specs.Fields.{each_field}
+use Rattle.line_fields.specs.Fields.{each_field}
 use Rattle.record_lines.specs.Forms.{is_seat}
 use Rattle.record_lines.specs.Seats.{is_numbered, seats_of}
 use Rattle.record_lines.proofs.order_lines.whole_seats.Given as goal
