@@ -11,7 +11,7 @@ use Rattle.site_types.specs.Events.{has_event}
 use Rattle.tick_units.specs.Ticks.{last_tick}
 use Rattle.tick_units.specs.declared.seat.Seat.{Seat}
 use Rattle.record_lines.specs.Events.{event_of, has_numbers}
-use Rattle.record_lines.specs.Fields.{space_count}
+use Rattle.line_fields.specs.Fields.{space_count}
 use Rattle.site_types.specs.Fields.{after_space, field}
 use Rattle.record_lines.specs.Forms.{form_of}
 use Rattle.record_lines.specs.Seats.{order_of, seats_of}
