@@ -28,6 +28,7 @@ pub mod SpelledLines
 pub mod ToldValues
 pub mod KeptMasks
 pub mod KeptPoints
+pub mod EqualFaces
 pub mod FaceForm
 pub mod SameSlots
 pub mod PageOrder
