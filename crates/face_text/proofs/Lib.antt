@@ -9,7 +9,6 @@ pub mod Listing
 pub mod NamedThings
 pub mod Pages
 pub mod Parting
-pub mod Rest
 pub mod SameFaces
 pub mod ToldPages
 pub mod ToldAnswers

@@ -39,6 +39,7 @@ mod entry_lines;
 mod entry_reading;
 mod face;
 mod face_list;
+mod face_pair;
 mod group;
 mod held;
 mod laws;

@@ -5,7 +5,7 @@ use Rattle.face_text.specs.Slots.{HasPlace, page}
 use Rattle.face_text.proofs.Holding.{moves_next, puts_broken}
 use Rattle.face_text.proofs.Listing.{item_front, item_next}
 use Rattle.face_text.proofs.Pages.{page_has_places, page_length}
-use Rattle.face_text.proofs.change_lines.push_groups.Goals as goal
+use Rattle.face_text.proofs.face_pair.FacePair.push_groups.Goals as goal
 
 pub push_group-requires : goal.push_group-requires
 push_group-requires g c =
@@ -14,7 +14,7 @@ push_group-requires g c =
 
 pub returns-in_err-push_group-clause-text : goal.returns-in_err-push_group-clause-text
 returns-in_err-push_group-clause-text g c =
-    let text = group_text c.args.site.now c.args.before.now c.args.after.now in
+    let text = group_text c.args.self.now.site.now c.args.self.now.before.now c.args.self.now.after.now in
     let k = c.loop-group.group-index in
     let within = subst (λ n. k < n) (sym page_length) c.loop-group-test.true in
     puts_broken c.args.held.now c.loop-group.held c.push_group.new.held _ _ _ _ _ _ _ c.from_residual.result c.from_residual.ensures.0
@@ -23,7 +23,7 @@ returns-in_err-push_group-clause-text g c =
 
 pub loop-group-preserved : goal.loop-group-preserved
 loop-group-preserved g c =
-    let text = group_text c.args.site.now c.args.before.now c.args.after.now in
+    let text = group_text c.args.self.now.site.now c.args.self.now.before.now c.args.self.now.after.now in
     let k = c.loop-group.group-index in
     let within = subst (λ n. k < n) (sym page_length) c.loop-group-test.true in
     let before = c.loop-group.invariant in
