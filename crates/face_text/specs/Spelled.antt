@@ -16,18 +16,18 @@ use Rattle.site_types.specs.Numbers.{number_of}
 use Rattle.site_types.specs.Things.{thing_named}
 use Rattle.line_fields.specs.Numbers.{number_below}
 use Rattle.line_fields.specs.Words.{truth_of, value_beside}
-use Rattle.face_text.specs.declared.change.Change.{Change}
-use Rattle.face_text.specs.declared.change.Change.TheVariants.{Thing as ThingChange, Delays as DelaysChange}
-use Rattle.face_text.specs.declared.change.Change.TheVariants.{Buzzer as BuzzerChange, Counter as CounterChange}
-use Rattle.face_text.specs.declared.entry.Entry.{Entry}
-use Rattle.face_text.specs.declared.entry.Entry.TheVariants.{Change as ChangeEntry, Answer as AnswerEntry}
-use Rattle.face_text.specs.declared.entry.Entry.TheVariants.{Busy as BusyEntry, StoreFailed, Tick as TickEntry}
-use Rattle.face_text.specs.declared.entry.Entry.TheVariants.{End as EndEntry}
+use Rattle.face_text.specs.declared.reading.change.Change.{Change}
+use Rattle.face_text.specs.declared.reading.change.Change.TheVariants.{Thing as ThingChange, Delays as DelaysChange}
+use Rattle.face_text.specs.declared.reading.change.Change.TheVariants.{Buzzer as BuzzerChange, Counter as CounterChange}
+use Rattle.face_text.specs.declared.reading.entry.Entry.{Entry}
+use Rattle.face_text.specs.declared.reading.entry.Entry.TheVariants.{Change as ChangeEntry, Answer as AnswerEntry}
+use Rattle.face_text.specs.declared.reading.entry.Entry.TheVariants.{Busy as BusyEntry, StoreFailed, Tick as TickEntry}
+use Rattle.face_text.specs.declared.reading.entry.Entry.TheVariants.{End as EndEntry}
 use Rattle.face_text.specs.declared.group.Group.{Group}
 use Rattle.face_text.specs.declared.group.Group.TheVariants.{Zones, Firsts, Missing, Broken, Shorted, Supplies}
 use Rattle.face_text.specs.declared.group.Group.TheVariants.{Silent, Links, Unconfirmed, Outputs, Confirmed}
 use Rattle.face_text.specs.declared.group.Group.TheVariants.{PointsOff, ZonesOff, OutputsOff, Tests}
-use Rattle.face_text.specs.declared.numbered.Numbered.{Numbered}
+use Rattle.face_text.specs.declared.reading.numbered.Numbered.{Numbered}
 use Rattle.face_text.specs.declared.reply.Reply.{Reply}
 use Rattle.face_text.specs.declared.reply.Reply.TheVariants.{Done, Denied, Waiting, Already, Store}
 use Rattle.site_types.specs.Fields.{field}

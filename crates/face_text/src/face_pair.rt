@@ -56,7 +56,12 @@ impl FacePair<'_> {
     }
 
     // The lines of a group, number by number.
-    fn push_numbers<K: Sink>(&self, group: Group, held: &mut Held, out: &mut K) -> Result<(), Failed>
+    fn push_numbers<K: Sink>(
+        &self,
+        group: Group,
+        held: &mut Held,
+        out: &mut K,
+    ) -> Result<(), Failed>
         requires { HasPlace group }
         ensures text { Puts held.old held.new (K.written out.old) (K.written out.new)
             (numbers_text self.now.site.now self.now.before.now self.now.after.now group
@@ -91,7 +96,8 @@ impl FacePair<'_> {
         requires group { HasPlace group }
         requires number { (1 ≤ number) × (number ≤ last_of group) }
         ensures text { result.bytes
-            ≡ change_of self.now.site.now self.now.before.now self.now.after.now (Thing group number) }
+            ≡ change_of self.now.site.now self.now.before.now self.now.after.now
+            (Thing group number) }
         ensures short { length result.bytes ≤ 64 }
     {
         let on = shows(self.after, group, number);

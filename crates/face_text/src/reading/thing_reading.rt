@@ -7,7 +7,7 @@ ghost use Rattle.face_text.specs.Spelled.{output_named as output_of_name, point_
 ghost use Rattle.face_text.specs.Spelled.{thing_spelled, truth_place as place_of_truth, zone_named as zone_of_name};
 
 use crate::group::Group;
-use crate::numbered::Numbered;
+use crate::reading::numbered::Numbered;
 use line_fields::{is_word, read_octet};
 use site_types::{Output, Point, Site, Thing, Zone};
 

@@ -8,14 +8,14 @@ ghost use Rattle.face_text.specs.ReadSoFar.{HasPlaceOf, Turns};
 ghost use Rattle.face_text.specs.Telling.{IsPlaced};
 
 use crate::answers::Answers;
-use crate::change::Change;
-use crate::entry::Entry;
 use crate::face::Face;
 use crate::op_answer::OpAnswer;
 use crate::op_answers::{MOST_ANSWERS, OpAnswers};
-use crate::rank::rank_of;
+use crate::reading::change::Change;
+use crate::reading::entry::Entry;
+use crate::reading::rank::rank_of;
+use crate::reading::telling::is_told;
 use crate::step::Step;
-use crate::telling::is_told;
 use crate::timeline::Timeline;
 use site_types::Site;
 use std::alloc::Global;

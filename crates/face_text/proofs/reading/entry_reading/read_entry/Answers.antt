@@ -1,7 +1,7 @@
 use Rattle.std.proofs.Common.{◌≡◌, ◌∙◌, sym, true, false}
 use Rattle.face_text.proofs.EntryRead.{entry_read, none_read, other_read}
-use Rattle.face_text.proofs.entry_reading.read_entry.Goals as goal
-use Rattle.face_text.proofs.entry_reading.read_entry.Goals.{else-is_entry-via-then-is_entry+else-is_ended, else-is_entry-via-else-is_entry}
+use Rattle.face_text.proofs.reading.entry_reading.read_entry.Goals as goal
+use Rattle.face_text.proofs.reading.entry_reading.read_entry.Goals.{else-is_entry-via-then-is_entry+else-is_ended, else-is_entry-via-else-is_entry}
 
 pub returns-in_err-entry : goal.returns-in_err-entry
 returns-in_err-entry c =

@@ -1,5 +1,5 @@
 ghost use Rattle.std.specs.Prelude.{◌≡◌};
-ghost use Rattle.face_text.specs.declared.text_refusal.TextRefusal.TheVariants.{NoMemory};
+ghost use Rattle.face_text.specs.declared.reading.text_refusal.TextRefusal.TheVariants.{NoMemory};
 
 use thiserror::Error;
 use tick_units::NoMemory;

@@ -1,5 +1,5 @@
 use Rattle.face_text.proofs.ToldForms.{empty_faces_more}
-use Rattle.face_text.proofs.told.ToldSoFar.nothing.Goals as goal
+use Rattle.face_text.proofs.reading.told.ToldSoFar.nothing.Goals as goal
 
 pub loop-place-preserved : goal.loop-place-preserved
 loop-place-preserved c =

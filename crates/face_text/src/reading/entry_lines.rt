@@ -6,9 +6,9 @@ ghost use Rattle.face_text.specs.Slots.{line_of};
 ghost use Rattle.face_text.specs.Timelines.{opening_line as line_of_opening};
 
 use crate::answer_lines::{answer_line, counted_line};
-use crate::change::Change;
 use crate::change_lines::{buzzer_line, counter_line, delays_line, thing_line};
-use crate::entry::Entry;
+use crate::reading::change::Change;
+use crate::reading::entry::Entry;
 use arrayvec::ArrayString;
 use itoa::Buffer;
 use site_types::Site;

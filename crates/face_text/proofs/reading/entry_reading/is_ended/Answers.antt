@@ -1,5 +1,5 @@
 use Rattle.face_text.proofs.Parting.{ended_if, ended_not}
-use Rattle.face_text.proofs.entry_reading.is_ended.Goals as goal
+use Rattle.face_text.proofs.reading.entry_reading.is_ended.Goals as goal
 
 pub returns-in-Some : goal.returns-in-Some
 returns-in-Some c = ended_if c.args.bytes.now c.args.line.now c.in-Some.rest.now c.is_word.result c.in-Some.ensures.cases.0 c.in-Some.ensures.cases.1

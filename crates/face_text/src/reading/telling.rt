@@ -5,10 +5,10 @@ ghost use Rattle.face_text.specs.Entries.{slot_of, value_of};
 ghost use Rattle.face_text.specs.Slots.{HasPlace, last_of, value_in};
 ghost use Rattle.face_text.specs.Telling.{IsPlaced, face_told, with_bit_of_panel, with_thing};
 
-use crate::change::Change;
 use crate::face::Face;
 use crate::group::Group;
 use crate::masks::shows;
+use crate::reading::change::Change;
 use site_types::{with_bit_8, with_bit_32};
 
 impl Face {

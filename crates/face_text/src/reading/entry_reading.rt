@@ -5,10 +5,10 @@ ghost use Rattle.site_types.specs.Valid.{IsValid};
 ghost use Rattle.face_text.specs.EntryLines.{ReadsEntry};
 ghost use Rattle.face_text.specs.Timelines.{opening_line as line_of_opening};
 
-use crate::candidates::candidate;
-use crate::entry::Entry;
-use crate::entry_forms::is_entry;
-use crate::entry_lines::{entry_line, opening_line};
+use crate::reading::candidates::candidate;
+use crate::reading::entry::Entry;
+use crate::reading::entry_forms::is_entry;
+use crate::reading::entry_lines::{entry_line, opening_line};
 use line_fields::is_word;
 use site_types::Site;
 

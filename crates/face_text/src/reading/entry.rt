@@ -1,5 +1,5 @@
-use crate::change::Change;
 use crate::op_answer::OpAnswer;
+use crate::reading::change::Change;
 use tick_units::Tick;
 
 /// What a line of a text tells, but for the first line.

@@ -3,9 +3,9 @@
 ghost use Rattle.std.specs.Prelude.{◌≡◌, ◌<◌};
 ghost use Rattle.face_text.specs.Entries.{group_rank as place_of_group, rank_of as place_of_entry, slot_of, slot_rank};
 
-use crate::change::Change;
-use crate::entry::Entry;
 use crate::group::Group;
+use crate::reading::change::Change;
+use crate::reading::entry::Entry;
 
 /// The place of a line in its tick, a number that rises from line to line: pages by panel, answers by number,
 /// busy panels, the store.

@@ -5,11 +5,11 @@ ghost use Rattle.site_types.specs.Valid.{IsValid};
 ghost use Rattle.face_text.specs.Spelled.{IsOf64Bits, answer_spelled, change_spelled, denied_spelled, entry_spelled};
 ghost use Rattle.face_text.specs.Spelled.{panel_spelled, plain_spelled, reply_spelled, sound_of};
 
-use crate::change::Change;
-use crate::entry::Entry;
 use crate::op_answer::OpAnswer;
+use crate::reading::change::Change;
+use crate::reading::entry::Entry;
+use crate::reading::thing_reading::{read_thing, truth_place};
 use crate::reply::Reply;
-use crate::thing_reading::{read_thing, truth_place};
 use line_fields::{field, is_word, read_count, read_octet, read_truth};
 use site_types::{Buzzer, Site, read_number};
 use tick_units::Tick;

@@ -1,6 +1,6 @@
 use Rattle.std.proofs.Common.{◌≡◌, take}
 use Rattle.face_text.specs.Reading.{line_ends}
-use Rattle.face_text.proofs.lines.split_line.Given as goal
+use Rattle.face_text.proofs.reading.lines.split_line.Given as goal
 
 -- no line end so far
 abbrev pub invariant-loop-place : goal.invariant-loop-place

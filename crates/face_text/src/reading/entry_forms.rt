@@ -6,11 +6,11 @@ ghost use Rattle.face_text.specs.Slots.{HasPlace};
 ghost use Rattle.face_text.specs.Spelled.{IsOf64Bits};
 ghost use Rattle.face_text.specs.Timelines.{IsReply};
 
-use crate::change::Change;
-use crate::entry::Entry;
 use crate::group::Group;
 use crate::masks::last_number;
 use crate::naming::{is_panel, name_of};
+use crate::reading::change::Change;
+use crate::reading::entry::Entry;
 use crate::reply::Reply;
 use site_types::{GREATEST_COUNT, Site};
 
