@@ -105,7 +105,7 @@ fit_all_clear most (first ∷ fields) fit =
 
 -- ---- how many fields there are
 
-count_front : (byte : ℕ) (rest : List ℕ) → space_count (byte ∷ rest) ≡ cond (byte == 32) 1 0 + space_count rest
+pub count_front : (byte : ℕ) (rest : List ℕ) → space_count (byte ∷ rest) ≡ cond (byte == 32) 1 0 + space_count rest
 count_front byte rest = sum_by-append (λ b. cond (b == 32) 1 0) (byte ∷ []) rest ∙ ap (λ n. n + space_count rest) (zero-add (cond (byte == 32) 1 0))
 
 count_word : (word : List ℕ) → is_clear word ≡ true → space_count word ≡ 0

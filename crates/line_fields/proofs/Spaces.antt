@@ -1,10 +1,11 @@
 -- Where the spaces of a line lie, and walks over its fields.
-use Rattle.std.proofs.Common.{◌≡◌, ◌<◌, ◌≤◌, ◌+◌, ◌-◌, ◌++◌, ◌&&◌, ◌∙◌, ℕ, zero, suc, Bool, true, false, List, []}
+use Rattle.std.proofs.Common.{◌≡◌, ◌<◌, ◌≤◌, ◌+◌, ◌-◌, ◌++◌, ◌&&◌, ◌∙◌, ℕ, zero, suc, Bool, true, false, cond, List, []}
 use Rattle.std.proofs.Common.{◌∷◌, refl, sym, ap, length, get_or, take, drop, take-append-drop, arith}
 use Rattle.std.specs.Prelude.{◌==◌, bytes_eq, if◌then◌else◌}
 use Rattle.std.proofs.lemmas.Slice.Eq.{bytes_eq-Decides}
-use Rattle.std.proofs.lemmas.Bool.{eq-eqb, ne_eqb}
-use Rattle.line_fields.specs.Fields.{each_field}
+use Rattle.std.proofs.lemmas.Bool.{eq-eqb, eqb-true, ne_eqb}
+use Rattle.line_fields.specs.Fields.{each_field, space_count}
+use Rattle.line_fields.proofs.Joined.{count_front}
 use Rattle.site_types.specs.Fields.{after_space, before_space, field}
 
 -- the first space is at a place
@@ -126,3 +127,36 @@ pub word_front : (text word rest : List ℕ) → bytes_eq (take (length word) te
 word_front text word rest begins is =
     sym (take-append-drop (length word) text) ∙ ap (λ t. t ++ drop (length word) text) ((bytes_eq-Decides (take (length word) text) word).0 begins) ∙
     ap (λ t. word ++ t) (sym is)
+
+-- ---- texts with few spaces
+
+-- a text with something behind its first space
+pub parted_text : (text : List ℕ) → (after_space text ≡ [] → ⊥) → text ≡ before_space text ++ 32 ∷ after_space text
+parted_text [] some = absurd (some refl)
+parted_text (byte ∷ rest) some = by (byte == 32) refl some (parted_text rest)
+  where
+    by : (b : Bool) → (byte == 32) ≡ b → ((if b then rest else after_space rest) ≡ [] → ⊥)
+        → ((after_space rest ≡ [] → ⊥) → rest ≡ before_space rest ++ 32 ∷ after_space rest) →
+        byte ∷ rest ≡ (if b then [] else byte ∷ before_space rest) ++ 32 ∷ (if b then rest else after_space rest)
+    by true e some ih = ap (λ x. x ∷ rest) (eqb-true byte 32 e)
+    by false e some ih = ap (λ r. byte ∷ r) (ih some)
+
+-- a text without a space is one field
+pub one_field : (text : List ℕ) → space_count text ≡ 0 → before_space text ≡ text
+one_field [] none = refl
+one_field (byte ∷ rest) none = by (byte == 32) (sym (count_front byte rest) ∙ none) (one_field rest)
+  where
+    by : (b : Bool) → cond b 1 0 + space_count rest ≡ 0 → (space_count rest ≡ 0 → before_space rest ≡ rest)
+        → (if b then [] else byte ∷ before_space rest) ≡ byte ∷ rest
+    by true some ih = absurd (omega (arith, some))
+    by false none ih = ap (λ r. byte ∷ r) (ih (omega (arith, none)))
+
+-- of a text with one space the second field is all that is behind it
+pub two_fields : (text : List ℕ) → space_count text ≡ 1 → field 1 text ≡ after_space text
+two_fields [] one = absurd (omega (arith, one))
+two_fields (byte ∷ rest) one = by (byte == 32) (sym (count_front byte rest) ∙ one) (two_fields rest)
+  where
+    by : (b : Bool) → cond b 1 0 + space_count rest ≡ 1 → (space_count rest ≡ 1 → field 1 rest ≡ after_space rest)
+        → before_space (if b then rest else after_space rest) ≡ (if b then rest else after_space rest)
+    by true one ih = one_field rest (omega (arith, one))
+    by false one ih = ih (omega (arith, one))

@@ -17,4 +17,4 @@ pub mod SeatFields
 pub mod SupplyLines
 pub mod TickLines
 pub mod Verdicts
-pub mod Spelled
+pub mod Judging

@@ -25,7 +25,7 @@ use Rattle.record_lines.specs.Judged.{order_line, ordered}
 use Rattle.record_lines.specs.Printed.{joined, line_text, seat_text}
 use Rattle.record_lines.specs.Seats.{is_numbered, order_of, order_unless, panel_of, seat_of, seat_with, seats_of}
 use Rattle.record_lines.specs.Words.{task_of}
-use Rattle.record_lines.specs.declared.form.Form.TheVariants.{Order as OrderForm}
+use Rattle.record_lines.specs.Forms.{OrderForm}
 use Rattle.record_lines.specs.declared.line.Line.TheVariants.{Order as OrderLine}
 use Rattle.record_lines.specs.declared.standing.Standing.{Standing}
 use Rattle.record_lines.specs.declared.why.Why.TheVariants.{BadOrder}

@@ -9,7 +9,7 @@ use Rattle.site_types.specs.Fields.{field}
 use Rattle.line_fields.specs.Fields.{field_count}
 use Rattle.record_lines.specs.Judged.{tick_as}
 use Rattle.record_lines.specs.Printed.{joined, line_text}
-use Rattle.record_lines.specs.declared.form.Form.TheVariants.{Tick as TickForm}
+use Rattle.record_lines.specs.Forms.{TickForm}
 use Rattle.record_lines.specs.declared.line.Line.TheVariants.{Tick as TickLine, End}
 use Rattle.record_lines.specs.declared.standing.Standing.{Standing}
 use Rattle.record_lines.specs.declared.why.Why.TheVariants.{BadTick, TickLimit}

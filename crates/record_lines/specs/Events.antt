@@ -23,11 +23,11 @@ use Rattle.site_types.specs.declared.event.Event.TheVariants.{Point, Cable, Supp
 use Rattle.line_fields.specs.Fields.{space_count, each_field}
 use Rattle.site_types.specs.Fields.{after_space, field}
 use Rattle.record_lines.specs.Seats.{is_numbered}
-use Rattle.record_lines.specs.declared.form.Form.{Form}
-use Rattle.record_lines.specs.declared.form.Form.TheVariants.{Tick as TickForm, Point as PointForm}
-use Rattle.record_lines.specs.declared.form.Form.TheVariants.{Cable as CableForm, Supply as SupplyForm}
-use Rattle.record_lines.specs.declared.form.Form.TheVariants.{Link as LinkForm, Routing as RoutingForm, Op as OpForm}
-use Rattle.record_lines.specs.declared.form.Form.TheVariants.{Order as OrderForm, End as EndForm}
+use Rattle.record_lines.specs.Forms.{Form, TickForm, OfEvent, OrderForm, EndForm}
+use Rattle.record_lines.specs.declared.form.EventForm.{EventForm}
+use Rattle.record_lines.specs.declared.form.EventForm.TheVariants.{Point as PointForm, Cable as CableForm}
+use Rattle.record_lines.specs.declared.form.EventForm.TheVariants.{Supply as SupplyForm, Link as LinkForm}
+use Rattle.record_lines.specs.declared.form.EventForm.TheVariants.{Routing as RoutingForm, Op as OpForm}
 use Rattle.record_lines.specs.declared.form.Action.{Action}
 use Rattle.record_lines.specs.declared.form.Action.TheVariants.{Plain, Cancel, Test, Untest, Disable, Enable}
 use Rattle.record_lines.specs.declared.form.Kind.{Kind}
@@ -36,16 +36,20 @@ use Rattle.record_lines.specs.declared.form.Kind.TheVariants.{Output as OutputKi
 
 -- ---- numbers
 
--- the numbers of a line are of the record's form
+-- the numbers of an event's line are of the record's form
+abbrev pub has_event_numbers : EventForm → List ℕ → Bool
+has_event_numbers (PointForm state) text = true
+has_event_numbers (CableForm state) text = is_number (field 1 text) && is_number (field 2 text)
+    && is_number (field 3 text)
+has_event_numbers (SupplyForm kind bad) text = is_number (field 1 text)
+has_event_numbers (LinkForm up) text = is_number (field 1 text)
+has_event_numbers RoutingForm text = true
+has_event_numbers (OpForm action) text = is_number (field 1 text)
+
+-- the numbers of a line are
 abbrev pub has_numbers : Form → List ℕ → Bool
 has_numbers TickForm text = is_number (field 1 text)
-has_numbers (PointForm state) text = true
-has_numbers (CableForm state) text = is_number (field 1 text) && is_number (field 2 text)
-    && is_number (field 3 text)
-has_numbers (SupplyForm kind bad) text = is_number (field 1 text)
-has_numbers (LinkForm up) text = is_number (field 1 text)
-has_numbers RoutingForm text = true
-has_numbers (OpForm action) text = is_number (field 1 text)
+has_numbers (OfEvent form) text = has_event_numbers form text
 has_numbers OrderForm text = each_field is_numbered (space_count text) (after_space text)
 has_numbers EndForm text = true
 
@@ -128,13 +132,10 @@ op_of site action text =
     (operation_of site action text)) (number_below 256 (field 1 text))
 
 -- the event of a line; none where a name names nothing of its kind
-abbrev pub event_of : Site → Form → List ℕ → Option Event
-event_of site TickForm text = None
+abbrev pub event_of : Site → EventForm → List ℕ → Option Event
 event_of site (PointForm state) text = option_map (λ point. Point point state) (point_of site (field 1 text))
 event_of site (CableForm state) text = cable_of state text
 event_of site (SupplyForm kind bad) text = supply_of kind bad text
 event_of site (LinkForm up) text = link_of up text
 event_of site RoutingForm text = option_map (λ output. Confirmed output) (output_of site (field 1 text))
 event_of site (OpForm action) text = op_of site action text
-event_of site OrderForm text = None
-event_of site EndForm text = None
