@@ -9,9 +9,9 @@ use Rattle.std.proofs.lemmas.List.{append-nil}
 use Rattle.site_types.specs.declared.site.Site.{Site}
 use Rattle.tick_units.specs.declared.tick.Tick.{Tick}
 use Rattle.face_text.specs.declared.answers.Answers.{Answers}
-use Rattle.face_text.specs.declared.change.Change.{Change}
-use Rattle.face_text.specs.declared.entry.Entry.{Entry}
-use Rattle.face_text.specs.declared.entry.Entry.TheVariants.{Change as ChangeEntry, Answer as AnswerEntry, Busy as BusyEntry, StoreFailed, Tick as TickEntry, End as EndEntry}
+use Rattle.face_text.specs.declared.reading.change.Change.{Change}
+use Rattle.face_text.specs.declared.reading.entry.Entry.{Entry}
+use Rattle.face_text.specs.declared.reading.entry.Entry.TheVariants.{Change as ChangeEntry, Answer as AnswerEntry, Busy as BusyEntry, StoreFailed, Tick as TickEntry, End as EndEntry}
 use Rattle.face_text.specs.declared.face.Face.{Face}
 use Rattle.face_text.specs.declared.op_answer.OpAnswer.{OpAnswer}
 use Rattle.face_text.specs.declared.timeline.Timeline.{Timeline}

@@ -1,7 +1,7 @@
 -- How many lines the first entries of a text are.
 use Rattle.std.proofs.Common.{◌≡◌, ◌∙◌, ◌+◌, ◌++◌, ℕ, suc, List, [], ◌∷◌, length, sym, ap, subst, append_assoc, arith}
 use Rattle.site_types.specs.declared.site.Site.{Site}
-use Rattle.face_text.specs.declared.entry.Entry.{Entry}
+use Rattle.face_text.specs.declared.reading.entry.Entry.{Entry}
 use Rattle.face_text.specs.Entries.{entry_line}
 use Rattle.face_text.specs.Reading.{first_lines, line_ends}
 use Rattle.face_text.proofs.ReadSoFar.{AreEntries, IsOneLine, entries_text}

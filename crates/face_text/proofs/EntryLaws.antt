@@ -7,14 +7,14 @@ use Rattle.std.proofs.lemmas.List.{append-nil, append_cancel_right}
 use Rattle.std.proofs.lemmas.Option.{same_Some}
 use Rattle.site_types.specs.declared.site.Site.{Site}
 use Rattle.site_types.specs.Valid.{IsValid}
-use Rattle.face_text.specs.declared.entry.Entry.{Entry}
+use Rattle.face_text.specs.declared.reading.entry.Entry.{Entry}
 use Rattle.face_text.specs.Entries.{IsEntry, entry_line}
 use Rattle.face_text.specs.EntryLines.{IsLineOf}
 use Rattle.face_text.proofs.ReadSoFar.{IsOneLine}
 use Rattle.face_text.specs.Spelled.{entry_spelled}
 use Rattle.face_text.specs.Timelines.{opening_line}
 use Rattle.face_text.proofs.Joined.{ends_joined, joined}
-use Rattle.face_text.proofs.Plain.{are_plain, decimal_plain, is_plain, name_plain}
+use Rattle.line_fields.proofs.Plain.{are_plain, decimal_plain, is_plain, name_plain}
 use Rattle.face_text.proofs.SpelledEntries.{entry_is}
 
 -- a line of an entry spells it

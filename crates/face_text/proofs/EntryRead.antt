@@ -3,7 +3,7 @@ use Rattle.std.proofs.Common.{◌≡◌, ◌∙◌, ◌++◌, List, [], ◌∷�
 use Rattle.std.proofs.lemmas.Option.{same_Some}
 use Rattle.site_types.specs.declared.site.Site.{Site}
 use Rattle.site_types.specs.Valid.{IsValid}
-use Rattle.face_text.specs.declared.entry.Entry.{Entry}
+use Rattle.face_text.specs.declared.reading.entry.Entry.{Entry}
 use Rattle.face_text.specs.Entries.{IsEntry, entry_line}
 use Rattle.face_text.specs.EntryLines.{IsLineOf, ReadsEntry}
 use Rattle.face_text.specs.Spelled.{entry_spelled}

@@ -1,4 +1,4 @@
--- Faces in form: what a change leaves in form, and faces that are equal by their slots.
+-- Faces in form: the empty face is, and what a change makes of a face in form.
 use Rattle.std.proofs.Common.{◌≡◌, ◌≤◌, ◌+◌, ◌-◌, ◌&&◌, ℕ, Bool, true, false, List, [], ◌∷◌, get_or, map, replicate, refl, sym, ◌∙◌, ap, subst, arith}
 use Rattle.std.specs.Int.{Width, w8, w32}
 use Rattle.std.specs.Prelude.{not}
@@ -6,14 +6,12 @@ use mir.Val.{bits}
 use Rattle.site_types.specs.Limits.{greatest_count}
 use Rattle.std.specs.List.{range_with_len}
 use Rattle.std.proofs.lemmas.List.{get_or-replicate}
-use Rattle.site_types.specs.declared.buzzer.Buzzer.{Buzzer}
-use Rattle.site_types.specs.declared.fault_set.FaultSet.{FaultSet}
 use Rattle.site_types.specs.declared.point_set.PointSet.{PointSet}
 use Rattle.site_types.specs.declared.site.Site.{Site}
 use Rattle.site_types.specs.Bits.{has_bit, has_point, mask_of, no_set, with_bit, with_point}
 use Rattle.site_types.proofs.Masks.{has_bit-zero}
-use Rattle.face_text.specs.declared.change.Change.{Change}
-use Rattle.face_text.specs.declared.change.Change.TheVariants.{Thing as ThingChange, Delays as DelaysChange, Buzzer as BuzzerChange, Counter as CounterChange}
+use Rattle.face_text.specs.declared.reading.change.Change.{Change}
+use Rattle.face_text.specs.declared.reading.change.Change.TheVariants.{Thing as ThingChange, Delays as DelaysChange, Buzzer as BuzzerChange, Counter as CounterChange}
 use Rattle.face_text.specs.declared.face.Face.{Face}
 use Rattle.face_text.specs.declared.group.Group.{Group}
 use Rattle.face_text.specs.declared.group.Group.TheVariants.{Zones, Firsts, Missing, Broken, Shorted, Supplies, Silent, Links, Unconfirmed, Outputs, Confirmed, PointsOff, ZonesOff, OutputsOff, Tests}
@@ -23,6 +21,7 @@ use Rattle.face_text.specs.Faces.{empty_face}
 use Rattle.face_text.specs.Slots.{HasPlace, is_named, last_of, name_in}
 use Rattle.face_text.specs.Telling.{face_told, with_bit_of_panel, with_thing}
 use Rattle.face_text.specs.Timelines.{IsFaceOf, kept_points, of_site}
+use Rattle.face_text.proofs.EqualFaces.{faces_from, faults_from, points_from}
 use Rattle.face_text.proofs.KeptMasks.{bit_kept, by_number, less_one, none_kept, panels_kept}
 use Rattle.face_text.proofs.KeptPoints.{holds_named, holds_none, holds_told, loops_kept}
 use Rattle.face_text.proofs.ToldValues.{with_thing_keeps}
@@ -30,9 +29,6 @@ use Rattle.face_text.proofs.ToldValues.{with_thing_keeps}
 -- the site has a name for the thing of a group on the page of a panel
 abbrev pub named : Site → ℕ → Group → ℕ → Bool
 named site panel group number = is_named (name_in site panel group number)
-
-pub points_from : (a b : PointSet) → a.loops ≡ b.loops → a ≡ b
-points_from a b e = let h : ◌≡◌ {A = PointSet} (record { loops = a.loops }) (record { loops = b.loops }) = rw e refl in h
 
 -- a mask of its own
 scalar_kept : (w : Width) (count mask number : ℕ) (on : Bool) (names : ℕ → Bool) → count ≤ bits w → 1 ≤ number → number ≤ count
@@ -159,63 +155,6 @@ change_kept site panel face (BuzzerChange sound) form is =
     record { panel_is = form.panel_is; of_the_site = ap (λ (f : Face). record f { buzzer = sound }) form.of_the_site; counter = form.counter }
 change_kept site panel face (CounterChange count) form is =
     record { panel_is = form.panel_is; of_the_site = ap (λ (f : Face). record f { counter = count }) form.of_the_site; counter = is }
-
--- ---- equal faces
-
-pub faults_from : (a b : FaultSet) → a.missing ≡ b.missing → a.broken ≡ b.broken → a.shorted ≡ b.shorted → a.supply ≡ b.supply → a.silent ≡ b.silent
-    → a.links ≡ b.links → a.unconfirmed ≡ b.unconfirmed → a ≡ b
-faults_from a b missing broken shorted supply silent links unconfirmed =
-    let h :
-    ◌≡◌ {A = FaultSet}
-    (record {
-      missing = a.missing;
-      broken = a.broken;
-      shorted = a.shorted;
-      supply = a.supply;
-      silent = a.silent;
-      links = a.links;
-      unconfirmed =
-          a.unconfirmed;
-    })
-    (record {
-      missing = b.missing;
-      broken = b.broken;
-      shorted = b.shorted;
-      supply = b.supply;
-      silent = b.silent;
-      links = b.links;
-      unconfirmed =
-          b.unconfirmed;
-    })
-    = rw (missing, broken, shorted, supply, silent, links, unconfirmed) refl in h
-
-abbrev face_with : ℕ → List ℕ → List ℕ → FaultSet → ℕ → ℕ → PointSet → ℕ → ℕ → ℕ → Bool → Buzzer → ℕ → Face
-face_with panel zones firsts faults outputs confirmed points_off zones_off outputs_off test delays_off buzzer counter =
-    record {
-      panel = panel;
-      zones = zones;
-      firsts = firsts;
-      faults = faults;
-      outputs = outputs;
-      confirmed = confirmed;
-      points_off = points_off;
-      zones_off = zones_off;
-      outputs_off = outputs_off;
-      test = test;
-      delays_off = delays_off;
-      buzzer = buzzer;
-      counter = counter;
-    }
-
-pub faces_from : (a b : Face) → a.panel ≡ b.panel → a.zones ≡ b.zones → a.firsts ≡ b.firsts → a.faults ≡ b.faults → a.outputs ≡ b.outputs
-    → a.confirmed ≡ b.confirmed → a.points_off ≡ b.points_off →
-    a.zones_off ≡ b.zones_off → a.outputs_off ≡ b.outputs_off → a.test ≡ b.test → a.delays_off ≡ b.delays_off → a.buzzer ≡ b.buzzer
-    → a.counter ≡ b.counter → a ≡ b
-faces_from a b panel zones firsts faults outputs confirmed points_off zones_off outputs_off test delays_off buzzer counter =
-    let h :
-    face_with a.panel a.zones a.firsts a.faults a.outputs a.confirmed a.points_off a.zones_off a.outputs_off a.test a.delays_off a.buzzer a.counter
-    ≡ face_with b.panel b.zones b.firsts b.faults b.outputs b.confirmed b.points_off b.zones_off b.outputs_off b.test b.delays_off b.buzzer b.counter
-    = rw (panel, zones, firsts, faults, outputs, confirmed, points_off, zones_off, outputs_off, test, delays_off, buzzer, counter) refl in h
 
 -- ---- the empty face
 

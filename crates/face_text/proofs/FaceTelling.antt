@@ -2,8 +2,8 @@
 use Rattle.std.specs.List.{AllByRecursion, flat_map}
 use Rattle.std.specs.Prelude.{IsTrue, ℕ, ◌<◌, ◌≡◌, ◌≤◌, List, filter, map, not, ◌++◌, ◌==◌, ◌∷◌, ◌≢◌, []}
 use Rattle.site_types.specs.declared.site.Site.{Site}
-use Rattle.face_text.specs.declared.change.Change.{Change}
-use Rattle.face_text.specs.declared.change.Change.TheVariants.{Buzzer as BuzzerChange, Counter as CounterChange, Delays as DelaysChange, Thing as ThingChange}
+use Rattle.face_text.specs.declared.reading.change.Change.{Change}
+use Rattle.face_text.specs.declared.reading.change.Change.TheVariants.{Buzzer as BuzzerChange, Counter as CounterChange, Delays as DelaysChange, Thing as ThingChange}
 use Rattle.face_text.specs.declared.face.Face.{Face}
 use Rattle.face_text.specs.Changes.{changes_text}
 use Rattle.face_text.specs.Entries.{slot_rank, IsChange, slot_of, value_of}

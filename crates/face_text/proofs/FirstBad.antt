@@ -3,8 +3,8 @@ use Rattle.std.proofs.Common.{◌≡◌, ◌≢◌, ◌∙◌, ◌⊎◌, ◌+�
 use Rattle.std.proofs.lemmas.List.{append-nil, length-append}
 use Rattle.site_types.specs.declared.site.Site.{Site}
 use Rattle.tick_units.specs.declared.tick.Tick.{Tick}
-use Rattle.face_text.specs.declared.entry.Entry.{Entry}
-use Rattle.face_text.specs.declared.entry.Entry.TheVariants.{End as EndEntry}
+use Rattle.face_text.specs.declared.reading.entry.Entry.{Entry}
+use Rattle.face_text.specs.declared.reading.entry.Entry.TheVariants.{End as EndEntry}
 use Rattle.face_text.specs.declared.timeline.Timeline.{Timeline}
 use Rattle.face_text.specs.Entries.{IsEntry, entry_line}
 use Rattle.face_text.specs.EntryLines.{IsLineOf}

@@ -38,6 +38,12 @@ puts_more h i j a b c x y (Err e) m p = record { ok = tt; err = broke_more h i a
 pub puts_as : {T E : Type 0} (h i : List ℕ) (a b : Option (List ℕ)) (x y : List ℕ) (r : Result T E) → x ≡ y → Puts h i a b x r → Puts h i a b y r
 puts_as h i a b x y r same p = subst (λ (t : List ℕ). Puts h i a b t r) same p
 
+pub moves_as : (h i : List ℕ) (a b : Option (List ℕ)) (x y : List ℕ) → x ≡ y → Moves h i a b x → Moves h i a b y
+moves_as h i a b x y same m = subst (Moves h i a b) same m
+
+pub broke_as : (h x y : List ℕ) (a b : Option (List ℕ)) → x ≡ y → GrowsByFront a b (h ++ x) → GrowsByFront a b (h ++ y)
+broke_as h x y a b same g = subst (λ (t : List ℕ). GrowsByFront a b (h ++ t)) same g
+
 -- nothing is put of an empty text
 pub puts_nothing : {E : Type 0} (held : List ℕ) (a : Option (List ℕ)) (text : List ℕ) → text ≡ []
     → Puts {T = Unit {0}} {E = E} held held a a text (Ok tt)

@@ -1,40 +1,44 @@
-pub mod Busy
-pub mod EntryLaws
-pub mod EntryRead
+-- what is held back and written
 pub mod Holding
-pub mod Joined
-pub mod Joining
-pub mod LineEnds
+-- the page, its slots and how they are named
+pub mod Pages
+pub mod PageOrder
 pub mod Listing
 pub mod NamedThings
-pub mod Pages
-pub mod Parting
-pub mod Plain
-pub mod Rest
+pub mod Joining
+pub mod EqualFaces
 pub mod SameFaces
+pub mod SameSlots
+-- the line of an entry: its fields, its end, the entry that it spells
+pub mod Joined
+pub mod LineEnds
+pub mod Parting
+pub mod SpelledLines
+pub mod SpelledEntries
+pub mod EntryLaws
+pub mod EntryRead
+-- what lines before told, and what one line more tells
+pub mod ToldValues
+pub mod ToldForms
+pub mod ToldBlocks
 pub mod ToldPages
 pub mod ToldAnswers
-pub mod Spaces
-pub mod ToldBlocks
-pub mod ToldForms
+pub mod ReadSoFar
+pub mod ReadSteps
+pub mod OneMoreLine
+pub mod NextLine
 pub mod Accepted
+pub mod FirstBad
+pub mod Busy
+pub mod CountedLines
+-- faces in form, and the changes that lead from one to another
+pub mod KeptMasks
+pub mod KeptPoints
+pub mod FaceForm
+pub mod FaceTelling
+pub mod AllLines
+-- whole texts, each of one timeline
 pub mod RunChanges
 pub mod RunAnswers
 pub mod Runs
 pub mod SameTexts
-pub mod NextLine
-pub mod CountedLines
-pub mod FirstBad
-pub mod SpelledEntries
-pub mod SpelledLines
-pub mod ToldValues
-pub mod KeptMasks
-pub mod KeptPoints
-pub mod FaceForm
-pub mod SameSlots
-pub mod PageOrder
-pub mod OneMoreLine
-pub mod AllLines
-pub mod ReadSteps
-pub mod FaceTelling
-pub mod ReadSoFar

@@ -114,28 +114,6 @@ same_value x y line e = elim (eqb_tells x y) [
   | inr h ↦ absurd (h.1 e)
 ]
 
-same_bits : (u v : Bool) (line : List ℕ) → beq u v ≡ true → (if number_of_truth u == number_of_truth v then [] else line) ≡ []
-same_bits true true line e = refl
-same_bits false false line e = refl
-same_bits true false line e = cc
-same_bits false true line e = cc
-
-other_bits : (u v : Bool) (line : List ℕ) → beq u v ≡ false → (if number_of_truth u == number_of_truth v then [] else line) ≡ line
-other_bits true true line e = cc
-other_bits false false line e = cc
-other_bits true false line e = refl
-other_bits false true line e = refl
-
--- what is shown as before has no line
-pub thing_same : (site : Site) (before after : Face) (group : Group) (number : ℕ) → beq (shows before group number) (shows after group number) ≡ true
-    → change_of site before after (Thing group number) ≡ []
-thing_same site before after group number e = same_bits (shows before group number) (shows after group number) _ e
-
-pub thing_other : (site : Site) (before after : Face) (group : Group) (number : ℕ)
-    → beq (shows before group number) (shows after group number) ≡ false →
-    line_of site after.panel (Thing group number) (number_of_truth (shows after group number)) ≡ change_of site before after (Thing group number)
-thing_other site before after group number e = sym (other_bits (shows before group number) (shows after group number) _ e)
-
 -- a group that is shown as before has no line
 pub group_same : (site : Site) (before after : Face) (group : Group) → ((number : ℕ) → shows before group number ≡ shows after group number)
     → group_text site before after group ≡ []

@@ -17,10 +17,11 @@ use Rattle.site_types.proofs.ValidSites.{output_at as output_form, point_at as p
 use Rattle.face_text.specs.declared.group.Group.{Group}
 use Rattle.face_text.specs.declared.group.Group.TheVariants.{Zones, Firsts, Missing, Broken, Shorted, Supplies, Silent, Links, Unconfirmed, Outputs, Confirmed, PointsOff, ZonesOff, OutputsOff, Tests}
 use Rattle.face_text.specs.Slots.{last_of, name_in, number_if, output_name, point_name, supply_name, zone_name}
-use Rattle.face_text.specs.Spelled.{number_below, number_spelled, numbered, output_at, output_named, output_spelled}
+use Rattle.face_text.specs.Spelled.{number_spelled, numbered, output_at, output_named, output_spelled}
 use Rattle.face_text.specs.Spelled.{point_at, point_named, point_spelled, thing_spelled, zone_at, zone_named}
 use Rattle.face_text.specs.Spelled.{zone_spelled}
-use Rattle.face_text.proofs.Plain.{decimal_plain, is_plain, name_plain}
+use Rattle.line_fields.specs.Numbers.{number_below}
+use Rattle.line_fields.proofs.Plain.{decimal_plain, is_plain, name_plain}
 
 -- ---- what is found in a list by a test
 

@@ -1,6 +1,6 @@
 -- The order of the page: the places of its slots rise, and each slot of the page is among them.
-use Rattle.std.proofs.Common.{inl, inr, ◌⊎◌, ◌≡◌, ◌≢◌, ◌≤◌, ◌<◌, ◌+◌, ◌*◌, ◌==◌, ℕ, zero, suc, Bool, true, false}
-use Rattle.std.proofs.Common.{List, [], ◌∷◌, ◌++◌, map, filter, refl, sym, ◌∙◌, ap, subst, arith, rules}
+use Rattle.std.proofs.Common.{inl, inr, ◌⊎◌, ◌≡◌, ◌≢◌, ◌≤◌, ◌<◌, ◌+◌, ◌-◌, ◌*◌, ◌==◌, ℕ, zero, suc, Bool, true, false}
+use Rattle.std.proofs.Common.{List, [], ◌∷◌, ◌++◌, map, filter, get_or, length, refl, sym, ◌∙◌, ap, subst, arith, rules}
 use Rattle.std.proofs.Common.{if◌then◌else◌}
 use Rattle.std.specs.List.{AllByRecursion, flat_map, range_with_len}
 use Rattle.std.proofs.lemmas.Bool.Decides.{eqb_tells}
@@ -10,7 +10,7 @@ use Rattle.face_text.specs.declared.group.Group.TheVariants.{Zones, Firsts, Miss
 use Rattle.face_text.specs.Entries.{group_rank, slot_rank}
 use Rattle.face_text.specs.Slots.{HasPlace, Slot, Thing, Delays, Sounding, Count, is_named, last_of, name_in, page, slots, slots_of}
 use Rattle.face_text.proofs.FaceTelling.{IsSlotOf}
-use Rattle.face_text.proofs.Pages.{all_have}
+use Rattle.face_text.proofs.Pages.{all_have, page_length}
 
 -- ---- rising places
 
@@ -163,158 +163,79 @@ among_groups site panel slot group (first ∷ groups) (inl here) is =
 among_groups site panel slot group (first ∷ groups) (inr there) is =
     among_right slot (slots_of site panel first) (flat_map (slots_of site panel) groups) (among_groups site panel slot group groups there is)
 
-group_there : (group : Group) → HasPlace group → IsAmong group page
+among_at : {X : Type 0} (xs : List X) (place : ℕ) (d : X) → place < length xs → IsAmong (get_or xs place d) xs
+among_at [] place d within = absurd (omega (arith, within))
+among_at (x ∷ xs) zero d within = inl refl
+among_at (x ∷ xs) (suc place) d within = inr (among_at xs place d (omega (arith, within)))
+
+-- each group stands at its rank, counted from 1
+group_at : (group : Group) → HasPlace group → get_or page (group_rank group - 1) (Zones 0) ≡ group
 unfolding page
-group_there (Zones zero) place = absurd (omega (arith, place.0))
-group_there (Zones (suc zero)) place = inl refl
-group_there (Zones (suc (suc zero))) place = inr (inl refl)
-group_there (Zones (suc (suc (suc zero)))) place = inr (inr (inl refl))
-group_there (Zones (suc (suc (suc (suc zero))))) place = inr (inr (inr (inl refl)))
-group_there (Zones (suc (suc (suc (suc (suc zero)))))) place = inr (inr (inr (inr (inl refl))))
-group_there (Zones (suc (suc (suc (suc (suc (suc zero))))))) place = inr (inr (inr (inr (inr (inl refl)))))
-group_there (Zones (suc (suc (suc (suc (suc (suc (suc zero)))))))) place = inr (inr (inr (inr (inr (inr (inl refl))))))
-group_there (Zones (suc (suc (suc (suc (suc (suc (suc (suc zero))))))))) place = inr (inr (inr (inr (inr (inr (inr (inl refl)))))))
-group_there (Zones (suc (suc (suc (suc (suc (suc (suc (suc (suc more)))))))))) place = absurd (omega (arith, place.1))
-group_there (Firsts zero) place = absurd (omega (arith, place.0))
-group_there (Firsts (suc zero)) place = inr (inr (inr (inr (inr (inr (inr (inr (inl refl))))))))
-group_there (Firsts (suc (suc zero))) place = inr (inr (inr (inr (inr (inr (inr (inr (inr (inl refl)))))))))
-group_there (Firsts (suc (suc (suc zero)))) place = inr (inr (inr (inr (inr (inr (inr (inr (inr (inr (inl refl))))))))))
-group_there (Firsts (suc (suc (suc (suc zero))))) place = inr (inr (inr (inr (inr (inr (inr (inr (inr (inr (inr (inl refl)))))))))))
-group_there (Firsts (suc (suc (suc (suc (suc zero)))))) place = inr (inr (inr (inr (inr (inr (inr (inr (inr (inr (inr (inr (inl refl))))))))))))
-group_there (Firsts (suc (suc (suc (suc (suc (suc zero))))))) place =
-    inr (inr (inr (inr (inr (inr (inr (inr (inr (inr (inr (inr (inr (inl refl)))))))))))))
-group_there (Firsts (suc (suc (suc (suc (suc (suc (suc zero)))))))) place =
-    inr (inr (inr (inr (inr (inr (inr (inr (inr (inr (inr (inr (inr (inr (inl refl))))))))))))))
-group_there (Firsts (suc (suc (suc (suc (suc (suc (suc (suc zero))))))))) place =
-    inr (inr (inr (inr (inr (inr (inr (inr (inr (inr (inr (inr (inr (inr (inr (inl refl)))))))))))))))
-group_there (Firsts (suc (suc (suc (suc (suc (suc (suc (suc (suc more)))))))))) place = absurd (omega (arith, place.1))
-group_there (Missing zero) place = absurd (omega (arith, place.0))
-group_there (Missing (suc zero)) place = inr (inr (inr (inr (inr (inr (inr (inr (inr (inr (inr (inr (inr (inr (inr (inr (inl refl))))))))))))))))
-group_there (Missing (suc (suc zero))) place =
-    inr (inr (inr (inr (inr (inr (inr (inr (inr (inr (inr (inr (inr (inr (inr (inr (inr (inl refl)))))))))))))))))
-group_there (Missing (suc (suc (suc zero)))) place =
-    inr (inr (inr (inr (inr (inr (inr (inr (inr (inr (inr (inr (inr (inr (inr (inr (inr (inr (inl refl))))))))))))))))))
-group_there (Missing (suc (suc (suc (suc zero))))) place =
-    inr (inr (inr (inr (inr (inr (inr (inr (inr (inr (inr (inr (inr (inr (inr (inr (inr (inr (inr (inl refl)))))))))))))))))))
-group_there (Missing (suc (suc (suc (suc (suc more)))))) place = absurd (omega (arith, place.1))
-group_there Broken place =
-    inr (inr (inr (inr (inr (inr (inr (inr (inr (inr (inr (inr (inr (inr (inr (inr (inr (inr (inr (inr (inl refl))))))))))))))))))))
-group_there Shorted place =
-    inr (inr (inr (inr (inr (inr (inr (inr (inr (inr (inr (inr (inr (inr (inr (inr (inr (inr (inr (inr (inr (inl refl)))))))))))))))))))))
-group_there Supplies place =
-    inr (inr (inr (inr (inr (inr (inr (inr (inr (inr (inr (inr (inr (inr (inr (inr (inr (inr (inr (inr (inr (inr (inl refl))))))))))))))))))))))
-group_there Silent place =
-    inr (inr (inr (inr (inr (inr (inr (inr (inr (inr (inr (inr (inr (inr (inr (inr (inr (inr (inr (inr (inr (inr (inr (inl refl)))))))))))))))))))))))
-group_there Links place =
-    inr
-    (inr
-    (inr (inr (inr (inr (inr (inr (inr (inr (inr (inr (inr (inr (inr (inr (inr (inr (inr (inr (inr (inr (inr (inr (inl refl))))))))))))))))))))))))
-group_there Unconfirmed place =
-    inr
-    (inr
-    (inr
-    (inr (inr (inr (inr (inr (inr (inr (inr (inr (inr (inr (inr (inr (inr (inr (inr (inr (inr (inr (inr (inr (inr (inl refl)))))))))))))))))))))))))
-group_there Outputs place =
-    inr
-    (inr
-    (inr
-    (inr
-    (inr (inr (inr (inr (inr (inr (inr (inr (inr (inr (inr (inr (inr (inr (inr (inr (inr (inr (inr (inr (inr (inr (inl refl))))))))))))))))))))))))))
-group_there Confirmed place =
-    inr
-    (inr
-    (inr
-    (inr
-    (inr
-    (inr (inr (inr (inr (inr (inr (inr (inr (inr (inr (inr (inr (inr (inr (inr (inr (inr (inr (inr (inr (inr (inr (inl refl)))))))))))))))))))))))))))
-group_there (PointsOff zero) place = absurd (omega (arith, place.0))
-group_there (PointsOff (suc zero)) place =
-    inr
-    (inr
-    (inr
-    (inr
-    (inr
-    (inr
-    (inr
-    (inr (inr (inr (inr (inr (inr (inr (inr (inr (inr (inr (inr (inr (inr (inr (inr (inr (inr (inr (inr (inr (inl refl))))))))))))))))))))))))))))
-group_there (PointsOff (suc (suc zero))) place =
-    inr
-    (inr
-    (inr
-    (inr
-    (inr
-    (inr
-    (inr
-    (inr
-    (inr (inr (inr (inr (inr (inr (inr (inr (inr (inr (inr (inr (inr (inr (inr (inr (inr (inr (inr (inr (inr (inl refl)))))))))))))))))))))))))))))
-group_there (PointsOff (suc (suc (suc zero)))) place =
-    inr
-    (inr
-    (inr
-    (inr
-    (inr
-    (inr
-    (inr
-    (inr
-    (inr
-    (inr (inr (inr (inr (inr (inr (inr (inr (inr (inr (inr (inr (inr (inr (inr (inr (inr (inr (inr (inr (inr (inl refl))))))))))))))))))))))))))))))
-group_there (PointsOff (suc (suc (suc (suc zero))))) place =
-    inr
-    (inr
-    (inr
-    (inr
-    (inr
-    (inr
-    (inr
-    (inr
-    (inr
-    (inr
-    (inr (inr (inr (inr (inr (inr (inr (inr (inr (inr (inr (inr (inr (inr (inr (inr (inr (inr (inr (inr (inr (inl refl)))))))))))))))))))))))))))))))
-group_there (PointsOff (suc (suc (suc (suc (suc more)))))) place = absurd (omega (arith, place.1))
-group_there ZonesOff place =
-    inr
-    (inr
-    (inr
-    (inr
-    (inr
-    (inr
-    (inr
-    (inr
-    (inr
-    (inr
-    (inr
-    (inr (inr (inr (inr (inr (inr (inr (inr (inr (inr (inr (inr (inr (inr (inr (inr (inr (inr (inr (inr (inr (inl refl))))))))))))))))))))))))))))))))
-group_there OutputsOff place =
-    inr
-    (inr
-    (inr
-    (inr
-    (inr
-    (inr
-    (inr
-    (inr
-    (inr
-    (inr
-    (inr
-    (inr
-    (inr
-    (inr (inr (inr (inr (inr (inr (inr (inr (inr (inr (inr (inr (inr (inr (inr (inr (inr (inr (inr (inr (inl refl)))))))))))))))))))))))))))))))))
-group_there Tests place =
-    inr
-    (inr
-    (inr
-    (inr
-    (inr
-    (inr
-    (inr
-    (inr
-    (inr
-    (inr
-    (inr
-    (inr
-    (inr
-    (inr
-    (inr (inr (inr (inr (inr (inr (inr (inr (inr (inr (inr (inr (inr (inr (inr (inr (inr (inr (inr (inr (inl refl))))))))))))))))))))))))))))))))))
+group_at (Zones zero) place = absurd (omega (arith, place.0))
+group_at (Zones (suc zero)) place = refl
+group_at (Zones (suc (suc zero))) place = refl
+group_at (Zones (suc (suc (suc zero)))) place = refl
+group_at (Zones (suc (suc (suc (suc zero))))) place = refl
+group_at (Zones (suc (suc (suc (suc (suc zero)))))) place = refl
+group_at (Zones (suc (suc (suc (suc (suc (suc zero))))))) place = refl
+group_at (Zones (suc (suc (suc (suc (suc (suc (suc zero)))))))) place = refl
+group_at (Zones (suc (suc (suc (suc (suc (suc (suc (suc zero))))))))) place = refl
+group_at (Zones (suc (suc (suc (suc (suc (suc (suc (suc (suc more)))))))))) place = absurd (omega (arith, place.1))
+group_at (Firsts zero) place = absurd (omega (arith, place.0))
+group_at (Firsts (suc zero)) place = refl
+group_at (Firsts (suc (suc zero))) place = refl
+group_at (Firsts (suc (suc (suc zero)))) place = refl
+group_at (Firsts (suc (suc (suc (suc zero))))) place = refl
+group_at (Firsts (suc (suc (suc (suc (suc zero)))))) place = refl
+group_at (Firsts (suc (suc (suc (suc (suc (suc zero))))))) place = refl
+group_at (Firsts (suc (suc (suc (suc (suc (suc (suc zero)))))))) place = refl
+group_at (Firsts (suc (suc (suc (suc (suc (suc (suc (suc zero))))))))) place = refl
+group_at (Firsts (suc (suc (suc (suc (suc (suc (suc (suc (suc more)))))))))) place = absurd (omega (arith, place.1))
+group_at (Missing zero) place = absurd (omega (arith, place.0))
+group_at (Missing (suc zero)) place = refl
+group_at (Missing (suc (suc zero))) place = refl
+group_at (Missing (suc (suc (suc zero)))) place = refl
+group_at (Missing (suc (suc (suc (suc zero))))) place = refl
+group_at (Missing (suc (suc (suc (suc (suc more)))))) place = absurd (omega (arith, place.1))
+group_at Broken place = refl
+group_at Shorted place = refl
+group_at Supplies place = refl
+group_at Silent place = refl
+group_at Links place = refl
+group_at Unconfirmed place = refl
+group_at Outputs place = refl
+group_at Confirmed place = refl
+group_at (PointsOff zero) place = absurd (omega (arith, place.0))
+group_at (PointsOff (suc zero)) place = refl
+group_at (PointsOff (suc (suc zero))) place = refl
+group_at (PointsOff (suc (suc (suc zero)))) place = refl
+group_at (PointsOff (suc (suc (suc (suc zero))))) place = refl
+group_at (PointsOff (suc (suc (suc (suc (suc more)))))) place = absurd (omega (arith, place.1))
+group_at ZonesOff place = refl
+group_at OutputsOff place = refl
+group_at Tests place = refl
+
+rank_small : (group : Group) → HasPlace group → group_rank group ≤ 35
+rank_small (Zones place) has = let most = has.1 in omega (arith, most)
+rank_small (Firsts place) has = let most = has.1 in omega (arith, most)
+rank_small (Missing place) has = let most = has.1 in omega (arith, most)
+rank_small Broken has = omega arith
+rank_small Shorted has = omega arith
+rank_small Supplies has = omega arith
+rank_small Silent has = omega arith
+rank_small Links has = omega arith
+rank_small Unconfirmed has = omega arith
+rank_small Outputs has = omega arith
+rank_small Confirmed has = omega arith
+rank_small (PointsOff place) has = let most = has.1 in omega (arith, most)
+rank_small ZonesOff has = omega arith
+rank_small OutputsOff has = omega arith
+rank_small Tests has = omega arith
+
+group_there : (group : Group) → HasPlace group → IsAmong group page
+group_there group has =
+    let small = rank_small group has in
+    subst (λ g. IsAmong g page) (group_at group has) (among_at page (group_rank group - 1) (Zones 0) (omega (arith, small, page_length)))
 
 pub slot_there : (site : Site) (panel : ℕ) (slot : Slot) → IsSlotOf site panel slot → IsAmong slot (slots site panel)
 slot_there site panel (Thing group number) is =

@@ -4,8 +4,8 @@ use Rattle.std.specs.Option.{option_and_then}
 use Rattle.std.specs.Prelude.{List, Option, Some, if◌then◌else◌, ℕ, ◌++◌, ◌==◌, ◌∷◌, None, length, suc, ◌≡◌, []}
 use Rattle.tick_units.specs.declared.tick.Tick.{Tick as TickOf}
 use Rattle.site_types.specs.declared.site.Site.{Site}
-use Rattle.face_text.specs.declared.entry.Entry.{Entry}
-use Rattle.face_text.specs.declared.entry.Entry.TheVariants.{End}
+use Rattle.face_text.specs.declared.reading.entry.Entry.{Entry}
+use Rattle.face_text.specs.declared.reading.entry.Entry.TheVariants.{End}
 use Rattle.face_text.specs.declared.face.Face.{Face}
 use Rattle.face_text.specs.declared.step.Step.{Step}
 use Rattle.face_text.specs.Entries.{entry_line, IsEntry}

@@ -7,11 +7,11 @@ use Rattle.std.proofs.lemmas.List.{length-append}
 use Rattle.site_types.specs.declared.site.Site.{Site}
 use Rattle.site_types.specs.Valid.{IsValid}
 use Rattle.tick_units.specs.declared.tick.Tick.{Tick}
-use Rattle.face_text.specs.declared.entry.Entry.{Entry}
-use Rattle.face_text.specs.declared.entry.Entry.TheVariants.{Change as ChangeEntry, Answer as AnswerEntry, Busy as BusyEntry, StoreFailed, Tick as TickEntry, End as EndEntry}
+use Rattle.face_text.specs.declared.reading.entry.Entry.{Entry}
+use Rattle.face_text.specs.declared.reading.entry.Entry.TheVariants.{Change as ChangeEntry, Answer as AnswerEntry, Busy as BusyEntry, StoreFailed, Tick as TickEntry, End as EndEntry}
 use Rattle.face_text.specs.declared.face.Face.{Face}
-use Rattle.face_text.specs.declared.text_refusal.TextRefusal.{TextRefusal}
-use Rattle.face_text.specs.declared.text_refusal.TextRefusal.TheVariants.{BadLine, NoMemory}
+use Rattle.face_text.specs.declared.reading.text_refusal.TextRefusal.{TextRefusal}
+use Rattle.face_text.specs.declared.reading.text_refusal.TextRefusal.TheVariants.{BadLine, NoMemory}
 use Rattle.face_text.specs.declared.timeline.Timeline.{Timeline}
 use Rattle.face_text.specs.Entries.{IsEntry}
 use Rattle.face_text.specs.EntryLines.{IsLineOf, IsParted, ReadsEntry}

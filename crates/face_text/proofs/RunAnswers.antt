@@ -7,8 +7,8 @@ use Rattle.std.proofs.lemmas.Bool.{cases_eq, cases_lt, eq-eqb, lt-ltb, ne_eqb}
 use Rattle.std.proofs.lemmas.List.{append-nil, length-append, set_at}
 use Rattle.site_types.specs.declared.site.Site.{Site}
 use Rattle.face_text.specs.declared.answers.Answers.{Answers}
-use Rattle.face_text.specs.declared.entry.Entry.{Entry}
-use Rattle.face_text.specs.declared.entry.Entry.TheVariants.{Answer as AnswerEntry, Busy as BusyEntry, StoreFailed}
+use Rattle.face_text.specs.declared.reading.entry.Entry.{Entry}
+use Rattle.face_text.specs.declared.reading.entry.Entry.TheVariants.{Answer as AnswerEntry, Busy as BusyEntry, StoreFailed}
 use Rattle.face_text.specs.declared.op_answer.OpAnswer.{OpAnswer}
 use Rattle.face_text.specs.Reading.{Told, told_next}
 use Rattle.face_text.proofs.ReadSoFar.{AreEntries, told_after}

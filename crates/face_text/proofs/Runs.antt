@@ -5,8 +5,8 @@ use Rattle.std.proofs.lemmas.Bool.{le-leb, lt-ltb, ne_eqb, true≢false}
 use Rattle.std.proofs.lemmas.List.{append-nil}
 use Rattle.site_types.specs.declared.site.Site.{Site}
 use Rattle.face_text.specs.declared.answers.Answers.{Answers}
-use Rattle.face_text.specs.declared.entry.Entry.{Entry}
-use Rattle.face_text.specs.declared.entry.Entry.TheVariants.{Tick as TickEntry}
+use Rattle.face_text.specs.declared.reading.entry.Entry.{Entry}
+use Rattle.face_text.specs.declared.reading.entry.Entry.TheVariants.{Tick as TickEntry}
 use Rattle.face_text.specs.declared.face.Face.{Face}
 use Rattle.face_text.specs.declared.step.Step.{Step}
 use Rattle.face_text.specs.declared.timeline.Timeline.{Timeline}

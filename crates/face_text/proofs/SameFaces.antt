@@ -11,6 +11,7 @@ use Rattle.site_types.specs.declared.buzzer.Buzzer.TheVariants.{Off, Fault, Fire
 use Rattle.site_types.specs.declared.fault_set.FaultSet.{FaultSet}
 use Rattle.site_types.specs.declared.point_set.PointSet.{PointSet}
 use Rattle.face_text.specs.declared.face.Face.{Face}
+use Rattle.face_text.proofs.EqualFaces.{faces_from, faults_from, points_from}
 use Rattle.face_text.specs.Faces.{same_buzzer, same_face, same_faces, same_faults, same_truth}
 
 both : (a b : Bool) → a && b ≡ true → (a ≡ true) × (b ≡ true)
@@ -61,9 +62,6 @@ sound_is Fault Fire e = cc
 sound_is Fire Off e = cc
 sound_is Fire Fault e = cc
 
-points_from : (a b : PointSet) → a.loops ≡ b.loops → a ≡ b
-points_from a b e = let h : ◌≡◌ {A = PointSet} (record { loops = a.loops }) (record { loops = b.loops }) = rw e refl in h
-
 points_is : (a b : PointSet) → pointwise (pointwise (λ x y. x == y)) a.loops b.loops ≡ true → a ≡ b
 points_is a b e = points_from a b (lists a.loops b.loops e)
 
@@ -75,55 +73,9 @@ faults_is a b e =
     let supply = both _ _ shorted.1 in
     let silent = both _ _ supply.1 in
     let links = both _ _ silent.1 in
-    let h :
-    ◌≡◌ {A = FaultSet}
-    (record {
-      missing = a.missing;
-      broken = a.broken;
-      shorted = a.shorted;
-      supply = a.supply;
-      silent = a.silent;
-      links = a.links;
-      unconfirmed =
-          a.unconfirmed;
-    })
-    (record {
-      missing = b.missing;
-      broken = b.broken;
-      shorted = b.shorted;
-      supply = b.supply;
-      silent = b.silent;
-      links = b.links;
-      unconfirmed =
-          b.unconfirmed;
-    })
-    = rw (
-      points_is a.missing b.missing missing.0,
-      number a.broken b.broken broken.0,
-      number a.shorted b.shorted shorted.0,
-      number a.supply b.supply supply.0,
-      number a.silent b.silent silent.0,
-      number a.links b.links links.0,
-      number a.unconfirmed b.unconfirmed links.1,
-    ) refl in h
-
-abbrev face_with : ℕ → List ℕ → List ℕ → FaultSet → ℕ → ℕ → PointSet → ℕ → ℕ → ℕ → Bool → Buzzer → ℕ → Face
-face_with panel zones firsts faults outputs confirmed points_off zones_off outputs_off test delays_off buzzer counter =
-    record {
-      panel = panel;
-      zones = zones;
-      firsts = firsts;
-      faults = faults;
-      outputs = outputs;
-      confirmed = confirmed;
-      points_off = points_off;
-      zones_off = zones_off;
-      outputs_off = outputs_off;
-      test = test;
-      delays_off = delays_off;
-      buzzer = buzzer;
-      counter = counter;
-    }
+    faults_from a b (points_is a.missing b.missing missing.0) (number a.broken b.broken broken.0) (number a.shorted b.shorted shorted.0)
+    (number a.supply b.supply supply.0) (number a.silent b.silent silent.0) (number a.links b.links links.0)
+    (number a.unconfirmed b.unconfirmed links.1)
 
 -- two tests of truths and buzzers, each of which tells that they are equal
 module _ (truths : Bool → Bool → Bool) (truths_are : (a b : Bool) → truths a b ≡ true → a ≡ b) (sounds : Buzzer → Buzzer → Bool) (sounds_are :
@@ -151,25 +103,11 @@ module _ (truths : Bool → Bool → Bool) (truths_are : (a b : Bool) → truths
       let test = both _ _ outputs_off.1 in
       let delays_off = both _ _ test.1 in
       let buzzer = both _ _ delays_off.1 in
-      let h :
-      face_with a.panel a.zones a.firsts a.faults a.outputs a.confirmed a.points_off a.zones_off a.outputs_off a.test a.delays_off a.buzzer a.counter
-      ≡ face_with b.panel b.zones b.firsts b.faults b.outputs b.confirmed b.points_off b.zones_off b.outputs_off b.test b.delays_off b.buzzer
-      b.counter
-      = rw (
-        number a.panel b.panel panel.0,
-        numbers a.zones b.zones zones.0,
-        numbers a.firsts b.firsts firsts.0,
-        faults_is a.faults b.faults faults.0,
-        number a.outputs b.outputs outputs.0,
-        number a.confirmed b.confirmed confirmed.0,
-        points_is a.points_off b.points_off points_off.0,
-        number a.zones_off b.zones_off zones_off.0,
-        number a.outputs_off b.outputs_off outputs_off.0,
-        number a.test b.test test.0,
-        truths_are a.delays_off b.delays_off delays_off.0,
-        sounds_are a.buzzer b.buzzer buzzer.0,
-        number a.counter b.counter buzzer.1,
-      ) refl in h
+      faces_from a b (number a.panel b.panel panel.0) (numbers a.zones b.zones zones.0) (numbers a.firsts b.firsts firsts.0)
+      (faults_is a.faults b.faults faults.0) (number a.outputs b.outputs outputs.0) (number a.confirmed b.confirmed confirmed.0)
+      (points_is a.points_off b.points_off points_off.0) (number a.zones_off b.zones_off zones_off.0)
+      (number a.outputs_off b.outputs_off outputs_off.0) (number a.test b.test test.0) (truths_are a.delays_off b.delays_off delays_off.0)
+      (sounds_are a.buzzer b.buzzer buzzer.0) (number a.counter b.counter buzzer.1)
 
 -- as the code compares them
 pub code_eq_is : (a b : Face) → faces_eq beq truth (sameb the_type) sound a b ≡ true → a ≡ b

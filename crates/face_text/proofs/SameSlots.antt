@@ -11,7 +11,8 @@ use Rattle.face_text.specs.declared.group.Group.TheVariants.{Zones, Firsts, Miss
 use Rattle.face_text.specs.Slots.{HasPlace, Slot, Thing, Delays, Sounding, Count, last_of, number_of_buzzer, number_of_truth, shows, value_in}
 use Rattle.face_text.proofs.FaceTelling.{AreTheirSlots, IsSlotOf}
 use Rattle.face_text.specs.Timelines.{kept_of, kept_points, of_site}
-use Rattle.face_text.proofs.FaceForm.{faces_from, faults_from, named, points_from}
+use Rattle.face_text.proofs.EqualFaces.{faces_from, faults_from, points_from}
+use Rattle.face_text.proofs.FaceForm.{named}
 use Rattle.face_text.proofs.KeptMasks.{same_by_number}
 
 and_same : (b x y : Bool) → (b ≡ true → x ≡ y) → (b && x) ≡ (b && y)

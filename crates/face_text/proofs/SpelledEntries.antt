@@ -12,21 +12,24 @@ use Rattle.site_types.specs.Limits.{greatest_count}
 use Rattle.site_types.specs.Numbers.{number_of}
 use Rattle.site_types.specs.Valid.{IsValid}
 use Rattle.site_types.proofs.Spelling.{number_of-decimal}
-use Rattle.face_text.specs.declared.change.Change.{Change}
-use Rattle.face_text.specs.declared.change.Change.TheVariants.{Thing as ThingChange, Delays as DelaysChange, Buzzer as BuzzerChange, Counter as CounterChange}
-use Rattle.face_text.specs.declared.entry.Entry.{Entry}
-use Rattle.face_text.specs.declared.entry.Entry.TheVariants.{Change as ChangeEntry, Answer as AnswerEntry, Busy as BusyEntry, StoreFailed, Tick as TickEntry, End as EndEntry}
+use Rattle.face_text.specs.declared.reading.change.Change.{Change}
+use Rattle.face_text.specs.declared.reading.change.Change.TheVariants.{Thing as ThingChange, Delays as DelaysChange, Buzzer as BuzzerChange, Counter as CounterChange}
+use Rattle.face_text.specs.declared.reading.entry.Entry.{Entry}
+use Rattle.face_text.specs.declared.reading.entry.Entry.TheVariants.{Change as ChangeEntry, Answer as AnswerEntry, Busy as BusyEntry, StoreFailed, Tick as TickEntry, End as EndEntry}
 use Rattle.face_text.specs.declared.reply.Reply.{Reply}
 use Rattle.face_text.specs.declared.reply.Reply.TheVariants.{Done, Denied, Waiting, Already, Store}
 use Rattle.face_text.specs.Answers.{reply_words}
 use Rattle.face_text.specs.Entries.{IsChange, IsEntry, counted_line, entry_line, slot_of, value_of}
 use Rattle.site_types.specs.Fields.{field}
 use Rattle.face_text.specs.Slots.{buzzer_line, buzzer_word, counter_line, delays_line, is_named, line_of, name_in, number_of_buzzer, number_of_truth}
-use Rattle.face_text.specs.Spelled.{answer_spelled, by_panel, denied_spelled, number_below, panel_spelled, plain_spelled, reply_spelled, sound_of, truth_of}
+use Rattle.face_text.specs.Spelled.{answer_spelled, by_panel, denied_spelled, panel_spelled, plain_spelled, reply_spelled, sound_of}
 use Rattle.face_text.specs.Timelines.{IsReply}
-use Rattle.face_text.proofs.Joined.{HasFields, fields_of, joined}
+use Rattle.line_fields.proofs.Joined.{HasFields}
+use Rattle.face_text.proofs.Joined.{fields_of, joined}
 use Rattle.face_text.proofs.NamedThings.{below_back}
-use Rattle.face_text.proofs.Plain.{are_plain, decimal_plain, is_plain}
+use Rattle.line_fields.specs.Numbers.{number_below}
+use Rattle.line_fields.specs.Words.{truth_of}
+use Rattle.line_fields.proofs.Plain.{are_plain, decimal_plain, is_plain}
 use Rattle.face_text.proofs.SpelledLines.{IsSpelled, IsTold, state_back, state_line, state_of, state_plain, thing_told, told_spelled}
 
 -- ---- delays, buzzer, counter and busy panels

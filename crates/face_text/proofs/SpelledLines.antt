@@ -7,19 +7,22 @@ use Rattle.std.proofs.lemmas.Bool.{and_from}
 use Rattle.std.proofs.lemmas.List.{append-nil}
 use Rattle.site_types.specs.declared.site.Site.{Site}
 use Rattle.site_types.specs.Valid.{IsValid}
-use Rattle.face_text.specs.declared.change.Change.{Change}
-use Rattle.face_text.specs.declared.change.Change.TheVariants.{Thing as ThingChange}
-use Rattle.face_text.specs.declared.entry.Entry.{Entry}
-use Rattle.face_text.specs.declared.entry.Entry.TheVariants.{Change as ChangeEntry}
+use Rattle.face_text.specs.declared.reading.change.Change.{Change}
+use Rattle.face_text.specs.declared.reading.change.Change.TheVariants.{Thing as ThingChange}
+use Rattle.face_text.specs.declared.reading.entry.Entry.{Entry}
+use Rattle.face_text.specs.declared.reading.entry.Entry.TheVariants.{Change as ChangeEntry}
 use Rattle.face_text.specs.declared.group.Group.{Group}
 use Rattle.face_text.specs.declared.group.Group.TheVariants.{Zones, Firsts, Missing, Broken, Shorted, Supplies, Silent, Links, Unconfirmed, Outputs, Confirmed, PointsOff, ZonesOff, OutputsOff, Tests}
 use Rattle.face_text.specs.Entries.{entry_line, slot_of}
 use Rattle.site_types.specs.Fields.{field}
 use Rattle.face_text.specs.Slots.{kind_of, last_of, line_of, line_of_thing, name_in, number_of_truth, on_word, word_of}
-use Rattle.face_text.specs.Spelled.{by_panel, entry_spelled, number_below, panel_spelled, thing_spelled, told_of, truth_of, truth_place}
-use Rattle.face_text.proofs.Joined.{HasFields, fields_of, joined}
+use Rattle.face_text.specs.Spelled.{by_panel, entry_spelled, panel_spelled, thing_spelled, told_of, truth_place}
+use Rattle.line_fields.proofs.Joined.{HasFields}
+use Rattle.face_text.proofs.Joined.{fields_of, joined}
 use Rattle.face_text.proofs.NamedThings.{ThingBack, below_back, thing_back, word_at, words_of}
-use Rattle.face_text.proofs.Plain.{are_plain, decimal_plain, is_plain}
+use Rattle.line_fields.specs.Numbers.{number_below}
+use Rattle.line_fields.specs.Words.{truth_of}
+use Rattle.line_fields.proofs.Plain.{are_plain, decimal_plain, is_plain}
 
 -- the fields of an entry's line
 pub record IsSpelled (site : Site) (entry : Entry) : Type 0 where

@@ -6,8 +6,8 @@ use Rattle.std.proofs.lemmas.List.{append-nil}
 use Rattle.std.proofs.lemmas.Bool.{eq-eqb}
 use Rattle.site_types.specs.declared.site.Site.{Site}
 use Rattle.site_types.specs.Valid.{IsValid}
-use Rattle.face_text.specs.declared.change.Change.{Change}
-use Rattle.face_text.specs.declared.change.Change.TheVariants.{Thing as ThingChange, Delays as DelaysChange, Buzzer as BuzzerChange, Counter as CounterChange}
+use Rattle.face_text.specs.declared.reading.change.Change.{Change}
+use Rattle.face_text.specs.declared.reading.change.Change.TheVariants.{Thing as ThingChange, Delays as DelaysChange, Buzzer as BuzzerChange, Counter as CounterChange}
 use Rattle.face_text.specs.declared.face.Face.{Face}
 use Rattle.face_text.specs.declared.group.Group.{Group}
 use Rattle.face_text.specs.declared.group.Group.TheVariants.{Zones, Firsts, Missing, Broken, Shorted, Supplies, Silent, Links, Unconfirmed, Outputs, Confirmed, PointsOff, ZonesOff, OutputsOff, Tests}

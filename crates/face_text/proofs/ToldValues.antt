@@ -8,8 +8,8 @@ use Rattle.site_types.specs.declared.point_set.PointSet.{PointSet}
 use Rattle.site_types.specs.declared.site.Site.{Site}
 use Rattle.site_types.proofs.ChangedBits.{number-same, number-other, set-same, set-other}
 use Rattle.site_types.proofs.Masks.{with_bit-same, with_bit-other}
-use Rattle.face_text.specs.declared.change.Change.{Change}
-use Rattle.face_text.specs.declared.change.Change.TheVariants.{Thing as ThingChange, Delays as DelaysChange, Buzzer as BuzzerChange, Counter as CounterChange}
+use Rattle.face_text.specs.declared.reading.change.Change.{Change}
+use Rattle.face_text.specs.declared.reading.change.Change.TheVariants.{Thing as ThingChange, Delays as DelaysChange, Buzzer as BuzzerChange, Counter as CounterChange}
 use Rattle.face_text.specs.declared.face.Face.{Face}
 use Rattle.face_text.specs.declared.group.Group.{Group}
 use Rattle.face_text.specs.declared.group.Group.TheVariants.{Zones, Firsts, Missing, Broken, Shorted, Supplies, Silent, Links, Unconfirmed, Outputs, Confirmed, PointsOff, ZonesOff, OutputsOff, Tests}

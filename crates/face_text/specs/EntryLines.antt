@@ -1,7 +1,7 @@
 -- How a line of a text is read alone, and how a text is parted into lines.
 use Rattle.std.specs.Prelude.{◌≡◌, ℕ, List, [], ◌∷◌, ◌++◌, Option, Some}
 use Rattle.site_types.specs.declared.site.Site.{Site}
-use Rattle.face_text.specs.declared.entry.Entry.{Entry}
+use Rattle.face_text.specs.declared.reading.entry.Entry.{Entry}
 use Rattle.face_text.specs.Entries.{IsEntry, entry_line}
 use Rattle.face_text.specs.Reading.{line_ends}
 

@@ -2,11 +2,11 @@
 use Rattle.std.specs.Prelude.{◌≡◌, ◌≢◌, ◌⊎◌, ◌≤◌, ◌+◌, ℕ, Bool, List, [], Some, None, Result, Ok, Err, length}
 use Rattle.std.specs.Prelude.{if◌then◌else◌}
 use Rattle.tick_units.specs.declared.tick.Tick.{Tick as TickOf}
-use Rattle.face_text.specs.declared.entry.Entry.{Entry}
-use Rattle.face_text.specs.declared.entry.Entry.TheVariants.{Change, Answer, Busy, StoreFailed, Tick, End}
+use Rattle.face_text.specs.declared.reading.entry.Entry.{Entry}
+use Rattle.face_text.specs.declared.reading.entry.Entry.TheVariants.{Change, Answer, Busy, StoreFailed, Tick, End}
 use Rattle.face_text.specs.declared.face.Face.{Face}
-use Rattle.face_text.specs.declared.text_refusal.TextRefusal.{TextRefusal}
-use Rattle.face_text.specs.declared.text_refusal.TextRefusal.TheVariants.{BadLine, NoMemory}
+use Rattle.face_text.specs.declared.reading.text_refusal.TextRefusal.{TextRefusal}
+use Rattle.face_text.specs.declared.reading.text_refusal.TextRefusal.TheVariants.{BadLine, NoMemory}
 use Rattle.face_text.specs.declared.timeline.Timeline.{Timeline}
 use Rattle.face_text.specs.Entries.{slot_of}
 use Rattle.face_text.specs.Reading.{Told, timeline_told, told_next}

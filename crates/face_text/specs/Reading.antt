@@ -5,15 +5,15 @@ use Rattle.std.specs.Prelude.{nat_le, nat_lt, if◌then◌else◌}
 use Rattle.site_types.specs.declared.site.Site.{Site}
 use Rattle.tick_units.specs.declared.tick.Tick.{Tick}
 use Rattle.face_text.specs.declared.answers.Answers.{Answers}
-use Rattle.face_text.specs.declared.change.Change.{Change}
-use Rattle.face_text.specs.declared.entry.Entry.{Entry}
-use Rattle.face_text.specs.declared.entry.Entry.TheVariants.{Change as ChangeEntry, Answer as AnswerEntry}
-use Rattle.face_text.specs.declared.entry.Entry.TheVariants.{Busy as BusyEntry, StoreFailed, Tick as TickEntry}
-use Rattle.face_text.specs.declared.entry.Entry.TheVariants.{End as EndEntry}
+use Rattle.face_text.specs.declared.reading.change.Change.{Change}
+use Rattle.face_text.specs.declared.reading.entry.Entry.{Entry}
+use Rattle.face_text.specs.declared.reading.entry.Entry.TheVariants.{Change as ChangeEntry, Answer as AnswerEntry}
+use Rattle.face_text.specs.declared.reading.entry.Entry.TheVariants.{Busy as BusyEntry, StoreFailed, Tick as TickEntry}
+use Rattle.face_text.specs.declared.reading.entry.Entry.TheVariants.{End as EndEntry}
 use Rattle.face_text.specs.declared.face.Face.{Face}
 use Rattle.face_text.specs.declared.step.Step.{Step}
-use Rattle.face_text.specs.declared.text_refusal.TextRefusal.{TextRefusal}
-use Rattle.face_text.specs.declared.text_refusal.TextRefusal.TheVariants.{BadLine, NoMemory}
+use Rattle.face_text.specs.declared.reading.text_refusal.TextRefusal.{TextRefusal}
+use Rattle.face_text.specs.declared.reading.text_refusal.TextRefusal.TheVariants.{BadLine, NoMemory}
 use Rattle.face_text.specs.declared.timeline.Timeline.{Timeline}
 use Rattle.face_text.specs.Entries.{rank_of, slot_of, value_of}
 use Rattle.face_text.specs.Faces.{empty_face}

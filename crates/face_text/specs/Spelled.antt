@@ -1,6 +1,6 @@
 -- What the fields of a line spell: the one entry that the line may be that of. Whether it is, its own line
 -- tells.
-use Rattle.std.specs.Prelude.{◌<◌, ◌^◌, ℕ, Bool, true, false, nat_lt, List, Option, Some, None, option_map, slice_get}
+use Rattle.std.specs.Prelude.{◌<◌, ◌^◌, ℕ, List, [], ◌∷◌, Option, Some, None, option_map, slice_get}
 use Rattle.std.specs.Prelude.{codes, bytes_eq, if◌then◌else◌}
 use Rattle.std.specs.Option.{option_and_then}
 use Rattle.site_types.specs.declared.buzzer.Buzzer.{Buzzer}
@@ -14,45 +14,39 @@ use Rattle.site_types.specs.declared.site.Site.{Site}
 use Rattle.site_types.specs.declared.zone.Zone.{Zone}
 use Rattle.site_types.specs.Numbers.{number_of}
 use Rattle.site_types.specs.Things.{thing_named}
-use Rattle.face_text.specs.declared.change.Change.{Change}
-use Rattle.face_text.specs.declared.change.Change.TheVariants.{Thing as ThingChange, Delays as DelaysChange}
-use Rattle.face_text.specs.declared.change.Change.TheVariants.{Buzzer as BuzzerChange, Counter as CounterChange}
-use Rattle.face_text.specs.declared.entry.Entry.{Entry}
-use Rattle.face_text.specs.declared.entry.Entry.TheVariants.{Change as ChangeEntry, Answer as AnswerEntry}
-use Rattle.face_text.specs.declared.entry.Entry.TheVariants.{Busy as BusyEntry, StoreFailed, Tick as TickEntry}
-use Rattle.face_text.specs.declared.entry.Entry.TheVariants.{End as EndEntry}
+use Rattle.line_fields.specs.Numbers.{number_below}
+use Rattle.line_fields.specs.Words.{truth_of, value_beside}
+use Rattle.face_text.specs.declared.reading.change.Change.{Change}
+use Rattle.face_text.specs.declared.reading.change.Change.TheVariants.{Thing as ThingChange, Delays as DelaysChange}
+use Rattle.face_text.specs.declared.reading.change.Change.TheVariants.{Buzzer as BuzzerChange, Counter as CounterChange}
+use Rattle.face_text.specs.declared.reading.entry.Entry.{Entry}
+use Rattle.face_text.specs.declared.reading.entry.Entry.TheVariants.{Change as ChangeEntry, Answer as AnswerEntry}
+use Rattle.face_text.specs.declared.reading.entry.Entry.TheVariants.{Busy as BusyEntry, StoreFailed, Tick as TickEntry}
+use Rattle.face_text.specs.declared.reading.entry.Entry.TheVariants.{End as EndEntry}
 use Rattle.face_text.specs.declared.group.Group.{Group}
 use Rattle.face_text.specs.declared.group.Group.TheVariants.{Zones, Firsts, Missing, Broken, Shorted, Supplies}
 use Rattle.face_text.specs.declared.group.Group.TheVariants.{Silent, Links, Unconfirmed, Outputs, Confirmed}
 use Rattle.face_text.specs.declared.group.Group.TheVariants.{PointsOff, ZonesOff, OutputsOff, Tests}
-use Rattle.face_text.specs.declared.numbered.Numbered.{Numbered}
+use Rattle.face_text.specs.declared.reading.numbered.Numbered.{Numbered}
 use Rattle.face_text.specs.declared.reply.Reply.{Reply}
 use Rattle.face_text.specs.declared.reply.Reply.TheVariants.{Done, Denied, Waiting, Already, Store}
 use Rattle.site_types.specs.Fields.{field}
 
--- ---- numbers and words
+-- ---- words and numbers
 
--- the number of a field, if it is below a bound
-abbrev pub number_below : ℕ → List ℕ → Option ℕ
-number_below bound text =
-    option_and_then (λ number. if nat_lt number bound then Some number else None) (number_of text)
-
-abbrev pub truth_of : List ℕ → Option Bool
-truth_of word =
-    if bytes_eq word (codes "on") then Some true else
-    (if bytes_eq word (codes "off") then Some false else None)
+abbrev pub buzzer_sounds : List (List ℕ × Buzzer)
+buzzer_sounds = (codes "off", Off) ∷ (codes "fault", Fault) ∷ (codes "fire", Fire) ∷ []
 
 abbrev pub sound_of : List ℕ → Option Buzzer
-sound_of word =
-    if bytes_eq word (codes "off") then Some Off else
-    (if bytes_eq word (codes "fault") then Some Fault else
-    (if bytes_eq word (codes "fire") then Some Fire else None))
+sound_of word = value_beside word buzzer_sounds
 
--- the number of a supply, in the order of bits
+-- the supplies in the order of their bits
+abbrev pub supply_numbers : List (List ℕ × ℕ)
+supply_numbers = (codes "mains", 1) ∷ (codes "standby", 2) ∷ (codes "voltage", 3) ∷ (codes "charger", 4) ∷ []
+
+-- the number of a supply
 abbrev pub supply_of : List ℕ → Option ℕ
-supply_of word =
-    if bytes_eq word (codes "mains") then Some 1
-    else (if bytes_eq word (codes "standby") then Some 2 else (if bytes_eq word (codes "voltage") then Some 3 else (if bytes_eq word (codes "charger") then Some 4 else None)))
+supply_of word = value_beside word supply_numbers
 
 -- the numbers of an answer and of ticks are of 64 bits
 abbrev pub IsOf64Bits : Entry → Type 0

@@ -2,9 +2,9 @@
 use Rattle.std.specs.Prelude.{◌-◌, ◌≤◌, ℕ, Bool, not, List, slice_index, slice_set}
 use Rattle.std.specs.Int.{w8, w32}
 use Rattle.site_types.specs.Bits.{with_bit, with_point}
-use Rattle.face_text.specs.declared.change.Change.{Change}
-use Rattle.face_text.specs.declared.change.Change.TheVariants.{Thing as ThingChange, Delays as DelaysChange}
-use Rattle.face_text.specs.declared.change.Change.TheVariants.{Buzzer as BuzzerChange, Counter as CounterChange}
+use Rattle.face_text.specs.declared.reading.change.Change.{Change}
+use Rattle.face_text.specs.declared.reading.change.Change.TheVariants.{Thing as ThingChange, Delays as DelaysChange}
+use Rattle.face_text.specs.declared.reading.change.Change.TheVariants.{Buzzer as BuzzerChange, Counter as CounterChange}
 use Rattle.face_text.specs.declared.face.Face.{Face}
 use Rattle.face_text.specs.declared.group.Group.{Group}
 use Rattle.face_text.specs.declared.group.Group.TheVariants.{Zones, Firsts, Missing, Broken, Shorted, Supplies}

@@ -1,23 +1,19 @@
 //! The lines by which one face differs from another.
 
-ghost use Rattle.std.specs.Prelude.{◌≡◌, ◌≤◌, [], ◌∷◌, length, option_map, OnErr, OnOk, if◌then◌else◌, true};
+ghost use Rattle.std.specs.Prelude.{◌≡◌, ◌≤◌, length, option_map, OnErr, OnOk, true};
 ghost use Rattle.panel_edges.specs.Contents.{Grows, GrowsByFront};
 ghost use Rattle.panel_edges.specs.Faults.{HasCause};
-ghost use Rattle.std.specs.List.{flat_map};
-ghost use Rattle.site_types.specs.declared.site.Site.{Site as SiteOf};
-ghost use Rattle.face_text.specs.Changes.{change_of, changes_text, group_text, groups_text, numbers_text};
+ghost use Rattle.face_text.specs.Changes.{changes_text};
 ghost use Rattle.face_text.specs.Holding.{Puts};
-ghost use Rattle.face_text.specs.Slots.{Thing, Delays, Sounding, Count, HasPlace, buzzer_line as line_of_buzzer};
-ghost use Rattle.face_text.specs.Slots.{counter_line as line_of_counter, delays_line as line_of_delays, last_of};
-ghost use Rattle.face_text.specs.Slots.{line_of, line_of_thing, number_of_buzzer, number_of_truth};
-ghost use Rattle.face_text.specs.Slots.{page as page_of_panel};
+ghost use Rattle.face_text.specs.Slots.{Thing, buzzer_line as line_of_buzzer, counter_line as line_of_counter};
+ghost use Rattle.face_text.specs.Slots.{delays_line as line_of_delays, line_of, line_of_thing, number_of_buzzer};
+ghost use Rattle.face_text.specs.Slots.{number_of_truth};
 
 use crate::face::Face;
+use crate::face_pair::FacePair;
 use crate::group::Group;
 use crate::held::Held;
-use crate::masks::{is_same, last_number, shows};
 use crate::naming::name_of;
-use crate::page::page;
 use crate::words::{buzzer_word, group_word, kind_word, on_word};
 use arrayvec::ArrayString;
 use itoa::Buffer;
@@ -71,184 +67,19 @@ pub fn push_changes<K: Sink>(
     if is_same_face(before, after) {
         return Ok(());
     }
-    push_groups(site, before, after, held, out)?;
-    push_rest(before, after, held, out)
+    let pair = FacePair {
+        site,
+        before,
+        after,
+    };
+    pair.push_groups(held, out)?;
+    pair.push_rest(held, out)
 }
 
 fn is_same_face(before: &Face, after: &Face) -> bool
     ensures { result ≡ true → before.now ≡ after.now }
 {
     before == after
-}
-
-// The lines of delays, buzzer and counter.
-fn push_rest<K: Sink>(
-    before: &Face,
-    after: &Face,
-    held: &mut Held,
-    out: &mut K,
-) -> Result<(), Failed>
-    ensures text { (site : SiteOf)
-        → Puts held.old held.new (K.written out.old) (K.written out.new)
-        (flat_map (change_of site before.now after.now) (Delays ∷ Sounding ∷ Count ∷ [])) result }
-    ensures cause { HasCause (K.write_faults out.old) (K.write_faults out.new) result }
-    ensures left { K.left out.new ≡ K.left out.old }
-    ensures reads { K.read_faults out.new ≡ K.read_faults out.old }
-{
-    push_delays(before, after, held, out)?;
-    push_buzzer(before, after, held, out)?;
-    push_counter(before, after, held, out)
-}
-
-// The lines of all groups.
-fn push_groups<K: Sink>(
-    site: &Site,
-    before: &Face,
-    after: &Face,
-    held: &mut Held,
-    out: &mut K,
-) -> Result<(), Failed>
-    ensures text { Puts held.old held.new (K.written out.old) (K.written out.new)
-        (groups_text site.now before.now after.now page_of_panel) result }
-    ensures cause { HasCause (K.write_faults out.old) (K.write_faults out.new) result }
-    ensures left { K.left out.new ≡ K.left out.old }
-    ensures reads { K.read_faults out.new ≡ K.read_faults out.old }
-{
-    let page = page();
-    for group in page.iter() {
-        push_group(site, before, after, *group, held, out)?;
-    }
-    Ok(())
-}
-
-// The lines of a group, of which nothing is looked at where its mask is the same.
-fn push_group<K: Sink>(
-    site: &Site,
-    before: &Face,
-    after: &Face,
-    group: Group,
-    held: &mut Held,
-    out: &mut K,
-) -> Result<(), Failed>
-    requires { HasPlace group }
-    ensures text { Puts held.old held.new (K.written out.old) (K.written out.new)
-        (group_text site.now before.now after.now group) result }
-    ensures cause { HasCause (K.write_faults out.old) (K.write_faults out.new) result }
-    ensures left { K.left out.new ≡ K.left out.old }
-    ensures reads { K.read_faults out.new ≡ K.read_faults out.old }
-{
-    if is_same(before, after, group) {
-        return Ok(());
-    }
-    push_numbers(site, before, after, group, held, out)
-}
-
-// The lines of a group, number by number.
-fn push_numbers<K: Sink>(
-    site: &Site,
-    before: &Face,
-    after: &Face,
-    group: Group,
-    held: &mut Held,
-    out: &mut K,
-) -> Result<(), Failed>
-    requires { HasPlace group }
-    ensures text { Puts held.old held.new (K.written out.old) (K.written out.new)
-        (numbers_text site.now before.now after.now group (last_of group)) result }
-    ensures cause { HasCause (K.write_faults out.old) (K.write_faults out.new) result }
-    ensures left { K.left out.new ≡ K.left out.old }
-    ensures reads { K.read_faults out.new ≡ K.read_faults out.old }
-{
-    for place in 0..last_number(group) {
-        push_thing(site, before, after, group, place + 1, held, out)?;
-    }
-    Ok(())
-}
-
-// The line of a thing, where it changed.
-fn push_thing<K: Sink>(
-    site: &Site,
-    before: &Face,
-    after: &Face,
-    group: Group,
-    number: u8,
-    held: &mut Held,
-    out: &mut K,
-) -> Result<(), Failed>
-    requires group { HasPlace group }
-    requires number { (1 ≤ number) × (number ≤ last_of group) }
-    ensures text { Puts held.old held.new (K.written out.old) (K.written out.new)
-        (change_of site.now before.now after.now (Thing group number)) result }
-    ensures cause { HasCause (K.write_faults out.old) (K.write_faults out.new) result }
-    ensures left { K.left out.new ≡ K.left out.old }
-    ensures reads { K.read_faults out.new ≡ K.read_faults out.old }
-{
-    let on = shows(after, group, number);
-    if shows(before, group, number) == on {
-        return Ok(());
-    }
-    let line = thing_line(site, after.panel, group, number, on);
-    held.push(line.as_str().as_bytes(), out)
-}
-
-fn push_delays<K: Sink>(
-    before: &Face,
-    after: &Face,
-    held: &mut Held,
-    out: &mut K,
-) -> Result<(), Failed>
-    ensures text { (site : SiteOf)
-        → Puts held.old held.new (K.written out.old) (K.written out.new)
-        (change_of site before.now after.now Delays) result }
-    ensures cause { HasCause (K.write_faults out.old) (K.write_faults out.new) result }
-    ensures left { K.left out.new ≡ K.left out.old }
-    ensures reads { K.read_faults out.new ≡ K.read_faults out.old }
-{
-    if before.delays_off == after.delays_off {
-        return Ok(());
-    }
-    let line = delays_line(after.panel, !after.delays_off);
-    held.push(line.as_str().as_bytes(), out)
-}
-
-fn push_buzzer<K: Sink>(
-    before: &Face,
-    after: &Face,
-    held: &mut Held,
-    out: &mut K,
-) -> Result<(), Failed>
-    ensures text { (site : SiteOf)
-        → Puts held.old held.new (K.written out.old) (K.written out.new)
-        (change_of site before.now after.now Sounding) result }
-    ensures cause { HasCause (K.write_faults out.old) (K.write_faults out.new) result }
-    ensures left { K.left out.new ≡ K.left out.old }
-    ensures reads { K.read_faults out.new ≡ K.read_faults out.old }
-{
-    if before.buzzer == after.buzzer {
-        return Ok(());
-    }
-    let line = buzzer_line(after.panel, after.buzzer);
-    held.push(line.as_str().as_bytes(), out)
-}
-
-fn push_counter<K: Sink>(
-    before: &Face,
-    after: &Face,
-    held: &mut Held,
-    out: &mut K,
-) -> Result<(), Failed>
-    ensures text { (site : SiteOf)
-        → Puts held.old held.new (K.written out.old) (K.written out.new)
-        (change_of site before.now after.now Count) result }
-    ensures cause { HasCause (K.write_faults out.old) (K.write_faults out.new) result }
-    ensures left { K.left out.new ≡ K.left out.old }
-    ensures reads { K.read_faults out.new ≡ K.read_faults out.old }
-{
-    if before.counter == after.counter {
-        return Ok(());
-    }
-    let line = counter_line(after.panel, after.counter);
-    held.push(line.as_str().as_bytes(), out)
 }
 
 /// The line of a thing of a panel's page; nothing where the site has none.

@@ -15,9 +15,9 @@
 //!
 //! [`push_list`] puts a list of a face in JSON from the same slots.
 //!
-//! [`read_faces`] reads a text back: to the timeline whose text it is, or to its first bad line. It is read
-//! line by line (`specs/Reading`): each line tells one [`Entry`], and what the lines before it told says
-//! whether it may stand there. That no two timelines have one text is [`texts_are_their_own`].
+//! [`read_faces`] reads a text back (`reading`): to the timeline whose text it is, or to its first bad line.
+//! It is read line by line (`specs/Reading`): each line tells one [`Entry`], and what the lines before it told
+//! says whether it may stand there. That no two timelines have one text is [`texts_are_their_own`].
 //!
 //! No call but `read_faces` takes memory. Where two faces are equal, writing their changes compares a fixed
 //! number of machine words and looks at nothing of the site. Else a group of lines is looked at only where
@@ -29,55 +29,37 @@
 
 mod answer_lines;
 mod answers;
-mod candidates;
-mod change;
 mod change_lines;
 mod conditions;
-mod entry;
-mod entry_forms;
-mod entry_lines;
-mod entry_reading;
 mod face;
 mod face_list;
-mod fields;
+mod face_pair;
 mod group;
 mod held;
-mod laws;
-mod lines;
 mod lists;
 mod masks;
 mod naming;
-mod numbered;
 mod op_answer;
 mod op_answers;
 mod page;
-mod rank;
 mod reading;
 mod reply;
 mod step;
-mod telling;
-mod text_refusal;
-mod thing_reading;
 mod timeline;
-mod told;
 mod words;
 
 pub use answer_lines::{push_answers, write_answers};
 pub use answers::Answers;
-pub use change::Change;
 pub use change_lines::{push_changes, write_changes};
 pub use conditions::Conditions;
-pub use entry::Entry;
 pub use face::Face;
 pub use face_list::FaceList;
 pub use group::Group;
 pub use held::Held;
-pub use laws::texts_are_their_own;
 pub use lists::push_list;
 pub use op_answer::OpAnswer;
 pub use op_answers::{MOST_ANSWERS, OpAnswers};
-pub use reading::read_faces;
+pub use reading::{Change, Entry, TextRefusal, read_faces, texts_are_their_own};
 pub use reply::Reply;
 pub use step::Step;
-pub use text_refusal::TextRefusal;
 pub use timeline::Timeline;

@@ -1,19 +1,40 @@
 //! Reading a text back.
+//!
+//! Begin with [`read_faces`]. It takes line by line (`lines`), reads each alone to the [`Entry`] whose own line
+//! it is (`entry_reading`, over `candidates` and `thing_reading`), and puts that behind what the lines before
+//! told (`told`), where it may stand.
 
 ghost use Rattle.std.specs.Prelude.{◌+◌, ◌<◌, ◌^◌, length, IfErr, IfOk};
 ghost use Rattle.site_types.specs.Valid.{IsValid};
 ghost use Rattle.face_text.specs.Reading.{IsRead, IsRefusal};
 ghost use Rattle.face_text.specs.ReadSoFar.{IsEndOf};
 
-use crate::entry::Entry;
-use crate::entry_reading::{is_opening, read_entry};
-use crate::lines::split_line;
-use crate::text_refusal::TextRefusal;
+mod candidates;
+mod change;
+mod entry;
+mod entry_forms;
+mod entry_lines;
+mod entry_reading;
+mod laws;
+mod lines;
+mod numbered;
+mod rank;
+mod telling;
+mod text_refusal;
+mod thing_reading;
+mod told;
+
 use crate::timeline::Timeline;
-use crate::told::ToldSoFar;
+pub use change::Change;
+pub use entry::Entry;
+use entry_reading::{is_opening, read_entry};
+pub use laws::texts_are_their_own;
+use lines::split_line;
 use site_types::Site;
 use std::alloc::Global;
+pub use text_refusal::TextRefusal;
 use tick_units::Tick;
+use told::ToldSoFar;
 
 /// The timeline whose text this is. Each line is looked at once, by what the lines before it told; a step
 /// takes memory for its faces.

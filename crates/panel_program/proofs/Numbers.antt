@@ -11,18 +11,13 @@ use Rattle.site_types.specs.Events.{has_event}
 use Rattle.tick_units.specs.Ticks.{last_tick}
 use Rattle.tick_units.specs.declared.seat.Seat.{Seat}
 use Rattle.record_lines.specs.Events.{event_of, has_numbers}
-use Rattle.record_lines.specs.Fields.{space_count}
+use Rattle.line_fields.specs.Fields.{space_count}
 use Rattle.site_types.specs.Fields.{after_space, field}
-use Rattle.record_lines.specs.Forms.{form_of}
+use Rattle.record_lines.specs.Forms.{Form, TickForm, OfEvent, OrderForm, EndForm, form_of}
 use Rattle.record_lines.specs.Seats.{order_of, seats_of}
 use Rattle.site_types.specs.Numbers.{number_of}
 use Rattle.record_lines.specs.Judged.{judged, judged_as, content_of, may_stand, tick_as, ordered, event_in}
 use Rattle.record_lines.specs.Lines.{Reading, at_start, by_bytes, by_ending, byte_refusal, cut, lines_read, next_line, next_number, reading_of, refused_rest, rest_by_ending, stands_behind, verdict}
-use Rattle.record_lines.specs.declared.form.Form.{Form}
-use Rattle.record_lines.specs.declared.form.Form.TheVariants.{Tick as TickForm, Point as PointForm}
-use Rattle.record_lines.specs.declared.form.Form.TheVariants.{Cable as CableForm, Supply as SupplyForm}
-use Rattle.record_lines.specs.declared.form.Form.TheVariants.{Link as LinkForm, Routing as RoutingForm, Op as OpForm}
-use Rattle.record_lines.specs.declared.form.Form.TheVariants.{Order as OrderForm, End as EndForm}
 use Rattle.record_lines.specs.declared.line.Line.{Line}
 use Rattle.record_lines.specs.declared.line.Line.TheVariants.{Tick, Event as EventLine, Order, End}
 use Rattle.record_lines.specs.declared.over.Over.{Over}
@@ -100,12 +95,7 @@ next_ordered ticks (Err why) = tt
 
 next_content : (site : Site) (standing : Standing) (form : Form) (text : List ℕ) → NextIn standing.ticks (content_of site standing form text)
 next_content site standing TickForm text = next_tick standing.ticks (number_of (field 1 text))
-next_content site standing (PointForm state) text = next_event site standing.ticks (event_of site (PointForm state) text)
-next_content site standing (CableForm state) text = next_event site standing.ticks (event_of site (CableForm state) text)
-next_content site standing (SupplyForm kind bad) text = next_event site standing.ticks (event_of site (SupplyForm kind bad) text)
-next_content site standing (LinkForm up) text = next_event site standing.ticks (event_of site (LinkForm up) text)
-next_content site standing RoutingForm text = next_event site standing.ticks (event_of site RoutingForm text)
-next_content site standing (OpForm action) text = next_event site standing.ticks (event_of site (OpForm action) text)
+next_content site standing (OfEvent form) text = next_event site standing.ticks (event_of site form text)
 next_content site standing OrderForm text =
     next_if standing.ticks standing.has_order _ _ (λ e. tt)
     (next_ordered standing.ticks (order_of site.panels (seats_of (space_count text) (after_space text))))

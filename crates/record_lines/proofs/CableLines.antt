@@ -10,21 +10,23 @@ use Rattle.site_types.specs.declared.site.Site.{Site}
 use Rattle.site_types.specs.declared.loop_plan.LoopPlan.{LoopPlan}
 use Rattle.site_types.specs.declared.event.Event.TheVariants.{Cable}
 use Rattle.site_types.specs.declared.piece_state.PieceState.{PieceState}
-use Rattle.record_lines.specs.Events.{cable_of, has_numbers, is_number, octet_of}
-use Rattle.record_lines.specs.Fields.{field_count}
+use Rattle.record_lines.specs.Events.{cable_of, has_event_numbers}
+use Rattle.line_fields.specs.Numbers.{is_number, number_below}
+use Rattle.line_fields.specs.Fields.{field_count}
 use Rattle.site_types.specs.Fields.{field}
-use Rattle.record_lines.specs.Forms.{form_of}
+use Rattle.record_lines.specs.Forms.{event_form_of}
 use Rattle.record_lines.specs.Printed.{event_text, joined, piece_state_word}
 use Rattle.record_lines.specs.Words.{piece_state_of}
-use Rattle.record_lines.specs.declared.form.Form.TheVariants.{Cable as CableForm}
+use Rattle.record_lines.specs.declared.form.EventForm.TheVariants.{Cable as CableForm}
 use Rattle.record_lines.specs.declared.line.Line.TheVariants.{Event as EventLine}
 use Rattle.record_lines.specs.declared.standing.Standing.{Standing}
-use Rattle.record_lines.proofs.Joins.{HasFields, fields_of, fit_more, joined_text}
-use Rattle.record_lines.proofs.Plain.{are_fit, number_fit, octet_small}
+use Rattle.line_fields.proofs.Joined.{HasFields}
+use Rattle.record_lines.proofs.Joins.{fields_of, fit_more, joined_text}
+use Rattle.line_fields.proofs.Plain.{are_fit, number_fit, octet_small}
 use Rattle.record_lines.proofs.PrintedNames.{at_place}
 use Rattle.record_lines.proofs.PrintedWords.{piece_word}
 use Rattle.record_lines.proofs.Rows.{cable_row}
-use Rattle.record_lines.proofs.Verdicts.{IsTextOf, begun, counted, event_from, judged_from, number_there, octet_back}
+use Rattle.record_lines.proofs.Verdicts.{IsTextOf, begun, counted, event_from, judged_event, number_there, octet_back}
 
 -- ---- the numbers of a piece that the site has
 
@@ -80,7 +82,7 @@ cable_fit panel line piece state are =
     second
 
 cable_form_is : (text : List ℕ) (panel line piece : ℕ) (state : PieceState) → HasFields text (codes "cable") (cable_fields panel line piece state)
-    → form_of text ≡ Some (CableForm state)
+    → event_form_of text ≡ Some (CableForm state)
 cable_form_is text panel line piece state has =
     cable_row text (has.at 0) ∙ counted (field_count text) 5 (option_map (λ s. CableForm s) (piece_state_of (field 4 text))) None
     (ap (λ n. n + 1) has.count)
@@ -88,7 +90,7 @@ cable_form_is text panel line piece state has =
 
 cable_numbers : (text : List ℕ) (panel line piece : ℕ) (state : PieceState) → AreOctets panel line piece
     → HasFields text (codes "cable") (cable_fields panel line piece state) →
-    has_numbers (CableForm state) text ≡ true
+    has_event_numbers (CableForm state) text ≡ true
 cable_numbers text panel line piece state are has =
     let first = number_there (field 1 text) panel (has.at 1) (octet_small panel are.panel_is) in
     let second = number_there (field 2 text) line (has.at 2) (octet_small line are.line_is) in
@@ -100,9 +102,9 @@ cable_back : (text : List ℕ) (panel line piece : ℕ) (state : PieceState) →
     → HasFields text (codes "cable") (cable_fields panel line piece state) →
     cable_of state text ≡ Some (Cable panel line piece state)
 cable_back text panel line piece state are has =
-    ap (option_and_then (λ p. option_and_then (λ l. option_map (λ n. Cable p l n state) (octet_of (field 3 text))) (octet_of (field 2 text))))
+    ap (option_and_then (λ p. option_and_then (λ l. option_map (λ n. Cable p l n state) (number_below 256 (field 3 text))) (number_below 256 (field 2 text))))
     (octet_back (field 1 text) panel (has.at 1) are.panel_is)
-    ∙ ap (option_and_then (λ l. option_map (λ n. Cable panel l n state) (octet_of (field 3 text))))
+    ∙ ap (option_and_then (λ l. option_map (λ n. Cable panel l n state) (number_below 256 (field 3 text))))
     (octet_back (field 2 text) line (has.at 2) are.line_is)
     ∙ ap (option_map (λ n. Cable panel line n state)) (octet_back (field 3 text) piece (has.at 3) are.piece_is)
 
@@ -118,7 +120,7 @@ cable_printed site valid standing due panel line piece state there =
     record {
       bytes = joined_text 20 (codes "cable") fields refl fit (omega arith);
       says =
-          judged_from site standing text (CableForm state) (EventLine (Cable panel line piece state)) (cable_form_is text panel line piece state has)
+          judged_event site standing text (codes "cable") (CableForm state) (EventLine (Cable panel line piece state)) (has.at 0) refl (cable_form_is text panel line piece state has)
           (begun standing due)
           (cable_numbers text panel line piece state are has)
           (event_from site (CableForm state) text (Cable panel line piece state) (cable_back text panel line piece state are has) there);

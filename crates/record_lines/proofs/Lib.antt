@@ -5,7 +5,6 @@ pub mod Openings
 pub mod OpLines
 pub mod OrderLines
 pub mod Pieces
-pub mod Plain
 pub mod PointLines
 pub mod PrintedLines
 pub mod PrintedNames
@@ -14,8 +13,8 @@ pub mod Printing
 pub mod ReadBack
 pub mod Refusals
 pub mod Rows
-pub mod Spaces
+pub mod SeatFields
 pub mod SupplyLines
 pub mod TickLines
 pub mod Verdicts
-pub mod Spelled
+pub mod Judging

@@ -20,25 +20,26 @@ use Rattle.site_types.specs.declared.operation.Operation.TheVariants.{Cancel as 
 use Rattle.site_types.specs.declared.operation.Operation.TheVariants.{Enable as EnableItem, Test as TestZone}
 use Rattle.site_types.specs.declared.operation.Operation.TheVariants.{Untest as UntestZone, Delays, Clear}
 use Rattle.record_lines.specs.Events.{code_in, event_view, item_of, label_view, labelled, op_of, operation_of, output_in, point_in, zone_in}
-use Rattle.record_lines.specs.Fields.{field_count}
+use Rattle.line_fields.specs.Fields.{field_count}
 use Rattle.site_types.specs.Fields.{field}
-use Rattle.record_lines.specs.Forms.{action_of, form_of, is_code_field, named_action_of, plain_action_of, zone_action_of}
+use Rattle.record_lines.specs.Forms.{action_of, event_form_of, is_code_field, named_action_of, plain_action_of, zone_action_of}
 use Rattle.record_lines.specs.Printed.{action_fields, code_text, event_text, item_fields, joined, name_text, on_word}
 use Rattle.record_lines.specs.ReadBack.{IsCode}
-use Rattle.record_lines.specs.declared.form.Form.TheVariants.{Op as OpForm}
+use Rattle.record_lines.specs.declared.form.EventForm.TheVariants.{Op as OpForm}
 use Rattle.record_lines.specs.declared.form.Action.{Action}
 use Rattle.record_lines.specs.declared.form.Action.TheVariants.{Plain, Cancel, Test, Untest, Disable, Enable}
 use Rattle.record_lines.specs.declared.form.Kind.{Kind}
 use Rattle.record_lines.specs.declared.form.Kind.TheVariants.{Point as PointKind, Zone as ZoneKind, Output as OutputKind}
 use Rattle.record_lines.specs.declared.line.Line.TheVariants.{Event as EventLine}
 use Rattle.record_lines.specs.declared.standing.Standing.{Standing}
-use Rattle.record_lines.proofs.Joins.{HasFields, fields_of, fit_more, joined_text}
-use Rattle.record_lines.proofs.Plain.{are_fit, code_fit, is_fit, number_fit, octet_small}
+use Rattle.line_fields.proofs.Joined.{HasFields}
+use Rattle.record_lines.proofs.Joins.{fields_of, fit_more, joined_text}
+use Rattle.line_fields.proofs.Plain.{are_fit, code_fit, is_fit, number_fit, octet_small}
 use Rattle.record_lines.proofs.PrintedNames.{IsNamed, output_there, point_with, zone_there}
 use Rattle.record_lines.proofs.PrintedWords.{word_of_on}
 use Rattle.record_lines.proofs.Rows.{op_row}
 use Rattle.record_lines.proofs.SupplyLines.{panel_octet}
-use Rattle.record_lines.proofs.Verdicts.{IsTextOf, begun, event_from, judged_from, number_there, octet_back, passed}
+use Rattle.record_lines.proofs.Verdicts.{IsTextOf, begun, event_from, judged_event, number_there, octet_back, passed}
 
 -- ---- codes
 
@@ -258,7 +259,7 @@ operation_back text site panel code Clear has named = refl
 
 op_form_is : (text : List ℕ) (site : Site) (panel : List ℕ) (code : Option ArrayString) (operation : Operation) → IsCode code
     → HasOperation text site panel (code_text code) operation →
-    form_of text ≡ Some (OpForm (action_for operation))
+    event_form_of text ≡ Some (OpForm (action_for operation))
 op_form_is text site panel code operation spelled has =
     let coded : is_code_field (field 2 text) ≡ true = ap is_code_field (has.at 2) ∙ code_form code spelled in
     op_row text (has.at 0) ∙ passed (is_code_field (field 2 text)) (option_map (λ a. OpForm a) (action_of text)) None coded ∙ ap
@@ -292,7 +293,7 @@ op_printed site valid standing due panel code operation spelled there =
     record {
       bytes = joined_text 20 (codes "op") fields refl fit (omega (arith, few));
       says =
-          judged_from site standing text (OpForm (action_for operation)) (EventLine (event_view (Op panel code operation)))
+          judged_event site standing text (codes "op") (OpForm (action_for operation)) (EventLine (event_view (Op panel code operation))) (has.at 0) refl
           (op_form_is text site (decimal panel) code operation spelled has) (begun standing due)
           (number_there (field 1 text) panel (has.at 1) (octet_small panel below))
           (event_from site (OpForm (action_for operation)) text (event_view (Op panel code operation))

@@ -18,19 +18,20 @@ use Rattle.tick_units.proofs.Canonical.{IsPanelSeat, Contains-canonical_seats-ca
 use Rattle.tick_units.proofs.Faults.{order_fault-none}
 use Rattle.tick_units.proofs.OrderLaws.{length-order}
 use Rattle.tick_units.proofs.Sound.{sound_from_order}
-use Rattle.record_lines.specs.Fields.{each_field, field_count, space_count}
+use Rattle.line_fields.specs.Fields.{each_field, field_count, space_count}
 use Rattle.site_types.specs.Fields.{after_space, field}
 use Rattle.record_lines.specs.Forms.{form_of, is_seat}
 use Rattle.record_lines.specs.Judged.{order_line, ordered}
 use Rattle.record_lines.specs.Printed.{joined, line_text, seat_text}
 use Rattle.record_lines.specs.Seats.{is_numbered, order_of, order_unless, panel_of, seat_of, seat_with, seats_of}
 use Rattle.record_lines.specs.Words.{task_of}
-use Rattle.record_lines.specs.declared.form.Form.TheVariants.{Order as OrderForm}
+use Rattle.record_lines.specs.Forms.{OrderForm}
 use Rattle.record_lines.specs.declared.line.Line.TheVariants.{Order as OrderLine}
 use Rattle.record_lines.specs.declared.standing.Standing.{Standing}
 use Rattle.record_lines.specs.declared.why.Why.TheVariants.{BadOrder}
-use Rattle.record_lines.proofs.Joins.{after_joined, each_parted, fields_of, fit_all_clear, joined_text, seats_parted}
-use Rattle.record_lines.proofs.Plain.{decimal_plain, is_fit, is_plain}
+use Rattle.line_fields.proofs.Joined.{each_parted, fit_all_clear}
+use Rattle.record_lines.proofs.Joins.{after_joined, fields_of, joined_text, seats_parted}
+use Rattle.line_fields.proofs.Plain.{decimal_plain, is_fit, is_plain}
 use Rattle.record_lines.proofs.Rows.{order_row}
 use Rattle.record_lines.proofs.Verdicts.{IsTextOf, begun, judged_from, number_back, passed}
 

@@ -10,22 +10,23 @@ use Rattle.site_types.specs.declared.event.Event.TheVariants.{Point, Confirmed}
 use Rattle.site_types.specs.declared.named.Thing.TheVariants.{Point as PointThing, Output as OutputThing}
 use Rattle.site_types.specs.declared.point_state.PointState.{PointState}
 use Rattle.record_lines.specs.Events.{event_of, output_in, point_in}
-use Rattle.record_lines.specs.Fields.{field_count}
+use Rattle.line_fields.specs.Fields.{field_count}
 use Rattle.site_types.specs.Fields.{field}
-use Rattle.record_lines.specs.Forms.{form_of}
+use Rattle.record_lines.specs.Forms.{event_form_of}
 use Rattle.record_lines.specs.Printed.{event_text, joined, name_text, point_state_word}
 use Rattle.record_lines.specs.Words.{point_state_of}
-use Rattle.record_lines.specs.declared.form.Form.TheVariants.{Point as PointForm, Routing as RoutingForm}
+use Rattle.record_lines.specs.declared.form.EventForm.TheVariants.{Point as PointForm, Routing as RoutingForm}
 use Rattle.record_lines.specs.declared.line.Line.TheVariants.{Event as EventLine}
 use Rattle.record_lines.specs.declared.standing.Standing.{Standing}
-use Rattle.record_lines.proofs.Joins.{HasFields, fields_of, fit_more, joined_text}
+use Rattle.line_fields.proofs.Joined.{HasFields}
+use Rattle.record_lines.proofs.Joins.{fields_of, fit_more, joined_text}
 use Rattle.record_lines.proofs.PrintedNames.{output_there, point_there}
 use Rattle.record_lines.proofs.PrintedWords.{point_word}
 use Rattle.record_lines.proofs.Rows.{point_row, routing_row}
-use Rattle.record_lines.proofs.Verdicts.{IsTextOf, begun, counted, event_from, judged_from, passed}
+use Rattle.record_lines.proofs.Verdicts.{IsTextOf, begun, counted, event_from, judged_event, passed}
 
 point_form_is : (text name : List ℕ) (state : PointState) → HasFields text (codes "point") (name ∷ point_state_word state ∷ [])
-    → form_of text ≡ Some (PointForm state)
+    → event_form_of text ≡ Some (PointForm state)
 point_form_is text name state has =
     point_row text (has.at 0) ∙ counted (field_count text) 3 (option_map (λ s. PointForm s) (point_state_of (field 2 text))) None
     (ap (λ n. n + 1) has.count)
@@ -46,11 +47,11 @@ point_printed site valid standing due point state there =
     named.found in
     record {
       bytes = joined_text 20 (codes "point") fields refl fit (omega arith);
-      says = judged_from site standing text (PointForm state) (EventLine (Point point state)) (point_form_is text name state has) (begun standing due)
+      says = judged_event site standing text (codes "point") (PointForm state) (EventLine (Point point state)) (has.at 0) refl (point_form_is text name state has) (begun standing due)
           refl (event_from site (PointForm state) text (Point point state) is there);
     }
 
-routing_form_is : (text name : List ℕ) → HasFields text (codes "routing") (name ∷ codes "confirmed" ∷ []) → form_of text ≡ Some RoutingForm
+routing_form_is : (text name : List ℕ) → HasFields text (codes "routing") (name ∷ codes "confirmed" ∷ []) → event_form_of text ≡ Some RoutingForm
 routing_form_is text name has =
     let count : (field_count text == 3) ≡ true = eq-eqb (field_count text) 3 (ap (λ n. n + 1) has.count) in
     let word : bytes_eq (field 2 text) (codes "confirmed") ≡ true = ap (λ w. bytes_eq w (codes "confirmed")) (has.at 2) in
@@ -72,6 +73,6 @@ routing_printed site valid standing due output there =
     named.found in
     record {
       bytes = joined_text 20 (codes "routing") fields refl fit (omega arith);
-      says = judged_from site standing text RoutingForm (EventLine (Confirmed output)) (routing_form_is text name has) (begun standing due) refl
+      says = judged_event site standing text (codes "routing") RoutingForm (EventLine (Confirmed output)) (has.at 0) refl (routing_form_is text name has) (begun standing due) refl
           (event_from site RoutingForm text (Confirmed output) is there);
     }

@@ -7,8 +7,9 @@ use Rattle.site_types.specs.declared.piece_state.PieceState.TheVariants.{Sound, 
 use Rattle.site_types.specs.declared.supply_kind.SupplyKind.{SupplyKind}
 use Rattle.site_types.specs.declared.supply_kind.SupplyKind.TheVariants.{Mains, Standby, Voltage, Charger}
 use Rattle.record_lines.specs.Printed.{bad_word, on_word, piece_state_word, point_state_word, supply_word, up_word}
-use Rattle.record_lines.specs.Words.{is_bad_of, is_on_of, is_up_of, piece_state_of, point_state_of, supply_kind_of}
-use Rattle.record_lines.proofs.Plain.{is_fit}
+use Rattle.record_lines.specs.Words.{is_bad_of, is_up_of, piece_state_of, point_state_of, supply_kind_of}
+use Rattle.line_fields.specs.Words.{truth_of}
+use Rattle.line_fields.proofs.Plain.{is_fit}
 
 -- a word is short and plain, and is read back
 pub record IsWord {A : Type 0} (read : List ℕ → Option A) (word : List ℕ) (meaning : A) : Type 0 where
@@ -39,6 +40,6 @@ pub word_of_up : (up : Bool) → IsWord is_up_of (up_word up) up
 word_of_up true = record { fit = refl; back = refl }
 word_of_up false = record { fit = refl; back = refl }
 
-pub word_of_on : (on : Bool) → IsWord is_on_of (on_word on) on
+pub word_of_on : (on : Bool) → IsWord truth_of (on_word on) on
 word_of_on true = record { fit = refl; back = refl }
 word_of_on false = record { fit = refl; back = refl }

@@ -9,19 +9,20 @@ use Rattle.site_types.specs.declared.site.Site.{Site}
 use Rattle.site_types.specs.declared.event.Event.TheVariants.{Supply, Link}
 use Rattle.site_types.specs.declared.supply_kind.SupplyKind.{SupplyKind}
 use Rattle.record_lines.specs.Events.{link_of, supply_of}
-use Rattle.record_lines.specs.Fields.{field_count}
+use Rattle.line_fields.specs.Fields.{field_count}
 use Rattle.site_types.specs.Fields.{field}
-use Rattle.record_lines.specs.Forms.{form_of}
+use Rattle.record_lines.specs.Forms.{event_form_of}
 use Rattle.record_lines.specs.Printed.{bad_word, event_text, joined, supply_word, up_word}
 use Rattle.record_lines.specs.Words.{is_bad_of, is_up_of, supply_kind_of}
-use Rattle.record_lines.specs.declared.form.Form.TheVariants.{Supply as SupplyForm, Link as LinkForm}
+use Rattle.record_lines.specs.declared.form.EventForm.TheVariants.{Supply as SupplyForm, Link as LinkForm}
 use Rattle.record_lines.specs.declared.line.Line.TheVariants.{Event as EventLine}
 use Rattle.record_lines.specs.declared.standing.Standing.{Standing}
-use Rattle.record_lines.proofs.Joins.{HasFields, fields_of, fit_more, joined_text}
-use Rattle.record_lines.proofs.Plain.{number_fit, octet_small}
+use Rattle.line_fields.proofs.Joined.{HasFields}
+use Rattle.record_lines.proofs.Joins.{fields_of, fit_more, joined_text}
+use Rattle.line_fields.proofs.Plain.{number_fit, octet_small}
 use Rattle.record_lines.proofs.PrintedWords.{kind_word, word_of_bad, word_of_up}
 use Rattle.record_lines.proofs.Rows.{link_row, supply_row}
-use Rattle.record_lines.proofs.Verdicts.{IsTextOf, begun, counted, event_from, judged_from, number_there, octet_back}
+use Rattle.record_lines.proofs.Verdicts.{IsTextOf, begun, counted, event_from, judged_event, number_there, octet_back}
 
 -- ---- a number of a panel and of a link
 
@@ -41,7 +42,7 @@ link_octet site valid link is =
 
 supply_form_is : (text : List ℕ) (panel : ℕ) (kind : SupplyKind) (bad : Bool)
     → HasFields text (codes "supply") (decimal panel ∷ supply_word kind ∷ bad_word bad ∷ []) →
-    form_of text ≡ Some (SupplyForm kind bad)
+    event_form_of text ≡ Some (SupplyForm kind bad)
 supply_form_is text panel kind bad has =
     let read = option_and_then (λ k. option_map (λ b. SupplyForm k b) (is_bad_of (field 3 text))) in
     supply_row text (has.at 0) ∙ counted (field_count text) 4 (read (supply_kind_of (field 2 text))) None (ap (λ n. n + 1) has.count)
@@ -64,7 +65,7 @@ supply_printed site valid standing due panel kind bad there =
     ap (option_map (λ p. Supply p kind bad)) (octet_back (field 1 text) panel (has.at 1) below) in
     record {
       bytes = joined_text 20 (codes "supply") fields refl fit (omega arith);
-      says = judged_from site standing text (SupplyForm kind bad) (EventLine (Supply panel kind bad)) (supply_form_is text panel kind bad has)
+      says = judged_event site standing text (codes "supply") (SupplyForm kind bad) (EventLine (Supply panel kind bad)) (has.at 0) refl (supply_form_is text panel kind bad has)
           (begun standing due)
           (number_there (field 1 text) panel (has.at 1) (octet_small panel below))
           (event_from site (SupplyForm kind bad) text (Supply panel kind bad) is there);
@@ -73,7 +74,7 @@ supply_printed site valid standing due panel kind bad there =
 -- ---- links
 
 link_form_is : (text : List ℕ) (link : ℕ) (up : Bool) → HasFields text (codes "link") (decimal link ∷ up_word up ∷ [])
-    → form_of text ≡ Some (LinkForm up)
+    → event_form_of text ≡ Some (LinkForm up)
 link_form_is text link up has =
     link_row text (has.at 0) ∙ counted (field_count text) 3 (option_map (λ u. LinkForm u) (is_up_of (field 2 text))) None (ap (λ n. n + 1) has.count)
     ∙ ap (λ word. option_map (λ u. LinkForm u) (is_up_of word)) (has.at 2) ∙ ap (option_map (λ u. LinkForm u)) (word_of_up up).back
@@ -92,6 +93,6 @@ link_printed site valid standing due link up there =
     let is : link_of up text ≡ Some (Link link up) = ap (option_map (λ l. Link l up)) (octet_back (field 1 text) link (has.at 1) below) in
     record {
       bytes = joined_text 20 (codes "link") fields refl fit (omega arith);
-      says = judged_from site standing text (LinkForm up) (EventLine (Link link up)) (link_form_is text link up has) (begun standing due)
+      says = judged_event site standing text (codes "link") (LinkForm up) (EventLine (Link link up)) (has.at 0) refl (link_form_is text link up has) (begun standing due)
           (number_there (field 1 text) link (has.at 1) (octet_small link below)) (event_from site (LinkForm up) text (Link link up) is there);
     }

@@ -6,15 +6,15 @@ use Rattle.site_types.specs.declared.site.Site.{Site}
 use Rattle.tick_units.specs.Ticks.{last_tick}
 use Rattle.tick_units.specs.declared.tick.Tick.{Tick}
 use Rattle.site_types.specs.Fields.{field}
-use Rattle.record_lines.specs.Fields.{field_count}
+use Rattle.line_fields.specs.Fields.{field_count}
 use Rattle.record_lines.specs.Judged.{tick_as}
 use Rattle.record_lines.specs.Printed.{joined, line_text}
-use Rattle.record_lines.specs.declared.form.Form.TheVariants.{Tick as TickForm}
+use Rattle.record_lines.specs.Forms.{TickForm}
 use Rattle.record_lines.specs.declared.line.Line.TheVariants.{Tick as TickLine, End}
 use Rattle.record_lines.specs.declared.standing.Standing.{Standing}
 use Rattle.record_lines.specs.declared.why.Why.TheVariants.{BadTick, TickLimit}
 use Rattle.record_lines.proofs.Joins.{fields_of, fit_more, joined_text}
-use Rattle.record_lines.proofs.Plain.{number_fit}
+use Rattle.line_fields.proofs.Plain.{number_fit}
 use Rattle.record_lines.proofs.Rows.{tick_row}
 use Rattle.record_lines.proofs.Verdicts.{IsTextOf, counted, judged_from, number_back, number_there}
 

@@ -1,6 +1,6 @@
 -- When a line is judged to be one, step by step.
 use Rattle.std.proofs.Common.{◌≡◌, ◌∙◌, ◌<◌, ◌≤◌, ◌^◌, ℕ, Bool, true, List, Some, None, Ok, Err, is_some, ap, arith}
-use Rattle.std.specs.Prelude.{◌==◌, nat_lt, decimal, if◌then◌else◌}
+use Rattle.std.specs.Prelude.{◌==◌, nat_lt, decimal, option_map, if◌then◌else◌}
 use Rattle.std.specs.Option.{option_and_then}
 use Rattle.std.proofs.lemmas.Bool.{cond-true, eq-eqb, lt-ltb}
 use Rattle.site_types.specs.Events.{has_event}
@@ -8,10 +8,13 @@ use Rattle.site_types.specs.Numbers.{number_of}
 use Rattle.site_types.specs.declared.site.Site.{Site}
 use Rattle.site_types.specs.declared.event.Event.{Event}
 use Rattle.site_types.proofs.Spelling.{number_of-decimal}
-use Rattle.record_lines.specs.Events.{event_of, has_numbers, is_number, octet_of}
-use Rattle.record_lines.specs.Forms.{form_of}
+use Rattle.record_lines.specs.Events.{event_of, has_event_numbers, has_numbers}
+use Rattle.line_fields.specs.Numbers.{is_number, number_below}
+use Rattle.site_types.specs.Fields.{field}
+use Rattle.line_fields.specs.Words.{value_beside}
+use Rattle.record_lines.specs.Forms.{Form, OfEvent, by_row, event_form_of, form_of, other_rows}
 use Rattle.record_lines.specs.Judged.{content_of, event_in, event_line, judged, judged_as, line_view, may_stand}
-use Rattle.record_lines.specs.declared.form.Form.{Form}
+use Rattle.record_lines.specs.declared.form.EventForm.{EventForm}
 use Rattle.record_lines.specs.declared.line.Line.{Line}
 use Rattle.record_lines.specs.declared.line.Line.TheVariants.{Event as EventLine}
 use Rattle.record_lines.specs.declared.standing.Standing.{Standing}
@@ -27,8 +30,19 @@ judged_from site standing text form line row due numbers content =
     ap (judged_as site standing text) row ∙ cond-true (may_stand standing form) numbered (Err BeforeFirstTick) due
     ∙ cond-true (has_numbers form text) (content_of site standing form text) (Err BadNumber) numbers ∙ content
 
+-- a text whose first word is that of no other row is of an event's
+pub of_event : (text word : List ℕ) → field 0 text ≡ word → value_beside word other_rows ≡ None
+    → form_of text ≡ option_map (λ form. OfEvent form) (event_form_of text)
+of_event text word is none = ap (λ w. by_row text (value_beside w other_rows)) is ∙ ap (by_row text) none
+
+pub judged_event : (site : Site) (standing : Standing) (text word : List ℕ) (form : EventForm) (line : Line) → field 0 text ≡ word
+    → value_beside word other_rows ≡ None → event_form_of text ≡ Some form → may_stand standing (OfEvent form) ≡ true
+    → has_event_numbers form text ≡ true → event_line site form text ≡ Ok line → judged site standing text ≡ Ok line
+judged_event site standing text word form line is none row due numbers content =
+    judged_from site standing text (OfEvent form) line (of_event text word is none ∙ ap (option_map (λ form. OfEvent form)) row) due numbers content
+
 -- an event that the site has
-pub event_from : (site : Site) (form : Form) (text : List ℕ) (event : Event) → event_of site form text ≡ Some event → has_event site event ≡ true
+pub event_from : (site : Site) (form : EventForm) (text : List ℕ) (event : Event) → event_of site form text ≡ Some event → has_event site event ≡ true
     → event_line site form text ≡ Ok (EventLine event)
 event_from site form text event is has = ap (event_in site) is ∙ cond-true (has_event site event) (Ok (EventLine event)) (Err NoSuch) has
 
@@ -40,7 +54,7 @@ number_back field n is small = ap number_of is ∙ number_of-decimal n small
 pub number_there : (field : List ℕ) (n : ℕ) → field ≡ decimal n → n < 2 ^ 64 → is_number field ≡ true
 number_there field n is small = ap is_some (number_back field n is small)
 
-pub octet_back : (field : List ℕ) (n : ℕ) → field ≡ decimal n → n < 256 → octet_of field ≡ Some n
+pub octet_back : (field : List ℕ) (n : ℕ) → field ≡ decimal n → n < 256 → number_below 256 field ≡ Some n
 octet_back field n is small =
     ap (option_and_then (λ number. if nat_lt number 256 then Some number else None)) (number_back field n is (omega (arith, small)))
     ∙ cond-true (nat_lt n 256) (Some n) None (lt-ltb n 256 small)

@@ -1,11 +1,10 @@
 -- What befalls a site by a line whose fixed words are of their form: its numbers, and what its names stand
 -- for.
-use Rattle.std.specs.Prelude.{◌&&◌, ℕ, Bool, true, nat_lt, List, [], Option, Some, None, option_map, is_some}
-use Rattle.std.specs.Prelude.{if◌then◌else◌}
+use Rattle.std.specs.Prelude.{◌&&◌, ℕ, Bool, true, List, [], Option, Some, None, option_map}
 use Rattle.std.specs.Option.{option_and_then}
 use Rattle.arrayvec.specs.ArrayString.{ArrayString}
 use Rattle.site_types.specs.Names.{code_of}
-use Rattle.site_types.specs.Numbers.{number_of}
+use Rattle.line_fields.specs.Numbers.{is_number, number_below}
 use Rattle.site_types.specs.Things.{thing_named}
 use Rattle.site_types.specs.declared.site.Site.{Site}
 use Rattle.site_types.specs.declared.named.Thing.{Thing}
@@ -21,14 +20,14 @@ use Rattle.site_types.specs.declared.piece_state.PieceState.{PieceState}
 use Rattle.site_types.specs.declared.supply_kind.SupplyKind.{SupplyKind}
 use Rattle.site_types.specs.declared.event.Event.{Event}
 use Rattle.site_types.specs.declared.event.Event.TheVariants.{Point, Cable, Supply, Link, Confirmed, Op}
-use Rattle.record_lines.specs.Fields.{space_count, each_field}
+use Rattle.line_fields.specs.Fields.{space_count, each_field}
 use Rattle.site_types.specs.Fields.{after_space, field}
 use Rattle.record_lines.specs.Seats.{is_numbered}
-use Rattle.record_lines.specs.declared.form.Form.{Form}
-use Rattle.record_lines.specs.declared.form.Form.TheVariants.{Tick as TickForm, Point as PointForm}
-use Rattle.record_lines.specs.declared.form.Form.TheVariants.{Cable as CableForm, Supply as SupplyForm}
-use Rattle.record_lines.specs.declared.form.Form.TheVariants.{Link as LinkForm, Routing as RoutingForm, Op as OpForm}
-use Rattle.record_lines.specs.declared.form.Form.TheVariants.{Order as OrderForm, End as EndForm}
+use Rattle.record_lines.specs.Forms.{Form, TickForm, OfEvent, OrderForm, EndForm}
+use Rattle.record_lines.specs.declared.form.EventForm.{EventForm}
+use Rattle.record_lines.specs.declared.form.EventForm.TheVariants.{Point as PointForm, Cable as CableForm}
+use Rattle.record_lines.specs.declared.form.EventForm.TheVariants.{Supply as SupplyForm, Link as LinkForm}
+use Rattle.record_lines.specs.declared.form.EventForm.TheVariants.{Routing as RoutingForm, Op as OpForm}
 use Rattle.record_lines.specs.declared.form.Action.{Action}
 use Rattle.record_lines.specs.declared.form.Action.TheVariants.{Plain, Cancel, Test, Untest, Disable, Enable}
 use Rattle.record_lines.specs.declared.form.Kind.{Kind}
@@ -37,25 +36,22 @@ use Rattle.record_lines.specs.declared.form.Kind.TheVariants.{Output as OutputKi
 
 -- ---- numbers
 
-abbrev pub is_number : List ℕ → Bool
-is_number text = is_some (number_of text)
+-- the numbers of an event's line are of the record's form
+abbrev pub has_event_numbers : EventForm → List ℕ → Bool
+has_event_numbers (PointForm state) text = true
+has_event_numbers (CableForm state) text = is_number (field 1 text) && is_number (field 2 text)
+    && is_number (field 3 text)
+has_event_numbers (SupplyForm kind bad) text = is_number (field 1 text)
+has_event_numbers (LinkForm up) text = is_number (field 1 text)
+has_event_numbers RoutingForm text = true
+has_event_numbers (OpForm action) text = is_number (field 1 text)
 
--- the numbers of a line are of the record's form
+-- the numbers of a line are
 abbrev pub has_numbers : Form → List ℕ → Bool
 has_numbers TickForm text = is_number (field 1 text)
-has_numbers (PointForm state) text = true
-has_numbers (CableForm state) text = is_number (field 1 text) && is_number (field 2 text)
-    && is_number (field 3 text)
-has_numbers (SupplyForm kind bad) text = is_number (field 1 text)
-has_numbers (LinkForm up) text = is_number (field 1 text)
-has_numbers RoutingForm text = true
-has_numbers (OpForm action) text = is_number (field 1 text)
+has_numbers (OfEvent form) text = has_event_numbers form text
 has_numbers OrderForm text = each_field is_numbered (space_count text) (after_space text)
 has_numbers EndForm text = true
-
--- the number of a field, below 256: no panel, loop, piece or link has a greater one
-abbrev pub octet_of : List ℕ → Option ℕ
-octet_of text = option_and_then (λ number. if nat_lt number 256 then Some number else None) (number_of text)
 
 -- ---- names
 
@@ -86,7 +82,7 @@ item_of site PointKind name = option_map (λ place. PointItem place) (point_of s
 item_of site ZoneKind name = option_map (λ place. ZoneItem place) (zone_of site name)
 item_of site OutputKind name = option_map (λ place. OutputItem place) (output_of site name)
 
--- ---- events
+-- ---- events: no panel, loop, piece or link has a number above 255
 
 -- an event with the bytes of its code alone
 abbrev pub label_view : ArrayString → ArrayString
@@ -120,29 +116,26 @@ abbrev pub cable_of : PieceState → List ℕ → Option Event
 cable_of state text =
     option_and_then
     (λ panel.
-    option_and_then (λ line. option_map (λ piece. Cable panel line piece state) (octet_of (field 3 text)))
-    (octet_of (field 2 text))) (octet_of (field 1 text))
+    option_and_then (λ line. option_map (λ piece. Cable panel line piece state) (number_below 256 (field 3 text)))
+    (number_below 256 (field 2 text))) (number_below 256 (field 1 text))
 
 abbrev pub supply_of : SupplyKind → Bool → List ℕ → Option Event
-supply_of kind bad text = option_map (λ panel. Supply panel kind bad) (octet_of (field 1 text))
+supply_of kind bad text = option_map (λ panel. Supply panel kind bad) (number_below 256 (field 1 text))
 
 abbrev pub link_of : Bool → List ℕ → Option Event
-link_of up text = option_map (λ link. Link link up) (octet_of (field 1 text))
+link_of up text = option_map (λ link. Link link up) (number_below 256 (field 1 text))
 
 abbrev pub op_of : Site → Action → List ℕ → Option Event
 op_of site action text =
     option_and_then
     (λ panel. option_map (λ operation. Op panel (option_map labelled (code_in (field 2 text))) operation)
-    (operation_of site action text)) (octet_of (field 1 text))
+    (operation_of site action text)) (number_below 256 (field 1 text))
 
 -- the event of a line; none where a name names nothing of its kind
-abbrev pub event_of : Site → Form → List ℕ → Option Event
-event_of site TickForm text = None
+abbrev pub event_of : Site → EventForm → List ℕ → Option Event
 event_of site (PointForm state) text = option_map (λ point. Point point state) (point_of site (field 1 text))
 event_of site (CableForm state) text = cable_of state text
 event_of site (SupplyForm kind bad) text = supply_of kind bad text
 event_of site (LinkForm up) text = link_of up text
 event_of site RoutingForm text = option_map (λ output. Confirmed output) (output_of site (field 1 text))
 event_of site (OpForm action) text = op_of site action text
-event_of site OrderForm text = None
-event_of site EndForm text = None

@@ -1,22 +1,18 @@
 -- What a line says where a record stands so, or the first of the refusals that applies to it.
 use Rattle.std.specs.Prelude.{◌≡◌, ◌==◌, ◌+◌, ℕ, Bool, true, nat_le, nat_lt, List, Option, Some, None, Result, Ok}
-use Rattle.std.specs.Prelude.{Err, if◌then◌else◌}
+use Rattle.std.specs.Prelude.{Err, MatchResult, if◌then◌else◌}
 use Rattle.site_types.specs.Events.{has_event}
 use Rattle.site_types.specs.Numbers.{number_of}
 use Rattle.site_types.specs.declared.site.Site.{Site}
 use Rattle.site_types.specs.declared.event.Event.{Event}
 use Rattle.tick_units.specs.Ticks.{last_tick}
 use Rattle.tick_units.specs.declared.seat.Seat.{Seat}
-use Rattle.record_lines.specs.Fields.{space_count}
+use Rattle.line_fields.specs.Fields.{space_count}
 use Rattle.site_types.specs.Fields.{after_space, field}
-use Rattle.record_lines.specs.Forms.{form_of, is_seat}
-use Rattle.record_lines.specs.Seats.{is_numbered, order_of, seat_of, seats_of}
+use Rattle.record_lines.specs.Forms.{Form, TickForm, OfEvent, OrderForm, EndForm, form_of}
+use Rattle.record_lines.specs.declared.form.EventForm.{EventForm}
+use Rattle.record_lines.specs.Seats.{order_of, seats_of}
 use Rattle.record_lines.specs.Events.{event_of, event_view, has_numbers}
-use Rattle.record_lines.specs.declared.form.Form.{Form}
-use Rattle.record_lines.specs.declared.form.Form.TheVariants.{Tick as TickForm, Point as PointForm}
-use Rattle.record_lines.specs.declared.form.Form.TheVariants.{Cable as CableForm, Supply as SupplyForm}
-use Rattle.record_lines.specs.declared.form.Form.TheVariants.{Link as LinkForm, Routing as RoutingForm, Op as OpForm}
-use Rattle.record_lines.specs.declared.form.Form.TheVariants.{Order as OrderForm, End as EndForm}
 use Rattle.record_lines.specs.declared.line.Line.{Line}
 use Rattle.record_lines.specs.declared.line.Line.TheVariants.{Tick, Event as EventLine, Order, End}
 use Rattle.record_lines.specs.declared.standing.Standing.{Standing}
@@ -34,12 +30,7 @@ line_view End = End
 -- before the first tick a tick or the end alone may come
 abbrev pub may_stand : Standing → Form → Bool
 may_stand standing TickForm = true
-may_stand standing (PointForm state) = nat_lt 0 standing.ticks
-may_stand standing (CableForm state) = nat_lt 0 standing.ticks
-may_stand standing (SupplyForm kind bad) = nat_lt 0 standing.ticks
-may_stand standing (LinkForm up) = nat_lt 0 standing.ticks
-may_stand standing RoutingForm = nat_lt 0 standing.ticks
-may_stand standing (OpForm action) = nat_lt 0 standing.ticks
+may_stand standing (OfEvent form) = nat_lt 0 standing.ticks
 may_stand standing OrderForm = nat_lt 0 standing.ticks
 may_stand standing EndForm = true
 
@@ -70,18 +61,13 @@ abbrev pub event_in : Site → Option Event → Result Line Why
 event_in site None = Err NoSuch
 event_in site (Some event) = if has_event site event then Ok (EventLine event) else Err NoSuch
 
-abbrev pub event_line : Site → Form → List ℕ → Result Line Why
+abbrev pub event_line : Site → EventForm → List ℕ → Result Line Why
 event_line site form text = event_in site (event_of site form text)
 
 -- a line whose fixed words and numbers are of their forms
 abbrev pub content_of : Site → Standing → Form → List ℕ → Result Line Why
 content_of site standing TickForm text = tick_line standing text
-content_of site standing (PointForm state) text = event_line site (PointForm state) text
-content_of site standing (CableForm state) text = event_line site (CableForm state) text
-content_of site standing (SupplyForm kind bad) text = event_line site (SupplyForm kind bad) text
-content_of site standing (LinkForm up) text = event_line site (LinkForm up) text
-content_of site standing RoutingForm text = event_line site RoutingForm text
-content_of site standing (OpForm action) text = event_line site (OpForm action) text
+content_of site standing (OfEvent form) text = event_line site form text
 content_of site standing OrderForm text = order_line site standing text
 content_of site standing EndForm text = Ok End
 
@@ -96,26 +82,7 @@ judged_as site standing text (Some form) =
 abbrev pub judged : Site → Standing → List ℕ → Result Line Why
 judged site standing text = judged_as site standing text (form_of text)
 
--- ---- lines whose words and numbers are of their forms
-
--- a text spells the tick of this number
-pub record SpellsTick (text : List ℕ) (number : ℕ) : Type 0 where
-  pub row : form_of text ≡ Some TickForm
-  pub numbered : number_of (field 1 text) ≡ Some number
-
--- a field spells a seat
-pub record SpellsSeat (text : List ℕ) (seat : Seat) : Type 0 where
-  pub is : is_seat text ≡ true
-  pub numbered : is_numbered text ≡ true
-  pub back : seat_of text ≡ seat
-
--- a text spells the order of these seats
-pub record SpellsOrder (text : List ℕ) (seats : List Seat) : Type 0 where
-  pub row : form_of text ≡ Some OrderForm
-  pub numbered : has_numbers OrderForm text ≡ true
-  pub back : seats_of (space_count text) (after_space text) ≡ seats
-
--- an order that may not come before the first tick
-abbrev pub order_after : Site → Standing → List Seat → Result Line Why
-order_after site standing seats =
-    if nat_lt 0 standing.ticks then order_with site standing seats else Err BeforeFirstTick
+-- the answer says so, with codes as their bytes alone
+abbrev pub IsVerdict : Result Line Why → Result Line Why → Type 0
+IsVerdict verdict answer =
+    MatchResult answer (λ line. verdict ≡ Ok (line_view line)) (λ why. verdict ≡ Err why)

@@ -1,6 +1,5 @@
 pub mod Belongs
 pub mod Events
-pub mod Fields
 pub mod Forms
 pub mod Judged
 pub mod Lines

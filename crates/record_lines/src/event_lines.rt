@@ -6,32 +6,30 @@ ghost use Rattle.record_lines.specs.Events.{operation_of, output_of, point_of, s
 ghost use Rattle.record_lines.specs.ReadBack.{HasCode, IsCode};
 ghost use Rattle.site_types.specs.Valid.{IsValid};
 
-use crate::fields::field;
-use crate::form::{Action, Form, Kind};
-use crate::number_fields::octet;
+use crate::form::{Action, EventForm, Kind};
+use line_fields::{field, read_octet};
 use site_types::{Event, Item, Label, Operation, PieceState, Site, SupplyKind, Thing, read_code};
 
 /// The event of a line whose fixed words and numbers are of their forms. Where a name or a number names
 /// nothing there is none.
-pub fn read_event(site: &Site, form: Form, text: &[u8]) -> Option<Event>
+pub fn read_event(site: &Site, form: EventForm, text: &[u8]) -> Option<Event>
     requires { IsValid site.now }
     ensures event { option_map event_view result ≡ event_of site.now form text.now }
     ensures code { IfSome result HasCode }
 {
     match form {
-        Form::Point(state) => match find_point(site, field(text, 1)) {
+        EventForm::Point(state) => match find_point(site, field(text, 1)) {
             Some(point) => Some(Event::Point { point, state }),
             None => None,
         },
-        Form::Cable(state) => cable(state, text),
-        Form::Supply(kind, bad) => supply(kind, bad, text),
-        Form::Link(up) => link(up, text),
-        Form::Routing => match find_output(site, field(text, 1)) {
+        EventForm::Cable(state) => cable(state, text),
+        EventForm::Supply(kind, bad) => supply(kind, bad, text),
+        EventForm::Link(up) => link(up, text),
+        EventForm::Routing => match find_output(site, field(text, 1)) {
             Some(output) => Some(Event::Confirmed { output }),
             None => None,
         },
-        Form::Op(action) => op(site, action, text),
-        Form::Tick | Form::Order | Form::End => None,
+        EventForm::Op(action) => op(site, action, text),
     }
 }
 
@@ -39,9 +37,9 @@ fn cable(state: PieceState, text: &[u8]) -> Option<Event>
     ensures event { result ≡ cable_of state text.now }
     ensures code { IfSome result HasCode }
 {
-    let panel = octet(field(text, 1))?;
-    let line = octet(field(text, 2))?;
-    let piece = octet(field(text, 3))?;
+    let panel = read_octet(field(text, 1))?;
+    let line = read_octet(field(text, 2))?;
+    let piece = read_octet(field(text, 3))?;
     Some(Event::Cable {
         panel,
         line,
@@ -54,7 +52,7 @@ fn supply(kind: SupplyKind, bad: bool, text: &[u8]) -> Option<Event>
     ensures event { result ≡ supply_of kind bad text.now }
     ensures code { IfSome result HasCode }
 {
-    let panel = octet(field(text, 1))?;
+    let panel = read_octet(field(text, 1))?;
     Some(Event::Supply { panel, kind, bad })
 }
 
@@ -62,7 +60,7 @@ fn link(up: bool, text: &[u8]) -> Option<Event>
     ensures event { result ≡ link_of up text.now }
     ensures code { IfSome result HasCode }
 {
-    let link = octet(field(text, 1))?;
+    let link = read_octet(field(text, 1))?;
     Some(Event::Link { link, up })
 }
 
@@ -71,7 +69,7 @@ fn op(site: &Site, action: Action, text: &[u8]) -> Option<Event>
     ensures event { option_map event_view result ≡ op_of site.now action text.now }
     ensures code { IfSome result HasCode }
 {
-    let panel = octet(field(text, 1))?;
+    let panel = read_octet(field(text, 1))?;
     let operation = operation(site, action, text)?;
     Some(Event::Op {
         panel,

@@ -2,18 +2,15 @@
 
 use site_types::{Operation, PieceState, PointState, SupplyKind};
 
-/// The row of a line, with what its fixed words say.
+/// The row of a line that tells what befalls the site, with what its fixed words say.
 #[derive(Clone, Copy)]
-pub enum Form {
-    Tick,
+pub enum EventForm {
     Point(PointState),
     Cable(PieceState),
     Supply(SupplyKind, bool),
     Link(bool),
     Routing,
     Op(Action),
-    Order,
-    End,
 }
 
 /// What an operation line asks for.

@@ -1,27 +1,22 @@
-//! Which row a line is of, by its first word, the number of its fields and its fixed words.
+//! Which row a line of an event is of, by its first word, the number of its fields and its fixed words.
 
-ghost use Rattle.std.specs.Prelude.{◌≡◌, ◌≤◌, length};
-ghost use Rattle.record_lines.specs.Forms.{action_of, cable_form, end_form, form_of, is_code_field, link_form};
-ghost use Rattle.record_lines.specs.Forms.{named_action_of, op_form, order_form, plain_action_of, point_form};
-ghost use Rattle.record_lines.specs.Forms.{routing_form, supply_form, tick_form, zone_action_of};
+ghost use Rattle.std.specs.Prelude.{◌≡◌};
+ghost use Rattle.record_lines.specs.Forms.{action_of, cable_form, event_form_of, is_code_field, link_form};
+ghost use Rattle.record_lines.specs.Forms.{named_action_of, op_form, plain_action_of, point_form, routing_form};
+ghost use Rattle.record_lines.specs.Forms.{supply_form, zone_action_of};
+ghost use Rattle.site_types.specs.Fields.{field as field_at};
 
-use crate::fields::{field, field_count};
-use crate::form::{Action, Form};
-use crate::order_lines::are_seats;
-use crate::words::{
-    is_bad, is_on, is_up, is_word, item_kind, piece_state, point_state, supply_kind,
-};
+use crate::form::{Action, EventForm};
+use crate::words::{is_bad, is_up, item_kind, piece_state, point_state, supply_kind};
+use line_fields::{field, field_count, is_word, read_truth};
 use site_types::{Operation, read_code};
 
-/// The row of a line, if there is one.
-pub fn form(text: &[u8]) -> Option<Form>
-    requires { length text.now ≤ 512 }
-    ensures { result ≡ form_of text.now }
+/// The row of a line with this first word, if it tells what befalls the site.
+pub fn event_form(text: &[u8], word: &[u8]) -> Option<EventForm>
+    requires { word.now ≡ field_at 0 text.now }
+    ensures { result ≡ event_form_of text.now }
 {
-    let word = field(text, 0);
-    if is_word(word, b"tick") {
-        tick(text)
-    } else if is_word(word, b"point") {
+    if is_word(word, b"point") {
         point(text)
     } else if is_word(word, b"cable") {
         cable(text)
@@ -33,121 +28,78 @@ pub fn form(text: &[u8]) -> Option<Form>
         routing(text)
     } else if is_word(word, b"op") {
         op(text)
-    } else if is_word(word, b"order") {
-        order(text)
-    } else if is_word(word, b"end") {
-        end(text)
     } else {
         None
     }
 }
 
-fn tick(text: &[u8]) -> Option<Form>
-    requires { length text.now ≤ 512 }
-    ensures { result ≡ tick_form text.now }
-{
-    if field_count(text) == 2 {
-        Some(Form::Tick)
-    } else {
-        None
-    }
-}
-
-fn point(text: &[u8]) -> Option<Form>
-    requires { length text.now ≤ 512 }
+fn point(text: &[u8]) -> Option<EventForm>
     ensures { result ≡ point_form text.now }
 {
     if field_count(text) != 3 {
         return None;
     }
     match point_state(field(text, 2)) {
-        Some(state) => Some(Form::Point(state)),
+        Some(state) => Some(EventForm::Point(state)),
         None => None,
     }
 }
 
-fn cable(text: &[u8]) -> Option<Form>
-    requires { length text.now ≤ 512 }
+fn cable(text: &[u8]) -> Option<EventForm>
     ensures { result ≡ cable_form text.now }
 {
     if field_count(text) != 5 {
         return None;
     }
     match piece_state(field(text, 4)) {
-        Some(state) => Some(Form::Cable(state)),
+        Some(state) => Some(EventForm::Cable(state)),
         None => None,
     }
 }
 
-fn supply(text: &[u8]) -> Option<Form>
-    requires { length text.now ≤ 512 }
+fn supply(text: &[u8]) -> Option<EventForm>
     ensures { result ≡ supply_form text.now }
 {
     if field_count(text) != 4 {
         return None;
     }
     match (supply_kind(field(text, 2)), is_bad(field(text, 3))) {
-        (Some(kind), Some(bad)) => Some(Form::Supply(kind, bad)),
+        (Some(kind), Some(bad)) => Some(EventForm::Supply(kind, bad)),
         _ => None,
     }
 }
 
-fn link(text: &[u8]) -> Option<Form>
-    requires { length text.now ≤ 512 }
+fn link(text: &[u8]) -> Option<EventForm>
     ensures { result ≡ link_form text.now }
 {
     if field_count(text) != 3 {
         return None;
     }
     match is_up(field(text, 2)) {
-        Some(up) => Some(Form::Link(up)),
+        Some(up) => Some(EventForm::Link(up)),
         None => None,
     }
 }
 
-fn routing(text: &[u8]) -> Option<Form>
-    requires { length text.now ≤ 512 }
+fn routing(text: &[u8]) -> Option<EventForm>
     ensures { result ≡ routing_form text.now }
 {
     if field_count(text) == 3 && is_word(field(text, 2), b"confirmed") {
-        Some(Form::Routing)
+        Some(EventForm::Routing)
     } else {
         None
     }
 }
 
-fn op(text: &[u8]) -> Option<Form>
-    requires { length text.now ≤ 512 }
+fn op(text: &[u8]) -> Option<EventForm>
     ensures { result ≡ op_form text.now }
 {
     if !has_code_form(field(text, 2)) {
         return None;
     }
     match action(text) {
-        Some(action) => Some(Form::Op(action)),
+        Some(action) => Some(EventForm::Op(action)),
         None => None,
-    }
-}
-
-fn order(text: &[u8]) -> Option<Form>
-    requires { length text.now ≤ 512 }
-    ensures { result ≡ order_form text.now }
-{
-    if field_count(text) >= 2 && are_seats(text) {
-        Some(Form::Order)
-    } else {
-        None
-    }
-}
-
-fn end(text: &[u8]) -> Option<Form>
-    requires { length text.now ≤ 512 }
-    ensures { result ≡ end_form text.now }
-{
-    if field_count(text) == 1 {
-        Some(Form::End)
-    } else {
-        None
     }
 }
 
@@ -160,7 +112,6 @@ fn has_code_form(code: &[u8]) -> bool
 
 /// What an operation line asks for, by its fields from the fourth on.
 fn action(text: &[u8]) -> Option<Action>
-    requires { length text.now ≤ 512 }
     ensures { result ≡ action_of text.now }
 {
     let word = field(text, 3);
@@ -196,7 +147,7 @@ fn zone_action(word: &[u8], next: &[u8]) -> Option<Action>
     ensures { result ≡ zone_action_of word.now next.now }
 {
     if is_word(word, b"delays") {
-        match is_on(next) {
+        match read_truth(next) {
             Some(on) => Some(Action::Plain(Operation::Delays(on))),
             None => None,
         }

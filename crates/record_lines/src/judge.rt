@@ -1,22 +1,24 @@
 //! One line, judged by the first row of the refusals that applies.
 
-ghost use Rattle.std.specs.Prelude.{◌≡◌, ◌≤◌, IfOk, IfSome, MatchResult, Some, length, true};
+ghost use Rattle.std.specs.Prelude.{◌≡◌, ◌≤◌, IfOk, Some, codes, length, option_map};
+ghost use Rattle.site_types.specs.Fields.{after_space as behind_space, field as field_at};
+ghost use Rattle.site_types.specs.Valid.{IsValid};
 ghost use Rattle.site_types.specs.declared.site.Site.{Site as SiteOf};
-ghost use Rattle.record_lines.specs.Judged.{SpellsTick, content_of, event_line, judged, line_view, may_stand};
-ghost use Rattle.record_lines.specs.Judged.{order_after, order_with, tick_as};
+ghost use Rattle.record_lines.specs.Forms.{OfEvent, event_form_of, form_of};
+ghost use Rattle.record_lines.specs.Judged.{IsVerdict, event_line, judged, order_with, tick_as};
 ghost use Rattle.record_lines.specs.ReadBack.{MayCome};
 ghost use Rattle.record_lines.specs.declared.standing.Standing.{Standing as StandingOf};
-ghost use Rattle.site_types.specs.Valid.{IsValid};
 
 use crate::event_lines::read_event;
-use crate::fields::{behind_word, field};
-use crate::form::Form;
-use crate::form_words::form;
+use crate::form::EventForm;
+use crate::form_words::event_form;
 use crate::line::Line;
 use crate::number_fields::has_numbers;
-use crate::order_lines::{make_order, order_seats, read_seats};
+use crate::order_lines::{make_order, read_seats};
 use crate::standing::Standing;
 use crate::why::Why;
+use arrayvec::ArrayVec;
+use line_fields::{is_word, space_count, split_field};
 use site_types::{Site, read_number};
 use tick_units::{LAST_TICK, Seat, Tick};
 
@@ -24,77 +26,101 @@ use tick_units::{LAST_TICK, Seat, Tick};
 pub fn judge(site: &Site, standing: &Standing, text: &[u8]) -> Result<Line, Why>
     requires valid { IsValid site.now }
     requires short { length text.now ≤ 512 }
-    ensures answer { MatchResult result (λ line. judged site.now standing.now text.now
-        ≡ Ok (line_view line)) (λ why. judged site.now standing.now text.now ≡ Err why) }
+    ensures answer { IsVerdict (judged site.now standing.now text.now) result }
     ensures may_come { IfOk result (λ line. MayCome site.now standing.now line) }
 {
-    if let Some(found) = tick_number(text) {
-        return tick(standing, found);
+    let (word, fields) = split_field(text);
+    if is_word(word, b"tick") {
+        judge_tick(standing, text, fields)
+    } else if is_word(word, b"order") {
+        judge_order(site, standing, text, fields)
+    } else if is_word(word, b"end") {
+        judge_end(text)
+    } else {
+        judge_event(site, standing, text, word)
     }
-    if let Some(seats) = order_seats(text) {
-        return order_in_turn(site, standing, &seats);
-    }
-    judge_by_form(site, standing, text)
 }
 
-// The same, word by word: what the line is, whether it may come, its numbers, then its content.
-fn judge_by_form(site: &Site, standing: &Standing, text: &[u8]) -> Result<Line, Why>
+// A line that begins with `tick`. A number has no space, so it is the only field behind the word.
+fn judge_tick(standing: &Standing, text: &[u8], fields: &[u8]) -> Result<Line, Why>
+    requires word { field_at 0 text.now ≡ codes "tick" }
+    requires fields { fields.now ≡ behind_space text.now }
+    ensures answer { (site : SiteOf)
+        → IsVerdict (judged site standing.now text.now) result }
+    ensures may_come { (site : SiteOf) → IfOk result (λ line. MayCome site standing.now line) }
+{
+    match read_number(fields) {
+        Some(found) => tick(standing, found),
+        None => {
+            if space_count(text) == 1 {
+                Err(Why::BadNumber)
+            } else {
+                Err(Why::BadWord)
+            }
+        }
+    }
+}
+
+// A line that begins with `order`.
+fn judge_order(site: &Site, standing: &Standing, text: &[u8], fields: &[u8]) -> Result<Line, Why>
     requires valid { IsValid site.now }
     requires short { length text.now ≤ 512 }
-    ensures answer { MatchResult result (λ line. judged site.now standing.now text.now
-        ≡ Ok (line_view line)) (λ why. judged site.now standing.now text.now ≡ Err why) }
+    requires word { field_at 0 text.now ≡ codes "order" }
+    requires fields { fields.now ≡ behind_space text.now }
+    ensures answer { IsVerdict (judged site.now standing.now text.now) result }
     ensures may_come { IfOk result (λ line. MayCome site.now standing.now line) }
 {
-    let form = match form(text) {
+    let count = space_count(text);
+    let mut seats = ArrayVec::new();
+    let Some(numbered) = read_seats(fields, count, &mut seats) else {
+        return Err(Why::BadWord);
+    };
+    if count == 0 {
+        return Err(Why::BadWord);
+    }
+    if standing.ticks == 0 {
+        return Err(Why::BeforeFirstTick);
+    }
+    if !numbered {
+        return Err(Why::BadNumber);
+    }
+    order(site, standing, &seats)
+}
+
+// A line that begins with `end`.
+fn judge_end(text: &[u8]) -> Result<Line, Why>
+    requires { field_at 0 text.now ≡ codes "end" }
+    ensures answer { (site : SiteOf) (standing : StandingOf)
+        → IsVerdict (judged site standing text.now) result }
+    ensures may_come { (site : SiteOf) (standing : StandingOf)
+        → IfOk result (λ line. MayCome site standing line) }
+{
+    if space_count(text) == 0 {
+        Ok(Line::End)
+    } else {
+        Err(Why::BadWord)
+    }
+}
+
+// A line that tells what befalls the site: its words, whether it may come, its numbers, then its names.
+fn judge_event(site: &Site, standing: &Standing, text: &[u8], word: &[u8]) -> Result<Line, Why>
+    requires valid { IsValid site.now }
+    requires word { word.now ≡ field_at 0 text.now }
+    requires event { form_of text.now ≡ option_map OfEvent (event_form_of text.now) }
+    ensures answer { IsVerdict (judged site.now standing.now text.now) result }
+    ensures may_come { IfOk result (λ line. MayCome site.now standing.now line) }
+{
+    let form = match event_form(text, word) {
         Some(form) => form,
         None => return Err(Why::BadWord),
     };
-    if !may_come(standing, form) {
+    if standing.ticks == 0 {
         return Err(Why::BeforeFirstTick);
     }
     if !has_numbers(form, text) {
         return Err(Why::BadNumber);
     }
-    content(site, standing, form, text)
-}
-
-/// Whether a row may come where a record stands so: before the first tick a tick or the end alone may.
-fn may_come(standing: &Standing, form: Form) -> bool
-    ensures { result ≡ may_stand standing.now form }
-{
-    match form {
-        Form::Tick | Form::End => true,
-        _ => standing.ticks > 0,
-    }
-}
-
-fn content(site: &Site, standing: &Standing, form: Form, text: &[u8]) -> Result<Line, Why>
-    requires valid { IsValid site.now }
-    requires short { length text.now ≤ 512 }
-    requires may_stand { may_stand standing.now form ≡ true }
-    ensures answer { MatchResult result (λ line. content_of site.now standing.now form text.now
-        ≡ Ok (line_view line)) (λ why. content_of site.now standing.now form text.now ≡ Err why) }
-    ensures may_come { IfOk result (λ line. MayCome site.now standing.now line) }
-{
-    match form {
-        Form::Tick => match read_number(field(text, 1)) {
-            Some(found) => tick(standing, found),
-            None => Err(Why::BadNumber),
-        },
-        Form::Order => order(site, standing, &read_seats(text)),
-        Form::End => Ok(Line::End),
-        _ => event(site, form, text),
-    }
-}
-
-// The number of a line `tick` whose words and number are of their forms.
-fn tick_number(text: &[u8]) -> Option<u64>
-    ensures { IfSome result (SpellsTick text.now) }
-{
-    match behind_word(text, b"tick ") {
-        Some(number) => read_number(number),
-        None => None,
-    }
+    event(site, form, text)
 }
 
 /// The tick of this number.
@@ -110,20 +136,6 @@ pub(crate) fn tick(standing: &Standing, found: u64) -> Result<Line, Why>
         Ok(Line::Tick(Tick(found)))
     } else {
         Err(Why::BadTick { expected, found })
-    }
-}
-
-// The order that these seats give, where it may come.
-fn order_in_turn(site: &Site, standing: &Standing, seats: &[Seat]) -> Result<Line, Why>
-    requires valid { IsValid site.now }
-    requires short { length seats.now ≤ 512 }
-    ensures answer { result ≡ order_after site.now standing.now seats.now }
-    ensures may_come { IfOk result (λ line. MayCome site.now standing.now line) }
-{
-    if standing.ticks > 0 {
-        order(site, standing, seats)
-    } else {
-        Err(Why::BeforeFirstTick)
     }
 }
 
@@ -143,10 +155,9 @@ fn order(site: &Site, standing: &Standing, seats: &[Seat]) -> Result<Line, Why>
     }
 }
 
-fn event(site: &Site, form: Form, text: &[u8]) -> Result<Line, Why>
+fn event(site: &Site, form: EventForm, text: &[u8]) -> Result<Line, Why>
     requires { IsValid site.now }
-    ensures answer { MatchResult result (λ line. event_line site.now form text.now
-        ≡ Ok (line_view line)) (λ why. event_line site.now form text.now ≡ Err why) }
+    ensures answer { IsVerdict (event_line site.now form text.now) result }
     ensures may_come { (standing : StandingOf) → 1 ≤ standing.ticks
         → IfOk result (λ line. MayCome site.now standing line) }
 {

@@ -23,7 +23,6 @@
 
 mod event_lines;
 mod fed;
-mod fields;
 mod form;
 mod form_words;
 mod judge;

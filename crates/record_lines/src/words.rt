@@ -1,19 +1,13 @@
 //! The fixed words of lines.
 
-ghost use Rattle.std.specs.Prelude.{◌≡◌, bytes_eq};
-ghost use Rattle.record_lines.specs.Words.{kind_of, is_bad_of, is_on_of, is_up_of, piece_state_of, point_state_of};
+ghost use Rattle.std.specs.Prelude.{◌≡◌};
+ghost use Rattle.record_lines.specs.Words.{kind_of, is_bad_of, is_up_of, piece_state_of, point_state_of};
 ghost use Rattle.record_lines.specs.Words.{supply_kind_of, task_of};
 
 use crate::form::Kind;
+use line_fields::is_word;
 use site_types::{PieceState, PointState, SupplyKind};
 use tick_units::Task;
-
-/// Whether a field is a word.
-pub fn is_word(field: &[u8], word: &[u8]) -> bool
-    ensures { result ≡ bytes_eq field.now word.now }
-{
-    field == word
-}
 
 pub fn point_state(word: &[u8]) -> Option<PointState>
     ensures { result ≡ point_state_of word.now }
@@ -77,18 +71,6 @@ pub fn is_up(word: &[u8]) -> Option<bool>
     if is_word(word, b"up") {
         Some(true)
     } else if is_word(word, b"down") {
-        Some(false)
-    } else {
-        None
-    }
-}
-
-pub fn is_on(word: &[u8]) -> Option<bool>
-    ensures { result ≡ is_on_of word.now }
-{
-    if is_word(word, b"on") {
-        Some(true)
-    } else if is_word(word, b"off") {
         Some(false)
     } else {
         None

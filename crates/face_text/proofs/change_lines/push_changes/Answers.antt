@@ -29,4 +29,4 @@ returns-clause-text g c =
     let rest = flat_map (change_of site before after) (Delays ∷ Sounding ∷ Count ∷ []) in
     puts_as c.args.held.now c.push_rest.new.held _ _ _ _ c.push_rest.result (changes_are site before after)
     (puts_more c.args.held.now c.push_groups.new.held c.push_rest.new.held _ _ _ groups rest c.push_rest.result c.in_ok-push_groups.ensures.text.ok
-    (c.push_rest.ensures.text site))
+    c.push_rest.ensures.text)

@@ -1,13 +1,32 @@
-use Rattle.std.proofs.Common.{arith}
-use Rattle.record_lines.proofs.Spaces.{seats_on}
+use Rattle.std.proofs.Common.{◌∙◌, arith, sym}
+use Rattle.record_lines.specs.Forms.{is_seat}
+use Rattle.line_fields.proofs.Spaces.{each_on}
+use Rattle.record_lines.proofs.SeatFields.{both_numbered, not_both, numbers_on, seats_on}
 use Rattle.record_lines.proofs.order_lines.read_seats.Goals as goal
+use Rattle.record_lines.proofs.order_lines.read_seats.Goals.{then-numbered, else-numbered}
 
 pub loop-seat-preserved : goal.loop-seat-preserved
-loop-seat-preserved c = record {
-  seats =
-      seats_on c.space_count-count.result c.loop-seat._seat c.loop-seat.rest.now c.before_space.result.now c.after_space-rest-in-loop-seat.result.now
-      c.seat.result c.loop-seat.seats.items c.push.new.self.items _
-      c.loop-seat-test.true c.after_space-rest-in-loop-seat.ensures c.before_space.ensures c.seat.ensures c.push.ensures.items
-      c.loop-seat.invariant.seats;
-  many = omega (arith, c.push.ensures.len, c.loop-seat.invariant.many);
-}
+loop-seat-preserved c =
+    let count = c.args.count in
+    let k = c.loop-seat._seat in
+    let rest = c.loop-seat.rest.now in
+    let front = c.split_field.result.0.now in
+    let next = c.split_field.result.1.now in
+    let below = c.loop-seat-test.true in
+    let cut = c.split_field.ensures in
+    let read = c.in_ok-seat.ensures in
+    let numbered = c.loop-seat.numbered in
+    let has = c.in_ok-seat.has_number in
+    record {
+      formed = each_on is_seat count k rest front next _ below cut.rest cut.first (sym read.formed) c.loop-seat.invariant.formed;
+      numbers =
+          numbers_on count k rest front next numbered has c.if-numbered.numbered _ below cut.rest cut.first read.numbered
+          (elim c.if-numbered.branch [
+            | then-numbered w ↦ both_numbered numbered has c.if-numbered.numbered w.if-numbered.true w.numbered-is
+            | else-numbered w ↦ not_both numbered has c.if-numbered.numbered w.if-numbered.false (w.numbered-is ∙ w.if-numbered.false)
+          ]) c.loop-seat.invariant.numbers;
+      seats =
+          seats_on count k rest front next c.in_ok-seat.seat c.loop-seat.seats.items c.push.new.self.items _ below cut.rest cut.first read.seat
+          c.push.ensures.items c.loop-seat.invariant.seats;
+      many = omega (arith, c.push.ensures.len, c.loop-seat.invariant.many);
+    }

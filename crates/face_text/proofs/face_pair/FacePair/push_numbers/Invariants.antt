@@ -1,0 +1,16 @@
+use Rattle.std.proofs.Common.{◌≡◌, ◌≤◌}
+use Rattle.face_text.specs.Changes.{numbers_text}
+use Rattle.face_text.specs.Holding.{Moves}
+use Rattle.face_text.proofs.face_pair.FacePair.push_numbers.Given as goal
+
+-- the lines of the first numbers were put
+abbrev pub invariant-loop-place : goal.invariant-loop-place
+invariant-loop-place g l =
+    record {
+      text :
+          Moves l.initial.held l.held (g.K.Stream.written l.initial.out) (g.K.Stream.written l.out)
+          (numbers_text l.self.site.now l.self.before.now l.self.after.now l.group l.place);
+      counted : g.K.Stream.write_faults l.initial.out ≤ g.K.Stream.write_faults l.out;
+      left : g.K.Stream.left l.out ≡ g.K.Stream.left l.initial.out;
+      reads : g.K.Stream.read_faults l.out ≡ g.K.Stream.read_faults l.initial.out;
+    }

@@ -1,0 +1,142 @@
+ghost use Rattle.std.specs.Prelude.{◌≡◌, ◌≤◌, [], ◌∷◌, length};
+ghost use Rattle.std.specs.List.{flat_map};
+ghost use Rattle.panel_edges.specs.Faults.{HasCause};
+ghost use Rattle.face_text.specs.Changes.{change_of, group_text, groups_text, numbers_text};
+ghost use Rattle.face_text.specs.Holding.{Puts};
+ghost use Rattle.face_text.specs.Slots.{Thing, Delays, Sounding, Count, HasPlace, last_of, page as page_of_panel};
+
+use crate::change_lines::{buzzer_line, counter_line, delays_line, thing_line};
+use crate::face::Face;
+use crate::group::Group;
+use crate::held::Held;
+use crate::masks::{is_same, last_number, shows};
+use crate::page::page;
+use arrayvec::ArrayString;
+use panel_edges::{Failed, Sink};
+use site_types::Site;
+
+/// What a panel of a site shows before and after something happened.
+#[derive(Clone, Copy)]
+pub struct FacePair<'a> {
+    pub site: &'a Site,
+    pub before: &'a Face,
+    pub after: &'a Face,
+}
+
+impl FacePair<'_> {
+    /// Puts the lines of all groups behind what is held.
+    pub fn push_groups<K: Sink>(&self, held: &mut Held, out: &mut K) -> Result<(), Failed>
+        ensures text { Puts held.old held.new (K.written out.old) (K.written out.new)
+            (groups_text self.now.site.now self.now.before.now self.now.after.now page_of_panel)
+            result }
+        ensures cause { HasCause (K.write_faults out.old) (K.write_faults out.new) result }
+        ensures left { K.left out.new ≡ K.left out.old }
+        ensures reads { K.read_faults out.new ≡ K.read_faults out.old }
+    {
+        let page = page();
+        for group in page.iter() {
+            self.push_group(*group, held, out)?;
+        }
+        Ok(())
+    }
+
+    // The lines of a group, of which nothing is looked at where its mask is the same.
+    fn push_group<K: Sink>(&self, group: Group, held: &mut Held, out: &mut K) -> Result<(), Failed>
+        requires { HasPlace group }
+        ensures text { Puts held.old held.new (K.written out.old) (K.written out.new)
+            (group_text self.now.site.now self.now.before.now self.now.after.now group) result }
+        ensures cause { HasCause (K.write_faults out.old) (K.write_faults out.new) result }
+        ensures left { K.left out.new ≡ K.left out.old }
+        ensures reads { K.read_faults out.new ≡ K.read_faults out.old }
+    {
+        if is_same(self.before, self.after, group) {
+            return Ok(());
+        }
+        self.push_numbers(group, held, out)
+    }
+
+    // The lines of a group, number by number.
+    fn push_numbers<K: Sink>(
+        &self,
+        group: Group,
+        held: &mut Held,
+        out: &mut K,
+    ) -> Result<(), Failed>
+        requires { HasPlace group }
+        ensures text { Puts held.old held.new (K.written out.old) (K.written out.new)
+            (numbers_text self.now.site.now self.now.before.now self.now.after.now group
+            (last_of group)) result }
+        ensures cause { HasCause (K.write_faults out.old) (K.write_faults out.new) result }
+        ensures left { K.left out.new ≡ K.left out.old }
+        ensures reads { K.read_faults out.new ≡ K.read_faults out.old }
+    {
+        for place in 0..last_number(group) {
+            let line = self.thing_change(group, place + 1);
+            held.push(line.as_str().as_bytes(), out)?;
+        }
+        Ok(())
+    }
+
+    /// Puts the lines of delays, buzzer and counter behind what is held.
+    pub fn push_rest<K: Sink>(&self, held: &mut Held, out: &mut K) -> Result<(), Failed>
+        ensures text { Puts held.old held.new (K.written out.old) (K.written out.new)
+            (flat_map (change_of self.now.site.now self.now.before.now self.now.after.now)
+            (Delays ∷ Sounding ∷ Count ∷ [])) result }
+        ensures cause { HasCause (K.write_faults out.old) (K.write_faults out.new) result }
+        ensures left { K.left out.new ≡ K.left out.old }
+        ensures reads { K.read_faults out.new ≡ K.read_faults out.old }
+    {
+        held.push(self.delays_change().as_str().as_bytes(), out)?;
+        held.push(self.buzzer_change().as_str().as_bytes(), out)?;
+        held.push(self.counter_change().as_str().as_bytes(), out)
+    }
+
+    // The line of a thing, where it changed; else nothing.
+    fn thing_change(&self, group: Group, number: u8) -> ArrayString<64>
+        requires group { HasPlace group }
+        requires number { (1 ≤ number) × (number ≤ last_of group) }
+        ensures text { result.bytes
+            ≡ change_of self.now.site.now self.now.before.now self.now.after.now
+            (Thing group number) }
+        ensures short { length result.bytes ≤ 64 }
+    {
+        let on = shows(self.after, group, number);
+        if shows(self.before, group, number) == on {
+            return ArrayString::new();
+        }
+        thing_line(self.site, self.after.panel, group, number, on)
+    }
+
+    fn delays_change(&self) -> ArrayString<64>
+        ensures text { result.bytes
+            ≡ change_of self.now.site.now self.now.before.now self.now.after.now Delays }
+        ensures short { length result.bytes ≤ 64 }
+    {
+        if self.before.delays_off == self.after.delays_off {
+            return ArrayString::new();
+        }
+        delays_line(self.after.panel, !self.after.delays_off)
+    }
+
+    fn buzzer_change(&self) -> ArrayString<64>
+        ensures text { result.bytes
+            ≡ change_of self.now.site.now self.now.before.now self.now.after.now Sounding }
+        ensures short { length result.bytes ≤ 64 }
+    {
+        if self.before.buzzer == self.after.buzzer {
+            return ArrayString::new();
+        }
+        buzzer_line(self.after.panel, self.after.buzzer)
+    }
+
+    fn counter_change(&self) -> ArrayString<64>
+        ensures text { result.bytes
+            ≡ change_of self.now.site.now self.now.before.now self.now.after.now Count }
+        ensures short { length result.bytes ≤ 64 }
+    {
+        if self.before.counter == self.after.counter {
+            return ArrayString::new();
+        }
+        counter_line(self.after.panel, self.after.counter)
+    }
+}

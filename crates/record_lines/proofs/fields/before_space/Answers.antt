@@ -1,5 +1,0 @@
-use Rattle.record_lines.proofs.Spaces.{take_place}
-use Rattle.record_lines.proofs.fields.before_space.Goals as goal
-
-pub returns : goal.returns
-returns c = take_place c.args.text.now c.place_of_space.result c.place_of_space.ensures.place

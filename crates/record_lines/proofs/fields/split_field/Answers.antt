@@ -1,5 +1,0 @@
-use Rattle.record_lines.proofs.Spaces.{take_place}
-use Rattle.record_lines.proofs.fields.split_field.Goals as goal
-
-pub returns-clause-first : goal.returns-clause-first
-returns-clause-first c = take_place c.args.text.now c.place_of_space-place.result c.place_of_space-place.ensures.place

@@ -1,9 +1,0 @@
-use Rattle.std.proofs.Common.{◌≡◌, ◌-◌}
-use Rattle.record_lines.specs.Fields.{each_field}
-use Rattle.site_types.specs.Fields.{after_space}
-use Rattle.record_lines.specs.Seats.{is_numbered}
-use Rattle.record_lines.proofs.order_lines.are_numbered.Given as goal
-
--- what is left decides
-abbrev pub invariant-loop-seat : goal.invariant-loop-seat
-invariant-loop-seat l = each_field is_numbered (l.count - l._seat) l.rest ≡ each_field is_numbered l.count (after_space l.text)
