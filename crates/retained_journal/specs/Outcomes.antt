@@ -20,9 +20,17 @@ abbrev pub UnlessEmpty : Option (List ℕ) → Type 0 → Type 0
 UnlessEmpty seen claim = IfSome seen (λ file. 0 < length file → claim)
 
 -- at each moment of a call a crash leaves what it might have left before
-abbrev pub LeavesAsItWas : {D : Type 0} → (D → ℕ) → (D → ℕ → List ℕ → Type 0) → (D → List ℕ → Type 0) → D → D
-    → Type 0
-LeavesAsItWas moment left_since images old new = LeavesOnly moment left_since old new (images old)
+abbrev pub LeavesAsItWas : {D : Type 0} → (D → Type 0) → (D → ℕ) → (D → ℕ → List ℕ → Type 0)
+    → (D → List ℕ → Type 0) → D → D → Type 0
+LeavesAsItWas honest moment left_since images old new =
+    honest old → LeavesOnly moment left_since old new (images old)
+
+-- nothing is written to a file that isn't empty: at each moment of a call a crash leaves what it might have left
+-- before
+abbrev pub SparesFull : {D : Type 0} → (D → Type 0) → (D → Option (List ℕ)) → (D → ℕ)
+    → (D → ℕ → List ℕ → Type 0) → (D → List ℕ → Type 0) → D → D → Type 0
+SparesFull honest seen moment left_since images old new =
+    honest old → UnlessEmpty (seen old) (LeavesOnly moment left_since old new (images old))
 
 -- what a file keeps: nothing, where it is empty
 abbrev pub IsKeptIn : Bool → List ℕ → Retained → List ℕ → Type 0

@@ -1,6 +1,7 @@
 ghost use Rattle.std.specs.Prelude.{◌≡◌, ◌+◌, ◌≤◌, [], ◌∷◌};
 ghost use Rattle.site_types.specs.declared.change.Change.TheVariants.{Count};
 ghost use Rattle.retained_journal.specs.Images.{Stands};
+ghost use Rattle.tick_units.specs.Ticks.{last_tick};
 
 use crate::*;
 use panel_edges::{Disk, MOST_DISK_BYTES, MemoryDisk, SoundMemoryDisk};
@@ -25,7 +26,7 @@ fn one_entry() -> Batch
 // Commits so many entries, one by one, and says how many were kept.
 fn count_entries<D: Disk>(journal: &mut Journal, disk: &mut D, times: u32) -> u32
     requires stands { Stands D.honest D.images disk.old journal.old }
-    requires few { journal.old.tried + times ≤ 1000000000 }
+    requires few { journal.old.tried + times ≤ last_tick }
     ensures stands { Stands D.honest D.images disk.new journal.new }
     ensures tried { journal.new.tried ≤ journal.old.tried + times }
 {
