@@ -6,8 +6,8 @@ use Rattle.panel_edges.proofs.Moments.{one_call, stays, then_more, weaker}
 use Rattle.retained_journal.specs.declared.journal.Journal.{Journal}
 use Rattle.retained_journal.specs.declared.log_gate.LogGate.TheVariants.{Shut, Ready, Open}
 use Rattle.retained_journal.specs.Images.{HasRoom, HasZeros, IsImage, IsSound, KeepsAll, LeavesInTurn, MayLeave, OpensToKeptOrAttempt, OpensToKeptOrWith, SameFront, Stands}
-use Rattle.std.specs.Prelude.{not, Option, Some, None, IfSome, Result, Ok, Err, OnOk, OnErr}
-use Rattle.site_types.specs.Changes.{changed_by}
+use Rattle.retained_journal.specs.Images.{after_append, after_move}
+use Rattle.std.specs.Prelude.{Option, Some, None, IfSome, Result, Ok, Err, OnOk, OnErr}
 use Rattle.site_types.specs.declared.change.Change.{Change}
 use Rattle.retained_journal.specs.Batches.{IsBatch}
 use Rattle.retained_journal.proofs.Images.{opens_image, whole_counts}
@@ -157,20 +157,12 @@ module _ (j : Journal) (s : IsSound j) where
 
   -- the state went to the other slot
   pub sound_moved : j.torn ≡ true → j.number + 1 ≤ 2 ^ 63 + most_cells + 2 * j.tried
-      → IsSound (record j {
-        slot_may_be_open = true;
-        second = not j.second;
-        number = j.number + 1;
-        cells = 0;
-        cell_may_be_open = true;
-        moving =
-            false;
-      })
+      → IsSound (after_move j)
   sound_moved torn bound = record { few = omega arith; keeps = s.keeps; bound = bound; untorn = λ whole. absurd (cc) }
 
   -- the batch was appended
   pub sound_appended : j.torn ≡ true → j.number + 1 ≤ 2 ^ 63 + most_cells + 2 * j.tried → j.cells < most_cells → IsBatch j.wide j.attempt.items
-      → IsSound (record j { kept = changed_by j.attempt.items j.kept; number = j.number + 1; cells = j.cells + 1; cell_may_be_open = false })
+      → IsSound (after_append j)
   sound_appended torn bound free batch =
       record {
         few = omega (arith, free);

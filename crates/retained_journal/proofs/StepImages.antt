@@ -15,6 +15,7 @@ use Rattle.retained_journal.specs.Places.{bytes_of_slot_body, bytes_of_cell, byt
 use Rattle.retained_journal.specs.Slots.{retained_at, slot_number}
 use Rattle.retained_journal.specs.Cells.{cell_changes, changes_of_cells, is_next, wrong_in_cell}
 use Rattle.retained_journal.specs.Images.{HasLog, HasNext, HasOther, HoldsBatch, HoldsCopy, IsBehind, IsImage, MayCount, chosen_of, next_of, other_of}
+use Rattle.retained_journal.specs.Images.{after_append, after_move}
 use Rattle.retained_journal.proofs.Images.{is_next_both, next_number_is}
 use Rattle.retained_journal.proofs.Replaying.{cells-more, cells-none}
 use Rattle.retained_journal.specs.Fields.{Agrees}
@@ -99,15 +100,7 @@ module _ (j : Journal) (c : List ℕ) (image : IsImage j c) where
 
   -- the state went to the other slot
   pub moved_over : HoldsCopy j c → slice_index c (other_of j) ≡ 1 → AreCounters j.kept.counters
-      → IsImage (record j {
-        slot_may_be_open = true;
-        second = not j.second;
-        number = j.number + 1;
-        cells = 0;
-        cell_may_be_open = true;
-        moving =
-            false;
-      }) c
+      → IsImage (after_move j) c
   moved_over holds one counters = record {
     size = image.size;
     mark = image.mark;
@@ -141,7 +134,7 @@ module _ (j : Journal) (c : List ℕ) (image : IsImage j c) where
 
   -- the batch was appended
   pub appended : j.log ≡ Open → j.cells < most_cells → HoldsBatch j c → slice_index c (next_of j) ≡ 1
-      → IsImage (record j { kept = changed_by j.attempt.items j.kept; number = j.number + 1; cells = j.cells + 1; cell_may_be_open = false }) c
+      → IsImage (after_append j) c
   appended open' free holds one = record {
     size = image.size;
     mark = image.mark;
@@ -181,13 +174,7 @@ module _ (j : Journal) (c : List ℕ) (image : IsImage j c) where
           (slice_index c (other_of j) ≢ 1)
           → MatchBool b (IsBehind j.second (slot_number (other_of j) c) (slot_number (chosen_of j) c)
           ⊎ ((j.moving ≡ true)
-          × HoldsCopy (record j {
-            kept = changed_by j.attempt.items j.kept;
-            number = j.number + 1;
-            cells = j.cells + 1;
-            cell_may_be_open =
-                false;
-          }) c)) (slice_index c (other_of j) ≢ 1)
+          × HoldsCopy (after_append j) c)) (slice_index c (other_of j) ≢ 1)
       other_kept true (inl behind) = inl behind
       other_kept true (inr copy) = absurd (let f = copy.1.all_cells in omega (arith, f, free))
       other_kept false shut = shut

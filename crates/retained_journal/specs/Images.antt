@@ -164,6 +164,26 @@ HasZeros cells file = 0 < cells → (slice_index file (cell_place 0) ≡ 0) × (
 abbrev pub HasRoomForTwo : Journal → Type 0
 HasRoomForTwo journal = journal.number + 1 < 2 ^ 63
 
+-- the journal that went over to the other slot with what is kept, with cell 0 as the next one
+abbrev pub after_move : Journal → Journal
+after_move journal = record journal {
+  slot_may_be_open = true;
+  second = not journal.second;
+  number = journal.number + 1;
+  cells = 0;
+  cell_may_be_open = true;
+  moving = false;
+}
+
+-- the journal that keeps the batch last attempted, in what was the next cell
+abbrev pub after_append : Journal → Journal
+after_append journal = record journal {
+  kept = changed_by journal.attempt.items journal.kept;
+  number = journal.number + 1;
+  cells = journal.cells + 1;
+  cell_may_be_open = false;
+}
+
 -- What is kept, the batch last attempted and the count of tries are as they were.
 pub record StaysKept (old new : Journal) : Type 0 where
   pub same_wide : new.wide ≡ old.wide

@@ -22,7 +22,9 @@ is_open at file = slice_index file at == 1
 -- is whether it is slot B.
 abbrev pub is_second : List ℕ → Bool
 is_second file =
-    is_open second_slot file && (not (is_open first_slot file) || nat_lt (slot_number first_slot file) (slot_number second_slot file))
+    is_open second_slot file
+    && (not (is_open first_slot file)
+    || nat_lt (slot_number first_slot file) (slot_number second_slot file))
 
 -- where the chosen slot begins
 abbrev pub chosen_place : List ℕ → ℕ
@@ -73,8 +75,9 @@ number_too_great at file =
 -- the place of a panel's counter that is too great
 abbrev pub great_counter : ℕ → List ℕ → ℕ → Option ℕ
 great_counter at file panel =
-    if nat_lt greatest_count (number_at 4 (at + counters_place + 4 * panel) file) then Some (at + counters_place + 4 * panel) else
-    None
+    if nat_lt greatest_count (number_at 4 (at + counters_place + 4 * panel) file)
+    then Some (at + counters_place + 4 * panel)
+    else None
 
 -- damage at a place, where there is one
 abbrev pub damaged : List ℕ → Option ℕ → Option OpenRefusal

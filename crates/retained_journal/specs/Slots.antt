@@ -7,7 +7,8 @@ use Rattle.site_types.specs.declared.retained.Retained.{Retained}
 use Rattle.site_types.specs.Changes.{AreCounters}
 use Rattle.site_types.specs.Done.{no_points}
 use Rattle.retained_journal.specs.Fields.{number_at, mask_at, numbers_at}
-use Rattle.retained_journal.specs.Places.{zones_place, outputs_place, delays_place, counters_place, wide_points_place, tests_place, points_place}
+use Rattle.retained_journal.specs.Places.{counters_place, delays_place, outputs_place, points_place}
+use Rattle.retained_journal.specs.Places.{tests_place, wide_points_place, zones_place}
 
 -- the number of a slot: of two open slots the one with the greater number counts
 abbrev pub slot_number : ℕ → List ℕ → ℕ

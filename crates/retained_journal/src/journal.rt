@@ -16,7 +16,8 @@ ghost use Rattle.retained_journal.specs.Opening.{Opens, change_out_of_form, coun
 ghost use Rattle.retained_journal.specs.Opening.{is_second as second_counts, opened, refusal_of};
 ghost use Rattle.retained_journal.specs.Outcomes.{CountsItsCells, CountsUnlessTorn, EachMayBeLeft, EachOpens};
 ghost use Rattle.retained_journal.specs.Outcomes.{HasFailed, HasKept, HasTried, IsEarlyFor, IsKeptIn, IsLengthOf};
-ghost use Rattle.retained_journal.specs.Outcomes.{IsRefusalOf, LeavesAsItWas, LeavesEachInTurn, SparesFull, UnlessEmpty};
+ghost use Rattle.retained_journal.specs.Outcomes.{IsRefusalOf, LeavesAsItWas, LeavesEachInTurn, SparesFull};
+ghost use Rattle.retained_journal.specs.Outcomes.{UnlessEmpty};
 ghost use Rattle.retained_journal.specs.Places.{bytes_of_slot, front_bytes, most_cells};
 ghost use Rattle.retained_journal.specs.Places.{slot_place as place_of_slot};
 ghost use Rattle.retained_journal.specs.Replays.{BeginsReplay, HasRefusalCause};
@@ -89,7 +90,8 @@ impl Journal {
         ensures early { IfOk result (λ r. IfSome (D.seen disk.old) (IsEarlyFor r.0)) }
         ensures fresh { IfOk result (λ r. IsFresh wide digest r.0) }
         ensures unwritten { UnlessEmpty (D.seen disk.old) (D.seen disk.new ≡ D.seen disk.old) }
-        ensures untouched { SparesFull D.honest D.seen D.moment D.left_since D.images disk.old disk.new }
+        ensures untouched { SparesFull D.honest D.seen D.moment D.left_since D.images
+            disk.old disk.new }
         ensures honest { D.honest disk.new ↔ D.honest disk.old }
         ensures cause { HasRefusalCause (D.faults disk.old) (D.faults disk.new) result }
     {
@@ -129,7 +131,8 @@ impl Journal {
         ensures unwritten { IfErr result (λ e. e ≢ CreateRefusal.DiskFault →
             D.seen disk.new ≡ D.seen disk.old) }
         ensures seen { UnlessEmpty (D.seen disk.old) (D.seen disk.new ≡ D.seen disk.old) }
-        ensures untouched { SparesFull D.honest D.seen D.moment D.left_since D.images disk.old disk.new }
+        ensures untouched { SparesFull D.honest D.seen D.moment D.left_since D.images
+            disk.old disk.new }
         ensures honest { D.honest disk.new ↔ D.honest disk.old }
         ensures cause { HasCreateCause (D.faults disk.old) (D.faults disk.new) result }
     {
@@ -351,7 +354,8 @@ fn read_counted<D: Disk>(
     requires told { IfSome (D.seen disk.old) (λ file.
         Agrees front_bytes front.now 0 file 0 × IsLong front.now file) }
     ensures keeps { IfOk result (λ replay.
-        IsKeepable wide replay.kept × (replay.cells ≤ most_cells) × (replay.number ≤ 2 ^ 63 + most_cells)) }
+        IsKeepable wide replay.kept × (replay.cells ≤ most_cells)
+        × (replay.number ≤ 2 ^ 63 + most_cells)) }
     ensures ok { IfOk result (λ replay. IfSome (D.seen disk.old) (λ file.
         (change_out_of_form wide file ≡ None) × IsReplayOf wide file replay)) }
     ensures err { IfErr result (λ e. e ≢ OpenRefusal.DiskFault →

@@ -45,7 +45,8 @@ impl Replay {
         ensures err { IfErr result (λ e. e ≢ OpenRefusal.DiskFault →
             IfSome (D.seen disk.old) (λ file. RefusesReplay file self.old e)) }
         ensures bound { OnOk result ((self.new.wide ≡ self.old.wide)
-            × (self.new.number ≡ self.old.number + self.new.cells) × (self.new.cells ≤ most_cells)) }
+            × (self.new.number ≡ self.old.number + self.new.cells)
+            × (self.new.cells ≤ most_cells)) }
         ensures keeps { OnOk result (IsKeepable self.new.wide self.new.kept) }
         ensures seen { D.seen disk.new ≡ D.seen disk.old }
         ensures honest { D.honest disk.new ↔ D.honest disk.old }

@@ -20,8 +20,8 @@ impl Journal {
     ghost use Rattle.retained_journal.specs.Batches.{IsBatch};
     ghost use Rattle.retained_journal.specs.Outcomes.{HasEndedMove, HasPreparedCells};
     ghost use Rattle.retained_journal.specs.Images.{HasRoomForTwo, HasZeros, HoldsBatch, HoldsCopy, KeepsAll};
-    ghost use Rattle.retained_journal.specs.Images.{LeavesKept, MayCount, OpensToKeptOrAttempt, SameFront, Stands, StaysKept};
-    ghost use Rattle.retained_journal.specs.Images.{StaysSo, other_of};
+    ghost use Rattle.retained_journal.specs.Images.{LeavesKept, MayCount, OpensToKeptOrAttempt, SameFront, Stands};
+    ghost use Rattle.retained_journal.specs.Images.{StaysKept, StaysSo, other_of};
     ghost use Rattle.retained_journal.specs.Outcomes.{HasAppended, HasMoved};
 
     // Where the other slot begins.
@@ -33,7 +33,8 @@ impl Journal {
 
     // Whether there is a next cell and its gate may be open.
     fn may_next_be_open(&self) -> bool
-        ensures { IsTrue result ↔ ((self.now.cells < most_cells) × (self.now.cell_may_be_open ≡ true)) }
+        ensures { IsTrue result ↔ ((self.now.cells < most_cells)
+            × (self.now.cell_may_be_open ≡ true)) }
     {
         self.cells < MOST_CELLS && self.cell_may_be_open
     }
@@ -191,7 +192,8 @@ impl Journal {
         requires stands { Stands D.honest D.images disk.old self.now }
         requires shut { self.now.log ≡ LogGate.Shut }
         ensures stands { Stands D.honest D.images disk.new self.now }
-        ensures ok { D.honest disk.new → OnOk result (IfSome (D.seen disk.new) (HasZeros most_cells)) }
+        ensures ok { D.honest disk.new → OnOk result (
+            IfSome (D.seen disk.new) (HasZeros most_cells)) }
         ensures moments { LeavesKept D.honest D.moment D.left_since disk.old disk.new self.now }
         ensures honest { D.honest disk.new ↔ D.honest disk.old }
         ensures cause { HasCause (D.faults disk.old) (D.faults disk.new) result }

@@ -2,6 +2,7 @@ use Rattle.std.proofs.Common.{◌≡◌, ◌+◌, ℕ, List, true, false, [], �
 use Rattle.site_types.specs.Changes.{changed_by}
 use Rattle.panel_edges.specs.Disks.{Holds}
 use Rattle.retained_journal.specs.Images.{HoldsBatch, MayCount, Stands, next_of}
+use Rattle.retained_journal.specs.Images.{after_append}
 use Rattle.retained_journal.specs.declared.journal.Journal.{Journal}
 use Rattle.site_types.specs.declared.retained.Retained.{Retained}
 use Rattle.retained_journal.specs.Batches.{CanMakeAll}
@@ -59,13 +60,7 @@ returns-clause-stands g c =
     let spares = gate_spared j c.cell_place.result c.cell_place.ensures in
     let may = subst MayCount (sym c.requires.log) tt in
     let stands =
-    then_stands g.D.Disk.honest g.D.Disk.images k (record j {
-      kept = changed_by j.attempt.items j.kept;
-      number = j.number + 1;
-      cells =
-          j.cells + 1;
-      cell_may_be_open = false;
-    })
+    then_stands g.D.Disk.honest g.D.Disk.images k (after_append j)
     c.args.disk.now c.write_synced.new.disk c.cell_place.result (1 ∷ []) before spares
     (sound_appended j c.requires.stands.sound c.requires.torn c.requires.number c.requires.free c.requires.batch)
     c.write_synced.ensures.honest.0 c.in_ok-write_synced.ensures.stands

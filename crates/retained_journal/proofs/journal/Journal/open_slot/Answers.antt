@@ -1,8 +1,8 @@
-use Rattle.std.proofs.Common.{◌≡◌, ◌+◌, ℕ, List, true, false, [], ◌∷◌, refl, subst}
-use Rattle.std.specs.Prelude.{not}
+use Rattle.std.proofs.Common.{◌≡◌, ℕ, List, true, [], ◌∷◌, refl, subst}
 use Rattle.panel_edges.specs.Disks.{Holds}
 use Rattle.retained_journal.specs.declared.journal.Journal.{Journal}
 use Rattle.retained_journal.specs.Images.{HoldsCopy, Stands, other_of}
+use Rattle.retained_journal.specs.Images.{after_move}
 use Rattle.retained_journal.proofs.Calls.{its_moments, other_stands, sound_moved, sound_slot, still_stands, then_stands}
 use Rattle.retained_journal.proofs.SparedBytes.{spares_other_gate}
 use Rattle.retained_journal.proofs.StepImages.{byte_now, copy_after, moved_over, other_may}
@@ -49,15 +49,7 @@ returns-clause-stands g c =
     let j = c.args.self.now in
     let k = record c.args.self.now { slot_may_be_open = true } in
     let before = stands_before g.D.Disk.honest g.D.Disk.images j c.args.disk.now c.requires.stands c.requires.moving c.requires.copy in
-    then_stands g.D.Disk.honest g.D.Disk.images k (record j {
-      slot_may_be_open = true;
-      second = not j.second;
-      number = j.number + 1;
-      cells =
-          0;
-      cell_may_be_open = true;
-      moving = false;
-    })
+    then_stands g.D.Disk.honest g.D.Disk.images k (after_move j)
     c.args.disk.now c.write_synced.new.disk c.other_at.result (1 ∷ []) before (gate_spared j c.other_at.result c.other_at.ensures)
     (sound_moved j c.requires.stands.sound c.requires.torn c.requires.number)
     c.write_synced.ensures.honest.0 c.in_ok-write_synced.ensures.stands
