@@ -5,7 +5,8 @@ use Rattle.byteorder.specs.Endian.{big_from, little_from}
 use Rattle.site_types.specs.declared.point_set.PointSet.{PointSet}
 use Rattle.retained_journal.specs.Fields.{Agrees, bytes_at, mask_at, number_at, numbers_at}
 use Rattle.retained_journal.specs.Slots.{loop_at, panel_points, points_at, retained_at, slot_number}
-use Rattle.retained_journal.specs.Places.{bytes_of_slot, bytes_of_slot_body}
+use Rattle.retained_journal.specs.Places.{bytes_of_slot}
+use Rattle.retained_journal.proofs.Lengths.{bytes_of_slot_body}
 use Rattle.retained_journal.specs.Places.{zones_place, outputs_place, delays_place, counters_place, wide_points_place, tests_place, points_place}
 
 -- a part of what agrees

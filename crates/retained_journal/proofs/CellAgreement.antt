@@ -3,7 +3,8 @@ use Rattle.std.proofs.Common.{subst, ◌≡◌, ◌+◌, ◌*◌, ◌<◌, ◌�
 use Rattle.std.specs.Prelude.{Option, Some, None, if◌then◌else◌}
 use Rattle.retained_journal.specs.Fields.{Agrees, first_in, is_within, or_else}
 use Rattle.retained_journal.specs.Places.{most_changes}
-use Rattle.retained_journal.specs.Places.{bytes_of_cell, bytes_of_changes}
+use Rattle.retained_journal.specs.Places.{bytes_of_cell}
+use Rattle.retained_journal.proofs.Lengths.{bytes_of_changes}
 use Rattle.retained_journal.specs.Cells.{cell_changes, cell_count, change_at, changes_at, is_in_form, is_next, wrong_byte, wrong_in_cell, wrong_in_change}
 use Rattle.retained_journal.proofs.Agreement.{sooner, first_byte, map-same, number-agrees, part}
 use Rattle.retained_journal.proofs.Forms.{within, wrong_change, wrong_count}

@@ -1,4 +1,5 @@
 -- the bytes of a file: what is read alike where they are the same, and what is found first
+pub mod Lengths
 pub mod Agreement
 pub mod CellAgreement
 pub mod FrontAgreement

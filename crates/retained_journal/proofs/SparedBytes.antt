@@ -4,7 +4,8 @@ use Rattle.std.specs.Prelude.{not, MatchBool}
 use Rattle.retained_journal.specs.declared.journal.Journal.{Journal}
 use Rattle.retained_journal.specs.declared.log_gate.LogGate.TheVariants.{Shut, Ready}
 use Rattle.retained_journal.specs.Places.{slot_place}
-use Rattle.retained_journal.specs.Places.{bytes_of_slot, bytes_of_slot_body, bytes_of_cell, front_bytes, first_slot, most_cells}
+use Rattle.retained_journal.specs.Places.{bytes_of_slot, bytes_of_cell, front_bytes, first_slot, most_cells}
+use Rattle.retained_journal.proofs.Lengths.{bytes_of_slot_body}
 use Rattle.retained_journal.specs.Images.{MayCount, chosen_of, next_of, other_of}
 use Rattle.retained_journal.proofs.Torn.{Apart, Spares}
 

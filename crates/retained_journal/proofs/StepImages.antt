@@ -11,7 +11,8 @@ use Rattle.retained_journal.specs.declared.log_gate.LogGate.{LogGate}
 use Rattle.retained_journal.specs.declared.log_gate.LogGate.TheVariants.{Shut, Ready, Open}
 use Rattle.retained_journal.specs.Fields.{number_at}
 use Rattle.retained_journal.specs.Places.{cell_place, log_gate, slot_place, whole_bytes}
-use Rattle.retained_journal.specs.Places.{bytes_of_slot_body, bytes_of_cell, bytes_of_changes, most_cells}
+use Rattle.retained_journal.specs.Places.{bytes_of_cell, most_cells}
+use Rattle.retained_journal.proofs.Lengths.{bytes_of_slot_body, bytes_of_changes}
 use Rattle.retained_journal.specs.Slots.{retained_at, slot_number}
 use Rattle.retained_journal.specs.Cells.{cell_changes, changes_of_cells, is_next, wrong_in_cell}
 use Rattle.retained_journal.specs.Images.{HasLog, HasNext, HasOther, HoldsBatch, HoldsCopy, IsBehind, IsImage, MayCount, chosen_of, next_of, other_of}

@@ -8,7 +8,8 @@ use Rattle.retained_journal.specs.declared.log_gate.LogGate.{LogGate}
 use Rattle.retained_journal.specs.declared.log_gate.LogGate.TheVariants.{Shut, Ready, Open}
 use Rattle.retained_journal.specs.Fields.{Agrees, number_at}
 use Rattle.retained_journal.specs.Places.{cell_place, log_gate, slot_place, whole_bytes}
-use Rattle.retained_journal.specs.Places.{bytes_of_slot, bytes_of_slot_body, bytes_of_cell, bytes_of_changes, front_bytes, most_cells, most_changes}
+use Rattle.retained_journal.specs.Places.{bytes_of_slot, bytes_of_cell, front_bytes, most_cells, most_changes}
+use Rattle.retained_journal.proofs.Lengths.{bytes_of_slot_body, bytes_of_changes}
 use Rattle.retained_journal.specs.Places.{counters_place}
 use Rattle.retained_journal.specs.Slots.{retained_at, slot_number}
 use Rattle.retained_journal.specs.Cells.{cell_count, changes_of_cells, is_next}

@@ -6,7 +6,8 @@ use Rattle.panel_edges.specs.Disks.{Holds}
 use Rattle.retained_journal.specs.declared.journal.Journal.{Journal}
 use Rattle.retained_journal.specs.Fields.{Agrees, number_at}
 use Rattle.retained_journal.specs.Places.{cell_place}
-use Rattle.retained_journal.specs.Places.{bytes_of_slot, bytes_of_slot_body, bytes_of_cell, bytes_of_changes, most_cells}
+use Rattle.retained_journal.specs.Places.{bytes_of_slot, bytes_of_cell, most_cells}
+use Rattle.retained_journal.proofs.Lengths.{bytes_of_slot_body, bytes_of_changes}
 use Rattle.retained_journal.specs.Slots.{retained_at, slot_number}
 use Rattle.retained_journal.specs.Cells.{cell_changes, wrong_in_cell}
 use Rattle.retained_journal.specs.Images.{HoldsBatch, HoldsCopy, next_of, other_of}

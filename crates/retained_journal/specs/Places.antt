@@ -9,10 +9,6 @@ front_bytes = 2048
 abbrev pub bytes_of_slot : ℕ
 bytes_of_slot = 906
 
--- and this many behind its gate
-abbrev pub bytes_of_slot_body : ℕ
-bytes_of_slot_body = 905
-
 -- where the parts of a slot begin behind its first byte: the disabled points of the loops, zones and outputs,
 -- whether delays are off, the counters, the points above address 96, and the zones in test
 abbrev pub points_place : ℕ
@@ -39,10 +35,6 @@ tests_place = 874
 -- a cell has this many bytes
 abbrev pub bytes_of_cell : ℕ
 bytes_of_cell = 592
-
--- and this many behind its gate and its number: how many changes it holds, and the changes
-abbrev pub bytes_of_changes : ℕ
-bytes_of_changes = 583
 
 -- a whole file has this many bytes: the front, 64 cells, and one byte behind the last cell
 abbrev pub whole_bytes : ℕ

@@ -4,7 +4,8 @@ use Rattle.retained_journal.proofs.Calls.{its_moments, still_stands}
 use Rattle.retained_journal.proofs.SparedBytes.{spares_other_body}
 use Rattle.retained_journal.proofs.SparedBytes.{slots_apart}
 use Rattle.retained_journal.proofs.WrittenParts.{slot_written, tail_size}
-use Rattle.retained_journal.specs.Places.{bytes_of_slot, bytes_of_slot_body}
+use Rattle.retained_journal.specs.Places.{bytes_of_slot}
+use Rattle.retained_journal.proofs.Lengths.{bytes_of_slot_body}
 use Rattle.retained_journal.proofs.journal.Journal.write_slot.Goals as goal
 
 pub write_synced-requires : goal.write_synced-requires
