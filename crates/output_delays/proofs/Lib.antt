@@ -1,4 +1,2 @@
-pub mod Bits
 pub mod Latest
 pub mod Requested
-pub mod Steps

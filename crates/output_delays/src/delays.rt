@@ -4,13 +4,13 @@ ghost use Rattle.std.proofs.Props.{props};
 ghost use Rattle.site_types.specs.declared.site.Site.{Site as SiteOf};
 ghost use Rattle.site_types.specs.Bits.{mask_of};
 ghost use Rattle.output_delays.specs.Overrides.{AllUpTo};
-ghost use Rattle.output_delays.specs.Runs.{Call, Overrode, Switched, Turned, overrides_of};
+ghost use Rattle.output_delays.specs.Runs.{Call, Overrode, Switched, Turned, delay_of, overrides_of};
 ghost use Rattle.output_delays.specs.Timers.{is_holding, turned_by};
 
-use crate::outputs::delay_of;
 use crate::overrides::Overrides;
 use crate::timer::Timer;
 use arrayvec::ArrayVec;
+use output_lists::output_of;
 use site_types::{MOST_OUTPUTS, Requests, Site, has_bit_32, with_bit_32, without_32};
 use tick_units::Tick;
 
@@ -85,6 +85,16 @@ impl Delays {
             → StandsFor site panel first (Switched active ∷ calls) self.new }
     {
         self.active = active;
+    }
+}
+
+// The delay of an output of a panel, in ticks; 0 where there is no such output.
+fn delay_of(site: &Site, panel: u8, number: u8) -> u16
+    ensures { result ≡ delay_of site.now panel number }
+{
+    match output_of(site, panel, number) {
+        Some(output) => output.delay,
+        None => 0,
     }
 }
 

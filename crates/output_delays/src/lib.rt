@@ -13,7 +13,6 @@
 #![tactic(auto)]
 
 mod delays;
-mod outputs;
 mod overrides;
 mod timer;
 

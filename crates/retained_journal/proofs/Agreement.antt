@@ -5,6 +5,9 @@ use Rattle.byteorder.specs.Endian.{big_from, little_from}
 use Rattle.site_types.specs.declared.point_set.PointSet.{PointSet}
 use Rattle.retained_journal.specs.Fields.{Agrees, bytes_at, mask_at, number_at, numbers_at}
 use Rattle.retained_journal.specs.Slots.{loop_at, panel_points, points_at, retained_at, slot_number}
+use Rattle.retained_journal.specs.Places.{bytes_of_slot}
+use Rattle.retained_journal.proofs.Lengths.{bytes_of_slot_body}
+use Rattle.retained_journal.specs.Places.{zones_place, outputs_place, delays_place, counters_place, wide_points_place, tests_place, points_place}
 
 -- a part of what agrees
 pub part : (n : ℕ) (file : List ℕ) (at : ℕ) (other : List ℕ) (from : ℕ) (k m : ℕ) → Agrees n file at other from → k + m ≤ n
@@ -93,8 +96,8 @@ numbers-agree file at other from agrees =
 abbrev the_set : List (List ℕ) → PointSet
 the_set rows = record { loops = rows }
 
-module _ (wide : Bool) (file : List ℕ) (at : ℕ) (other : List ℕ) (from : ℕ) (agrees : Agrees 905 file (at + 1) other (from + 1)) where
-  there : (k m : ℕ) → 1 ≤ k → k + m ≤ 906 → Agrees m file (at + k) other (from + k)
+module _ (wide : Bool) (file : List ℕ) (at : ℕ) (other : List ℕ) (from : ℕ) (agrees : Agrees bytes_of_slot_body file (at + 1) other (from + 1)) where
+  there : (k m : ℕ) → 1 ≤ k → k + m ≤ bytes_of_slot → Agrees m file (at + k) other (from + k)
   there k m some fits = record {
     same =
         λ i less. subst (λ (x : ℕ). slice_index file x ≡ slice_index other (from + k + i)) (omega (arith, some))
@@ -102,17 +105,17 @@ module _ (wide : Bool) (file : List ℕ) (at : ℕ) (other : List ℕ) (from : �
         (agrees.same (k - 1 + i) (omega (arith, some, fits, less))));
   }
 
-  further : (k j m : ℕ) → 1 ≤ k → k + j + m ≤ 906 → Agrees m file (at + k + j) other (from + k + j)
+  further : (k j m : ℕ) → 1 ≤ k → k + j + m ≤ bytes_of_slot → Agrees m file (at + k + j) other (from + k + j)
   further k j m some fits = part (j + m) file (at + k) other (from + k) j m (there k (j + m) some (omega arith)) (omega arith)
 
   loop-agrees : (b : Bool) (which : ℕ) → which < 32 → loop_at b at which file ≡ loop_at b from which other
   loop-agrees true which less =
-      let low = mask-agrees 12 file (at + 9 + 12 * which) other (from + 9 + 12 * which) (further 9 (12 * which) 12 (omega arith) (omega arith)) in
-      let high = mask-agrees 12 file (at + 490 + 12 * which) other (from + 490 + 12 * which) (further 490 (12 * which) 12 (omega arith) (omega arith))
+      let low = mask-agrees 12 file (at + points_place + 12 * which) other (from + points_place + 12 * which) (further 9 (12 * which) 12 (omega arith) (omega arith)) in
+      let high = mask-agrees 12 file (at + wide_points_place + 12 * which) other (from + wide_points_place + 12 * which) (further wide_points_place (12 * which) 12 (omega arith) (omega arith))
       in
       rw (low, high) refl
   loop-agrees false which less =
-      let low = mask-agrees 12 file (at + 9 + 12 * which) other (from + 9 + 12 * which) (further 9 (12 * which) 12 (omega arith) (omega arith)) in
+      let low = mask-agrees 12 file (at + points_place + 12 * which) other (from + points_place + 12 * which) (further 9 (12 * which) 12 (omega arith) (omega arith)) in
       rw low refl
 
   panel-agrees : (panel : ℕ) → panel < 8 → panel_points wide at panel file ≡ panel_points wide from panel other
@@ -131,21 +134,21 @@ module _ (wide : Bool) (file : List ℕ) (at : ℕ) (other : List ℕ) (from : �
   pub retained-body : retained_at wide at file ≡ retained_at wide from other
   retained-body =
       let points = points-agree in
-      let zones = numbers-agree file (at + 393) other (from + 393) (there 393 32 (omega arith) (omega arith)) in
-      let outputs = numbers-agree file (at + 425) other (from + 425) (there 425 32 (omega arith) (omega arith)) in
-      let delays = first_byte 1 file (at + 457) other (from + 457) (there 457 1 (omega arith) (omega arith)) (omega arith) in
-      let counters = numbers-agree file (at + 458) other (from + 458) (there 458 32 (omega arith) (omega arith)) in
-      let tests = numbers-agree file (at + 874) other (from + 874) (there 874 32 (omega arith) (omega arith)) in
+      let zones = numbers-agree file (at + zones_place) other (from + zones_place) (there zones_place 32 (omega arith) (omega arith)) in
+      let outputs = numbers-agree file (at + outputs_place) other (from + outputs_place) (there outputs_place 32 (omega arith) (omega arith)) in
+      let delays = first_byte 1 file (at + delays_place) other (from + delays_place) (there delays_place 1 (omega arith) (omega arith)) (omega arith) in
+      let counters = numbers-agree file (at + counters_place) other (from + counters_place) (there counters_place 32 (omega arith) (omega arith)) in
+      let tests = numbers-agree file (at + tests_place) other (from + tests_place) (there tests_place 32 (omega arith) (omega arith)) in
       rw (points, zones, outputs, delays, counters, tests) refl
 
-body_of : (file : List ℕ) (at : ℕ) (other : List ℕ) (from : ℕ) → Agrees 906 file at other from → Agrees 905 file (at + 1) other (from + 1)
-body_of file at other from agrees = part 906 file at other from 1 905 agrees (omega arith)
+body_of : (file : List ℕ) (at : ℕ) (other : List ℕ) (from : ℕ) → Agrees bytes_of_slot file at other from → Agrees bytes_of_slot_body file (at + 1) other (from + 1)
+body_of file at other from agrees = part bytes_of_slot file at other from 1 bytes_of_slot_body agrees (omega arith)
 
-pub retained-agrees : (wide : Bool) (file : List ℕ) (at : ℕ) (other : List ℕ) (from : ℕ) → Agrees 906 file at other from
+pub retained-agrees : (wide : Bool) (file : List ℕ) (at : ℕ) (other : List ℕ) (from : ℕ) → Agrees bytes_of_slot file at other from
     → retained_at wide at file ≡ retained_at wide from other
 retained-agrees wide file at other from agrees = retained-body wide file at other from (body_of file at other from agrees)
 
-pub slot_number-agrees : (wide : Bool) (file : List ℕ) (at : ℕ) (other : List ℕ) (from : ℕ) → Agrees 906 file at other from
+pub slot_number-agrees : (wide : Bool) (file : List ℕ) (at : ℕ) (other : List ℕ) (from : ℕ) → Agrees bytes_of_slot file at other from
     → slot_number at file ≡ slot_number from other
 slot_number-agrees wide file at other from agrees =
-    number-agrees 8 file (at + 1) other (from + 1) (part 906 file at other from 1 8 agrees (omega arith))
+    number-agrees 8 file (at + 1) other (from + 1) (part bytes_of_slot file at other from 1 8 agrees (omega arith))

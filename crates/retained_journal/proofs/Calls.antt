@@ -5,15 +5,16 @@ use Rattle.panel_edges.specs.Disks.{Becomes, Holds, Torn}
 use Rattle.panel_edges.proofs.Moments.{one_call, stays, then_more, weaker}
 use Rattle.retained_journal.specs.declared.journal.Journal.{Journal}
 use Rattle.retained_journal.specs.declared.log_gate.LogGate.TheVariants.{Shut, Ready, Open}
-use Rattle.retained_journal.specs.Images.{HasRoom, HasZeros, IsImage, IsSound, KeepsAll, OpensToKeptOrAttempt, OpensToKeptOrWith, SameFront, Stands}
-use Rattle.std.specs.Prelude.{not, Option, Some, None, IfSome, Result, Ok, Err, OnOk, OnErr}
-use Rattle.site_types.specs.Changes.{changed_by}
+use Rattle.retained_journal.specs.Images.{HasRoom, HasZeros, IsImage, IsSound, KeepsAll, LeavesInTurn, MayLeave, OpensToKeptOrAttempt, OpensToKeptOrWith, SameFront, Stands}
+use Rattle.retained_journal.specs.Images.{after_append, after_move}
+use Rattle.std.specs.Prelude.{Option, Some, None, IfSome, Result, Ok, Err, OnOk, OnErr}
 use Rattle.site_types.specs.declared.change.Change.{Change}
 use Rattle.retained_journal.specs.Batches.{IsBatch}
 use Rattle.retained_journal.proofs.Images.{opens_image, whole_counts}
 use Rattle.std.proofs.lemmas.List.{get_or-replicate}
 use Rattle.retained_journal.specs.Opening.{counted}
 use Rattle.retained_journal.specs.Places.{cell_place, whole_bytes}
+use Rattle.retained_journal.specs.Places.{bytes_of_cell, front_bytes, most_cells}
 use Rattle.retained_journal.proofs.Keeping.{keeps-batch}
 use Rattle.retained_journal.proofs.Torn.{Spares, torn_holds, torn_keeps}
 
@@ -73,7 +74,15 @@ module _ {D : Type 0} (honest : D → Type 0) (images : D → List ℕ → Type 
         time
         (λ c after. opens_image j c stands.sound (torn_keeps j after.0 c at n (stands.each h after.0 after.1) after.2 spares stands.sound.few) room)
 
-    -- the same of a call that doesn't end with a sync
+    -- the same behind an earlier part of a call
+    pub then_moments : (j : Journal) (old mid new : D) (at n : ℕ) → (HasRoom j → LeavesOnly moment left_since old mid (OpensToKeptOrAttempt j))
+        → Stands honest images mid j → Spares j at n → honest mid → HasRoom j
+        → Elapses (moment mid) (moment new) (left_since mid) (left_since new) (After (Torn at n) (images mid))
+        → LeavesOnly moment left_since old new (OpensToKeptOrAttempt j)
+    then_moments j old mid new at n first stands spares h room time =
+        then_more moment left_since old mid new (OpensToKeptOrAttempt j) (first room) (its_moments j mid new at n stands spares h room time)
+
+    -- the moments of a write that doesn't end with a sync
     pub write_moments : (j : Journal) (old new : D) (at n : ℕ) → Stands honest images old j → Spares j at n → honest old → HasRoom j
         → (honest old → Follows (Torn at n) (images old) (images new))
         → Elapses (moment old) (moment new) (left_since old) (left_since new) (images new)
@@ -110,6 +119,20 @@ module _ (j mended begun : Journal) (same : KeepsAll j mended) (is : begun ≡ r
       let kept = ap (λ (k : Journal). k.kept) is ∙ same.same_kept in
       rw (← wide, ← digest, ← kept, ← attempt) h
 
+  -- a call that mended and then attempted the batch has two parts
+  pub attempted_in_turn : {D : Type 0} (moment : D → ℕ) (left_since : D → ℕ → List ℕ → Type 0) (old mid new : D) (batch : List Change) (after : Journal)
+      → begun.attempt.items ≡ batch → after.attempt ≡ begun.attempt → LeavesOnly moment left_since old mid (MayLeave j)
+      → LeavesOnly moment left_since mid new (OpensToKeptOrAttempt begun)
+      → (after.attempt.items ≡ batch) × LeavesInTurn moment left_since old new (MayLeave j) (OpensToKeptOrWith j batch)
+  attempted_in_turn moment left_since old mid new batch after attempt kept first second = (
+    same_batch begun after kept ∙ attempt,
+    record {
+      between = mid;
+      first = first;
+      second = weaker moment left_since mid new (OpensToKeptOrAttempt begun) (OpensToKeptOrWith j batch) (with_attempt batch attempt) second;
+    },
+  )
+
 -- ---- a journal with one field set is sound
 
 module _ (j : Journal) (s : IsSound j) where
@@ -133,21 +156,13 @@ module _ (j : Journal) (s : IsSound j) where
   sound_ready shut = record { few = s.few; keeps = s.keeps; bound = s.bound; untorn = λ whole. absurd (let o = (s.untorn whole).0 in cc) }
 
   -- the state went to the other slot
-  pub sound_moved : j.torn ≡ true → j.number + 1 ≤ 2 ^ 63 + 64 + 2 * j.tried
-      → IsSound (record j {
-        slot_may_be_open = true;
-        second = not j.second;
-        number = j.number + 1;
-        cells = 0;
-        cell_may_be_open = true;
-        moving =
-            false;
-      })
+  pub sound_moved : j.torn ≡ true → j.number + 1 ≤ 2 ^ 63 + most_cells + 2 * j.tried
+      → IsSound (after_move j)
   sound_moved torn bound = record { few = omega arith; keeps = s.keeps; bound = bound; untorn = λ whole. absurd (cc) }
 
   -- the batch was appended
-  pub sound_appended : j.torn ≡ true → j.number + 1 ≤ 2 ^ 63 + 64 + 2 * j.tried → j.cells < 64 → IsBatch j.wide j.attempt.items
-      → IsSound (record j { kept = changed_by j.attempt.items j.kept; number = j.number + 1; cells = j.cells + 1; cell_may_be_open = false })
+  pub sound_appended : j.torn ≡ true → j.number + 1 ≤ 2 ^ 63 + most_cells + 2 * j.tried → j.cells < most_cells → IsBatch j.wide j.attempt.items
+      → IsSound (after_append j)
   sound_appended torn bound free batch =
       record {
         few = omega (arith, free);
@@ -158,11 +173,11 @@ module _ (j : Journal) (s : IsSound j) where
       }
 
 -- the front stays where cells are written
-pub front_stays : (at : ℕ) (bytes old new : List ℕ) → 2048 ≤ at → Holds at bytes old new → SameFront old new
+pub front_stays : (at : ℕ) (bytes old new : List ℕ) → front_bytes ≤ at → Holds at bytes old new → SameFront old new
 front_stays at bytes old new past holds =
     record { no_shorter = let s = holds.size in omega (arith, s); same_bytes = λ i front less. holds.same i less (inl (omega (arith, front, past))) }
 
-torn_front : (at n : ℕ) (old new : List ℕ) → 2048 ≤ at → Torn at n old new → SameFront old new
+torn_front : (at n : ℕ) (old new : List ℕ) → front_bytes ≤ at → Torn at n old new → SameFront old new
 torn_front at n old new past torn =
     record { no_shorter = torn.no_shorter; same_bytes = λ i front less. torn.same i less (inl (omega (arith, front, past))) }
 
@@ -175,13 +190,13 @@ fronts (Some old) (Some mid) (Some new) one two = record {
   same_bytes = λ i front less. two.same_bytes i front (let a = one.no_shorter in omega (arith, a, less)) ∙ one.same_bytes i front less;
 }
 
-pub becomes_front : (at : ℕ) (bytes : List ℕ) (old new : Option (List ℕ)) → 2048 ≤ at → Becomes (Holds at bytes) old new → Becomes SameFront old new
+pub becomes_front : (at : ℕ) (bytes : List ℕ) (old new : Option (List ℕ)) → front_bytes ≤ at → Becomes (Holds at bytes) old new → Becomes SameFront old new
 becomes_front at bytes None new past became = tt
 becomes_front at bytes (Some old) None past became = absurd became
 becomes_front at bytes (Some old) (Some new) past became = front_stays at bytes old new past became
 
 -- the same of a write that failed
-pub torn_becomes_front : (at n : ℕ) (old new : Option (List ℕ)) → 2048 ≤ at → Becomes (Torn at n) old new → Becomes SameFront old new
+pub torn_becomes_front : (at n : ℕ) (old new : Option (List ℕ)) → front_bytes ≤ at → Becomes (Torn at n) old new → Becomes SameFront old new
 torn_becomes_front at n None new past became = tt
 torn_becomes_front at n (Some old) None past became = absurd became
 torn_becomes_front at n (Some old) (Some new) past became = torn_front at n old new past became
@@ -195,29 +210,29 @@ front_kept old new same = subst (Becomes SameFront old) (sym same) (go old)
     go (Some file) = record { no_shorter = omega arith; same_bytes = λ i front less. refl }
 
 -- a write with its sync behind the front, whatever it answered
-pub either_front : {E : Type 0} (r : Result (Unit {0}) E) (at : ℕ) (bytes : List ℕ) (old new : Option (List ℕ)) → 2048 ≤ at
+pub either_front : {E : Type 0} (r : Result (Unit {0}) E) (at : ℕ) (bytes : List ℕ) (old new : Option (List ℕ)) → front_bytes ≤ at
     → OnOk r (Becomes (Holds at bytes) old new) → OnErr r (Becomes (Torn at (length bytes)) old new) → Becomes SameFront old new
 either_front (Ok u) at bytes old new past ok err = becomes_front at bytes old new past ok
 either_front (Err e) at bytes old new past ok err = torn_becomes_front at (length bytes) old new past err
 
-zeros_long : length {A = ℕ} (replicate 592 0) ≡ 592
+zeros_long : length {A = ℕ} (replicate bytes_of_cell 0) ≡ bytes_of_cell
 zeros_long = refl
 
 -- one cell more was made zero
 pub zeros_more : (cells : ℕ) (seen new : Option (List ℕ)) (file : List ℕ) → seen ≡ Some file → IfSome seen (HasZeros cells)
-    → Becomes (Holds (cell_place cells) (replicate 592 0)) seen new → IfSome new (HasZeros (cells + 1))
+    → Becomes (Holds (cell_place cells) (replicate bytes_of_cell 0)) seen new → IfSome new (HasZeros (cells + 1))
 zeros_more cells None new file is had became = absurd (cc)
 zeros_more cells (Some old) None file is had became = absurd became
 zeros_more cells (Some old) (Some new) file is had became =
     λ some. (gate cells had became, let s = became.size in let r = zeros_long in omega (arith, s, r))
   where
-    gate : (k : ℕ) → HasZeros k old → Holds (cell_place k) (replicate 592 0) old new → slice_index new (cell_place 0) ≡ 0
-    gate zero h holds = holds.inside 0 (omega (arith, zeros_long)) ∙ get_or-replicate 592 0 0 0 (omega arith)
+    gate : (k : ℕ) → HasZeros k old → Holds (cell_place k) (replicate bytes_of_cell 0) old new → slice_index new (cell_place 0) ≡ 0
+    gate zero h holds = holds.inside 0 (omega (arith, zeros_long)) ∙ get_or-replicate bytes_of_cell 0 0 0 (omega arith)
     gate (suc k) h holds = let had' = h (omega arith) in holds.same (cell_place 0) (let l = had'.1 in omega (arith, l)) (inl (omega arith)) ∙ had'.0
 
 -- all cells are zero, and the file is whole
-pub all_zero : (seen new : Option (List ℕ)) (file : List ℕ) → seen ≡ Some file → IfSome seen (HasZeros 64)
-    → Becomes (Holds (cell_place 64) (0 ∷ [])) seen new → IfSome new (λ f. (slice_index f (cell_place 0) ≡ 0) × (whole_bytes ≤ length f))
+pub all_zero : (seen new : Option (List ℕ)) (file : List ℕ) → seen ≡ Some file → IfSome seen (HasZeros most_cells)
+    → Becomes (Holds (cell_place most_cells) (0 ∷ [])) seen new → IfSome new (λ f. (slice_index f (cell_place 0) ≡ 0) × (whole_bytes ≤ length f))
 all_zero None new file is had became = absurd (cc)
 all_zero (Some old) None file is had became = absurd became
 all_zero (Some old) (Some new) file is had became =

@@ -130,7 +130,7 @@ wrong_change wide at file within' = rw within' refl
 -- a cell in its form
 pub record CellInForm (wide : Bool) (at : ℕ) (file : List ℕ) : Type 0 where
   pub some : 1 ≤ cell_count at file
-  pub few : cell_count at file ≤ 72
+  pub few : cell_count at file ≤ most_changes
   pub each : (k : ℕ) → k < cell_count at file → wrong_in_change wide (at + 10 + 8 * k) file ≡ None
 
 pub cell_in_form : (wide : Bool) (at : ℕ) (file : List ℕ) → wrong_in_cell wide at file ≡ None → CellInForm wide at file
@@ -138,8 +138,8 @@ cell_in_form wide at file none = go (is_within 1 most_changes (cell_count at fil
   where
     go : (b : Bool) → is_within 1 most_changes (cell_count at file) ≡ b → CellInForm wide at file
     go true is = record {
-      some = (within 1 72 (cell_count at file) is).0;
-      few = (within 1 72 (cell_count at file) is).1;
+      some = (within 1 most_changes (cell_count at file) is).0;
+      few = (within 1 most_changes (cell_count at file) is).1;
       each = none_each (λ k. wrong_in_change wide (at + 10 + 8 * k) file) (cell_count at file) (sym (wrong_change wide at file is) ∙ none);
     }
     go false is = let e = wrong_count wide at file is in absurd (cc)

@@ -12,6 +12,7 @@ use Rattle.retained_journal.specs.declared.open_refusal.OpenRefusal.{OpenRefusal
 use Rattle.retained_journal.specs.declared.open_refusal.OpenRefusal.TheVariants.{Damaged}
 use Rattle.retained_journal.specs.Fields.{bytes_at, number_at}
 use Rattle.retained_journal.specs.Places.{cell_place, digest_place, file_mark, log_gate, slot_place, whole_bytes}
+use Rattle.retained_journal.specs.Places.{front_bytes, second_slot, first_slot, most_cells}
 use Rattle.retained_journal.specs.Slots.{counters_at, retained_at, slot_number}
 use Rattle.retained_journal.specs.Cells.{cell_changes, changes_of_cells, is_next, wrong_in_cell}
 use Rattle.retained_journal.specs.Opening.{Opens, change_out_of_form, chosen_place, counted, counter_too_great}
@@ -26,7 +27,7 @@ use Rattle.retained_journal.proofs.Replaying.{cells-more, cells-none, run_is}
 
 -- what makes a file open to a slot and some cells behind it
 pub record OpensBy (wide : Bool) (digest : List ℕ) (second : Bool) (cells : ℕ) (file : List ℕ) : Type 0 where
-  pub size : 2048 ≤ length file
+  pub size : front_bytes ≤ length file
   pub whole : is_open log_gate file ≡ true → whole_bytes ≤ length file
   pub mark : bytes_at 8 0 file ≡ file_mark
   pub site : bytes_at 32 digest_place file ≡ digest
@@ -38,19 +39,19 @@ pub record OpensBy (wide : Bool) (digest : List ℕ) (second : Bool) (cells : �
   pub form : (i : ℕ) → i < cells → wrong_in_cell wide (cell_place i) file ≡ None
 
 gate_open : (second : Bool) (file : List ℕ) → slice_index file (slot_place second) ≡ 1 → no_open_slot file ≡ None
-gate_open true file one = go (is_open 64 file) (is_open 1024 file) (is_one (slice_index file 1024) one) (Damaged 64 (slice_index file 64))
+gate_open true file one = go (is_open first_slot file) (is_open second_slot file) (is_one (slice_index file second_slot) one) (Damaged first_slot (slice_index file first_slot))
   where
     go : (a b : Bool) → b ≡ true → (r : OpenRefusal) → (if a || b then None else Some r) ≡ None
     go true b is r = refl
     go false true is r = refl
     go false false is r = absurd (cc)
-gate_open false file one = let e = is_one (slice_index file 64) one in rw e refl
+gate_open false file one = let e = is_one (slice_index file first_slot) one in rw e refl
 
-not_cut : (len : ℕ) (open' : Bool) (refusal : OpenRefusal) → 2048 ≤ len → (open' ≡ true → whole_bytes ≤ len)
-    → (if nat_lt len 2048 || (open' && nat_lt len whole_bytes) then Some refusal else None) ≡ None
-not_cut len true refusal size whole = let w = whole refl in let a : nat_lt len 2048 ≡ false = grind (arith, nat_tests) in
+not_cut : (len : ℕ) (open' : Bool) (refusal : OpenRefusal) → front_bytes ≤ len → (open' ≡ true → whole_bytes ≤ len)
+    → (if nat_lt len front_bytes || (open' && nat_lt len whole_bytes) then Some refusal else None) ≡ None
+not_cut len true refusal size whole = let w = whole refl in let a : nat_lt len front_bytes ≡ false = grind (arith, nat_tests) in
     let b : nat_lt len whole_bytes ≡ false = grind (arith, nat_tests) in rw (a, b) refl
-not_cut len false refusal size whole = let a : nat_lt len 2048 ≡ false = grind (arith, nat_tests) in rw a refl
+not_cut len false refusal size whole = let a : nat_lt len front_bytes ≡ false = grind (arith, nat_tests) in rw a refl
 
 pub opens_by : (wide : Bool) (digest : List ℕ) (second : Bool) (cells : ℕ) (file : List ℕ) → OpensBy wide digest second cells file
     → opened wide digest file ≡ Opens (changed_by (changes_of_cells file cells) (retained_at wide (slot_place second) file))
@@ -82,13 +83,13 @@ opens_by wide digest second cells file by =
 
 -- ---- which slot is chosen
 
-chosen_first : (file : List ℕ) → slice_index file 64 ≡ 1 → (slice_index file 1024 ≢ 1) ⊎ (slot_number 1024 file ≤ slot_number 64 file)
+chosen_first : (file : List ℕ) → slice_index file first_slot ≡ 1 → (slice_index file second_slot ≢ 1) ⊎ (slot_number second_slot file ≤ slot_number first_slot file)
     → is_second file ≡ false
-chosen_first file one (inl shut) = let e = not_one (slice_index file 1024) shut in rw e refl
+chosen_first file one (inl shut) = let e = not_one (slice_index file second_slot) shut in rw e refl
 chosen_first file one (inr le) =
-    let e = is_one (slice_index file 64) one in
-    let t : nat_lt (slot_number 64 file) (slot_number 1024 file) ≡ false = grind (arith, nat_tests) in
-    go (is_open 1024 file) (is_open 64 file) (nat_lt (slot_number 64 file) (slot_number 1024 file)) e t
+    let e = is_one (slice_index file first_slot) one in
+    let t : nat_lt (slot_number first_slot file) (slot_number second_slot file) ≡ false = grind (arith, nat_tests) in
+    go (is_open second_slot file) (is_open first_slot file) (nat_lt (slot_number first_slot file) (slot_number second_slot file)) e t
   where
     go : (a b c : Bool) → b ≡ true → c ≡ false → (a && (not b || c)) ≡ false
     go true true false p q = refl
@@ -96,13 +97,13 @@ chosen_first file one (inr le) =
     go true false c p q = absurd (cc)
     go true true true p q = absurd (cc)
 
-chosen_second : (file : List ℕ) → slice_index file 1024 ≡ 1 → (slice_index file 64 ≢ 1) ⊎ (slot_number 64 file < slot_number 1024 file)
+chosen_second : (file : List ℕ) → slice_index file second_slot ≡ 1 → (slice_index file first_slot ≢ 1) ⊎ (slot_number first_slot file < slot_number second_slot file)
     → is_second file ≡ true
-chosen_second file one (inl shut) = let e = is_one (slice_index file 1024) one in let f = not_one (slice_index file 64) shut in rw (e, f) refl
+chosen_second file one (inl shut) = let e = is_one (slice_index file second_slot) one in let f = not_one (slice_index file first_slot) shut in rw (e, f) refl
 chosen_second file one (inr less) =
-    let e = is_one (slice_index file 1024) one in
-    let t : nat_lt (slot_number 64 file) (slot_number 1024 file) ≡ true = grind (arith, nat_tests) in
-    go (is_open 1024 file) (is_open 64 file) (nat_lt (slot_number 64 file) (slot_number 1024 file)) e t
+    let e = is_one (slice_index file second_slot) one in
+    let t : nat_lt (slot_number first_slot file) (slot_number second_slot file) ≡ true = grind (arith, nat_tests) in
+    go (is_open second_slot file) (is_open first_slot file) (nat_lt (slot_number first_slot file) (slot_number second_slot file)) e t
   where
     go : (a b c : Bool) → a ≡ true → c ≡ true → (a && (not b || c)) ≡ true
     go true true true p q = refl
@@ -129,10 +130,10 @@ uncounted file shut = let e = not_one (slice_index file log_gate) shut in rw e r
 
 counted_open : (file : List ℕ) (at k : ℕ) → slice_index file log_gate ≡ 1 → chosen_place file ≡ at
     → ((i : ℕ) → i < k → is_next (slot_number at file + 1 + i) (cell_place i) file ≡ true)
-    → (k ≡ 64) ⊎ ((k < 64) × (is_next (slot_number at file + 1 + k) (cell_place k) file ≡ false)) → counted file ≡ k
+    → (k ≡ most_cells) ⊎ ((k < most_cells) × (is_next (slot_number at file + 1 + k) (cell_place k) file ≡ false)) → counted file ≡ k
 counted_open file at k one chosen count end =
     let e = is_one (slice_index file log_gate) one in
-    rw (e, chosen) (run_is (λ i. is_next (slot_number at file + 1 + i) (cell_place i) file) 64 k count end)
+    rw (e, chosen) (run_is (λ i. is_next (slot_number at file + 1 + i) (cell_place i) file) most_cells k count end)
 
 not_next_gate : (number at : ℕ) (file : List ℕ) → slice_index file at ≢ 1 → is_next number at file ≡ false
 not_next_gate number at file shut = let e = not_one (slice_index file at) shut in rw e refl
@@ -171,7 +172,7 @@ module _ (j : Journal) (c : List ℕ) (sound : IsSound j) (image : IsImage j c) 
       one : slice_index c log_gate ≡ 1
       one = (subst (λ log. HasLog log j.cells c) open' image.log).0
 
-      not_next : j.cells < 64 → is_next (j.number + 1) (next_of j) c ≡ false
+      not_next : j.cells < most_cells → is_next (j.number + 1) (next_of j) c ≡ false
       not_next free = go j.cell_may_be_open sure (image.next (subst MayCount (sym open') tt) free)
         where
           go : (b : Bool) → b ≡ false → MatchBool b ((number_at 8 (next_of j + 1) c ≢ j.number + 1) ⊎ HoldsBatch j c) (slice_index c (next_of j) ≢ 1)
@@ -182,13 +183,13 @@ module _ (j : Journal) (c : List ℕ) (sound : IsSound j) (image : IsImage j c) 
       numbers : j.number + 1 ≡ slot_number (chosen_of j) c + 1 + j.cells
       numbers = let n = image.number in omega (arith, n)
 
-      end : ((nat_le 64 j.cells ≡ true) × (64 ≤ j.cells)) ⊎ ((nat_le 64 j.cells ≡ false) × (j.cells < 64))
-          → (j.cells ≡ 64) ⊎ ((j.cells < 64) × (is_next (slot_number (chosen_of j) c + 1 + j.cells) (cell_place j.cells) c ≡ false))
+      end : ((nat_le most_cells j.cells ≡ true) × (most_cells ≤ j.cells)) ⊎ ((nat_le most_cells j.cells ≡ false) × (j.cells < most_cells))
+          → (j.cells ≡ most_cells) ⊎ ((j.cells < most_cells) × (is_next (slot_number (chosen_of j) c + 1 + j.cells) (cell_place j.cells) c ≡ false))
       end (inl full) = inl (let f = full.1 in let s = sound.few in omega (arith, f, s))
       end (inr free) = inr (free.1, subst (λ (n : ℕ). is_next n (next_of j) c ≡ false) numbers (not_next free.1))
 
       by_chosen : is_second c ≡ j.second → (is_second c ≡ j.second) × (counted c ≡ j.cells)
-      by_chosen second = (second, counted_open c (chosen_of j) j.cells one (ap slot_place second) image.counts (end (leb_tells 64 j.cells)))
+      by_chosen second = (second, counted_open c (chosen_of j) j.cells one (ap slot_place second) image.counts (end (leb_tells most_cells j.cells)))
 
       by_other : (b : Bool)
           → MatchBool b (IsBehind j.second (slot_number (other_of j) c) (slot_number (chosen_of j) c) ⊎ ((j.moving ≡ true) × HoldsCopy j c))
@@ -231,7 +232,7 @@ module _ (j : Journal) (c : List ℕ) (sound : IsSound j) (image : IsImage j c) 
   chosen_is second = ap slot_place second
 
   -- no cell more counts
-  none_more : is_second c ≡ j.second → (slice_index c log_gate ≡ 1 → j.cells < 64 → is_next (j.number + 1) (next_of j) c ≡ false) → OpensToKept j c
+  none_more : is_second c ≡ j.second → (slice_index c log_gate ≡ 1 → j.cells < most_cells → is_next (j.number + 1) (next_of j) c ≡ false) → OpensToKept j c
   none_more second end = by_gate (eqb_tells (slice_index c log_gate) 1)
     where
       numbers : slot_number (chosen_of j) c + 1 + j.cells ≡ j.number + 1
@@ -245,19 +246,19 @@ module _ (j : Journal) (c : List ℕ) (sound : IsSound j) (image : IsImage j c) 
           go Ready h = h.1
           go Open h = absurd (shut h.0)
 
-      by_count : slice_index c log_gate ≡ 1 → ((nat_le 64 j.cells ≡ true) × (64 ≤ j.cells)) ⊎ ((nat_le 64 j.cells ≡ false) × (j.cells < 64))
-          → (j.cells ≡ 64) ⊎ ((j.cells < 64) × (is_next (slot_number (chosen_of j) c + 1 + j.cells) (cell_place j.cells) c ≡ false))
+      by_count : slice_index c log_gate ≡ 1 → ((nat_le most_cells j.cells ≡ true) × (most_cells ≤ j.cells)) ⊎ ((nat_le most_cells j.cells ≡ false) × (j.cells < most_cells))
+          → (j.cells ≡ most_cells) ⊎ ((j.cells < most_cells) × (is_next (slot_number (chosen_of j) c + 1 + j.cells) (cell_place j.cells) c ≡ false))
       by_count one (inl full) = inl (let f = full.1 in let s = sound.few in omega (arith, f, s))
       by_count one (inr free) = inr (free.1, subst (λ (n : ℕ). is_next n (next_of j) c ≡ false) (sym numbers) (end one free.1))
 
       by_gate : (((slice_index c log_gate == 1) ≡ true) × (slice_index c log_gate ≡ 1))
           ⊎ (((slice_index c log_gate == 1) ≡ false) × (slice_index c log_gate ≢ 1)) → OpensToKept j c
       by_gate (inl one) =
-          opens_cells second (counted_open c (chosen_of j) j.cells one.1 (chosen_is second) image.counts (by_count one.1 (leb_tells 64 j.cells)))
+          opens_cells second (counted_open c (chosen_of j) j.cells one.1 (chosen_is second) image.counts (by_count one.1 (leb_tells most_cells j.cells)))
       by_gate (inr shut) = opens_cells second (uncounted c shut.1 ∙ sym (no_cells shut.1))
 
   -- the next cell counts, with the batch last attempted
-  one_more : is_second c ≡ j.second → slice_index c log_gate ≡ 1 → j.cells < 64 → slice_index c (next_of j) ≡ 1 → HoldsBatch j c
+  one_more : is_second c ≡ j.second → slice_index c log_gate ≡ 1 → j.cells < most_cells → slice_index c (next_of j) ≡ 1 → HoldsBatch j c
       → opened j.wide j.digest c ≡ Opens (changed_by j.attempt.items j.kept)
   one_more second one free gate holds =
       opens_chosen (j.cells + 1) second (counted_open c (chosen_of j) (j.cells + 1) one (chosen_is second) count end) form
@@ -282,12 +283,12 @@ module _ (j : Journal) (c : List ℕ) (sound : IsSound j) (image : IsImage j c) 
       form : (i : ℕ) → i < j.cells + 1 → wrong_in_cell j.wide (cell_place i) c ≡ None
       form i less = at_or_below (λ k. wrong_in_cell j.wide (cell_place k) c ≡ None) image.form holds.form i less (leb_tells j.cells i)
 
-      end : (j.cells + 1 ≡ 64) ⊎ ((j.cells + 1 < 64) × (is_next (slot_number (chosen_of j) c + 1 + (j.cells + 1)) (cell_place (j.cells + 1)) c ≡ false))
-      end = go (leb_tells 64 (j.cells + 1))
+      end : (j.cells + 1 ≡ most_cells) ⊎ ((j.cells + 1 < most_cells) × (is_next (slot_number (chosen_of j) c + 1 + (j.cells + 1)) (cell_place (j.cells + 1)) c ≡ false))
+      end = go (leb_tells most_cells (j.cells + 1))
         where
-          go : ((nat_le 64 (j.cells + 1) ≡ true) × (64 ≤ j.cells + 1)) ⊎ ((nat_le 64 (j.cells + 1) ≡ false) × (j.cells + 1 < 64))
-              → (j.cells + 1 ≡ 64)
-              ⊎ ((j.cells + 1 < 64) × (is_next (slot_number (chosen_of j) c + 1 + (j.cells + 1)) (cell_place (j.cells + 1)) c ≡ false))
+          go : ((nat_le most_cells (j.cells + 1) ≡ true) × (most_cells ≤ j.cells + 1)) ⊎ ((nat_le most_cells (j.cells + 1) ≡ false) × (j.cells + 1 < most_cells))
+              → (j.cells + 1 ≡ most_cells)
+              ⊎ ((j.cells + 1 < most_cells) × (is_next (slot_number (chosen_of j) c + 1 + (j.cells + 1)) (cell_place (j.cells + 1)) c ≡ false))
           go (inl full) = inl (let f = full.1 in omega (arith, f, free))
           go (inr less) = inr (less.1, not_next_gate _ (cell_place (j.cells + 1)) c holds.after_shut)
 
@@ -301,9 +302,9 @@ module _ (j : Journal) (c : List ℕ) (sound : IsSound j) (image : IsImage j c) 
 
   -- whatever the gates of the next cell are
   opens_either : is_second c ≡ j.second → OpensToKeptOrAttempt j c
-  opens_either second = by_gate (eqb_tells (slice_index c log_gate) 1) (leb_tells 64 j.cells)
+  opens_either second = by_gate (eqb_tells (slice_index c log_gate) 1) (leb_tells most_cells j.cells)
     where
-      by_next : (one : slice_index c log_gate ≡ 1) (free : j.cells < 64) (b : Bool)
+      by_next : (one : slice_index c log_gate ≡ 1) (free : j.cells < most_cells) (b : Bool)
           → MatchBool b ((number_at 8 (next_of j + 1) c ≢ j.number + 1) ⊎ HoldsBatch j c) (slice_index c (next_of j) ≢ 1)
           → (((slice_index c (next_of j) == 1) ≡ true) × (slice_index c (next_of j) ≡ 1))
           ⊎ (((slice_index c (next_of j) == 1) ≡ false) × (slice_index c (next_of j) ≢ 1)) → OpensToKeptOrAttempt j c
@@ -314,7 +315,7 @@ module _ (j : Journal) (c : List ℕ) (sound : IsSound j) (image : IsImage j c) 
 
       by_gate : (((slice_index c log_gate == 1) ≡ true) × (slice_index c log_gate ≡ 1))
           ⊎ (((slice_index c log_gate == 1) ≡ false) × (slice_index c log_gate ≢ 1))
-          → ((nat_le 64 j.cells ≡ true) × (64 ≤ j.cells)) ⊎ ((nat_le 64 j.cells ≡ false) × (j.cells < 64)) → OpensToKeptOrAttempt j c
+          → ((nat_le most_cells j.cells ≡ true) × (most_cells ≤ j.cells)) ⊎ ((nat_le most_cells j.cells ≡ false) × (j.cells < most_cells)) → OpensToKeptOrAttempt j c
       by_gate (inr shut) full = inl (none_more second (λ one free. absurd (shut.1 one)))
       by_gate (inl one) (inl full) = inl (none_more second (λ h free. absurd (let f = full.1 in omega (arith, f, free))))
       by_gate (inl one) (inr free) =

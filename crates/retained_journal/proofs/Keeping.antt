@@ -30,6 +30,7 @@ use Rattle.retained_journal.specs.Opening.{great_counter}
 use Rattle.retained_journal.proofs.Finding.{none_each}
 use Rattle.retained_journal.proofs.Forms.{can_apply_at, cell_in_form, right_byte, within}
 use Rattle.retained_journal.proofs.NewFiles.{counter_of}
+use Rattle.retained_journal.specs.Places.{counters_place, wide_points_place, points_place}
 
 -- an item of a list in which one was set is that one or the old one
 set_either : {X : Type 0} (P : X → Type 0) (xs : List X) (i k : ℕ) (y d : X) → P y → P (get_or xs k d) → P (get_or (set xs i y) k d)
@@ -167,8 +168,8 @@ module _ (wide : Bool) (at : ℕ) (file : List ℕ) (bytes : (i : ℕ) → slice
   mask_small k = little_from-lt k 12 file bytes
 
   halves_fit : (b : Bool) (loop : ℕ) → FitHalves (loop_at b at loop file)
-  halves_fit b loop zero less = mask_small (at + 9 + 12 * loop)
-  halves_fit true loop (suc zero) less = mask_small (at + 490 + 12 * loop)
+  halves_fit b loop zero less = mask_small (at + points_place + 12 * loop)
+  halves_fit true loop (suc zero) less = mask_small (at + wide_points_place + 12 * loop)
   halves_fit false loop (suc zero) less = omega arith
   halves_fit b loop (suc (suc n)) less = absurd (omega (arith, less))
 
@@ -204,15 +205,15 @@ numbers-length at file = length-map-range_with_len (λ k. number_at 4 (at + 4 * 
 pub small_counters : (at : ℕ) (file : List ℕ) → first_in (great_counter at file) 8 ≡ None → AreCounters (counters_at at file)
 small_counters at file none k = go (leb_tells 8 k)
   where
-    test : (less : k < 8) → (b : Bool) → nat_lt greatest_count (number_at 4 (at + 458 + 4 * k) file) ≡ b
-        → (if b then Some (at + 458 + 4 * k) else None) ≡ None → number_at 4 (at + 458 + 4 * k) file ≤ greatest_count
+    test : (less : k < 8) → (b : Bool) → nat_lt greatest_count (number_at 4 (at + counters_place + 4 * k) file) ≡ b
+        → (if b then Some (at + counters_place + 4 * k) else None) ≡ None → number_at 4 (at + counters_place + 4 * k) file ≤ greatest_count
     test less true is h = absurd (cc)
     test less false is h = grind (arith, nat_tests)
 
     go : ((nat_le 8 k ≡ true) × (8 ≤ k)) ⊎ ((nat_le 8 k ≡ false) × (k < 8)) → slice_index (counters_at at file) k ≤ greatest_count
     go (inl past) =
         subst (λ (n : ℕ). n ≤ greatest_count)
-        (sym (get_or_past (counters_at at file) k 0 (let l = numbers-length (at + 458) file in let p = past.1 in omega (arith, l, p)))) (omega arith)
+        (sym (get_or_past (counters_at at file) k 0 (let l = numbers-length (at + counters_place) file in let p = past.1 in omega (arith, l, p)))) (omega arith)
     go (inr within') =
-        subst (λ (n : ℕ). n ≤ greatest_count) (sym (counter_of (at + 458) file k within'.1))
+        subst (λ (n : ℕ). n ≤ greatest_count) (sym (counter_of (at + counters_place) file k within'.1))
         (test within'.1 _ refl (none_each (great_counter at file) 8 none k within'.1))

@@ -12,6 +12,8 @@ use Rattle.site_types.specs.declared.retained.Retained.{Retained}
 use Rattle.retained_journal.specs.declared.open_refusal.OpenRefusal.{OpenRefusal}
 use Rattle.retained_journal.specs.Fields.{bytes_at, first_in, number_at, numbers_at}
 use Rattle.retained_journal.specs.Places.{log_gate, slot_place}
+use Rattle.retained_journal.specs.Places.{bytes_of_slot, first_slot_end, second_slot, first_slot}
+use Rattle.retained_journal.specs.Places.{counters_place}
 use Rattle.retained_journal.specs.Slots.{HasNarrowPoints, counters_at}
 use Rattle.retained_journal.specs.Opening.{Empty, Opens, refused_or, change_out_of_form, counted, counter_too_great}
 use Rattle.retained_journal.specs.Opening.{cut_short, damaged, first_of, front_refusal, great_counter, is_second}
@@ -32,12 +34,12 @@ zeros_everywhere (suc n) (suc place) = zeros_everywhere n place
 
 -- what stands beside slot A was zero and stays
 pub zeros_beside : (before file : List ℕ)
-    → ((place : ℕ) → 40 ≤ place → (place < 64) ⊎ (970 ≤ place) → slice_index file place ≡ slice_index before place)
+    → ((place : ℕ) → 40 ≤ place → (place < first_slot) ⊎ (first_slot_end ≤ place) → slice_index file place ≡ slice_index before place)
     → ((place : ℕ) → slice_index before place ≡ 0) → (place : ℕ) → IsBesideSlot place → slice_index file place ≡ 0
 zeros_beside before file same zero' place (inl between) = same place between.0 (inl between.1) ∙ zero' place
 zeros_beside before file same zero' place (inr behind) = same place (omega (arith, behind)) (inr behind) ∙ zero' place
 
-pub beside_slot : (place size : ℕ) → size ≡ 906 → (place < 64) ⊎ (970 ≤ place) → (place < 64) ⊎ (64 + size ≤ place)
+pub beside_slot : (place size : ℕ) → size ≡ bytes_of_slot → (place < first_slot) ⊎ (first_slot_end ≤ place) → (place < first_slot) ⊎ (first_slot + size ≤ place)
 beside_slot place size is (inl before) = inl before
 beside_slot place size is (inr behind) = inr (omega (arith, is, behind))
 
@@ -73,8 +75,8 @@ no_great_counter at file small = none_below (great_counter at file) 8 (λ panel 
     go : (panel : ℕ) → panel < 8 → great_counter at file panel ≡ None
     go panel less =
         let le = small panel in
-        let e = counter_of (at + 458) file panel less in
-        let test : nat_lt greatest_count (number_at 4 (at + 458 + 4 * panel) file) ≡ false =
+        let e = counter_of (at + counters_place) file panel less in
+        let test : nat_lt greatest_count (number_at 4 (at + counters_place + 4 * panel) file) ≡ false =
         subst (λ (n : ℕ). nat_lt greatest_count n ≡ false) e (grind (arith, nat_tests)) in
         rw test refl
 
@@ -88,8 +90,8 @@ opens_with len some front cells kept one two' =
 pub log_is_shut : (digest : List ℕ) (state : Retained) (file : List ℕ) → IsNewFile digest state file → slice_index file log_gate ≡ 0
 log_is_shut digest state file is = is.zeros 40 (inl (omega arith, omega arith))
 
-pub slot_b_is_shut : (digest : List ℕ) (state : Retained) (file : List ℕ) → IsNewFile digest state file → slice_index file 1024 ≡ 0
-slot_b_is_shut digest state file is = is.zeros 1024 (inr (omega arith))
+pub slot_b_is_shut : (digest : List ℕ) (state : Retained) (file : List ℕ) → IsNewFile digest state file → slice_index file second_slot ≡ 0
+slot_b_is_shut digest state file is = is.zeros second_slot (inr (omega arith))
 
 module _ (digest : List ℕ) (state : Retained) (file : List ℕ) (is : IsNewFile digest state file) where
   pub new_second : is_second file ≡ false
@@ -106,9 +108,9 @@ module _ (digest : List ℕ) (state : Retained) (file : List ℕ) (is : IsNewFil
       let site : other_site digest file ≡ None = same_site in
       let gates : no_open_slot file ≡ None = rw is.slot_open refl in
       let second = new_second in
-      let number : number_too_great 64 file ≡ None = rw is.number refl in
-      let counter : counter_too_great 64 file ≡ None =
-      ap (damaged file) (no_great_counter 64 file (subst (λ (s : Retained). AreCounters s.counters) (sym (is.holds wide narrow)) counters)) in
+      let number : number_too_great first_slot file ≡ None = rw is.number refl in
+      let counter : counter_too_great first_slot file ≡ None =
+      ap (damaged file) (no_great_counter first_slot file (subst (λ (s : Retained). AreCounters s.counters) (sym (is.holds wide narrow)) counters)) in
       six _ _ _ _ _ _ None None None None None None mark cut site gates (ap (λ b. number_too_great (slot_place b) file) second ∙ number)
       (ap (λ b. counter_too_great (slot_place b) file) second ∙ counter)
     where

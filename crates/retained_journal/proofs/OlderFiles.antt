@@ -12,6 +12,8 @@ use Rattle.retained_journal.specs.Fields.{number_at, numbers_at}
 use Rattle.retained_journal.specs.OlderFiles.{IsWithoutCells, OpensToItsSlot, OpensWithoutTests}
 use Rattle.retained_journal.specs.Opening.{Empty, Opens, change_out_of_form, chosen_place, counted, front_refusal, is_open, kept_in, refusal_of, refused_or}
 use Rattle.retained_journal.specs.Places.{cell_place, log_gate}
+use Rattle.retained_journal.specs.Places.{most_cells}
+use Rattle.retained_journal.specs.Places.{tests_place}
 use Rattle.retained_journal.specs.Slots.{retained_at, slot_number}
 use Rattle.retained_journal.proofs.Agreement.{numbers-agree}
 use Rattle.retained_journal.proofs.Finding.{none_each}
@@ -35,7 +37,7 @@ none_counted : (file : List ℕ) → IsWithoutCells file → counted file ≡ 0
 none_counted file (inl no_log) = let shut = no_log 40 (omega arith) (omega arith) in rw shut refl
 none_counted file (inr no_gates) =
     none_either_way (is_open log_gate file) _
-    (run_is (λ i. is_next (slot_number (chosen_place file) file + 1 + i) (cell_place i) file) 64 0 (λ i less. absurd (omega (arith, less)))
+    (run_is (λ i. is_next (slot_number (chosen_place file) file + 1 + i) (cell_place i) file) most_cells 0 (λ i less. absurd (omega (arith, less)))
     (inr (omega arith, let shut = no_gates 0 (omega arith) in rw shut refl)))
 
 pub opens_to_its_slot : OpensToItsSlot
@@ -114,5 +116,5 @@ opens_without_tests wide digest file state no_bytes no_change opens =
     ∙ tests_of_cells file (counted file) (retained_at wide (chosen_place file) file)
     (λ cell less k few. other_at wide (cell_place cell + 10 + 8 * k) file ((cell_in_form wide (cell_place cell) file (form cell less)).each k few)
     (no_change cell k less few))
-    ∙ numbers-agree file (chosen_place file + 874) [] 0 (record { same = no_bytes })
+    ∙ numbers-agree file (chosen_place file + tests_place) [] 0 (record { same = no_bytes })
     ∙ no_numbers

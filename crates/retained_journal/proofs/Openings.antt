@@ -10,6 +10,7 @@ use Rattle.retained_journal.specs.declared.journal.Journal.{Journal}
 use Rattle.retained_journal.specs.declared.log_gate.LogGate.TheVariants.{Shut, Open}
 use Rattle.retained_journal.specs.Fields.{Agrees}
 use Rattle.retained_journal.specs.Places.{log_gate, slot_place, whole_bytes}
+use Rattle.retained_journal.specs.Places.{front_bytes}
 use Rattle.retained_journal.specs.Slots.{retained_at, slot_number}
 use Rattle.retained_journal.specs.Cells.{changes_of_cells}
 use Rattle.retained_journal.specs.Opening.{change_out_of_form, chosen_place, counted, counter_too_great, cut_short}
@@ -30,7 +31,7 @@ not_one n e = grind (arith, nat_tests)
 abbrev pub begun_at : Bool → ℕ → List ℕ → Replay
 begun_at wide at file = record { wide = wide; kept = retained_at wide at file; number = slot_number at file; cells = 0; is_next_open = false }
 
-module _ (wide : Bool) (front file : List ℕ) (second : Bool) (agrees : Agrees 2048 front 0 file 0) (chosen : second ≡ is_second front) where
+module _ (wide : Bool) (front file : List ℕ) (second : Bool) (agrees : Agrees front_bytes front 0 file 0) (chosen : second ≡ is_second front) where
   same_second : second ≡ is_second file
   same_second = chosen ∙ second_same front file agrees
 
@@ -111,7 +112,7 @@ module _ (wide : Bool) (front file : List ℕ) (second : Bool) (agrees : Agrees 
     torn = of_front.torn ∙ (let e = gate_same in let n = of.next in rw (e, n) refl);
   }
     where
-      other_fits : (b : Bool) → slot_place b < 2048
+      other_fits : (b : Bool) → slot_place b < front_bytes
       other_fits true = omega arith
       other_fits false = omega arith
 
@@ -164,7 +165,7 @@ not_cut false false true refusal is h = refl
 
 pub long_enough : (digest front file : List ℕ) → front_refusal digest (length file) front ≡ None → IsLong front file
 long_enough digest front file none open' =
-    let few = not_cut (nat_lt (length file) 2048) (nat_lt (length file) whole_bytes) (is_open log_gate front) (Damaged (length file) 0) open'
+    let few = not_cut (nat_lt (length file) front_bytes) (nat_lt (length file) whole_bytes) (is_open log_gate front) (Damaged (length file) 0) open'
     (no_cause digest (length file) front none).1 in
     grind (arith, nat_tests)
 

@@ -10,6 +10,7 @@ use Rattle.retained_journal.specs.declared.log_gate.LogGate.TheVariants.{Shut, O
 use Rattle.retained_journal.specs.declared.open_refusal.OpenRefusal.{OpenRefusal}
 use Rattle.retained_journal.specs.Fields.{bytes_at, first_in, number_at, run_length}
 use Rattle.retained_journal.specs.Places.{cell_place, file_mark, log_gate, slot_place, whole_bytes}
+use Rattle.retained_journal.specs.Places.{front_bytes, second_slot, first_slot, most_cells}
 use Rattle.retained_journal.specs.Slots.{IsKeepable, counters_at, slot_number}
 use Rattle.retained_journal.specs.Cells.{is_next, wrong_in_cell}
 use Rattle.retained_journal.specs.Opening.{change_out_of_form, chosen_place, counted, damaged, first_of, front_refusal, great_counter, is_open, is_second, kept_in, refusal_of}
@@ -79,34 +80,34 @@ other_behind m n a b false is open' = ltb_false m n (go a b (nat_lt m n) open' i
     ltb_false : (i k : ℕ) → nat_lt i k ≡ false → k ≤ i
     ltb_false i k h = grind (arith, nat_tests)
 
-place_if : (second : Bool) (file : List ℕ) → slice_index file (slot_place second) ≡ (if second then slice_index file 1024 else slice_index file 64)
+place_if : (second : Bool) (file : List ℕ) → slice_index file (slot_place second) ≡ (if second then slice_index file second_slot else slice_index file first_slot)
 place_if true file = refl
 place_if false file = refl
 
-long_of : (len : ℕ) (open' : Bool) (r : OpenRefusal) → (if nat_lt len 2048 || (open' && nat_lt len whole_bytes) then Some r else None) ≡ None
-    → (2048 ≤ len) × (open' ≡ true → whole_bytes ≤ len)
-long_of len open' r h = go (leb_tells 2048 len) (leb_tells whole_bytes len) open' refl
+long_of : (len : ℕ) (open' : Bool) (r : OpenRefusal) → (if nat_lt len front_bytes || (open' && nat_lt len whole_bytes) then Some r else None) ≡ None
+    → (front_bytes ≤ len) × (open' ≡ true → whole_bytes ≤ len)
+long_of len open' r h = go (leb_tells front_bytes len) (leb_tells whole_bytes len) open' refl
   where
-    go : ((nat_le 2048 len ≡ true) × (2048 ≤ len)) ⊎ ((nat_le 2048 len ≡ false) × (len < 2048))
+    go : ((nat_le front_bytes len ≡ true) × (front_bytes ≤ len)) ⊎ ((nat_le front_bytes len ≡ false) × (len < front_bytes))
         → ((nat_le whole_bytes len ≡ true) × (whole_bytes ≤ len)) ⊎ ((nat_le whole_bytes len ≡ false) × (len < whole_bytes)) → (b : Bool) → open' ≡ b
-        → (2048 ≤ len) × (open' ≡ true → whole_bytes ≤ len)
-    go (inr short) w b is = absurd (let f = short.1 in let t : nat_lt len 2048 ≡ true = grind (arith, nat_tests) in let g = rw t at h in cc)
+        → (front_bytes ≤ len) × (open' ≡ true → whole_bytes ≤ len)
+    go (inr short) w b is = absurd (let f = short.1 in let t : nat_lt len front_bytes ≡ true = grind (arith, nat_tests) in let g = rw t at h in cc)
     go (inl l) (inl w) b is = (l.1, λ o. w.1)
     go (inl l) (inr short) false is = (l.1, λ o. absurd (cc))
     go (inl l) (inr short) true is = absurd (let f = short.1 in let s = l.1 in let t : nat_lt len whole_bytes ≡ true = grind (arith, nat_tests) in
-        let u : nat_lt len 2048 ≡ false = grind (arith, nat_tests) in let g = rw (u, is, t) at h in cc)
+        let u : nat_lt len front_bytes ≡ false = grind (arith, nat_tests) in let g = rw (u, is, t) at h in cc)
 
 both_true : (a b c : Bool) → a ≡ true → b ≡ true → (a && (b && c)) ≡ c
 both_true true true c p q = refl
 both_true false b c p q = absurd (cc)
 both_true true false c p q = absurd (cc)
 
-below : (n : ℕ) → n < 64 → nat_lt n 64 ≡ true
+below : (n : ℕ) → n < most_cells → nat_lt n most_cells ≡ true
 below n less = grind (arith, nat_tests)
 
 -- an opened journal is sound
 pub sound_read : (wide : Bool) (digest front : List ℕ) (second : Bool) (replay : Replay) (j : Journal) → IsOfFront wide digest front second replay j
-    → IsKeepable wide replay.kept → replay.cells ≤ 64 → replay.number ≤ 2 ^ 63 + 64 → IsSound j
+    → IsKeepable wide replay.kept → replay.cells ≤ most_cells → replay.number ≤ 2 ^ 63 + most_cells → IsSound j
 sound_read wide digest front second replay j of keeps few bound = record {
   few = let e = of.cells in omega (arith, e, few);
   keeps = let w = of.same_wide in let k = of.kept in rw (w, k) keeps;
@@ -131,7 +132,7 @@ module _ (wide : Bool) (digest file : List ℕ) (j : Journal) (read : IsReadFrom
   causes : (front_refusal digest (length file) file ≡ None) × (change_out_of_form wide file ≡ None)
   causes = both_none (front_refusal digest (length file) file) (change_out_of_form wide file) none
 
-  long : (2048 ≤ length file) × (is_open log_gate file ≡ true → whole_bytes ≤ length file)
+  long : (front_bytes ≤ length file) × (is_open log_gate file ≡ true → whole_bytes ≤ length file)
   long = long_of (length file) (is_open log_gate file) _ (no_cause digest (length file) file causes.0).1
 
   chosen : chosen_of j ≡ chosen_place file
@@ -139,11 +140,11 @@ module _ (wide : Bool) (digest file : List ℕ) (j : Journal) (read : IsReadFrom
 
   count_is : is_open log_gate file ≡ true → (i : ℕ) → i < counted file
       → is_next (slot_number (chosen_place file) file + 1 + i) (cell_place i) file ≡ true
-  count_is open' i less = run_holds (λ k. is_next (slot_number (chosen_place file) file + 1 + k) (cell_place k) file) 64 i (let e =
+  count_is open' i less = run_holds (λ k. is_next (slot_number (chosen_place file) file + 1 + k) (cell_place k) file) most_cells i (let e =
       count_open open' in omega (arith, less, e))
     where
       count_open : is_open log_gate file ≡ true
-          → counted file ≡ run_length (λ k. is_next (slot_number (chosen_place file) file + 1 + k) (cell_place k) file) 0 64
+          → counted file ≡ run_length (λ k. is_next (slot_number (chosen_place file) file + 1 + k) (cell_place k) file) 0 most_cells
       count_open o = rw o refl
 
   -- it opens to what the journal keeps, and as many cells count as the journal says
@@ -169,8 +170,8 @@ module _ (wide : Bool) (digest file : List ℕ) (j : Journal) (read : IsReadFrom
     log = log_is (is_open log_gate file) refl;
     gate =
         subst (λ (at : ℕ). slice_index file at ≡ 1) (sym chosen)
-        (place_if (is_second file) file ∙ chosen_open (slice_index file 64) (slice_index file 1024) _ (is_second file) refl
-        (passed_if (is_open 64 file || is_open 1024 file) _ (no_cause digest (length file) file causes.0).3));
+        (place_if (is_second file) file ∙ chosen_open (slice_index file first_slot) (slice_index file second_slot) _ (is_second file) refl
+        (passed_if (is_open first_slot file || is_open second_slot file) _ (no_cause digest (length file) file causes.0).3));
     number = let c = chosen in let n = read.number in let k = read.cells in rw (c, n, k) refl;
     small =
         subst (λ (at : ℕ). AreCounters (counters_at at file)) (sym chosen)
@@ -208,14 +209,14 @@ module _ (wide : Bool) (digest file : List ℕ) (j : Journal) (read : IsReadFrom
           go true is = is
           go false is = absurd (subst MayCount (read.log ∙ ap (λ (b : Bool). if b then Open else Shut) is) may)
 
-      next_gate : (may : MayCount j.log) → j.cells < 64 → j.cell_may_be_open ≡ is_open (next_of j) file
+      next_gate : (may : MayCount j.log) → j.cells < most_cells → j.cell_may_be_open ≡ is_open (next_of j) file
       next_gate may free =
           read.next
-          ∙ both_true (is_open log_gate file) (nat_lt (counted file) 64) (is_open (cell_place (counted file)) file) (log_open may) (let e =
+          ∙ both_true (is_open log_gate file) (nat_lt (counted file) most_cells) (is_open (cell_place (counted file)) file) (log_open may) (let e =
           read.cells in below (counted file) (omega (arith, e, free)))
           ∙ ap (λ (n : ℕ). is_open (cell_place n) file) (sym read.cells)
 
-      number_not : (may : MayCount j.log) → j.cells < 64 → slice_index file (next_of j) ≡ 1 → number_at 8 (next_of j + 1) file ≢ j.number + 1
+      number_not : (may : MayCount j.log) → j.cells < most_cells → slice_index file (next_of j) ≡ 1 → number_at 8 (next_of j + 1) file ≢ j.number + 1
       number_not may free one same =
           absurd (let f = past in let t =
           is_next_both (slot_number (chosen_place file) file + 1 + counted file) (cell_place (counted file)) file
@@ -226,32 +227,32 @@ module _ (wide : Bool) (digest file : List ℕ) (j : Journal) (read : IsReadFrom
           numbers : j.number + 1 ≡ slot_number (chosen_place file) file + 1 + counted file
           numbers = let n = read.number in omega (arith, n)
 
-          count_open : counted file ≡ run_length (λ k. is_next (slot_number (chosen_place file) file + 1 + k) (cell_place k) file) 0 64
+          count_open : counted file ≡ run_length (λ k. is_next (slot_number (chosen_place file) file + 1 + k) (cell_place k) file) 0 most_cells
           count_open = let o = log_open may in rw o refl
 
           past : is_next (slot_number (chosen_place file) file + 1 + counted file) (cell_place (counted file)) file ≡ false
           past =
               subst (λ (n : ℕ). is_next (slot_number (chosen_place file) file + 1 + n) (cell_place n) file ≡ false) (sym count_open)
-              (run_past (λ k. is_next (slot_number (chosen_place file) file + 1 + k) (cell_place k) file) 64 (let e = count_open in let k =
+              (run_past (λ k. is_next (slot_number (chosen_place file) file + 1 + k) (cell_place k) file) most_cells (let e = count_open in let k =
               read.cells in omega (arith, e, k, free)))
 
-      next_is : (may : MayCount j.log) → (free : j.cells < 64) → (b : Bool) → j.cell_may_be_open ≡ b
+      next_is : (may : MayCount j.log) → (free : j.cells < most_cells) → (b : Bool) → j.cell_may_be_open ≡ b
           → MatchBool b ((number_at 8 (next_of j + 1) file ≢ j.number + 1) ⊎ HoldsBatch j file) (slice_index file (next_of j) ≢ 1)
       next_is may free true is = inl (number_not may free (is_gate (slice_index file (next_of j)) (sym (next_gate may free) ∙ is)))
       next_is may free false is = not_gate (slice_index file (next_of j)) (sym (next_gate may free) ∙ is)
 
-      other_open : j.slot_may_be_open ≡ (if is_second file then is_open 64 file else is_open 1024 file)
+      other_open : j.slot_may_be_open ≡ (if is_second file then is_open first_slot file else is_open second_slot file)
       other_open = read.slot ∙ go (is_second file)
         where
-          go : (b : Bool) → is_open (slot_place (not b)) file ≡ (if b then is_open 64 file else is_open 1024 file)
+          go : (b : Bool) → is_open (slot_place (not b)) file ≡ (if b then is_open first_slot file else is_open second_slot file)
           go true = refl
           go false = refl
 
-      numbers_if : (b : Bool) → slot_number (slot_place b) file ≡ (if b then slot_number 1024 file else slot_number 64 file)
+      numbers_if : (b : Bool) → slot_number (slot_place b) file ≡ (if b then slot_number second_slot file else slot_number first_slot file)
       numbers_if true = refl
       numbers_if false = refl
 
-      others_if : (b : Bool) → slot_number (slot_place (not b)) file ≡ (if b then slot_number 64 file else slot_number 1024 file)
+      others_if : (b : Bool) → slot_number (slot_place (not b)) file ≡ (if b then slot_number first_slot file else slot_number second_slot file)
       others_if true = refl
       others_if false = refl
 
@@ -259,10 +260,10 @@ module _ (wide : Bool) (digest file : List ℕ) (j : Journal) (read : IsReadFrom
       behind is =
           subst (λ (b : Bool). IsBehind b (slot_number (slot_place (not b)) file) (slot_number (slot_place b) file)) (sym read.second)
           (let h =
-          other_behind (slot_number 64 file) (slot_number 1024 file) (is_open 64 file) (is_open 1024 file) (is_second file) refl
+          other_behind (slot_number first_slot file) (slot_number second_slot file) (is_open first_slot file) (is_open second_slot file) (is_second file) refl
           (sym other_open ∙ is) in
           subst (λ (n : ℕ). IsBehind (is_second file) n (slot_number (slot_place (is_second file)) file)) (sym (others_if (is_second file)))
-          (subst (λ (n : ℕ). IsBehind (is_second file) (if is_second file then slot_number 64 file else slot_number 1024 file) n)
+          (subst (λ (n : ℕ). IsBehind (is_second file) (if is_second file then slot_number first_slot file else slot_number second_slot file) n)
           (sym (numbers_if (is_second file))) h))
 
       other_is : (b : Bool) → j.slot_may_be_open ≡ b

@@ -11,6 +11,7 @@ use Rattle.std.proofs.lemmas.Bool.Decides.{leb_tells}
 use Rattle.site_types.specs.declared.point_set.PointSet.{PointSet}
 use Rattle.retained_journal.specs.Slots.{panel_points, points_at}
 use Rattle.retained_journal.proofs.Agreement.{number-agrees, mask-agrees, from_start}
+use Rattle.retained_journal.specs.Places.{front_bytes}
 
 -- a range of a list
 pub ranged : (n len at : ℕ) (file : List ℕ) → n ≤ len → Agrees n (take len (drop at file)) 0 file at
@@ -55,8 +56,8 @@ points_read wide at file points size each =
     fill_by_all (λ k. panel_points wide at k file) points 8 (record { loops = [] }) size (each (record { loops = [] }))
 
 -- a beginning of a file, with zeros for absent bytes
-pub padded : (len : ℕ) (file front : List ℕ) → len ≡ length file → front ≡ take (min len 2048) file ++ drop (min len 2048) (replicate 2048 0)
-    → Agrees 2048 front 0 file 0
+pub padded : (len : ℕ) (file front : List ℕ) → len ≡ length file → front ≡ take (min len front_bytes) file ++ drop (min len front_bytes) (replicate front_bytes 0)
+    → Agrees front_bytes front 0 file 0
 padded len file front size e =
     record {
       same =
@@ -64,19 +65,19 @@ padded len file front size e =
           (ap (λ (xs : List ℕ). slice_index xs i) e ∙ byte i less (leb_tells len i));
     }
   where
-    shown : length (take (min len 2048) file) ≡ min len 2048
-    shown = omega (arith, length-take (min len 2048) file, size)
+    shown : length (take (min len front_bytes) file) ≡ min len front_bytes
+    shown = omega (arith, length-take (min len front_bytes) file, size)
 
-    byte : (i : ℕ) → i < 2048 → ((nat_le len i ≡ true) × (len ≤ i)) ⊎ ((nat_le len i ≡ false) × (i < len))
-        → slice_index (take (min len 2048) file ++ drop (min len 2048) (replicate 2048 0)) i ≡ slice_index file i
+    byte : (i : ℕ) → i < front_bytes → ((nat_le len i ≡ true) × (len ≤ i)) ⊎ ((nat_le len i ≡ false) × (i < len))
+        → slice_index (take (min len front_bytes) file ++ drop (min len front_bytes) (replicate front_bytes 0)) i ≡ slice_index file i
     byte i less (inr there) =
-        get_or_append_left (take (min len 2048) file) (drop (min len 2048) (replicate 2048 0)) 0 i (let h = there.1 in omega (arith, shown, h, less))
-        ∙ get_or-take (min len 2048) file i 0 (let h = there.1 in omega (arith, h, less))
+        get_or_append_left (take (min len front_bytes) file) (drop (min len front_bytes) (replicate front_bytes 0)) 0 i (let h = there.1 in omega (arith, shown, h, less))
+        ∙ get_or-take (min len front_bytes) file i 0 (let h = there.1 in omega (arith, h, less))
     byte i less (inl past) =
-        get_or-append_right (take (min len 2048) file) (drop (min len 2048) (replicate 2048 0)) (min len 2048) i 0 shown (let h = past.1 in
+        get_or-append_right (take (min len front_bytes) file) (drop (min len front_bytes) (replicate front_bytes 0)) (min len front_bytes) i 0 shown (let h = past.1 in
         omega (arith, h, less))
-        ∙ get_or-drop (min len 2048) (replicate 2048 0) (i - min len 2048) 0
-        ∙ get_or-replicate 2048 (min len 2048 + (i - min len 2048)) 0 0 (let h = past.1 in omega (arith, h, less))
+        ∙ get_or-drop (min len front_bytes) (replicate front_bytes 0) (i - min len front_bytes) 0
+        ∙ get_or-replicate front_bytes (min len front_bytes + (i - min len front_bytes)) 0 0 (let h = past.1 in omega (arith, h, less))
         ∙ sym (get_or_past file i 0 (let h = past.1 in omega (arith, h, size)))
 
 -- a range of a file, read as a list

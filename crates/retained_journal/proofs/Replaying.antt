@@ -8,6 +8,7 @@ use Rattle.retained_journal.specs.declared.open_refusal.OpenRefusal.TheVariants.
 use Rattle.retained_journal.specs.declared.replay.Replay.{Replay}
 use Rattle.retained_journal.specs.Fields.{Agrees, run_length}
 use Rattle.retained_journal.specs.Places.{cell_place, most_cells}
+use Rattle.retained_journal.specs.Places.{bytes_of_cell}
 use Rattle.retained_journal.specs.Cells.{cell_changes, changes_of_cells, is_next, wrong_in_cell}
 use Rattle.retained_journal.specs.Opening.{is_open}
 use Rattle.retained_journal.specs.Replays.{EndsReplay, HasReplayed, RefusesReplay, counted_behind}
@@ -100,7 +101,7 @@ replayed_none file begun cells = record {
 
 -- One cell more.
 module _ (file cell : List ℕ) (begun replay : Replay) (n : ℕ) (replayed : HasReplayed file begun replay n) (agrees :
-    Agrees 592 cell 0 file (cell_place n)) where
+    Agrees bytes_of_cell cell 0 file (cell_place n)) where
   number_next : replay.number + 1 ≡ begun.number + 1 + n
   number_next = omega (arith, replayed.number)
 
@@ -108,8 +109,8 @@ module _ (file cell : List ℕ) (begun replay : Replay) (n : ℕ) (replayed : Ha
   next_there b is = sym (is_next-agrees (begun.number + 1 + n) cell 0 file (cell_place n) agrees) ∙ ap (λ (k : ℕ). is_next k 0 cell) (sym number_next)
       ∙ is
 
-  there : Agrees 592 file (cell_place n) cell 0
-  there = turned 592 cell 0 file (cell_place n) agrees
+  there : Agrees bytes_of_cell file (cell_place n) cell 0
+  there = turned bytes_of_cell cell 0 file (cell_place n) agrees
 
   wrong_there : (found : Option ℕ) → wrong_in_cell replay.wide 0 cell ≡ found
       → wrong_in_cell begun.wide (cell_place n) file ≡ moved (cell_place n) found
@@ -144,11 +145,11 @@ module _ (file cell : List ℕ) (begun replay : Replay) (n : ℕ) (replayed : Ha
           subst (λ (k : ℕ). is_next (begun.number + 1 + k) (cell_place k) file ≡ true) (let h = at.1 in omega (arith, h, less)) (next_there true next)
       at_or_below i less (inr below) = replayed.count i below.1
 
-  pub replay_stops : n < 64 → is_next (replay.number + 1) 0 cell ≡ false
+  pub replay_stops : n < most_cells → is_next (replay.number + 1) 0 cell ≡ false
       → EndsReplay file begun (record replay { is_next_open = slice_index cell 0 == 1 })
   replay_stops less next =
-      let run = run_is (λ i. is_next (begun.number + 1 + i) (cell_place i) file) 64 n replayed.count (inr (less, next_there false next)) in
-      let gate = first_byte 592 cell 0 file (cell_place n) agrees (omega arith) in
+      let run = run_is (λ i. is_next (begun.number + 1 + i) (cell_place i) file) most_cells n replayed.count (inr (less, next_there false next)) in
+      let gate = first_byte bytes_of_cell cell 0 file (cell_place n) agrees (omega arith) in
       record {
         replayed = subst (λ (k : ℕ). HasReplayed file begun (record replay { is_next_open = slice_index cell 0 == 1 }) k) (sym run)
             (record {
@@ -163,10 +164,10 @@ module _ (file cell : List ℕ) (begun replay : Replay) (n : ℕ) (replayed : Ha
         next = rw (gate, replayed.cells) (before n less (is_open (cell_place n) file));
       }
     where
-      before : (k : ℕ) → k < 64 → (b : Bool) → b ≡ (nat_lt k most_cells && b)
-      before k few b = let test : nat_lt k 64 ≡ true = grind (arith, nat_tests) in rw test refl
+      before : (k : ℕ) → k < most_cells → (b : Bool) → b ≡ (nat_lt k most_cells && b)
+      before k few b = let test : nat_lt k most_cells ≡ true = grind (arith, nat_tests) in rw test refl
 
-  pub replay_refuses : n < 64 → is_next (replay.number + 1) 0 cell ≡ true → (place : ℕ) → place < 592 → wrong_in_cell replay.wide 0 cell ≡ Some place
+  pub replay_refuses : n < most_cells → is_next (replay.number + 1) 0 cell ≡ true → (place : ℕ) → place < bytes_of_cell → wrong_in_cell replay.wide 0 cell ≡ Some place
       → RefusesReplay file begun (Damaged (cell_place replay.cells + place) (slice_index cell place))
   replay_refuses less next place within' wrong =
       let here = wrong_there (Some place) wrong in
@@ -193,7 +194,7 @@ module _ (file cell : List ℕ) (begun replay : Replay) (n : ℕ) (replayed : Ha
           longer k is (inl le) = absurd (no_end (leb_tells n (counted_behind file begun.number)))
             where
               past : test (counted_behind file begun.number) ≡ false
-              past = run_past (λ i. is_next (begun.number + 1 + i) (cell_place i) file) 64 (let h = le.1 in omega (arith, h, less))
+              past = run_past (λ i. is_next (begun.number + 1 + i) (cell_place i) file) most_cells (let h = le.1 in omega (arith, h, less))
 
               no_end : ((nat_le n (counted_behind file begun.number) ≡ true) × (n ≤ counted_behind file begun.number))
                   ⊎ ((nat_le n (counted_behind file begun.number) ≡ false) × (counted_behind file begun.number < n)) → ⊥
@@ -204,10 +205,10 @@ module _ (file cell : List ℕ) (begun replay : Replay) (n : ℕ) (replayed : Ha
                   cc
               no_end (inr fewer) = let f = past in let t = replayed.count (counted_behind file begun.number) fewer.1 in cc
 
-pub replay_ends : (file : List ℕ) (begun replay : Replay) → HasReplayed file begun replay 64 → replay.is_next_open ≡ false
+pub replay_ends : (file : List ℕ) (begun replay : Replay) → HasReplayed file begun replay most_cells → replay.is_next_open ≡ false
     → EndsReplay file begun replay
 replay_ends file begun replay replayed shut =
-    let run = run_is (λ i. is_next (begun.number + 1 + i) (cell_place i) file) 64 64 replayed.count (inl refl) in
+    let run = run_is (λ i. is_next (begun.number + 1 + i) (cell_place i) file) most_cells most_cells replayed.count (inl refl) in
     record {
       replayed = subst (λ (k : ℕ). HasReplayed file begun replay k) (sym run) replayed;
       next = shut ∙ rw replayed.cells refl;

@@ -14,6 +14,8 @@ use Rattle.retained_journal.specs.Fields.{AreBytes, bytes_at, mask_at, number_at
 use Rattle.retained_journal.specs.NewFiles.{IsBesideSlot, IsNewFile, OneNewFile}
 use Rattle.retained_journal.specs.Slots.{loop_at, panel_points, points_at, retained_at}
 use Rattle.retained_journal.proofs.NewFiles.{counter_of}
+use Rattle.retained_journal.specs.Places.{first_slot_end, first_slot}
+use Rattle.retained_journal.specs.Places.{delays_place, wide_points_place, points_place}
 
 -- a number is one digit before the rest in one way
 same_digit : (x y p r s : ℕ) → r < p → s < p → x * p + r ≡ y * p + s → x ≡ y
@@ -81,10 +83,10 @@ module _ (a b : List ℕ) (bytes : AreBytes a) (bytes' : AreBytes b) where
       (λ k few. number_same 4 (at + 4 * k) (sym (counter_of at a k few) ∙ ap (λ xs. slice_index xs k) same ∙ counter_of at b k few))
       i (i / 4) (i % 4) (omega arith) (omega (arith, less)) (omega arith)
 
-  loop_same : (at k : ℕ) → loop_at true at k a ≡ loop_at true at k b → SameBytes a b (at + 9 + 12 * k) 12 × SameBytes a b (at + 490 + 12 * k) 12
+  loop_same : (at k : ℕ) → loop_at true at k a ≡ loop_at true at k b → SameBytes a b (at + points_place + 12 * k) 12 × SameBytes a b (at + wide_points_place + 12 * k) 12
   loop_same at k same = (
-    mask_same 12 (at + 9 + 12 * k) (ap (λ xs. slice_index xs 0) same),
-    mask_same 12 (at + 490 + 12 * k) (ap (λ xs. slice_index xs 1) same),
+    mask_same 12 (at + points_place + 12 * k) (ap (λ xs. slice_index xs 0) same),
+    mask_same 12 (at + wide_points_place + 12 * k) (ap (λ xs. slice_index xs 1) same),
   )
 
 loop_of : (at panel line : ℕ) (file : List ℕ) → line < 4
@@ -125,14 +127,14 @@ module _ (a b : List ℕ) where
   within at n place same low high = subst (SameByte a b) (omega (arith, low)) (same (place - at) (omega (arith, low, high)))
 
   module _ (digest : List ℕ) (state : Retained) (one : IsNewFile digest state a) (other : IsNewFile digest state b) where
-    states : retained_at true 64 a ≡ retained_at true 64 b
+    states : retained_at true first_slot a ≡ retained_at true first_slot b
     states = one.holds true (λ k less l few. tt) ∙ sym (other.holds true (λ k less l few. tt))
 
-    points : points_at true 64 a ≡ points_at true 64 b
+    points : points_at true first_slot a ≡ points_at true first_slot b
     points = ap (λ (r : Retained). r.points) states
 
     loops : (k : ℕ) → k < 32 → SameBytes a b (73 + 12 * k) 12 × SameBytes a b (554 + 12 * k) 12
-    loops k less = loop_same a b one.bytes other.bytes 64 k (loops_same a b 64 points k less)
+    loops k less = loop_same a b one.bytes other.bytes first_slot k (loops_same a b first_slot points k less)
 
     loop_bytes : (at : ℕ) → ((k : ℕ) → k < 32 → SameBytes a b (at + 12 * k) 12) → SameBytes a b at 384
     loop_bytes at each i less = pieces a b one.bytes other.bytes 12 32 at each i (i / 12) (i % 12) (omega arith) (omega (arith, less)) (omega arith)
@@ -143,12 +145,12 @@ module _ (a b : List ℕ) where
     zeros : (place : ℕ) → IsBesideSlot place → SameByte a b place
     zeros place beside = one.zeros place beside ∙ sym (other.zeros place beside)
 
-    slot_bytes : (place : ℕ) → 65 ≤ place → place < 970 → SameByte a b place
+    slot_bytes : (place : ℕ) → 65 ≤ place → place < first_slot_end → SameByte a b place
     slot_bytes place from to =
         parted (SameByte a b) 73 place (λ less. within 65 8 place (number_same a b one.bytes other.bytes 8 65 (one.number ∙ sym other.number)) from
         less)
-        (λ h73. parted (SameByte a b) 457 place (λ less. within 73 384 place (loop_bytes 73 (λ k few. (loops k few).0)) h73 less)
-        (λ h457. parted (SameByte a b) 489 place (λ less. within 457 32 place (numbers 457 (ap (λ (r : Retained). r.zones) states)) h457 less)
+        (λ h73. parted (SameByte a b) delays_place place (λ less. within 73 384 place (loop_bytes 73 (λ k few. (loops k few).0)) h73 less)
+        (λ h457. parted (SameByte a b) 489 place (λ less. within delays_place 32 place (numbers delays_place (ap (λ (r : Retained). r.zones) states)) h457 less)
         (λ h489. parted (SameByte a b) 521 place (λ less. within 489 32 place (numbers 489 (ap (λ (r : Retained). r.outputs) states)) h489 less)
         (λ h521. parted (SameByte a b) 522 place (λ less. within 521 1 place (λ i few. delays i few) h521 less)
         (λ h522. parted (SameByte a b) 554 place (λ less. within 522 32 place (numbers 522 (ap (λ (r : Retained). r.counters) states)) h522 less)
@@ -163,9 +165,9 @@ module _ (a b : List ℕ) where
     each_byte place =
         parted (SameByte a b) 8 place (λ less. within 0 8 place (piece_same a b 8 0 (one.mark ∙ sym other.mark)) (omega arith) less)
         (λ h8. parted (SameByte a b) 40 place (λ less. within 8 32 place (piece_same a b 32 8 (one.digest_kept ∙ sym other.digest_kept)) h8 less)
-        (λ h40. parted (SameByte a b) 64 place (λ less. zeros place (inl (h40, less)))
+        (λ h40. parted (SameByte a b) first_slot place (λ less. zeros place (inl (h40, less)))
         (λ h64. parted (SameByte a b) 65 place (λ less. subst (SameByte a b) (omega (arith, h64, less)) (one.slot_open ∙ sym other.slot_open))
-        (λ h65. parted (SameByte a b) 970 place (λ less. slot_bytes place h65 less)
+        (λ h65. parted (SameByte a b) first_slot_end place (λ less. slot_bytes place h65 less)
         (λ h970. zeros place (inr h970))))))
 
 pub one_new_file : OneNewFile

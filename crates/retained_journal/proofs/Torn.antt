@@ -1,5 +1,5 @@
 -- What a write, torn or whole, leaves of an image: all that an image needs where the write spares it.
-use Rattle.std.proofs.Common.{inl, inr, ◌≡◌, ◌≢◌, ◌⊎◌, ◌+◌, ◌*◌, ◌<◌, ◌≤◌, ℕ, zero, suc, Bool, true, false, List, slice_index, length, refl, sym, ap, ◌∙◌, subst, arith}
+use Rattle.std.proofs.Common.{inl, inr, ◌≡◌, ◌≢◌, ◌⊎◌, ◌+◌, ◌-◌, ◌*◌, ◌<◌, ◌≤◌, ℕ, zero, suc, Bool, true, false, List, slice_index, length, refl, sym, ap, ◌∙◌, subst, arith}
 use Rattle.std.specs.Prelude.{not, MatchBool}
 use Rattle.panel_edges.specs.Disks.{Holds, Torn}
 use Rattle.site_types.specs.Changes.{AreCounters, changed_by}
@@ -8,6 +8,9 @@ use Rattle.retained_journal.specs.declared.log_gate.LogGate.{LogGate}
 use Rattle.retained_journal.specs.declared.log_gate.LogGate.TheVariants.{Shut, Ready, Open}
 use Rattle.retained_journal.specs.Fields.{Agrees, number_at}
 use Rattle.retained_journal.specs.Places.{cell_place, log_gate, slot_place, whole_bytes}
+use Rattle.retained_journal.specs.Places.{bytes_of_slot, bytes_of_cell, front_bytes, most_cells, most_changes}
+use Rattle.retained_journal.proofs.Lengths.{bytes_of_slot_body, bytes_of_changes}
+use Rattle.retained_journal.specs.Places.{counters_place}
 use Rattle.retained_journal.specs.Slots.{retained_at, slot_number}
 use Rattle.retained_journal.specs.Cells.{cell_count, changes_of_cells, is_next}
 use Rattle.retained_journal.specs.Images.{HasLog, HoldsBatch, HoldsCopy, IsBehind, IsImage, MayCount, chosen_of, next_of, other_of}
@@ -24,10 +27,10 @@ Apart at n from m = (from + m ≤ at) ⊎ (at + n ≤ from)
 pub record Spares (j : Journal) (at n : ℕ) : Type 0 where
   pub front : 40 ≤ at
   pub log_gate_apart : (j.log ≡ Ready) ⊎ (41 ≤ at)
-  pub slot : Apart at n (chosen_of j) 906
-  pub cells_apart : (j.log ≡ Shut) ⊎ Apart at n 2048 (592 * j.cells)
-  pub next_apart : MayCount j.log → j.cells < 64 → MatchBool j.cell_may_be_open (Apart at n (next_of j + 1) 592) (Apart at n (next_of j) 1)
-  pub other_apart : MatchBool j.slot_may_be_open (Apart at n (other_of j + 1) 905) (Apart at n (other_of j) 1)
+  pub slot : Apart at n (chosen_of j) bytes_of_slot
+  pub cells_apart : (j.log ≡ Shut) ⊎ Apart at n front_bytes (bytes_of_cell * j.cells)
+  pub next_apart : MayCount j.log → j.cells < most_cells → MatchBool j.cell_may_be_open (Apart at n (next_of j + 1) bytes_of_cell) (Apart at n (next_of j) 1)
+  pub other_apart : MatchBool j.slot_may_be_open (Apart at n (other_of j + 1) bytes_of_slot_body) (Apart at n (other_of j) 1)
 
 pub unharmed : (at n from m : ℕ) (d c : List ℕ) → Torn at n d c → from + m ≤ length d → Apart at n from m → Agrees m c from d from
 unharmed at n from m d c torn fits (inl before) =
@@ -42,8 +45,8 @@ byte_unharmed at n i d c torn less (inr behind) = torn.same i less (inr (omega (
 pub torn_holds : (at : ℕ) (bytes d c : List ℕ) → Holds at bytes d c → Torn at (length bytes) d c
 torn_holds at bytes d c h = record { no_shorter = omega (arith, h.size); no_longer = omega (arith, h.size); same = h.same }
 
-changes-same : (c d : List ℕ) (n : ℕ) → ((i : ℕ) → i < n → Agrees 592 c (cell_place i) d (cell_place i))
-    → ((i : ℕ) → i < n → cell_count (cell_place i) d ≤ 72) → changes_of_cells c n ≡ changes_of_cells d n
+changes-same : (c d : List ℕ) (n : ℕ) → ((i : ℕ) → i < n → Agrees bytes_of_cell c (cell_place i) d (cell_place i))
+    → ((i : ℕ) → i < n → cell_count (cell_place i) d ≤ most_changes) → changes_of_cells c n ≡ changes_of_cells d n
 unfolding changes_of_cells
 changes-same c d zero same few = refl
 changes-same c d (suc n) same few =
@@ -51,7 +54,7 @@ changes-same c d (suc n) same few =
     let here = cell_changes-agree c (cell_place n) d (cell_place n) (same n (omega arith)) (few n (omega arith)) in
     rw (before, here) refl
 
-other_place : (second : Bool) → slot_place (not second) + 906 ≤ 2048
+other_place : (second : Bool) → slot_place (not second) + bytes_of_slot ≤ front_bytes
 other_place true = omega arith
 other_place false = omega arith
 
@@ -59,8 +62,8 @@ module _ (j : Journal) (d c : List ℕ) (at n : ℕ) (image : IsImage j d) (torn
   pub longer : length d ≤ length c
   longer = torn.no_shorter
 
-  slot_same : Agrees 906 c (chosen_of j) d (chosen_of j)
-  slot_same = unharmed at n (chosen_of j) 906 d c torn (let s = image.size in let f = chosen_fits j.second in omega (arith, s, f)) spares.slot
+  slot_same : Agrees bytes_of_slot c (chosen_of j) d (chosen_of j)
+  slot_same = unharmed at n (chosen_of j) bytes_of_slot d c torn (let s = image.size in let f = chosen_fits j.second in omega (arith, s, f)) spares.slot
 
   slot_numbers : slot_number (chosen_of j) c ≡ slot_number (chosen_of j) d
   slot_numbers = slot_number-agrees true c (chosen_of j) d (chosen_of j) slot_same
@@ -74,56 +77,56 @@ module _ (j : Journal) (d c : List ℕ) (at n : ℕ) (image : IsImage j d) (torn
       go Ready h m = h.0
       go Open h m = h.1
 
-  cell_same : j.cells ≤ 64 → (i : ℕ) → i < j.cells → Agrees 592 c (cell_place i) d (cell_place i)
+  cell_same : j.cells ≤ most_cells → (i : ℕ) → i < j.cells → Agrees bytes_of_cell c (cell_place i) d (cell_place i)
   cell_same few i less = go j.log refl image.log (whole) spares.cells_apart
     where
       go : (log : LogGate) → j.log ≡ log → HasLog log j.cells d → (MayCount j.log → whole_bytes ≤ length d)
-          → (j.log ≡ Shut) ⊎ Apart at n 2048 (592 * j.cells) → Agrees 592 c (cell_place i) d (cell_place i)
+          → (j.log ≡ Shut) ⊎ Apart at n front_bytes (bytes_of_cell * j.cells) → Agrees bytes_of_cell c (cell_place i) d (cell_place i)
       go Shut is h w apart = absurd (let z = h.1 in omega (arith, z, less))
       go Ready is h w apart = absurd (let z = h.1 in omega (arith, z, less))
       go Open is h w (inl shut) = absurd (cc)
       go Open is h w (inr (inl before)) =
-          unharmed at n (cell_place i) 592 d c torn (let l = h.1 in omega (arith, l, less, few)) (inl (omega (arith, before, less)))
+          unharmed at n (cell_place i) bytes_of_cell d c torn (let l = h.1 in omega (arith, l, less, few)) (inl (omega (arith, before, less)))
       go Open is h w (inr (inr behind)) =
-          unharmed at n (cell_place i) 592 d c torn (let l = h.1 in omega (arith, l, less, few)) (inr (omega (arith, behind)))
+          unharmed at n (cell_place i) bytes_of_cell d c torn (let l = h.1 in omega (arith, l, less, few)) (inr (omega (arith, behind)))
 
-  pub batch_kept : (may : MayCount j.log) → j.cells < 64 → Agrees 592 c (next_of j + 1) d (next_of j + 1) → HoldsBatch j d → HoldsBatch j c
+  pub batch_kept : (may : MayCount j.log) → j.cells < most_cells → Agrees bytes_of_cell c (next_of j + 1) d (next_of j + 1) → HoldsBatch j d → HoldsBatch j c
   batch_kept may free same holds =
       record {
         next_number =
-            number-agrees 8 c (next_of j + 1) d (next_of j + 1) (sooner 592 c (next_of j + 1) d (next_of j + 1) 8 same (omega arith)) ∙
+            number-agrees 8 c (next_of j + 1) d (next_of j + 1) (sooner bytes_of_cell c (next_of j + 1) d (next_of j + 1) 8 same (omega arith)) ∙
             holds.next_number;
         form = wrong_in_cell-same j.wide c d (next_of j) body ∙ holds.form;
         changes = cell_changes-body c (next_of j) d (next_of j) body (cell_in_form j.wide (next_of j) d holds.form).few ∙ holds.changes;
         after_shut = λ one. holds.after_shut (sym after ∙ one);
       }
     where
-      body : Agrees 583 c (next_of j + 9) d (next_of j + 9)
+      body : Agrees bytes_of_changes c (next_of j + 9) d (next_of j + 9)
       body = record { same = λ i less. subst (λ (k : ℕ). slice_index c k ≡ slice_index d k) (omega arith) (same.same (8 + i) (omega (arith, less))) }
 
       after : slice_index c (cell_place (j.cells + 1)) ≡ slice_index d (cell_place (j.cells + 1))
-      after = subst (λ (k : ℕ). slice_index c k ≡ slice_index d k) (omega arith) (same.same 591 (omega arith))
+      after = subst (λ (k : ℕ). slice_index c k ≡ slice_index d k) (omega arith) (same.same (bytes_of_cell - 1) (omega arith))
 
-  pub copy_kept : Agrees 905 c (other_of j + 1) d (other_of j + 1) → retained_at j.wide (other_of j) c ≡ retained_at j.wide (other_of j) d
+  pub copy_kept : Agrees bytes_of_slot_body c (other_of j + 1) d (other_of j + 1) → retained_at j.wide (other_of j) c ≡ retained_at j.wide (other_of j) d
       → HoldsCopy j d → HoldsCopy j c
   copy_kept same state holds = record {
     all_cells = holds.all_cells;
-    copy_number = number-agrees 8 c (other_of j + 1) d (other_of j + 1) (sooner 905 c (other_of j + 1) d (other_of j + 1) 8 same (omega arith)) ∙
+    copy_number = number-agrees 8 c (other_of j + 1) d (other_of j + 1) (sooner bytes_of_slot_body c (other_of j + 1) d (other_of j + 1) 8 same (omega arith)) ∙
         holds.copy_number;
     copy = state ∙ holds.copy;
   }
 
-  pub torn_keeps : j.cells ≤ 64 → IsImage j c
+  pub torn_keeps : j.cells ≤ most_cells → IsImage j c
   torn_keeps few = record {
     size = let s = image.size in let l = longer in omega (arith, s, l);
     mark = bytes-agree 8 c 0 d 0 (sooner 40 c 0 d 0 8 front_same (omega arith)) ∙ image.mark;
     site = bytes-agree 32 c 8 d 8 (part 40 c 0 d 0 8 32 front_same (omega arith)) ∙ image.site;
     log = log_kept j.log refl image.log;
-    gate = first_byte 906 c (chosen_of j) d (chosen_of j) slot_same (omega arith) ∙ image.gate;
+    gate = first_byte bytes_of_slot c (chosen_of j) d (chosen_of j) slot_same (omega arith) ∙ image.gate;
     number = let e = slot_numbers in let m = image.number in omega (arith, e, m);
     small =
         subst AreCounters
-        (sym (numbers-agree c (chosen_of j + 458) d (chosen_of j + 458) (part 906 c (chosen_of j) d (chosen_of j) 458 32 slot_same (omega arith))))
+        (sym (numbers-agree c (chosen_of j + counters_place) d (chosen_of j + counters_place) (part bytes_of_slot c (chosen_of j) d (chosen_of j) counters_place 32 slot_same (omega arith))))
         image.small;
     counts =
         λ i less. is_next-agrees _ c (cell_place i) d (cell_place i) (cell_same few i less) ∙ ap (λ (k : ℕ). is_next (k + 1 + i) (cell_place i) d)
@@ -157,29 +160,29 @@ module _ (j : Journal) (d c : List ℕ) (at n : ℕ) (image : IsImage j d) (torn
       log_kept Ready is h = (let l = longer in let w = h.0 in omega (arith, l, w), h.1)
       log_kept Open is h = (gate_same (not_ready Open is (λ e. cc)) ∙ h.0, let l = longer in let w = h.1 in omega (arith, l, w))
 
-      next_kept : (may : MayCount j.log) → (free : j.cells < 64) → (b : Bool)
-          → MatchBool b (Apart at n (next_of j + 1) 592) (Apart at n (next_of j) 1)
+      next_kept : (may : MayCount j.log) → (free : j.cells < most_cells) → (b : Bool)
+          → MatchBool b (Apart at n (next_of j + 1) bytes_of_cell) (Apart at n (next_of j) 1)
           → MatchBool b ((number_at 8 (next_of j + 1) d ≢ j.number + 1) ⊎ HoldsBatch j d) (slice_index d (next_of j) ≢ 1)
           → MatchBool b ((number_at 8 (next_of j + 1) c ≢ j.number + 1) ⊎ HoldsBatch j c) (slice_index c (next_of j) ≢ 1)
       next_kept may free true apart (inl other) =
-          inl (λ same. other (sym (number-agrees 8 c (next_of j + 1) d (next_of j + 1) (sooner 592 c (next_of j + 1) d (next_of j + 1) 8
-          (unharmed at n (next_of j + 1) 592 d c torn (let w = whole may in omega (arith, w, free)) apart) (omega arith))) ∙ same))
+          inl (λ same. other (sym (number-agrees 8 c (next_of j + 1) d (next_of j + 1) (sooner bytes_of_cell c (next_of j + 1) d (next_of j + 1) 8
+          (unharmed at n (next_of j + 1) bytes_of_cell d c torn (let w = whole may in omega (arith, w, free)) apart) (omega arith))) ∙ same))
       next_kept may free true apart (inr holds) =
-          inr (batch_kept may free (unharmed at n (next_of j + 1) 592 d c torn (let w = whole may in omega (arith, w, free)) apart) holds)
+          inr (batch_kept may free (unharmed at n (next_of j + 1) bytes_of_cell d c torn (let w = whole may in omega (arith, w, free)) apart) holds)
       next_kept may free false apart shut =
           λ one. shut (sym (byte_unharmed at n (next_of j) d c torn (let w = whole may in omega (arith, w, free)) apart) ∙ one)
 
-      other_size : other_of j + 906 ≤ length d
+      other_size : other_of j + bytes_of_slot ≤ length d
       other_size = let s = image.size in let o = other_place j.second in omega (arith, s, o)
 
-      other_body : Apart at n (other_of j + 1) 905 → Agrees 905 c (other_of j + 1) d (other_of j + 1)
-      other_body apart = unharmed at n (other_of j + 1) 905 d c torn (let s = other_size in omega (arith, s)) apart
+      other_body : Apart at n (other_of j + 1) bytes_of_slot_body → Agrees bytes_of_slot_body c (other_of j + 1) d (other_of j + 1)
+      other_body apart = unharmed at n (other_of j + 1) bytes_of_slot_body d c torn (let s = other_size in omega (arith, s)) apart
 
-      other_number : Apart at n (other_of j + 1) 905 → slot_number (other_of j) c ≡ slot_number (other_of j) d
+      other_number : Apart at n (other_of j + 1) bytes_of_slot_body → slot_number (other_of j) c ≡ slot_number (other_of j) d
       other_number apart =
-          number-agrees 8 c (other_of j + 1) d (other_of j + 1) (sooner 905 c (other_of j + 1) d (other_of j + 1) 8 (other_body apart) (omega arith))
+          number-agrees 8 c (other_of j + 1) d (other_of j + 1) (sooner bytes_of_slot_body c (other_of j + 1) d (other_of j + 1) 8 (other_body apart) (omega arith))
 
-      other_kept : (b : Bool) → MatchBool b (Apart at n (other_of j + 1) 905) (Apart at n (other_of j) 1)
+      other_kept : (b : Bool) → MatchBool b (Apart at n (other_of j + 1) bytes_of_slot_body) (Apart at n (other_of j) 1)
           → MatchBool b (IsBehind j.second (slot_number (other_of j) d) (slot_number (chosen_of j) d) ⊎ ((j.moving ≡ true) × HoldsCopy j d))
           (slice_index d (other_of j) ≢ 1)
           → MatchBool b (IsBehind j.second (slot_number (other_of j) c) (slot_number (chosen_of j) c) ⊎ ((j.moving ≡ true) × HoldsCopy j c))

@@ -216,6 +216,6 @@ pub whole_cell : (wide : Bool) (cell : List ℕ) (batch : List Change) → cell_
     → ((k : ℕ) → k < length batch → wrong_in_change wide (10 + 8 * k) cell ≡ None) → wrong_in_cell wide 0 cell ≡ None
 whole_cell wide cell batch count is each =
     let within' : is_within 1 most_changes (cell_count 0 cell) ≡ true =
-    within_is 1 72 (cell_count 0 cell) (let s = is.some in omega (arith, count, s)) (let f = is.few in omega (arith, count, f)) in
+    within_is 1 most_changes (cell_count 0 cell) (let s = is.some in omega (arith, count, s)) (let f = is.few in omega (arith, count, f)) in
     wrong_change wide 0 cell within' ∙ none_below (λ k. wrong_in_change wide (10 + 8 * k) cell) (cell_count 0 cell)
     (λ k less. each k (omega (arith, less, count)))

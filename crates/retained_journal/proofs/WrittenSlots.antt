@@ -9,6 +9,7 @@ use Rattle.site_types.specs.Done.{no_points}
 use Rattle.retained_journal.specs.Fields.{Agrees, mask_at, numbers_at}
 use Rattle.retained_journal.specs.Slots.{AreNarrow, SameButLoops, loop_at, panel_points, points_at, retained_at}
 use Rattle.retained_journal.proofs.Agreement.{map-same, mask-agrees}
+use Rattle.retained_journal.specs.Places.{zones_place, outputs_place, delays_place, counters_place, wide_points_place, tests_place, points_place}
 
 two : (xs : List ℕ) → length xs ≡ 2 → xs ≡ slice_index xs 0 ∷ slice_index xs 1 ∷ []
 two [] e = absurd (omega (arith, e))
@@ -16,14 +17,14 @@ two (a ∷ []) e = absurd (omega (arith, e))
 two (a ∷ b ∷ []) e = refl
 two (a ∷ b ∷ x ∷ rest) e = absurd (omega (arith, e))
 
-pub loop_is : (wide : Bool) (which : ℕ) (slot halves : List ℕ) → length halves ≡ 2 → mask_at 12 (9 + 12 * which) slot ≡ slice_index halves 0
-    → mask_at 12 (490 + 12 * which) slot ≡ slice_index halves 1 → AreNarrow wide halves
+pub loop_is : (wide : Bool) (which : ℕ) (slot halves : List ℕ) → length halves ≡ 2 → mask_at 12 (points_place + 12 * which) slot ≡ slice_index halves 0
+    → mask_at 12 (wide_points_place + 12 * which) slot ≡ slice_index halves 1 → AreNarrow wide halves
     → loop_at wide 0 which slot ≡ halves
 loop_is true which slot halves size low high narrow = rw (low, high) (sym (two halves size))
 loop_is false which slot halves size low high narrow = rw low (ap (λ (n : ℕ). slice_index halves 0 ∷ n ∷ []) (sym narrow) ∙ sym (two halves size))
 
 pub mask_kept : (k at first count : ℕ) (old new : List ℕ) → SameButLoops first count old new → first + count ≤ 32
-    → ((at ≡ 9 + 12 * k) ⊎ (at ≡ 490 + 12 * k)) → k < 32 → (k < first) ⊎ (first + count ≤ k) → mask_at 12 at new ≡ mask_at 12 at old
+    → ((at ≡ points_place + 12 * k) ⊎ (at ≡ wide_points_place + 12 * k)) → k < 32 → (k < first) ⊎ (first + count ≤ k) → mask_at 12 at new ≡ mask_at 12 at old
 mask_kept k at first count old new same fits (inl low) less (inl before) =
     mask-agrees 12 new at old at
     (record { same = λ i few. same (at + i) (inl (omega (arith, low, less, before, few))) (inl (omega (arith, low, less, before, few))) })
@@ -40,11 +41,11 @@ mask_kept k at first count old new same fits (inr high) less (inr behind) =
 pub loop_kept : (wide : Bool) (k first count : ℕ) (old new : List ℕ) → SameButLoops first count old new → first + count ≤ 32 → k < 32
     → (k < first) ⊎ (first + count ≤ k) → loop_at wide 0 k new ≡ loop_at wide 0 k old
 loop_kept true k first count old new same fits less apart =
-    let low = mask_kept k (9 + 12 * k) first count old new same fits (inl refl) less apart in
-    let high = mask_kept k (490 + 12 * k) first count old new same fits (inr refl) less apart in
+    let low = mask_kept k (points_place + 12 * k) first count old new same fits (inl refl) less apart in
+    let high = mask_kept k (wide_points_place + 12 * k) first count old new same fits (inr refl) less apart in
     rw (low, high) refl
 loop_kept false k first count old new same fits less apart =
-    let low = mask_kept k (9 + 12 * k) first count old new same fits (inl refl) less apart in
+    let low = mask_kept k (points_place + 12 * k) first count old new same fits (inl refl) less apart in
     rw low refl
 
 -- one loop of a panel more
@@ -96,7 +97,7 @@ points_written wide points slot size each = sym (fill_by_all (λ panel. panel_po
 -- some loops of others were written
 pub same_more : (first count from some : ℕ) (old mid new : List ℕ) → first ≤ from → from + some ≤ first + count → SameButLoops first count old mid
     → SameButLoops from some mid new → SameButLoops first count old new
-same_more first count from some old mid new low high one two' i low' high' = two' i (narrower 9 low') (narrower 490 high') ∙ one i low' high'
+same_more first count from some old mid new low high one two' i low' high' = two' i (narrower 9 low') (narrower wide_points_place high') ∙ one i low' high'
   where
     narrower : (base : ℕ) → (i < base + 12 * first) ⊎ (base + 12 * (first + count) ≤ i) → (i < base + 12 * from) ⊎ (base + 12 * (from + some) ≤ i)
     narrower base (inl before) = inl (omega (arith, before, low))
@@ -118,12 +119,12 @@ pub still_points : (n at : ℕ) (piece old new : List ℕ) → Agrees n old at p
 still_points n at piece old new agrees same before =
     record { same = λ i few. same (at + i) (inl (omega (arith, few, before))) (inl (omega (arith, few, before))) ∙ agrees.same i few }
 
-pub slot_reads : (wide : Bool) (slot : List ℕ) (state : Retained) → points_at wide 0 slot ≡ state.points → numbers_at 393 slot ≡ state.zones
-    → numbers_at 425 slot ≡ state.outputs → slice_index slot 457 ≡ state.delays_off → numbers_at 458 slot ≡ state.counters
-    → numbers_at 874 slot ≡ state.tests → retained_at wide 0 slot ≡ state
+pub slot_reads : (wide : Bool) (slot : List ℕ) (state : Retained) → points_at wide 0 slot ≡ state.points → numbers_at zones_place slot ≡ state.zones
+    → numbers_at outputs_place slot ≡ state.outputs → slice_index slot delays_place ≡ state.delays_off → numbers_at counters_place slot ≡ state.counters
+    → numbers_at tests_place slot ≡ state.tests → retained_at wide 0 slot ≡ state
 slot_reads wide slot state points zones outputs delays counters tests = rw (points, zones, outputs, delays, counters, tests) refl
 
-pub points-kept : (wide : Bool) (old new : List ℕ) → ((i : ℕ) → (i < 393) ⊎ ((490 ≤ i) × (i < 874)) → slice_index new i ≡ slice_index old i)
+pub points-kept : (wide : Bool) (old new : List ℕ) → ((i : ℕ) → (i < zones_place) ⊎ ((wide_points_place ≤ i) × (i < tests_place)) → slice_index new i ≡ slice_index old i)
     → points_at wide 0 new ≡ points_at wide 0 old
 unfolding points_at panel_points
 points-kept wide old new same =
@@ -131,14 +132,14 @@ points-kept wide old new same =
     (λ panel low few. ap set_of (map-same (λ line. loop_at wide 0 (4 * panel + line) new) (λ line. loop_at wide 0 (4 * panel + line) old) 0 4
     (λ line low' less. loop_same wide (4 * panel + line) (omega (arith, few, less)))))
   where
-    mask_same : (k : ℕ) → k < 32 → mask_at 12 (9 + 12 * k) new ≡ mask_at 12 (9 + 12 * k) old
+    mask_same : (k : ℕ) → k < 32 → mask_at 12 (points_place + 12 * k) new ≡ mask_at 12 (points_place + 12 * k) old
     mask_same k less =
-        mask-agrees 12 new (9 + 12 * k) old (9 + 12 * k) (record { same = λ i few. same (9 + 12 * k + i) (inl (omega (arith, less, few))) })
+        mask-agrees 12 new (points_place + 12 * k) old (points_place + 12 * k) (record { same = λ i few. same (points_place + 12 * k + i) (inl (omega (arith, less, few))) })
 
-    high_same : (k : ℕ) → k < 32 → mask_at 12 (490 + 12 * k) new ≡ mask_at 12 (490 + 12 * k) old
+    high_same : (k : ℕ) → k < 32 → mask_at 12 (wide_points_place + 12 * k) new ≡ mask_at 12 (wide_points_place + 12 * k) old
     high_same k less =
-        mask-agrees 12 new (490 + 12 * k) old (490 + 12 * k)
-        (record { same = λ i few. same (490 + 12 * k + i) (inr (omega arith, omega (arith, less, few))) })
+        mask-agrees 12 new (wide_points_place + 12 * k) old (wide_points_place + 12 * k)
+        (record { same = λ i few. same (wide_points_place + 12 * k + i) (inr (omega arith, omega (arith, less, few))) })
 
     loop_same : (b : Bool) (k : ℕ) → k < 32 → loop_at b 0 k new ≡ loop_at b 0 k old
     loop_same true k less = let low = mask_same k less in let high = high_same k less in rw (low, high) refl

@@ -4,6 +4,7 @@ use Rattle.site_types.specs.declared.change.Change.{Change}
 use Rattle.site_types.specs.declared.change.Change.TheVariants.{Point}
 use Rattle.site_types.specs.Changes.{CanApply}
 use Rattle.retained_journal.specs.Cells.{greatest_address}
+use Rattle.retained_journal.specs.Places.{most_changes}
 
 -- an address is at most 96, or 192 in a wide journal
 abbrev pub HasAddress : Bool → Change → Type 0
@@ -22,7 +23,7 @@ CanKeepAll wide (change ∷ rest) = CanKeep wide change × CanKeepAll wide rest
 -- a batch that can be committed: 1 to 72 changes that can be kept
 pub record IsBatch (wide : Bool) (batch : List Change) : Type 0 where
   pub some : 1 ≤ length batch
-  pub few : length batch ≤ 72
+  pub few : length batch ≤ most_changes
   pub keeps : CanKeepAll wide batch
 
 -- what each of these changes names has a place

@@ -10,10 +10,12 @@ use Rattle.retained_journal.specs.declared.log_gate.LogGate.{LogGate}
 use Rattle.retained_journal.specs.declared.log_gate.LogGate.TheVariants.{Shut, Ready, Open}
 use Rattle.retained_journal.specs.Places.{cell_place, digest_place, file_mark, front_bytes, log_gate, slot_place}
 use Rattle.retained_journal.specs.Places.{whole_bytes}
+use Rattle.retained_journal.specs.Places.{most_cells}
 use Rattle.retained_journal.specs.Fields.{bytes_at, number_at}
 use Rattle.retained_journal.specs.Slots.{IsKeepable, counters_at, retained_at, slot_number}
 use Rattle.retained_journal.specs.Cells.{cell_changes, changes_of_cells, is_next, wrong_in_cell}
 use Rattle.retained_journal.specs.Opening.{Opens, opened}
+use Rattle.tick_units.specs.Ticks.{last_tick}
 
 -- where the chosen slot begins
 abbrev pub chosen_of : Journal → ℕ
@@ -66,7 +68,7 @@ IsBehind false other chosen = other ≤ chosen
 
 -- all cells count, and a slot holds a state with the number behind another
 pub record HoldsState (wide second : Bool) (cells last : ℕ) (kept : Retained) (file : List ℕ) : Type 0 where
-  pub all_cells : cells ≡ 64
+  pub all_cells : cells ≡ most_cells
   pub copy_number : slot_number (slot_place second) file ≡ last + 1
   pub copy : retained_at wide (slot_place second) file ≡ kept
 
@@ -99,15 +101,15 @@ pub record IsImage (journal : Journal) (file : List ℕ) : Type 0 where
   pub state :
       changed_by (changes_of_cells file journal.cells) (retained_at journal.wide (chosen_of journal) file)
       ≡ journal.kept
-  pub next : MayCount journal.log → journal.cells < 64 → HasNext journal file
+  pub next : MayCount journal.log → journal.cells < most_cells → HasNext journal file
   pub other : HasOther journal file
 
 -- What holds of an open journal whatever the disk: its state has room in a slot, its numbers have room in
 -- theirs, and it is torn unless all stands.
 pub record IsSound (journal : Journal) : Type 0 where
-  pub few : journal.cells ≤ 64
+  pub few : journal.cells ≤ most_cells
   pub keeps : IsKeepable journal.wide journal.kept
-  pub bound : journal.number ≤ 2 ^ 63 + 64 + 2 * journal.tried
+  pub bound : journal.number ≤ 2 ^ 63 + most_cells + 2 * journal.tried
   pub untorn : journal.torn ≡ false → (journal.log ≡ Open) × (journal.cell_may_be_open ≡ false)
       × (journal.moving ≡ false)
 
@@ -120,7 +122,7 @@ pub record Stands {D : Type 0} (honest : D → Type 0) (images : D → List ℕ 
 
 -- the number of the chosen slot was at most 2^62 when the journal was opened: each commit gives at most two
 abbrev pub IsEarly : Journal → Type 0
-IsEarly journal = journal.number ≤ 2 ^ 62 + 64 + 2 * journal.tried
+IsEarly journal = journal.number ≤ 2 ^ 62 + most_cells + 2 * journal.tried
 
 -- the file opens to what is kept
 abbrev pub OpensToKept : Journal → List ℕ → Type 0
@@ -143,6 +145,12 @@ OpensToKeptOrAttempt journal file = OpensToKeptOrWith journal journal.attempt.it
 abbrev pub HasRoom : Journal → Type 0
 HasRoom journal = journal.number < 2 ^ 63
 
+-- at each moment of a call a crash leaves a file that opens to what is kept, or to it with the whole batch last
+-- attempted
+abbrev pub LeavesKept : {D : Type 0} → (D → Type 0) → (D → ℕ) → (D → ℕ → List ℕ → Type 0) → D → D → Journal → Type 0
+LeavesKept honest moment left_since old new journal =
+    honest old → HasRoom journal → LeavesOnly moment left_since old new (OpensToKeptOrAttempt journal)
+
 -- the bytes before the cells are as they were
 pub record SameFront (old new : List ℕ) : Type 0 where
   pub no_shorter : length old ≤ length new
@@ -155,6 +163,26 @@ HasZeros cells file = 0 < cells → (slice_index file (cell_place 0) ≡ 0) × (
 -- a slot and a cell may get the next two numbers
 abbrev pub HasRoomForTwo : Journal → Type 0
 HasRoomForTwo journal = journal.number + 1 < 2 ^ 63
+
+-- the journal that went over to the other slot with what is kept, with cell 0 as the next one
+abbrev pub after_move : Journal → Journal
+after_move journal = record journal {
+  slot_may_be_open = true;
+  second = not journal.second;
+  number = journal.number + 1;
+  cells = 0;
+  cell_may_be_open = true;
+  moving = false;
+}
+
+-- the journal that keeps the batch last attempted, in what was the next cell
+abbrev pub after_append : Journal → Journal
+after_append journal = record journal {
+  kept = changed_by journal.attempt.items journal.kept;
+  number = journal.number + 1;
+  cells = journal.cells + 1;
+  cell_may_be_open = false;
+}
 
 -- What is kept, the batch last attempted and the count of tries are as they were.
 pub record StaysKept (old new : Journal) : Type 0 where
@@ -207,5 +235,5 @@ pub record LeavesInTurn {D : Type 0} (moment : D → ℕ) (left_since : D → �
 -- such a journal has room for the numbers of as many commits as it may be asked for
 abbrev pub EarlyHasRoom : Type 0
 EarlyHasRoom =
-    (journal : Journal) → IsEarly journal → journal.tried ≤ 1000000001
+    (journal : Journal) → IsEarly journal → journal.tried ≤ last_tick + 1
     → HasRoom journal × HasRoomForTwo journal

@@ -5,11 +5,13 @@ use Rattle.site_types.specs.Changes.{nothing_retained}
 use Rattle.retained_journal.specs.Cells.{cell_count}
 use Rattle.retained_journal.specs.Opening.{Opens, chosen_place, counted, opened}
 use Rattle.retained_journal.specs.Places.{cell_place, log_gate, most_cells}
+use Rattle.retained_journal.specs.Places.{first_slot}
+use Rattle.retained_journal.specs.Places.{tests_place}
 use Rattle.retained_journal.specs.Slots.{retained_at}
 
 -- zeros from the log gate to slot A
 abbrev pub HasNoLogGate : List ℕ → Type 0
-HasNoLogGate file = (place : ℕ) → log_gate ≤ place → place < 64 → slice_index file place ≡ 0
+HasNoLogGate file = (place : ℕ) → log_gate ≤ place → place < first_slot → slice_index file place ≡ 0
 
 -- zeros where the cells' gates would be
 abbrev pub HasNoCellGates : List ℕ → Type 0
@@ -27,7 +29,7 @@ OpensToItsSlot =
 
 -- zeros in the 32 bytes of the chosen slot that hold the zones in test
 abbrev pub HasNoTestBytes : List ℕ → Type 0
-HasNoTestBytes file = (i : ℕ) → i < 32 → slice_index file (chosen_place file + 874 + i) ≡ 0
+HasNoTestBytes file = (i : ℕ) → i < 32 → slice_index file (chosen_place file + tests_place + i) ≡ 0
 
 -- no change of a cell that counts has the kind 7, that of a zone in test
 abbrev pub HasNoTestChange : List ℕ → Type 0

@@ -8,6 +8,8 @@ use Rattle.retained_journal.specs.declared.open_refusal.OpenRefusal.{OpenRefusal
 use Rattle.retained_journal.specs.declared.open_refusal.OpenRefusal.TheVariants.{NotAJournal, OtherSite, Damaged}
 use Rattle.retained_journal.specs.Places.{cell_place, digest_place, file_mark, front_bytes, log_gate, most_cells}
 use Rattle.retained_journal.specs.Places.{slot_place, whole_bytes}
+use Rattle.retained_journal.specs.Places.{second_slot, first_slot}
+use Rattle.retained_journal.specs.Places.{counters_place}
 use Rattle.retained_journal.specs.Fields.{bytes_at, first_in, number_at, run_length}
 use Rattle.retained_journal.specs.Slots.{retained_at, slot_number}
 use Rattle.retained_journal.specs.Cells.{changes_of_cells, is_next, wrong_in_cell}
@@ -20,7 +22,9 @@ is_open at file = slice_index file at == 1
 -- is whether it is slot B.
 abbrev pub is_second : List ℕ → Bool
 is_second file =
-    is_open 1024 file && (not (is_open 64 file) || nat_lt (slot_number 64 file) (slot_number 1024 file))
+    is_open second_slot file
+    && (not (is_open first_slot file)
+    || nat_lt (slot_number first_slot file) (slot_number second_slot file))
 
 -- where the chosen slot begins
 abbrev pub chosen_place : List ℕ → ℕ
@@ -60,7 +64,7 @@ other_site digest file =
 -- no slot is open
 abbrev pub no_open_slot : List ℕ → Option OpenRefusal
 no_open_slot file =
-    if is_open 64 file || is_open 1024 file then None else Some (Damaged 64 (slice_index file 64))
+    if is_open first_slot file || is_open second_slot file then None else Some (Damaged first_slot (slice_index file first_slot))
 
 -- the number of the chosen slot is above 2^63
 abbrev pub number_too_great : ℕ → List ℕ → Option OpenRefusal
@@ -71,8 +75,9 @@ number_too_great at file =
 -- the place of a panel's counter that is too great
 abbrev pub great_counter : ℕ → List ℕ → ℕ → Option ℕ
 great_counter at file panel =
-    if nat_lt greatest_count (number_at 4 (at + 458 + 4 * panel) file) then Some (at + 458 + 4 * panel) else
-    None
+    if nat_lt greatest_count (number_at 4 (at + counters_place + 4 * panel) file)
+    then Some (at + counters_place + 4 * panel)
+    else None
 
 -- damage at a place, where there is one
 abbrev pub damaged : List ℕ → Option ℕ → Option OpenRefusal

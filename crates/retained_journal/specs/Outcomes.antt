@@ -1,6 +1,6 @@
 -- What opening, creating, mending and committing leave: of the journal, of its file, and of the files that a
 -- crash may leave.
-use Rattle.std.specs.Prelude.{◌≡◌, ◌≢◌, ◌⊎◌, ◌+◌, ◌<◌, ◌≤◌, ◌^◌, ℕ, Bool, true, false, not, List, length, Option}
+use Rattle.std.specs.Prelude.{◌≡◌, ◌≢◌, ◌⊎◌, ◌+◌, ◌<◌, ◌≤◌, ◌^◌, ℕ, Bool, true, false, List, length, Option}
 use Rattle.std.specs.Prelude.{IfSome}
 use Rattle.panel_edges.specs.Crashes.{LeavesOnly}
 use Rattle.site_types.specs.Changes.{changed_by, nothing_retained}
@@ -12,6 +12,7 @@ use Rattle.retained_journal.specs.declared.journal.Journal.{Journal}
 use Rattle.retained_journal.specs.declared.open_refusal.OpenRefusal.{OpenRefusal}
 use Rattle.retained_journal.specs.declared.open_refusal.OpenRefusal.TheVariants.{DiskFault}
 use Rattle.retained_journal.specs.Images.{IsEarly, LeavesInTurn, MayCount, MayLeave, OpensToKept, OpensToKeptOrWith}
+use Rattle.retained_journal.specs.Images.{after_append, after_move}
 use Rattle.retained_journal.specs.Opening.{Empty, Opens, Refuses, chosen_place, counted, opened}
 use Rattle.retained_journal.specs.Slots.{slot_number}
 
@@ -20,9 +21,17 @@ abbrev pub UnlessEmpty : Option (List ℕ) → Type 0 → Type 0
 UnlessEmpty seen claim = IfSome seen (λ file. 0 < length file → claim)
 
 -- at each moment of a call a crash leaves what it might have left before
-abbrev pub LeavesAsItWas : {D : Type 0} → (D → ℕ) → (D → ℕ → List ℕ → Type 0) → (D → List ℕ → Type 0) → D → D
-    → Type 0
-LeavesAsItWas moment left_since images old new = LeavesOnly moment left_since old new (images old)
+abbrev pub LeavesAsItWas : {D : Type 0} → (D → Type 0) → (D → ℕ) → (D → ℕ → List ℕ → Type 0)
+    → (D → List ℕ → Type 0) → D → D → Type 0
+LeavesAsItWas honest moment left_since images old new =
+    honest old → LeavesOnly moment left_since old new (images old)
+
+-- nothing is written to a file that isn't empty: at each moment of a call a crash leaves what it might have left
+-- before
+abbrev pub SparesFull : {D : Type 0} → (D → Type 0) → (D → Option (List ℕ)) → (D → ℕ)
+    → (D → ℕ → List ℕ → Type 0) → (D → List ℕ → Type 0) → D → D → Type 0
+SparesFull honest seen moment left_since images old new =
+    honest old → UnlessEmpty (seen old) (LeavesOnly moment left_since old new (images old))
 
 -- what a file keeps: nothing, where it is empty
 abbrev pub IsKeptIn : Bool → List ℕ → Retained → List ℕ → Type 0
@@ -62,25 +71,11 @@ EachMayBeLeft images journal = (file : List ℕ) → images file → MayLeave jo
 
 -- what is kept went to the other slot, and cell 0 is the next one
 abbrev pub HasMoved : Journal → Journal → Type 0
-HasMoved old new =
-    new ≡ record old {
-      slot_may_be_open = true;
-      second = not old.second;
-      number = old.number + 1;
-      cells = 0;
-      cell_may_be_open = true;
-      moving = false;
-    }
+HasMoved old new = new ≡ after_move old
 
 -- the batch last attempted went to the next cell, and is kept
 abbrev pub HasAppended : Journal → Journal → Type 0
-HasAppended old new =
-    new ≡ record old {
-      kept = changed_by old.attempt.items old.kept;
-      number = old.number + 1;
-      cells = old.cells + 1;
-      cell_may_be_open = false;
-    }
+HasAppended old new = new ≡ after_append old
 
 -- a batch was kept
 abbrev pub HasKept : List Change → Journal → Journal → Type 0

@@ -9,6 +9,29 @@ front_bytes = 2048
 abbrev pub bytes_of_slot : ℕ
 bytes_of_slot = 906
 
+-- where the parts of a slot begin behind its first byte: the disabled points of the loops, zones and outputs,
+-- whether delays are off, the counters, the points above address 96, and the zones in test
+abbrev pub points_place : ℕ
+points_place = 9
+
+abbrev pub zones_place : ℕ
+zones_place = 393
+
+abbrev pub outputs_place : ℕ
+outputs_place = 425
+
+abbrev pub delays_place : ℕ
+delays_place = 457
+
+abbrev pub counters_place : ℕ
+counters_place = 458
+
+abbrev pub wide_points_place : ℕ
+wide_points_place = 490
+
+abbrev pub tests_place : ℕ
+tests_place = 874
+
 -- a cell has this many bytes
 abbrev pub bytes_of_cell : ℕ
 bytes_of_cell = 592
@@ -29,9 +52,20 @@ digest_place = 8
 abbrev pub log_gate : ℕ
 log_gate = 40
 
+-- where slot A begins, and the first byte behind it
+abbrev pub first_slot : ℕ
+first_slot = 64
+
+abbrev pub first_slot_end : ℕ
+first_slot_end = 970
+
+-- where slot B begins
+abbrev pub second_slot : ℕ
+second_slot = 1024
+
 -- where a slot begins: slot A, or the second, slot B
 abbrev pub slot_place : Bool → ℕ
-slot_place second = if second then 1024 else 64
+slot_place second = if second then second_slot else first_slot
 
 -- where a cell begins, from cell 0 on
 abbrev pub cell_place : ℕ → ℕ

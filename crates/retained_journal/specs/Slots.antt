@@ -7,6 +7,8 @@ use Rattle.site_types.specs.declared.retained.Retained.{Retained}
 use Rattle.site_types.specs.Changes.{AreCounters}
 use Rattle.site_types.specs.Done.{no_points}
 use Rattle.retained_journal.specs.Fields.{number_at, mask_at, numbers_at}
+use Rattle.retained_journal.specs.Places.{counters_place, delays_place, outputs_place, points_place}
+use Rattle.retained_journal.specs.Places.{tests_place, wide_points_place, zones_place}
 
 -- the number of a slot: of two open slots the one with the greater number counts
 abbrev pub slot_number : ℕ → List ℕ → ℕ
@@ -16,7 +18,7 @@ slot_number at file = number_at 8 (at + 1) file
 -- addresses 97 to 192
 abbrev pub loop_at : Bool → ℕ → ℕ → List ℕ → List ℕ
 loop_at wide at loop file =
-    mask_at 12 (at + 9 + 12 * loop) file ∷ (if wide then mask_at 12 (at + 490 + 12 * loop) file else 0) ∷ []
+    mask_at 12 (at + points_place + 12 * loop) file ∷ (if wide then mask_at 12 (at + wide_points_place + 12 * loop) file else 0) ∷ []
 
 -- the disabled points of a panel, which has four loops
 unfoldable pub panel_points : Bool → ℕ → ℕ → List ℕ → PointSet
@@ -29,17 +31,17 @@ points_at wide at file = map (λ panel. panel_points wide at panel file) (range_
 
 -- the alarm counters in a slot
 abbrev pub counters_at : ℕ → List ℕ → List ℕ
-counters_at at file = numbers_at (at + 458) file
+counters_at at file = numbers_at (at + counters_place) file
 
 -- the state that a slot holds
 abbrev pub retained_at : Bool → ℕ → List ℕ → Retained
 retained_at wide at file = record {
   points = points_at wide at file;
-  zones = numbers_at (at + 393) file;
-  outputs = numbers_at (at + 425) file;
-  delays_off = slice_index file (at + 457);
+  zones = numbers_at (at + zones_place) file;
+  outputs = numbers_at (at + outputs_place) file;
+  delays_off = slice_index file (at + delays_place);
   counters = counters_at at file;
-  tests = numbers_at (at + 874) file;
+  tests = numbers_at (at + tests_place) file;
 }
 
 -- a mask of points has room in a slot: it has no bit for a 97th address
@@ -71,8 +73,8 @@ HasNarrowPoints wide points =
 -- all bytes of a slot are as they were but those of some loops, from one on
 abbrev pub SameButLoops : ℕ → ℕ → List ℕ → List ℕ → Type 0
 SameButLoops first count old new =
-    (i : ℕ) → (i < 9 + 12 * first) ⊎ (9 + 12 * (first + count) ≤ i)
-    → (i < 490 + 12 * first) ⊎ (490 + 12 * (first + count) ≤ i)
+    (i : ℕ) → (i < points_place + 12 * first) ⊎ (points_place + 12 * (first + count) ≤ i)
+    → (i < wide_points_place + 12 * first) ⊎ (wide_points_place + 12 * (first + count) ≤ i)
     → slice_index new i ≡ slice_index old i
 
 -- A state that a slot can keep: its points have room, and no counter is past its end.

@@ -6,18 +6,19 @@ ghost use Rattle.site_types.specs.Changes.{changed_by};
 ghost use Rattle.retained_journal.specs.Batches.{CanKeep, CanKeepAll, CanMakeAll, IsBatch};
 ghost use Rattle.retained_journal.specs.Cells.{cell_changes, change_at, changes_at, wrong_in_cell, wrong_in_change};
 ghost use Rattle.retained_journal.specs.Fields.{number_at};
-ghost use Rattle.retained_journal.specs.Places.{bytes_of_cell};
+ghost use Rattle.retained_journal.specs.Places.{bytes_of_cell, most_changes};
 
 use crate::fields::put;
+use crate::layout::CELL_BYTES;
 use byteorder::{BigEndian, ByteOrder};
 use site_types::{Change, Retained};
 
 /// The bytes of a cell and the gate of the cell after it.
-pub(crate) const CELL_AND_GATE: usize = 593;
+pub(crate) const CELL_AND_GATE: usize = CELL_BYTES + 1;
 
 // The cell that holds a number and a batch, and the gate of the cell after it; both gates are shut.
 pub(crate) fn cell_bytes(number: u64, batch: &[Change]) -> [u8; CELL_AND_GATE]
-    requires { length batch.now ≤ 72 }
+    requires { length batch.now ≤ most_changes }
     ensures number { number_at 8 1 result ≡ number }
     ensures changes { cell_changes 0 result ≡ batch.now }
     ensures form { (wide : Bool) → IsBatch wide batch.now → wrong_in_cell wide 0 result ≡ None }
@@ -34,7 +35,7 @@ pub(crate) fn cell_bytes(number: u64, batch: &[Change]) -> [u8; CELL_AND_GATE]
 
 // Writes the changes of a batch.
 fn put_changes(bytes: &mut [u8; CELL_AND_GATE], batch: &[Change])
-    requires { length batch.now ≤ 72 }
+    requires { length batch.now ≤ most_changes }
     ensures changes { changes_at (length batch.now) 10 bytes.new ≡ batch.now }
     ensures form { (wide : Bool) → CanKeepAll wide batch.now → (k : ℕ) → k < length batch.now →
         wrong_in_change wide (10 + 8 * k) bytes.new ≡ None }

@@ -79,7 +79,7 @@ pub(crate) fn wrong_in_cell(wide: bool, cell: &[u8]) -> Option<usize>
     ensures bound { IfSome result (λ place. place < bytes_of_cell) }
 {
     let count = cell[9];
-    if !is_within(1, 72, count) {
+    if !is_within(1, MOST_CHANGES, count) {
         return Some(9);
     }
     for which in 0..count as usize {

@@ -7,13 +7,13 @@ ghost use Rattle.retained_journal.specs.Fields.{Agrees, first_in};
 ghost use Rattle.retained_journal.specs.Opening.{counter_too_great, cut_short, front_refusal, great_counter as great};
 ghost use Rattle.retained_journal.specs.Opening.{is_second as second_counts, no_open_slot, not_a_journal};
 ghost use Rattle.retained_journal.specs.Opening.{number_too_great, other_site, passes};
-ghost use Rattle.retained_journal.specs.Places.{bytes_of_slot, front_bytes};
+ghost use Rattle.retained_journal.specs.Places.{bytes_of_slot, front_bytes, wide_points_place};
 ghost use Rattle.retained_journal.specs.Outcomes.{LeavesAsItWas};
 
 use crate::fields::{digest_at, mark_of, number_at, short_number_at};
 use crate::layout::{
-    DIGEST_PLACE, FILE_MARK, FIRST_SLOT, FRONT_BYTES, LOG_GATE, MOST_NUMBER, SECOND_SLOT,
-    WHOLE_BYTES, slot_place,
+    COUNTERS_PLACE, DIGEST_PLACE, FILE_MARK, FIRST_SLOT, FRONT_BYTES, LOG_GATE, MOST_NUMBER,
+    SECOND_SLOT, WHOLE_BYTES, slot_place,
 };
 use crate::open_refusal::OpenRefusal;
 use panel_edges::{Disk, Failed};
@@ -30,8 +30,7 @@ pub(crate) fn read_front<D: Disk>(disk: &mut D, len: u64) -> Result<Front, Faile
     ensures seen { D.seen disk.new ≡ D.seen disk.old }
     ensures honest { D.honest disk.new ↔ D.honest disk.old }
     ensures crash { D.honest disk.old → Stays (D.images disk.old) (D.images disk.new) }
-    ensures moments { D.honest disk.old →
-        LeavesAsItWas D.moment D.left_since D.images disk.old disk.new }
+    ensures moments { LeavesAsItWas D.honest D.moment D.left_since D.images disk.old disk.new }
     ensures cause { HasCause (D.faults disk.old) (D.faults disk.new) result }
 {
     let mut front = [0; FRONT_BYTES];
@@ -48,8 +47,7 @@ fn read_beginning<D: Disk>(disk: &mut D, into: &mut [u8], count: usize) -> Resul
     ensures seen { D.seen disk.new ≡ D.seen disk.old }
     ensures honest { D.honest disk.new ↔ D.honest disk.old }
     ensures crash { D.honest disk.old → Stays (D.images disk.old) (D.images disk.new) }
-    ensures moments { D.honest disk.old →
-        LeavesAsItWas D.moment D.left_since D.images disk.old disk.new }
+    ensures moments { LeavesAsItWas D.honest D.moment D.left_since D.images disk.old disk.new }
     ensures cause { HasCause (D.faults disk.old) (D.faults disk.new) result }
 {
     disk.read_at(0, &mut into[..count])
@@ -159,10 +157,10 @@ fn check_counters(front: &Front, at: usize) -> Result<(), OpenRefusal>
 fn great_counter(front: &Front, at: usize) -> Option<usize>
     requires { at + bytes_of_slot ≤ front_bytes }
     ensures value { result ≡ first_in (great at front.now) 8 }
-    ensures bound { IfSome result (λ place. place ≤ at + 486) }
+    ensures bound { IfSome result (λ place. place + 4 ≤ at + wide_points_place) }
 {
     for panel in 0..8 {
-        let place = at + 458 + 4 * panel;
+        let place = at + COUNTERS_PLACE + 4 * panel;
         if short_number_at(front, place) > GREATEST_COUNT {
             return Some(place);
         }

@@ -16,10 +16,13 @@ ghost use Rattle.retained_journal.specs.Opening.{Opens, change_out_of_form, coun
 ghost use Rattle.retained_journal.specs.Opening.{is_second as second_counts, opened, refusal_of};
 ghost use Rattle.retained_journal.specs.Outcomes.{CountsItsCells, CountsUnlessTorn, EachMayBeLeft, EachOpens};
 ghost use Rattle.retained_journal.specs.Outcomes.{HasFailed, HasKept, HasTried, IsEarlyFor, IsKeptIn, IsLengthOf};
-ghost use Rattle.retained_journal.specs.Outcomes.{IsRefusalOf, LeavesAsItWas, LeavesEachInTurn, UnlessEmpty};
-ghost use Rattle.retained_journal.specs.Places.{bytes_of_slot, front_bytes, slot_place as place_of_slot};
+ghost use Rattle.retained_journal.specs.Outcomes.{IsRefusalOf, LeavesAsItWas, LeavesEachInTurn, SparesFull};
+ghost use Rattle.retained_journal.specs.Outcomes.{UnlessEmpty};
+ghost use Rattle.retained_journal.specs.Places.{bytes_of_slot, front_bytes, most_cells};
+ghost use Rattle.retained_journal.specs.Places.{slot_place as place_of_slot};
 ghost use Rattle.retained_journal.specs.Replays.{BeginsReplay, HasRefusalCause};
 ghost use Rattle.retained_journal.specs.Slots.{FitPoints, HasNarrowPoints, IsKeepable, slot_number};
+ghost use Rattle.tick_units.specs.Ticks.{last_tick};
 
 use crate::batch::Batch;
 use crate::create_refusal::CreateRefusal;
@@ -87,11 +90,8 @@ impl Journal {
         ensures early { IfOk result (λ r. IfSome (D.seen disk.old) (IsEarlyFor r.0)) }
         ensures fresh { IfOk result (λ r. IsFresh wide digest r.0) }
         ensures unwritten { UnlessEmpty (D.seen disk.old) (D.seen disk.new ≡ D.seen disk.old) }
-        // Nothing is written to a file that isn't empty: at each moment of the call a crash leaves what it might have
-        // left before.
-        ensures untouched { D.honest disk.old →
-            UnlessEmpty (D.seen disk.old)
-            (LeavesAsItWas D.moment D.left_since D.images disk.old disk.new) }
+        ensures untouched { SparesFull D.honest D.seen D.moment D.left_since D.images
+            disk.old disk.new }
         ensures honest { D.honest disk.new ↔ D.honest disk.old }
         ensures cause { HasRefusalCause (D.faults disk.old) (D.faults disk.new) result }
     {
@@ -131,11 +131,8 @@ impl Journal {
         ensures unwritten { IfErr result (λ e. e ≢ CreateRefusal.DiskFault →
             D.seen disk.new ≡ D.seen disk.old) }
         ensures seen { UnlessEmpty (D.seen disk.old) (D.seen disk.new ≡ D.seen disk.old) }
-        // Nothing is written to a file that isn't empty: at each moment of the call a crash leaves what it might have
-        // left before.
-        ensures untouched { D.honest disk.old →
-            UnlessEmpty (D.seen disk.old)
-            (LeavesAsItWas D.moment D.left_since D.images disk.old disk.new) }
+        ensures untouched { SparesFull D.honest D.seen D.moment D.left_since D.images
+            disk.old disk.new }
         ensures honest { D.honest disk.new ↔ D.honest disk.old }
         ensures cause { HasCreateCause (D.faults disk.old) (D.faults disk.new) result }
     {
@@ -196,7 +193,7 @@ impl Journal {
     pub fn commit<D: Disk>(&mut self, disk: &mut D, batch: &Batch) -> Result<(), DiskFault>
         requires stands { Stands D.honest D.images disk.old self.old }
         requires batch { IsBatch self.old.wide batch.now.items }
-        requires few { self.old.tried ≤ 1000000000 }
+        requires few { self.old.tried ≤ last_tick }
         ensures stands { Stands D.honest D.images disk.new self.new }
         ensures ok { OnOk result (HasKept batch.now.items self.old self.new) }
         ensures err { OnErr result (HasFailed batch.now.items self.old self.new) }
@@ -216,7 +213,7 @@ impl Journal {
         ensures in_turn { D.honest disk.old → HasRoomForTwo self.old →
             LeavesEachInTurn D.moment D.left_since disk.old disk.new
             self.old batch.now.items self.new }
-        ensures front { self.old.torn ≡ false → self.old.cells < 64 →
+        ensures front { self.old.torn ≡ false → self.old.cells < most_cells →
             Becomes SameFront (D.seen disk.old) (D.seen disk.new) }
         ensures honest { D.honest disk.new ↔ D.honest disk.old }
         ensures cause { HasCause (D.faults disk.old) (D.faults disk.new) result }
@@ -334,8 +331,7 @@ fn read_journal<D: Disk>(
     ensures seen { D.seen disk.new ≡ D.seen disk.old }
     ensures honest { D.honest disk.new ↔ D.honest disk.old }
     ensures crash { D.honest disk.old → Stays (D.images disk.old) (D.images disk.new) }
-    ensures moments { D.honest disk.old →
-        LeavesAsItWas D.moment D.left_since D.images disk.old disk.new }
+    ensures moments { LeavesAsItWas D.honest D.moment D.left_since D.images disk.old disk.new }
     ensures cause { HasRefusalCause (D.faults disk.old) (D.faults disk.new) result }
 {
     let front = read_front(disk, len)?;
@@ -358,7 +354,8 @@ fn read_counted<D: Disk>(
     requires told { IfSome (D.seen disk.old) (λ file.
         Agrees front_bytes front.now 0 file 0 × IsLong front.now file) }
     ensures keeps { IfOk result (λ replay.
-        IsKeepable wide replay.kept × (replay.cells ≤ 64) × (replay.number ≤ 2 ^ 63 + 64)) }
+        IsKeepable wide replay.kept × (replay.cells ≤ most_cells)
+        × (replay.number ≤ 2 ^ 63 + most_cells)) }
     ensures ok { IfOk result (λ replay. IfSome (D.seen disk.old) (λ file.
         (change_out_of_form wide file ≡ None) × IsReplayOf wide file replay)) }
     ensures err { IfErr result (λ e. e ≢ OpenRefusal.DiskFault →
@@ -366,8 +363,7 @@ fn read_counted<D: Disk>(
     ensures seen { D.seen disk.new ≡ D.seen disk.old }
     ensures honest { D.honest disk.new ↔ D.honest disk.old }
     ensures crash { D.honest disk.old → Stays (D.images disk.old) (D.images disk.new) }
-    ensures moments { D.honest disk.old →
-        LeavesAsItWas D.moment D.left_since D.images disk.old disk.new }
+    ensures moments { LeavesAsItWas D.honest D.moment D.left_since D.images disk.old disk.new }
     ensures cause { HasRefusalCause (D.faults disk.old) (D.faults disk.new) result }
 {
     let mut replay = begin_replay(front, wide, slot_place(second));

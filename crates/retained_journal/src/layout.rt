@@ -17,12 +17,28 @@ pub(crate) const LOG_GATE: usize = 40;
 pub(crate) const FIRST_SLOT: usize = 64;
 /// Where slot B begins.
 pub(crate) const SECOND_SLOT: usize = 1_024;
+/// The bytes of a slot.
+pub(crate) const SLOT_BYTES: usize = 906;
+/// Where the disabled points stand in a slot, 12 bytes for each loop.
+pub(crate) const POINTS_PLACE: usize = 9;
+/// Where the disabled zones do.
+pub(crate) const ZONES_PLACE: usize = 393;
+/// Where the disabled outputs do.
+pub(crate) const OUTPUTS_PLACE: usize = 425;
+/// Where it stands of which panels the delays are off.
+pub(crate) const DELAYS_PLACE: usize = 457;
+/// Where the counters stand.
+pub(crate) const COUNTERS_PLACE: usize = 458;
+/// Where the disabled points above address 96 do, in a wide journal.
+pub(crate) const WIDE_POINTS_PLACE: usize = 490;
+/// Where the zones in test do.
+pub(crate) const TESTS_PLACE: usize = 874;
 /// The bytes of a cell.
 pub(crate) const CELL_BYTES: usize = 592;
 /// The cells of a file.
 pub(crate) const MOST_CELLS: u8 = 64;
 /// The changes of a batch, at most.
-pub(crate) const MOST_CHANGES: usize = 72;
+pub(crate) const MOST_CHANGES: u8 = 72;
 /// The number of the chosen slot, at most.
 pub(crate) const MOST_NUMBER: u64 = 1 << 63;
 

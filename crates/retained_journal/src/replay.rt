@@ -6,7 +6,8 @@ ghost use Rattle.site_types.specs.Changes.{changed_by};
 ghost use Rattle.retained_journal.specs.declared.open_refusal.OpenRefusal.TheVariants.{Damaged};
 ghost use Rattle.retained_journal.specs.Cells.{cell_changes, is_next as counts_next, wrong_in_cell as wrong_byte};
 ghost use Rattle.retained_journal.specs.Fields.{Agrees};
-ghost use Rattle.retained_journal.specs.Places.{bytes_of_cell, cell_place as place_of_cell, whole_bytes};
+ghost use Rattle.retained_journal.specs.Places.{bytes_of_cell, cell_place as place_of_cell, most_cells};
+ghost use Rattle.retained_journal.specs.Places.{whole_bytes};
 ghost use Rattle.retained_journal.specs.Outcomes.{LeavesAsItWas};
 ghost use Rattle.retained_journal.specs.Slots.{IsKeepable};
 ghost use Rattle.retained_journal.specs.Replays.{EndsReplay, HasRefusalCause, RefusesReplay, TakesCell};
@@ -44,13 +45,13 @@ impl Replay {
         ensures err { IfErr result (λ e. e ≢ OpenRefusal.DiskFault →
             IfSome (D.seen disk.old) (λ file. RefusesReplay file self.old e)) }
         ensures bound { OnOk result ((self.new.wide ≡ self.old.wide)
-            × (self.new.number ≡ self.old.number + self.new.cells) × (self.new.cells ≤ 64)) }
+            × (self.new.number ≡ self.old.number + self.new.cells)
+            × (self.new.cells ≤ most_cells)) }
         ensures keeps { OnOk result (IsKeepable self.new.wide self.new.kept) }
         ensures seen { D.seen disk.new ≡ D.seen disk.old }
         ensures honest { D.honest disk.new ↔ D.honest disk.old }
         ensures crash { D.honest disk.old → Stays (D.images disk.old) (D.images disk.new) }
-        ensures moments { D.honest disk.old →
-            LeavesAsItWas D.moment D.left_since D.images disk.old disk.new }
+        ensures moments { LeavesAsItWas D.honest D.moment D.left_since D.images disk.old disk.new }
         ensures cause { HasRefusalCause (D.faults disk.old) (D.faults disk.new) result }
     {
         for cell in 0..MOST_CELLS {
@@ -64,8 +65,8 @@ impl Replay {
 
     // Makes the changes of the next cell where it counts, and says whether it does.
     fn take(&mut self, cell: &[u8; CELL_BYTES]) -> Result<bool, OpenRefusal>
-        requires cells { self.old.cells < 64 }
-        requires number { self.old.number ≤ 2 ^ 63 + 64 }
+        requires cells { self.old.cells < most_cells }
+        requires number { self.old.number ≤ 2 ^ 63 + most_cells }
         ensures { TakesCell self.old cell.now result self.new }
     {
         if !is_next(self.number + 1, cell) {
@@ -95,14 +96,13 @@ fn is_next(number: u64, cell: &[u8; CELL_BYTES]) -> bool
 // Reads a cell.
 fn read_cell<D: Disk>(disk: &mut D, cell: u8) -> Result<[u8; CELL_BYTES], Failed>
     requires told { IfSome (D.seen disk.old) (λ file. whole_bytes ≤ length file) }
-    requires cell { cell < 64 }
+    requires cell { cell < most_cells }
     ensures ok { IfOk result (λ bytes.
         IfSome (D.seen disk.old) (λ file. Agrees bytes_of_cell bytes 0 file (place_of_cell cell))) }
     ensures seen { D.seen disk.new ≡ D.seen disk.old }
     ensures honest { D.honest disk.new ↔ D.honest disk.old }
     ensures crash { D.honest disk.old → Stays (D.images disk.old) (D.images disk.new) }
-    ensures moments { D.honest disk.old →
-        LeavesAsItWas D.moment D.left_since D.images disk.old disk.new }
+    ensures moments { LeavesAsItWas D.honest D.moment D.left_since D.images disk.old disk.new }
     ensures cause { HasCause (D.faults disk.old) (D.faults disk.new) result }
 {
     let mut bytes = [0; CELL_BYTES];

@@ -8,11 +8,12 @@ ghost use Rattle.retained_journal.specs.Slots.{retained_at, slot_number};
 ghost use Rattle.retained_journal.specs.Places.{bytes_of_slot};
 
 use crate::fields::put;
+use crate::layout::{
+    COUNTERS_PLACE, DELAYS_PLACE, OUTPUTS_PLACE, POINTS_PLACE, SLOT_BYTES, TESTS_PLACE,
+    WIDE_POINTS_PLACE, ZONES_PLACE,
+};
 use byteorder::{BigEndian, ByteOrder, LittleEndian};
 use site_types::{PointSet, Retained};
-
-/// The bytes of a slot.
-pub(crate) const SLOT_BYTES: usize = 906;
 
 // The slot with an open gate that holds a number and a state.
 pub(crate) fn slot_bytes(number: u64, state: &Retained) -> [u8; SLOT_BYTES]
@@ -28,11 +29,11 @@ pub(crate) fn slot_bytes(number: u64, state: &Retained) -> [u8; SLOT_BYTES]
     BigEndian::write_u64(&mut number_bytes, number);
     put(&mut slot, 1, &number_bytes);
     put_points(&mut slot, &state.points);
-    put(&mut slot, 393, &numbers_bytes(&state.zones));
-    put(&mut slot, 425, &numbers_bytes(&state.outputs));
-    put(&mut slot, 457, &[state.delays_off]);
-    put(&mut slot, 458, &numbers_bytes(&state.counters));
-    put(&mut slot, 874, &numbers_bytes(&state.tests));
+    put(&mut slot, ZONES_PLACE, &numbers_bytes(&state.zones));
+    put(&mut slot, OUTPUTS_PLACE, &numbers_bytes(&state.outputs));
+    put(&mut slot, DELAYS_PLACE, &[state.delays_off]);
+    put(&mut slot, COUNTERS_PLACE, &numbers_bytes(&state.counters));
+    put(&mut slot, TESTS_PLACE, &numbers_bytes(&state.tests));
     slot
 }
 
@@ -78,8 +79,8 @@ fn put_loop(slot: &mut [u8; SLOT_BYTES], which: usize, halves: &[u128; 2])
         loop_at wide 0 which slot.new ≡ halves.now }
     ensures others { SameButLoops which 1 slot.old slot.new }
 {
-    put_mask(slot, 9 + 12 * which, halves[0]);
-    put_mask(slot, 490 + 12 * which, halves[1]);
+    put_mask(slot, POINTS_PLACE + 12 * which, halves[0]);
+    put_mask(slot, WIDE_POINTS_PLACE + 12 * which, halves[1]);
 }
 
 // Writes the mask of 96 points.

@@ -6,6 +6,10 @@ ghost use Rattle.retained_journal.specs.Slots.{retained_at as state_at};
 ghost use Rattle.retained_journal.specs.Places.{bytes_of_slot};
 
 use crate::fields::{panel_numbers_at, points_mask_at};
+use crate::layout::{
+    COUNTERS_PLACE, DELAYS_PLACE, OUTPUTS_PLACE, POINTS_PLACE, TESTS_PLACE, WIDE_POINTS_PLACE,
+    ZONES_PLACE,
+};
 use site_types::{PointSet, Retained};
 
 // The disabled points of one of the 32 loops.
@@ -14,9 +18,9 @@ fn read_loop(wide: bool, at: usize, which: usize, bytes: &[u8]) -> [u128; 2]
     requires which { which < 32 }
     ensures { result ≡ loop_at wide at which bytes.now }
 {
-    let low = points_mask_at(bytes, at + 9 + 12 * which);
+    let low = points_mask_at(bytes, at + POINTS_PLACE + 12 * which);
     let high = if wide {
-        points_mask_at(bytes, at + 490 + 12 * which)
+        points_mask_at(bytes, at + WIDE_POINTS_PLACE + 12 * which)
     } else {
         0
     };
@@ -58,10 +62,10 @@ pub(crate) fn retained_at(wide: bool, at: usize, bytes: &[u8]) -> Retained
 {
     Retained {
         points: read_points(wide, at, bytes),
-        zones: panel_numbers_at(bytes, at + 393),
-        outputs: panel_numbers_at(bytes, at + 425),
-        delays_off: bytes[at + 457],
-        counters: panel_numbers_at(bytes, at + 458),
-        tests: panel_numbers_at(bytes, at + 874),
+        zones: panel_numbers_at(bytes, at + ZONES_PLACE),
+        outputs: panel_numbers_at(bytes, at + OUTPUTS_PLACE),
+        delays_off: bytes[at + DELAYS_PLACE],
+        counters: panel_numbers_at(bytes, at + COUNTERS_PLACE),
+        tests: panel_numbers_at(bytes, at + TESTS_PLACE),
     }
 }

@@ -3,6 +3,8 @@
 ghost use Rattle.std.specs.Prelude.{◌≡◌, ◌+◌, ◌<◌, ◌≤◌, ℕ, List, true, false, IsTrue, OnErr, OnOk, ◌↔◌};
 ghost use Rattle.panel_edges.specs.Crashes.{LeavesOnly};
 ghost use Rattle.panel_edges.specs.Faults.{HasCause};
+ghost use Rattle.retained_journal.specs.Places.{most_cells};
+ghost use Rattle.tick_units.specs.Ticks.{last_tick};
 
 use crate::cell_bytes::{cell_bytes, make_changes};
 use crate::journal::Journal;
@@ -17,9 +19,9 @@ impl Journal {
     ghost use Rattle.site_types.specs.Changes.{changed_by};
     ghost use Rattle.retained_journal.specs.Batches.{IsBatch};
     ghost use Rattle.retained_journal.specs.Outcomes.{HasEndedMove, HasPreparedCells};
-    ghost use Rattle.retained_journal.specs.Images.{HasRoom, HasRoomForTwo, HasZeros, HoldsBatch, HoldsCopy, KeepsAll};
-    ghost use Rattle.retained_journal.specs.Images.{MayCount, OpensToKeptOrAttempt, SameFront, Stands, StaysKept};
-    ghost use Rattle.retained_journal.specs.Images.{StaysSo, other_of};
+    ghost use Rattle.retained_journal.specs.Images.{HasRoomForTwo, HasZeros, HoldsBatch, HoldsCopy, KeepsAll};
+    ghost use Rattle.retained_journal.specs.Images.{LeavesKept, MayCount, OpensToKeptOrAttempt, SameFront, Stands};
+    ghost use Rattle.retained_journal.specs.Images.{StaysKept, StaysSo, other_of};
     ghost use Rattle.retained_journal.specs.Outcomes.{HasAppended, HasMoved};
 
     // Where the other slot begins.
@@ -31,7 +33,8 @@ impl Journal {
 
     // Whether there is a next cell and its gate may be open.
     fn may_next_be_open(&self) -> bool
-        ensures { IsTrue result ↔ ((self.now.cells < 64) × (self.now.cell_may_be_open ≡ true)) }
+        ensures { IsTrue result ↔ ((self.now.cells < most_cells)
+            × (self.now.cell_may_be_open ≡ true)) }
     {
         self.cells < MOST_CELLS && self.cell_may_be_open
     }
@@ -42,8 +45,7 @@ impl Journal {
         ensures stands { Stands D.honest D.images disk.new self.new }
         ensures ok { OnOk result (self.new ≡ record self.old { slot_may_be_open = false }) }
         ensures err { OnErr result (self.new ≡ self.old) }
-        ensures moments { D.honest disk.old → HasRoom self.old →
-            LeavesOnly D.moment D.left_since disk.old disk.new (OpensToKeptOrAttempt self.old) }
+        ensures moments { LeavesKept D.honest D.moment D.left_since disk.old disk.new self.old }
         ensures honest { D.honest disk.new ↔ D.honest disk.old }
         ensures cause { HasCause (D.faults disk.old) (D.faults disk.new) result }
     {
@@ -58,13 +60,12 @@ impl Journal {
     pub(crate) fn write_slot<D: Disk>(&self, disk: &mut D) -> Result<(), Failed>
         requires stands { Stands D.honest D.images disk.old self.now }
         requires shut { self.now.slot_may_be_open ≡ false }
-        requires full { self.now.cells ≡ 64 }
+        requires full { self.now.cells ≡ most_cells }
         requires number { self.now.number + 1 < 2 ^ 64 }
         ensures stands { Stands D.honest D.images disk.new self.now }
         ensures ok { D.honest disk.old → OnOk result (
             (file : List ℕ) → D.images disk.new file → HoldsCopy self.now file) }
-        ensures moments { D.honest disk.old → HasRoom self.now →
-            LeavesOnly D.moment D.left_since disk.old disk.new (OpensToKeptOrAttempt self.now) }
+        ensures moments { LeavesKept D.honest D.moment D.left_since disk.old disk.new self.now }
         ensures honest { D.honest disk.new ↔ D.honest disk.old }
         ensures cause { HasCause (D.faults disk.old) (D.faults disk.new) result }
     {
@@ -79,13 +80,12 @@ impl Journal {
         requires moving { self.old.moving ≡ true }
         requires copy { D.honest disk.old →
             (file : List ℕ) → D.images disk.old file → HoldsCopy self.old file }
-        requires number { self.old.number + 1 ≤ 2 ^ 63 + 64 + 2 * self.old.tried }
-        requires tried { self.old.tried ≤ 1000000001 }
+        requires number { self.old.number + 1 ≤ 2 ^ 63 + most_cells + 2 * self.old.tried }
+        requires tried { self.old.tried ≤ last_tick + 1 }
         ensures stands { Stands D.honest D.images disk.new self.new }
         ensures ok { OnOk result (HasMoved self.old self.new) }
         ensures err { OnErr result (self.new ≡ record self.old { slot_may_be_open = true }) }
-        ensures moments { D.honest disk.old → HasRoom self.old →
-            LeavesOnly D.moment D.left_since disk.old disk.new (OpensToKeptOrAttempt self.old) }
+        ensures moments { LeavesKept D.honest D.moment D.left_since disk.old disk.new self.old }
         ensures honest { D.honest disk.new ↔ D.honest disk.old }
         ensures cause { HasCause (D.faults disk.old) (D.faults disk.new) result }
     {
@@ -106,8 +106,7 @@ impl Journal {
         ensures stands { Stands D.honest D.images disk.new self.new }
         ensures ok { OnOk result (self.new ≡ record self.old { cell_may_be_open = false }) }
         ensures err { OnErr result (self.new ≡ self.old) }
-        ensures moments { D.honest disk.old → HasRoom self.old →
-            LeavesOnly D.moment D.left_since disk.old disk.new (OpensToKeptOrAttempt self.old) }
+        ensures moments { LeavesKept D.honest D.moment D.left_since disk.old disk.new self.old }
         ensures honest { D.honest disk.new ↔ D.honest disk.old }
         ensures cause { HasCause (D.faults disk.old) (D.faults disk.new) result }
     {
@@ -122,15 +121,14 @@ impl Journal {
     pub(crate) fn write_cell<D: Disk>(&self, disk: &mut D) -> Result<(), Failed>
         requires stands { Stands D.honest D.images disk.old self.now }
         requires log { MayCount self.now.log }
-        requires free { self.now.cells < 64 }
+        requires free { self.now.cells < most_cells }
         requires shut { self.now.cell_may_be_open ≡ false }
         requires batch { IsBatch self.now.wide self.now.attempt.items }
         requires number { self.now.number + 1 < 2 ^ 64 }
         ensures stands { Stands D.honest D.images disk.new self.now }
         ensures ok { D.honest disk.old → OnOk result (
             (file : List ℕ) → D.images disk.new file → HoldsBatch self.now file) }
-        ensures moments { D.honest disk.old → HasRoom self.now →
-            LeavesOnly D.moment D.left_since disk.old disk.new (OpensToKeptOrAttempt self.now) }
+        ensures moments { LeavesKept D.honest D.moment D.left_since disk.old disk.new self.now }
         ensures front { Becomes SameFront (D.seen disk.old) (D.seen disk.new) }
         ensures honest { D.honest disk.new ↔ D.honest disk.old }
         ensures cause { HasCause (D.faults disk.old) (D.faults disk.new) result }
@@ -144,17 +142,16 @@ impl Journal {
         requires stands { Stands D.honest D.images disk.old self.old }
         requires torn { self.old.torn ≡ true }
         requires log { self.old.log ≡ LogGate.Open }
-        requires free { self.old.cells < 64 }
+        requires free { self.old.cells < most_cells }
         requires batch { IsBatch self.old.wide self.old.attempt.items }
         requires holds { D.honest disk.old →
             (file : List ℕ) → D.images disk.old file → HoldsBatch self.old file }
-        requires number { self.old.number + 1 ≤ 2 ^ 63 + 64 + 2 * self.old.tried }
-        requires tried { self.old.tried ≤ 1000000001 }
+        requires number { self.old.number + 1 ≤ 2 ^ 63 + most_cells + 2 * self.old.tried }
+        requires tried { self.old.tried ≤ last_tick + 1 }
         ensures stands { Stands D.honest D.images disk.new self.new }
         ensures ok { OnOk result (HasAppended self.old self.new) }
         ensures err { OnErr result (self.new ≡ record self.old { cell_may_be_open = true }) }
-        ensures moments { D.honest disk.old → HasRoom self.old →
-            LeavesOnly D.moment D.left_since disk.old disk.new (OpensToKeptOrAttempt self.old) }
+        ensures moments { LeavesKept D.honest D.moment D.left_since disk.old disk.new self.old }
         ensures front { Becomes SameFront (D.seen disk.old) (D.seen disk.new) }
         ensures honest { D.honest disk.new ↔ D.honest disk.old }
         ensures cause { HasCause (D.faults disk.old) (D.faults disk.new) result }
@@ -175,8 +172,7 @@ impl Journal {
         ensures stands { Stands D.honest D.images disk.new self.new }
         ensures ok { OnOk result (self.new ≡ record self.old { log = LogGate.Open }) }
         ensures err { OnErr result (self.new ≡ self.old) }
-        ensures moments { D.honest disk.old → HasRoom self.old →
-            LeavesOnly D.moment D.left_since disk.old disk.new (OpensToKeptOrAttempt self.old) }
+        ensures moments { LeavesKept D.honest D.moment D.left_since disk.old disk.new self.old }
         ensures honest { D.honest disk.new ↔ D.honest disk.old }
         ensures cause { HasCause (D.faults disk.old) (D.faults disk.new) result }
     {
@@ -196,9 +192,9 @@ impl Journal {
         requires stands { Stands D.honest D.images disk.old self.now }
         requires shut { self.now.log ≡ LogGate.Shut }
         ensures stands { Stands D.honest D.images disk.new self.now }
-        ensures ok { D.honest disk.new → OnOk result (IfSome (D.seen disk.new) (HasZeros 64)) }
-        ensures moments { D.honest disk.old → HasRoom self.now →
-            LeavesOnly D.moment D.left_since disk.old disk.new (OpensToKeptOrAttempt self.now) }
+        ensures ok { D.honest disk.new → OnOk result (
+            IfSome (D.seen disk.new) (HasZeros most_cells)) }
+        ensures moments { LeavesKept D.honest D.moment D.left_since disk.old disk.new self.now }
         ensures honest { D.honest disk.new ↔ D.honest disk.old }
         ensures cause { HasCause (D.faults disk.old) (D.faults disk.new) result }
     {
@@ -216,8 +212,7 @@ impl Journal {
         ensures ok { OnOk result (
             self.new ≡ record self.old { log = LogGate.Ready; cell_may_be_open = false }) }
         ensures err { OnErr result (self.new ≡ self.old) }
-        ensures moments { D.honest disk.old → HasRoom self.old →
-            LeavesOnly D.moment D.left_since disk.old disk.new (OpensToKeptOrAttempt self.old) }
+        ensures moments { LeavesKept D.honest D.moment D.left_since disk.old disk.new self.old }
         ensures honest { D.honest disk.new ↔ D.honest disk.old }
         ensures cause { HasCause (D.faults disk.old) (D.faults disk.new) result }
     {
@@ -234,8 +229,7 @@ impl Journal {
         ensures stands { Stands D.honest D.images disk.new self.new }
         ensures ok { OnOk result (HasPreparedCells self.old self.new) }
         ensures err { OnErr result (self.new ≡ self.old) }
-        ensures moments { D.honest disk.old → HasRoom self.old →
-            LeavesOnly D.moment D.left_since disk.old disk.new (OpensToKeptOrAttempt self.old) }
+        ensures moments { LeavesKept D.honest D.moment D.left_since disk.old disk.new self.old }
         ensures honest { D.honest disk.new ↔ D.honest disk.old }
         ensures cause { HasCause (D.faults disk.old) (D.faults disk.new) result }
     {
@@ -252,8 +246,7 @@ impl Journal {
         ensures stands { Stands D.honest D.images disk.new self.new }
         ensures ok { OnOk result (HasEndedMove self.old self.new) }
         ensures err { OnErr result (self.new ≡ self.old) }
-        ensures moments { D.honest disk.old → HasRoom self.old →
-            LeavesOnly D.moment D.left_since disk.old disk.new (OpensToKeptOrAttempt self.old) }
+        ensures moments { LeavesKept D.honest D.moment D.left_since disk.old disk.new self.old }
         ensures honest { D.honest disk.new ↔ D.honest disk.old }
         ensures cause { HasCause (D.faults disk.old) (D.faults disk.new) result }
     {
@@ -271,8 +264,7 @@ impl Journal {
         ensures same { KeepsAll self.old self.new × (self.new.torn ≡ self.old.torn) }
         ensures ok { OnOk result ((self.new.log ≡ LogGate.Open)
             × (self.new.cell_may_be_open ≡ false) × (self.new.moving ≡ false)) }
-        ensures moments { D.honest disk.old → HasRoom self.old →
-            LeavesOnly D.moment D.left_since disk.old disk.new (OpensToKeptOrAttempt self.old) }
+        ensures moments { LeavesKept D.honest D.moment D.left_since disk.old disk.new self.old }
         ensures honest { D.honest disk.new ↔ D.honest disk.old }
         ensures cause { HasCause (D.faults disk.old) (D.faults disk.new) result }
     {
@@ -289,16 +281,16 @@ impl Journal {
         requires log { self.old.log ≡ LogGate.Open }
         requires shut { self.old.cell_may_be_open ≡ false }
         requires still { self.old.moving ≡ false }
-        requires number { self.old.number + 1 ≤ 2 ^ 63 + 64 + 2 * self.old.tried }
-        requires tried { self.old.tried ≤ 1000000001 }
+        requires number { self.old.number + 1 ≤ 2 ^ 63 + most_cells + 2 * self.old.tried }
+        requires tried { self.old.tried ≤ last_tick + 1 }
         ensures stands { Stands D.honest D.images disk.new self.new }
         ensures same { StaysKept self.old self.new × (self.new.number ≤ self.old.number + 1) }
         ensures ok { OnOk result ((self.new.log ≡ LogGate.Open)
-            × (self.new.cell_may_be_open ≡ false) × (self.new.cells < 64)
+            × (self.new.cell_may_be_open ≡ false) × (self.new.cells < most_cells)
             × (self.new.moving ≡ false)) }
         ensures moments { D.honest disk.old → HasRoomForTwo self.old →
             LeavesOnly D.moment D.left_since disk.old disk.new (OpensToKeptOrAttempt self.old) }
-        ensures unwritten { self.old.cells < 64 →
+        ensures unwritten { self.old.cells < most_cells →
             (D.seen disk.new ≡ D.seen disk.old) × (self.new ≡ self.old) }
         ensures honest { D.honest disk.new ↔ D.honest disk.old }
         ensures cause { HasCause (D.faults disk.old) (D.faults disk.new) result }
@@ -321,8 +313,8 @@ impl Journal {
         requires shut { self.old.cell_may_be_open ≡ false }
         requires still { self.old.moving ≡ false }
         requires batch { IsBatch self.old.wide self.old.attempt.items }
-        requires number { self.old.number + 2 ≤ 2 ^ 63 + 64 + 2 * self.old.tried }
-        requires tried { self.old.tried ≤ 1000000001 }
+        requires number { self.old.number + 2 ≤ 2 ^ 63 + most_cells + 2 * self.old.tried }
+        requires tried { self.old.tried ≤ last_tick + 1 }
         ensures stands { Stands D.honest D.images disk.new self.new }
         ensures same { StaysSo self.old self.new }
         ensures ok { OnOk result ((self.new.kept ≡ changed_by self.old.attempt.items self.old.kept)
@@ -331,7 +323,7 @@ impl Journal {
         ensures err { OnErr result (self.new.kept ≡ self.old.kept) }
         ensures moments { D.honest disk.old → HasRoomForTwo self.old →
             LeavesOnly D.moment D.left_since disk.old disk.new (OpensToKeptOrAttempt self.old) }
-        ensures front { self.old.cells < 64 →
+        ensures front { self.old.cells < most_cells →
             Becomes SameFront (D.seen disk.old) (D.seen disk.new) }
         ensures honest { D.honest disk.new ↔ D.honest disk.old }
         ensures cause { HasCause (D.faults disk.old) (D.faults disk.new) result }

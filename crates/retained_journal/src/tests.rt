@@ -1,6 +1,9 @@
-ghost use Rattle.std.specs.Prelude.{◌≡◌, ◌+◌, ◌≤◌, [], ◌∷◌};
+ghost use Rattle.std.specs.Prelude.{◌≡◌, ◌+◌, ◌≤◌, [], ◌∷◌, true};
+ghost use Rattle.site_types.specs.Changes.{AreCounters};
 ghost use Rattle.site_types.specs.declared.change.Change.TheVariants.{Count};
 ghost use Rattle.retained_journal.specs.Images.{Stands};
+ghost use Rattle.retained_journal.specs.Slots.{FitPoints, HasNarrowPoints};
+ghost use Rattle.tick_units.specs.Ticks.{last_tick};
 
 use crate::*;
 use panel_edges::{Disk, MOST_DISK_BYTES, MemoryDisk, SoundMemoryDisk};
@@ -25,7 +28,7 @@ fn one_entry() -> Batch
 // Commits so many entries, one by one, and says how many were kept.
 fn count_entries<D: Disk>(journal: &mut Journal, disk: &mut D, times: u32) -> u32
     requires stands { Stands D.honest D.images disk.old journal.old }
-    requires few { journal.old.tried + times ≤ 1000000000 }
+    requires few { journal.old.tried + times ≤ last_tick }
     ensures stands { Stands D.honest D.images disk.new journal.new }
     ensures tried { journal.new.tried ≤ journal.old.tried + times }
 {
@@ -38,138 +41,150 @@ fn count_entries<D: Disk>(journal: &mut Journal, disk: &mut D, times: u32) -> u3
     kept
 }
 
-// The counter of panel 1 that a file opens to.
-fn counter_in(alloc: Global, file: Vec<u8>) -> Option<u32> {
+// What a journal makes of a file: the counter of panel 1, or why it is refused.
+fn opened(alloc: Global, file: Vec<u8>) -> Option<Result<u32, OpenRefusal>> {
     if file.len() > MOST_DISK_BYTES {
         return None;
     }
     let Ok(mut disk) = SoundMemoryDisk::new(alloc, file) else {
         return None;
     };
-    match Journal::open(&mut disk, DIGEST, true) {
-        Ok((_, kept)) => Some(kept.counters[0]),
-        Err(_) => None,
+    match Journal::open(&mut disk, DIGEST, false) {
+        Ok((_, kept)) => Some(Ok(kept.counters[0])),
+        Err(refusal) => Some(Err(refusal)),
     }
 }
 
-// A file of so many zeros with some bytes set.
-fn file_with(alloc: Global, len: usize, bytes: &[(usize, u8)]) -> Result<Vec<u8>, AllocError> {
+// Sets bytes of a file from a place on.
+fn set(file: &mut [u8], from: usize, bytes: &[u8]) {
+    for (place, byte) in file.iter_mut().skip(from).zip(bytes) {
+        *place = *byte;
+    }
+}
+
+// A file of so many bytes that begins as a journal of the site does, with bytes set from some places on, else zeros.
+fn file_with(alloc: Global, len: usize, pieces: &[(usize, &[u8])]) -> Result<Vec<u8>, AllocError> {
     let mut file = vec![in alloc; 0u8; len]?;
-    for (at, byte) in bytes {
-        if let Some(place) = file.get_mut(*at) {
-            *place = *byte;
-        }
+    set(file.as_mut_slice(), 0, b"FPANEL01");
+    set(file.as_mut_slice(), 8, &DIGEST);
+    for (from, bytes) in pieces {
+        set(file.as_mut_slice(), *from, bytes);
     }
     Ok(file)
 }
 
-// What opening answers to a file.
-fn refusal_of(alloc: Global, file: Vec<u8>) -> Option<OpenRefusal> {
-    if file.len() > MOST_DISK_BYTES {
-        return None;
+fn damaged(offset: u64, byte: u8) -> Option<Result<u32, OpenRefusal>> {
+    Some(Err(OpenRefusal::Damaged { offset, byte }))
+}
+
+// The first counter is at 522, the second at 526.
+#[test]
+fn each_damage_of_the_front_has_its_place(rt: HostRuntime) -> Result<(), Fail> {
+    let alloc = rt.alloc();
+    let cases: [(usize, &[(usize, &[u8])], Option<Result<u32, OpenRefusal>>); 6] = [
+        (2_047, &[], damaged(2_047, 0)),
+        (2_048, &[(40, &[1])], damaged(2_048, 0)),
+        (2_048, &[(64, &[9])], damaged(64, 9)),
+        (2_048, &[(64, &[1, 128]), (72, &[1])], damaged(65, 128)),
+        (
+            2_048,
+            &[(64, &[1]), (526, &[0, 15, 66, 64])],
+            damaged(526, 0),
+        ),
+        (
+            2_048,
+            &[(64, &[1]), (522, &[0, 15, 66, 63])],
+            Some(Ok(999_999)),
+        ),
+    ];
+    for (len, pieces, wanted) in cases {
+        let file = file_with(alloc, len, pieces)?;
+        assert!(rt; opened(alloc, file) == wanted, "{len} {pieces:?}");
     }
-    let Ok(mut disk) = SoundMemoryDisk::new(alloc, file) else {
-        return None;
-    };
-    match Journal::open(&mut disk, [0; 32], false) {
-        Ok(_) => None,
-        Err(refusal) => Some(refusal),
+    Ok(())
+}
+
+// Cell 0 counts, and its bytes from the count of changes on are these.
+#[test]
+fn each_damage_of_a_cell_has_its_place(rt: HostRuntime) -> Result<(), Fail> {
+    let alloc = rt.alloc();
+    let cases: [(&[u8], u64, u8); 3] = [
+        (&[], 2_057, 0),
+        (&[1, 8], 2_058, 8),
+        (&[1, 1, 1, 1, 97], 2_061, 97),
+    ];
+    for (changes, offset, byte) in cases {
+        let pieces: [(usize, &[u8]); 5] = [
+            (40, &[1]),
+            (64, &[1]),
+            (2_048, &[1]),
+            (2_056, &[1]),
+            (2_057, changes),
+        ];
+        let file = file_with(alloc, 39_937, &pieces)?;
+        assert!(rt; opened(alloc, file) == damaged(offset, byte), "{changes:?}");
     }
+    Ok(())
 }
 
 #[test]
-fn each_refusal_has_its_detail(rt: HostRuntime) -> Result<(), Fail> {
+fn another_file_is_told_by_its_beginning(rt: HostRuntime) -> Result<(), Fail> {
     let alloc = rt.alloc();
-    let damaged = |offset, byte| Some(OpenRefusal::Damaged { offset, byte });
-    let mark = |mut file: Vec<u8>| {
-        for (place, byte) in file.iter_mut().zip(b"FPANEL01") {
-            *place = *byte;
-        }
-        file
-    };
-    let hello = Vec::from_slice(alloc, b"hello world\n")?;
-    assert_eq!(rt;
-        refusal_of(alloc, hello),
-        Some(OpenRefusal::NotAJournal(*b"hello wo"))
-    );
-    let short = Vec::from_slice(alloc, b"FP")?;
-    assert_eq!(rt;
-        refusal_of(alloc, short),
-        Some(OpenRefusal::NotAJournal(*b"FP\0\0\0\0\0\0"))
-    );
-    let cases: [(usize, &[(usize, u8)], Option<OpenRefusal>); 9] = [
-        (2_047, &[], damaged(2_047, 0)),
-        (2_048, &[(40, 1)], damaged(2_048, 0)),
-        (2_048, &[(64, 9)], damaged(64, 9)),
-        (2_048, &[(64, 1), (65, 128), (72, 1)], damaged(65, 128)),
-        (
-            2_048,
-            &[
-                (64, 1),
-                (64 + 458 + 4 + 1, 15),
-                (64 + 458 + 4 + 2, 66),
-                (64 + 458 + 4 + 3, 64),
-            ],
-            damaged(64 + 458 + 4, 0),
-        ),
-        (
-            39_937,
-            &[(40, 1), (64, 1), (2_048, 1), (2_056, 1)],
-            damaged(2_057, 0),
-        ),
-        (
-            39_937,
-            &[
-                (40, 1),
-                (64, 1),
-                (2_048, 1),
-                (2_056, 1),
-                (2_057, 1),
-                (2_058, 8),
-            ],
-            damaged(2_058, 8),
-        ),
-        (
-            39_937,
-            &[
-                (40, 1),
-                (64, 1),
-                (2_048, 1),
-                (2_056, 1),
-                (2_057, 1),
-                (2_058, 1),
-                (2_059, 1),
-                (2_060, 1),
-                (2_061, 97),
-            ],
-            damaged(2_061, 97),
-        ),
-        (
-            2_048,
-            &[
-                (64, 1),
-                (64 + 458 + 1, 15),
-                (64 + 458 + 2, 66),
-                (64 + 458 + 3, 63),
-            ],
-            None,
-        ),
-    ];
-    for (len, bytes, refusal) in cases {
-        let file = mark(file_with(alloc, len, bytes)?);
-        assert_eq!(rt; refusal_of(alloc, file), refusal, "{len} {bytes:?}");
+    for (text, mark) in [
+        (b"hello world\n".as_slice(), b"hello wo"),
+        (b"FP".as_slice(), b"FP\0\0\0\0\0\0"),
+    ] {
+        let refusal = opened(alloc, Vec::from_slice(alloc, text)?);
+        assert!(rt;
+            refusal == Some(Err(OpenRefusal::NotAJournal(*mark))),
+            "{text:?}"
+        );
     }
-    let other = mark(file_with(alloc, 2_048, &[(8, 5), (64, 1)])?);
-    let mut kept = [0; 32];
+    let mut kept = DIGEST;
     kept[0] = 5;
-    assert_eq!(rt;
-        refusal_of(alloc, other),
-        Some(OpenRefusal::OtherSite {
-            kept,
-            given: [0; 32]
-        })
-    );
+    let other = file_with(alloc, 2_048, &[(8, &[5]), (64, &[1])])?;
+    let refusal = OpenRefusal::OtherSite {
+        kept,
+        given: DIGEST,
+    };
+    assert!(rt; opened(alloc, other) == Some(Err(refusal)));
     Ok(())
+}
+
+// Whether each file that a cut may leave after so many calls of the log, or after more, opens to one of two counters.
+// Of each write that wasn't synced nothing is left, its first byte, its first half or all.
+fn opens_to(
+    alloc: Global,
+    disk: &MemoryDisk,
+    since: usize,
+    counters: [u32; 2],
+) -> Result<bool, AllocError> {
+    for calls in since..=disk.log.len() {
+        for bytes in [0usize, 1, 300, 1_000] {
+            if !opens_cut(alloc, disk, calls, bytes, counters)? {
+                return Ok(false);
+            }
+        }
+    }
+    Ok(true)
+}
+
+// The file that is left after so many calls and so many bytes of each write.
+fn opens_cut(
+    alloc: Global,
+    disk: &MemoryDisk,
+    calls: usize,
+    bytes: usize,
+    counters: [u32; 2],
+) -> Result<bool, AllocError> {
+    let kept = vec![in alloc; bytes; disk.log.len()]?;
+    let Ok(file) = disk.cut(alloc, calls, &kept) else {
+        return Ok(false);
+    };
+    Ok(match opened(alloc, file) {
+        Some(Ok(counter)) => counter == counters[0] || counter == counters[1],
+        _ => false,
+    })
 }
 
 #[test]
@@ -192,40 +207,10 @@ fn a_cut_within_the_65th_commit_leaves_64_or_65(rt: HostRuntime) -> Result<(), F
         (journal.cells(), journal.torn(), journal.kept().counters[0]),
         (1, false, 65)
     );
-    for calls in before..=disk.log.len() {
-        for bytes in [0usize, 1, 300, 1_000] {
-            let kept = vec![in alloc; bytes; disk.log.len()]?;
-            let file = disk.cut(alloc, calls, &kept).expect(&rt, "memory");
-            let counter = counter_in(alloc, file);
-            assert!(rt; matches!(counter, Some(64 | 65)), "{calls} {bytes}");
-        }
-    }
+    assert!(rt; opens_to(alloc, &disk, before, [64, 65])?);
     let bytes = Vec::from_slice(alloc, &disk.bytes)?;
-    assert_eq!(rt; counter_in(alloc, bytes), Some(65));
+    assert_eq!(rt; opened(alloc, bytes), Some(Ok(65)));
     Ok(())
-}
-
-// Whether each file that a cut may leave after so many calls of the log, or after more, opens to one of two counters.
-// Of each write that wasn't synced nothing is left, its first byte, its first half or all.
-fn opens_to(
-    alloc: Global,
-    disk: &MemoryDisk,
-    since: usize,
-    counters: [u32; 2],
-) -> Result<bool, AllocError> {
-    for calls in since..=disk.log.len() {
-        for bytes in [0usize, 1, 300, 1_000] {
-            let kept = vec![in alloc; bytes; disk.log.len()]?;
-            let Ok(file) = disk.cut(alloc, calls, &kept) else {
-                return Ok(false);
-            };
-            match counter_in(alloc, file) {
-                Some(counter) if counter == counters[0] || counter == counters[1] => {}
-                _ => return Ok(false),
-            }
-        }
-    }
-    Ok(true)
 }
 
 #[test]
@@ -268,19 +253,30 @@ fn a_fault_anywhere_loses_nothing(rt: HostRuntime) -> Result<(), Fail> {
     Ok(())
 }
 
+// A state with two counters.
+fn two_counters() -> Retained
+    ensures counters { AreCounters result.counters }
+    ensures points { FitPoints result.points }
+    ensures narrow { HasNarrowPoints true result.points }
+{
+    Retained {
+        counters: [0, 0, 41, 0, 0, 0, 0, 999_999],
+        ..Retained::empty()
+    }
+}
+
 #[test]
 fn a_created_journal_opens_to_its_state(rt: HostRuntime) -> Result<(), Fail> {
     let alloc = rt.alloc();
     let Ok(mut disk) = SoundMemoryDisk::new(alloc, Vec::new(alloc)) else {
         return Err(Fail::from("memory"));
     };
-    let state = Retained {
-        counters: [0, 0, 41, 0, 0, 0, 0, 999_999],
-        ..Retained::empty()
-    };
+    let state = two_counters();
     assert_eq!(rt; Journal::create(&mut disk, DIGEST, true, &state), Ok(()));
-    let (journal, kept) = Journal::open(&mut disk, DIGEST, true).expect(&rt, "opened");
-    assert_eq!(rt; (&kept, journal.kept()), (&state, &state));
+    let Ok((journal, kept)) = Journal::open(&mut disk, DIGEST, true) else {
+        return Err(Fail::from("not opened"));
+    };
+    assert!(rt; kept == state && *journal.kept() == state);
     assert_eq!(rt;
         Journal::create(&mut disk, DIGEST, true, &state),
         Err(CreateRefusal::NotEmpty { length: 2_048 })

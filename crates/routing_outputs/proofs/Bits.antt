@@ -1,6 +1,6 @@
 -- Bits of masks of 32 outputs.
-use Rattle.std.proofs.Common.{◌≡◌, ◌<◌, ◌&&◌, ℕ, Bool, true, false, refl, sym, ◌∙◌, ap}
-use Rattle.site_types.specs.Bits.{has_bit, mask_of}
+use Rattle.std.proofs.Common.{◌≡◌, ◌&&◌, ℕ, Bool, true, false, refl, sym, ◌∙◌}
+use Rattle.site_types.specs.Bits.{mask_of}
 use Rattle.site_types.proofs.Masks.{has_bit-mask, mask_below, mask_empty}
 
 pub and_true : (b : Bool) → (b && true) ≡ b
@@ -10,10 +10,6 @@ and_true false = refl
 pub and_false : (b : Bool) → (b && false) ≡ false
 and_false true = refl
 and_false false = refl
-
--- each bit of a mask is its test
-pub bit_is : (mask : ℕ) (test : ℕ → Bool) → mask ≡ mask_of 32 test → (k : ℕ) → k < 32 → has_bit mask k ≡ test k
-bit_is mask test is k small = ap (λ m. has_bit m k) is ∙ has_bit-mask 32 test k small
 
 -- the mask of no output
 pub none_set : (test : ℕ → Bool) → ((k : ℕ) → test k ≡ false) → 0 ≡ mask_of 32 test

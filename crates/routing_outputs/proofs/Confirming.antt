@@ -8,12 +8,12 @@ use Rattle.site_types.specs.Bits.{has_bit, mask_of}
 use Rattle.site_types.specs.Changes.{IsNumber}
 use Rattle.site_types.proofs.Masks.{mask_from_bits, mask_same}
 use Rattle.routing_outputs.specs.Confirmations.{Call, Turned, is_watched, with_confirmation, run_of, has_confirmation, ticks_of, spans, state_of}
-use Rattle.routing_outputs.specs.Lines.{is_late}
-use Rattle.routing_outputs.specs.Stands.{line_of, is_running}
+use Rattle.routing_outputs.specs.WatchedOutputs.{is_late}
+use Rattle.routing_outputs.specs.Stands.{watched_at, is_running}
 use Rattle.site_types.specs.Limits.{output_bits}
-use Rattle.routing_outputs.proofs.Bits.{bit_is}
+use Rattle.output_lists.proofs.Bits.{bit_is}
 use Rattle.tick_units.proofs.Listed.{any_at}
-use Rattle.routing_outputs.proofs.Runs.{confirmed_other, confirmed_on, confirmed_off, late_turned, line_place, state_by, state_is}
+use Rattle.routing_outputs.proofs.Runs.{confirmed_other, confirmed_on, confirmed_off, late_turned, output_place, state_by, state_is}
 
 module _ (site : Site) (panel limit : ℕ) (calls : List Call) where
   -- the tests of the three masks
@@ -26,12 +26,12 @@ module _ (site : Site) (panel limit : ℕ) (calls : List Call) where
   abbrev pub late_at : ℕ → Bool
   late_at k = is_watched site panel (k + 1) && spans limit (ticks_of (run_of (k + 1) calls))
 
-  -- the bits of those that are late, by the list of lines
-  pub late_lines : (now : Tick) (k : ℕ) → k < 32 → (before : List Call) (on : ℕ) → calls ≡ Turned now.0 on ∷ before →
-      list_any (λ line. (line.place == k) && is_late now limit line) (filter_map (line_of site panel calls) output_bits) ≡ late_at k
+  -- the bits of those that are late, by the list of outputs
+  pub late_outputs : (now : Tick) (k : ℕ) → k < 32 → (before : List Call) (on : ℕ) → calls ≡ Turned now.0 on ∷ before →
+      list_any (λ output. (output.place == k) && is_late now limit output) (filter_map (watched_at site panel calls) output_bits) ≡ late_at k
   unfolding output_bits
-  late_lines now k small before on is =
-      any_at (line_of site panel calls) (λ line. line.place) (is_late now limit) (λ j line e. line_place site panel calls j line e) k 32 small
+  late_outputs now k small before on is =
+      any_at (watched_at site panel calls) (λ output. output.place) (is_late now limit) (λ j output e. output_place site panel calls j output e) k 32 small
       ∙ rw is (late_turned site panel limit before now on k)
 
   module _ (number : ℕ) (known : IsNumber number) where

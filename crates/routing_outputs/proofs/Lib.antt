@@ -1,4 +1,3 @@
 pub mod Bits
 pub mod Confirming
 pub mod Runs
-pub mod Steps

@@ -1,4 +1,4 @@
--- What a turn and a confirmation do to runs, to lines, and to what an output is at.
+-- What a turn and a confirmation do to runs, to outputs, and to what an output is at.
 use Rattle.std.proofs.Common.{◌≡◌, ◌+◌, ◌-◌, ◌==◌, ◌&&◌, ℕ, Bool, true, false, List, [], ◌∷◌, Some, None, option_map, unwrap_or, if◌then◌else◌, refl, sym, ap, arith}
 use Rattle.std.specs.Prelude.{not}
 use Rattle.std.proofs.lemmas.Bool.{eq-eqb}
@@ -6,12 +6,12 @@ use Rattle.tick_units.specs.declared.tick.Tick.{Tick}
 use Rattle.site_types.specs.declared.site.Site.{Site}
 use Rattle.site_types.specs.Bits.{has_bit}
 use Rattle.tick_units.proofs.Earliest.{earliest_more}
-use Rattle.routing_outputs.specs.declared.line.Line.{Line}
+use Rattle.routing_outputs.specs.declared.watched_output.WatchedOutput.{WatchedOutput}
 use Rattle.routing_outputs.specs.declared.routing_state.RoutingState.{RoutingState}
 use Rattle.routing_outputs.specs.declared.routing_state.RoutingState.TheVariants.{Idle, Waiting, Confirmed as IsConfirmed, Unconfirmed}
 use Rattle.routing_outputs.specs.Confirmations.{Call, Turned, Confirmed, is_watched, is_on, with_confirmation, run_of, has_confirmation, ticks_of, spans, state_in, is_confirmed, is_unconfirmed}
-use Rattle.routing_outputs.specs.Lines.{turned_by, is_late, is_late_since}
-use Rattle.routing_outputs.specs.Stands.{since, line_of, is_running}
+use Rattle.routing_outputs.specs.WatchedOutputs.{turned_by, is_late, is_late_since}
+use Rattle.routing_outputs.specs.Stands.{since, watched_at, is_running}
 use Rattle.tick_units.specs.Earliest.{earliest_of}
 use Rattle.routing_outputs.proofs.Bits.{and_true, and_false}
 use Rattle.tick_units.proofs.Listed.{passes}
@@ -30,27 +30,27 @@ since_turned now on k calls =
     go true = earliest_more now (ticks_of (run_of (k + 1) calls))
     go false = refl
 
--- a line after a turn
-pub line_turned : (site : Site) (panel : ℕ) (calls : List Call) (now : Tick) (on k : ℕ)
-    → option_map (turned_by now on) (line_of site panel calls k) ≡ line_of site panel (Turned now.0 on ∷ calls) k
-line_turned site panel calls now on k = go (is_watched site panel (k + 1))
+-- an output after a turn
+pub output_turned : (site : Site) (panel : ℕ) (calls : List Call) (now : Tick) (on k : ℕ)
+    → option_map (turned_by now on) (watched_at site panel calls k) ≡ watched_at site panel (Turned now.0 on ∷ calls) k
+output_turned site panel calls now on k = go (is_watched site panel (k + 1))
   where
     go : (w : Bool) → option_map (turned_by now on) (if w then Some (record { place = k; since = since (k + 1) calls }) else None)
         ≡ (if w then Some (record { place = k; since = since (k + 1) (Turned now.0 on ∷ calls) }) else None)
     go true = ap (λ s. Some (record { place = k; since = s })) (since_turned now on k calls)
     go false = refl
 
--- each line is of its place
-pub line_place : (site : Site) (panel : ℕ) (calls : List Call) (k : ℕ) (line : Line) → line_of site panel calls k ≡ Some line → line.place ≡ k
-line_place site panel calls k line = go (is_watched site panel (k + 1))
+-- each output is of its place
+pub output_place : (site : Site) (panel : ℕ) (calls : List Call) (k : ℕ) (output : WatchedOutput) → watched_at site panel calls k ≡ Some output → output.place ≡ k
+output_place site panel calls k output = go (is_watched site panel (k + 1))
   where
-    go : (w : Bool) → (if w then Some (record { place = k; since = since (k + 1) calls }) else None) ≡ Some line → line.place ≡ k
+    go : (w : Bool) → (if w then Some (record { place = k; since = since (k + 1) calls }) else None) ≡ Some output → output.place ≡ k
     go true e = cc
     go false e = cc
 
 -- whether an output has been on for the limit
 pub late_turned : (site : Site) (panel limit : ℕ) (calls : List Call) (now : Tick) (on k : ℕ) →
-    passes (is_late now limit) (line_of site panel (Turned now.0 on ∷ calls) k)
+    passes (is_late now limit) (watched_at site panel (Turned now.0 on ∷ calls) k)
     ≡ (is_watched site panel (k + 1) && spans limit (ticks_of (run_of (k + 1) (Turned now.0 on ∷ calls))))
 late_turned site panel limit calls now on k = go (is_watched site panel (k + 1))
   where
@@ -102,10 +102,10 @@ still_running number (call ∷ calls) = refl
 pub on_confirmed : (w : Bool) (number : ℕ) (run : List Call) → (w && is_running run) ≡ (w && is_running (with_confirmation number run))
 on_confirmed w number run = ap (λ b. w && b) (still_running number run)
 
--- a line after a confirmation is as before
-pub line_confirmed : (site : Site) (panel number : ℕ) (calls : List Call) (k : ℕ)
-    → line_of site panel calls k ≡ line_of site panel (Confirmed number ∷ calls) k
-line_confirmed site panel number calls k =
+-- an output after a confirmation is as before
+pub output_confirmed : (site : Site) (panel number : ℕ) (calls : List Call) (k : ℕ)
+    → watched_at site panel calls k ≡ watched_at site panel (Confirmed number ∷ calls) k
+output_confirmed site panel number calls k =
     ap (λ s. if is_watched site panel (k + 1) then Some (record { place = k; since = earliest_of s }) else None)
     (sym (same_ticks number (run_of (k + 1) calls)))
 
@@ -173,9 +173,9 @@ state_is true limit number (call ∷ calls) = refl
 
 -- ---- at the start
 
-pub line_watched : (site : Site) (panel k : ℕ) → is_watched site panel (k + 1) ≡ true
-    → line_of site panel [] k ≡ Some (record { place = k; since = None })
-line_watched site panel k watched = rw watched refl
+pub there_is_watched : (site : Site) (panel k : ℕ) → is_watched site panel (k + 1) ≡ true
+    → watched_at site panel [] k ≡ Some (record { place = k; since = None })
+there_is_watched site panel k watched = rw watched refl
 
-pub line_unwatched : (site : Site) (panel k : ℕ) → is_watched site panel (k + 1) ≡ false → line_of site panel [] k ≡ None
-line_unwatched site panel k watched = rw watched refl
+pub none_is_watched : (site : Site) (panel k : ℕ) → is_watched site panel (k + 1) ≡ false → watched_at site panel [] k ≡ None
+none_is_watched site panel k watched = rw watched refl

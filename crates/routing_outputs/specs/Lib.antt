@@ -1,3 +1,3 @@
 pub mod Confirmations
-pub mod Lines
+pub mod WatchedOutputs
 pub mod Stands

@@ -11,10 +11,9 @@
 //! [`Routing`] looks through the site's outputs.
 #![tactic(auto)]
 
-mod line;
-mod outputs;
 mod routing;
 mod routing_state;
+mod watched_output;
 
 pub use routing::Routing;
 pub use routing_state::RoutingState;

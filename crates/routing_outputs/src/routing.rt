@@ -4,15 +4,16 @@ ghost use Rattle.std.proofs.Props.{props};
 ghost use Rattle.site_types.specs.declared.site.Site.{Site as SiteOf};
 ghost use Rattle.site_types.specs.Bits.{has_bit, mask_of};
 ghost use Rattle.site_types.specs.Changes.{IsNumber};
-ghost use Rattle.routing_outputs.specs.Confirmations.{Call, Confirmed, Turned, is_confirmed, is_unconfirmed, state_of};
-ghost use Rattle.routing_outputs.specs.Lines.{is_late, turned_by};
+ghost use Rattle.routing_outputs.specs.Confirmations.{Call, Confirmed, Turned, is_confirmed, is_unconfirmed};
+ghost use Rattle.routing_outputs.specs.Confirmations.{is_watched, state_of};
+ghost use Rattle.routing_outputs.specs.WatchedOutputs.{is_late, turned_by};
 
-use crate::line::Line;
-use crate::outputs::is_watched;
 use crate::routing_state::RoutingState;
+use crate::watched_output::WatchedOutput;
 use arrayvec::ArrayVec;
+use output_lists::output_of;
 use site_types::{
-    MOST_OUTPUTS, Site, common_32, has_bit_32, mask_from_32, with_bit_32, without_32,
+    MOST_OUTPUTS, OutputKind, Site, common_32, has_bit_32, mask_from_32, with_bit_32, without_32,
 };
 use tick_units::Tick;
 
@@ -21,8 +22,8 @@ use tick_units::Tick;
 pub struct Routing {
     /// In ticks.
     limit: u64,
-    lines: ArrayVec<Line, 32>,
-    /// The outputs of these lines, bit `number - 1` each.
+    outputs: ArrayVec<WatchedOutput, 32>,
+    /// These outputs, bit `number - 1` each.
     watched: u32,
     /// Of these, those that were on after the latest turn.
     on: u32,
@@ -30,7 +31,7 @@ pub struct Routing {
     confirmed: u32,
     /// Of these, those that had been on for the limit at the latest turn.
     late: u32,
-    ghost placed: { AllByRecursion (λ line. line.place < 32) lines.items } by { Prim.hlevel props },
+    ghost placed: { AllByRecursion (λ output. output.place < 32) outputs.items } by { Prim.hlevel props },
 }
 
 impl Routing {
@@ -41,18 +42,18 @@ impl Routing {
     pub fn new(site: &Site, panel: u8, limit: u64) -> Routing
         ensures { StandsFor site.now panel limit [] result }
     {
-        let mut lines = ArrayVec::new();
+        let mut outputs = ArrayVec::new();
         let mut watched = [false; 32];
         for place in 0..MOST_OUTPUTS {
             let waits = is_watched(site, panel, place + 1);
             watched[place as usize] = waits;
             if waits {
-                lines.push(Line { place, since: None });
+                outputs.push(WatchedOutput { place, since: None });
             }
         }
         Routing {
             limit,
-            lines,
+            outputs,
             watched: mask_from_32(&watched),
             on: 0,
             confirmed: 0,
@@ -66,7 +67,7 @@ impl Routing {
             → StandsFor site panel limit calls self.old
             → StandsFor site panel limit (Turned now.0 on ∷ calls) self.new }
     {
-        self.late = turn_lines(self.lines.as_mut_slice(), now, on, self.limit);
+        self.late = turn_outputs(self.outputs.as_mut_slice(), now, on, self.limit);
         self.on = common_32(self.watched, on);
         self.confirmed = common_32(self.confirmed, on);
     }
@@ -121,19 +122,29 @@ impl Routing {
     }
 }
 
-// Makes the turn of each line, and gives those that have been on for the limit.
-fn turn_lines(lines: &mut [Line], now: Tick, on: u32, limit: u64) -> u32
-    requires { AllByRecursion (λ line. line.place < 32) lines.old }
-    ensures lines { lines.new ≡ map (turned_by now on) lines.old }
+// Whether an output of a panel is there and waits for confirmations.
+fn is_watched(site: &Site, panel: u8, number: u8) -> bool
+    ensures { result ≡ is_watched site.now panel number }
+{
+    match output_of(site, panel, number) {
+        Some(output) => matches!(output.kind, OutputKind::Routing | OutputKind::Protection),
+        None => false,
+    }
+}
+
+// Makes the turn of each output, and gives those that have been on for the limit.
+fn turn_outputs(outputs: &mut [WatchedOutput], now: Tick, on: u32, limit: u64) -> u32
+    requires { AllByRecursion (λ output. output.place < 32) outputs.old }
+    ensures outputs { outputs.new ≡ map (turned_by now on) outputs.old }
     ensures late { result
-        ≡ mask_of 32 (λ k. list_any (λ line. (line.place == k) && is_late now limit line)
-        lines.new) }
+        ≡ mask_of 32 (λ k. list_any (λ output. (output.place == k) && is_late now limit output)
+        outputs.new) }
 {
     let mut late = 0;
-    for line in lines.iter_mut() {
-        *line = line.turn(now, has_bit_32(on, line.place));
-        if line.is_late(now, limit) {
-            late = with_bit_32(late, line.place, true);
+    for output in outputs.iter_mut() {
+        *output = output.turn(now, has_bit_32(on, output.place));
+        if output.is_late(now, limit) {
+            late = with_bit_32(late, output.place, true);
         }
     }
     late

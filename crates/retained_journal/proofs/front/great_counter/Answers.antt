@@ -5,19 +5,20 @@ use Rattle.site_types.specs.Limits.{greatest_count}
 use Rattle.retained_journal.specs.Fields.{number_at}
 use Rattle.retained_journal.specs.Opening.{great_counter}
 use Rattle.retained_journal.proofs.Finding.{found-first, found-none, nothing_more}
+use Rattle.retained_journal.specs.Places.{counters_place}
 use Rattle.retained_journal.proofs.front.great_counter.Goals as goal
 
-too_great : (at : ℕ) (file : List ℕ) (panel n : ℕ) → n ≡ number_at 4 (at + 458 + 4 * panel) file → greatest_count < n
-    → great_counter at file panel ≡ Some (at + 458 + 4 * panel)
+too_great : (at : ℕ) (file : List ℕ) (panel n : ℕ) → n ≡ number_at 4 (at + counters_place + 4 * panel) file → greatest_count < n
+    → great_counter at file panel ≡ Some (at + counters_place + 4 * panel)
 too_great at file panel n e more =
-    let test : nat_lt greatest_count (number_at 4 (at + 458 + 4 * panel) file) ≡ true =
+    let test : nat_lt greatest_count (number_at 4 (at + counters_place + 4 * panel) file) ≡ true =
     subst (λ (k : ℕ). nat_lt greatest_count k ≡ true) e (grind (arith, nat_tests)) in
     rw test refl
 
-not_great : (at : ℕ) (file : List ℕ) (panel n : ℕ) → n ≡ number_at 4 (at + 458 + 4 * panel) file → n ≤ greatest_count
+not_great : (at : ℕ) (file : List ℕ) (panel n : ℕ) → n ≡ number_at 4 (at + counters_place + 4 * panel) file → n ≤ greatest_count
     → great_counter at file panel ≡ None
 not_great at file panel n e le =
-    let test : nat_lt greatest_count (number_at 4 (at + 458 + 4 * panel) file) ≡ false =
+    let test : nat_lt greatest_count (number_at 4 (at + counters_place + 4 * panel) file) ≡ false =
     subst (λ (k : ℕ). nat_lt greatest_count k ≡ false) e (grind (arith, nat_tests)) in
     rw test refl
 

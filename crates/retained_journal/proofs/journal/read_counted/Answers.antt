@@ -4,7 +4,7 @@ use Rattle.retained_journal.specs.declared.open_refusal.OpenRefusal.TheVariants.
 use Rattle.retained_journal.specs.Opening.{change_out_of_form}
 use Rattle.retained_journal.proofs.Openings.{begun_at, replay_open, replay_refused, replay_shut}
 use Rattle.retained_journal.proofs.Refused.{handed_on}
-use Rattle.retained_journal.proofs.Told.{both_told}
+use Rattle.retained_journal.proofs.SeenFiles.{both_told}
 use Rattle.std.proofs.lemmas.Option.{IfSome_then}
 use Rattle.retained_journal.specs.Places.{slot_place}
 use Rattle.retained_journal.specs.declared.replay.Replay.{Replay}

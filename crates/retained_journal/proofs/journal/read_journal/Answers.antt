@@ -6,7 +6,7 @@ use Rattle.retained_journal.specs.Opening.{change_out_of_form, front_refusal, re
 use Rattle.retained_journal.proofs.FrontAgreement.{front_same}
 use Rattle.retained_journal.proofs.Openings.{front_passes, front_refuses, passes_none, passes_some, read_so}
 use Rattle.retained_journal.proofs.Refused.{handed_on}
-use Rattle.retained_journal.proofs.Told.{both_told, three_told}
+use Rattle.retained_journal.proofs.SeenFiles.{both_told, three_told}
 use Rattle.retained_journal.proofs.journal.read_journal.Goals as goal
 
 pub returns-in_err-check_front-clause-err : goal.returns-in_err-check_front-clause-err

@@ -1,4 +1,4 @@
-use Rattle.std.proofs.Common.{◌≡◌, ◌+◌, ◌==◌, ◌&&◌, ◌∷◌, ℕ, true, false, List, map, sym, ◌∙◌, ap, arith}
+use Rattle.std.proofs.Common.{◌≡◌, ◌+◌, ◌==◌, ◌&&◌, ◌∷◌, ℕ, ◌++◌, take, drop, length, true, false, List, map, refl, sym, ◌∙◌, ap, arith}
 use Rattle.std.specs.Prelude.{not}
 use Rattle.std.specs.List.{filter_map, list_any}
 use Rattle.tick_units.specs.declared.tick.Tick.{Tick}
@@ -12,10 +12,10 @@ use Rattle.output_delays.specs.Runs.{Call, Turned, are_active, is_through, overr
 use Rattle.output_delays.specs.Stands.{timer_of}
 use Rattle.site_types.specs.Limits.{output_bits}
 use Rattle.output_delays.specs.Timers.{is_holding, turned_by}
-use Rattle.output_delays.proofs.Bits.{bit_is}
+use Rattle.output_lists.proofs.Bits.{bit_is}
 use Rattle.tick_units.proofs.Listed.{map_found, passes}
 use Rattle.output_delays.proofs.Requested.{held_timers, through_is, through_off, timer_turned}
-use Rattle.output_delays.proofs.Steps.{turned_timers, placed_timers}
+use Rattle.output_lists.proofs.Turning.{placed_states, turned_states}
 use Rattle.output_delays.proofs.delays.Delays.turn.Goals as goal
 
 -- the timers after a turn
@@ -27,27 +27,28 @@ found site panel calls now requests items is =
     ∙ map_found (turned_by now requests.asked) (timer_of site panel calls) (timer_of site panel (Turned now.0 requests ∷ calls)) output_bits
     (timer_turned site panel calls now requests)
 
+-- the timers that are written back
+written_back : (site : Site) (panel : ℕ) (calls : List Call) (now : Tick) (requests : Requests) (items timers : List Timer)
+    → items ≡ filter_map (timer_of site panel calls) output_bits → timers ≡ map (turned_by now requests.asked) items →
+    take (length items) (timers ++ drop (length timers) items) ≡ filter_map (timer_of site panel (Turned now.0 requests ∷ calls)) output_bits
+written_back site panel calls now requests items timers is given =
+    turned_states (turned_by now requests.asked) items timers given ∙ found site panel calls now requests items is
+
 pub returns-then-self-clause-stands : goal.returns-then-self-clause-stands
-returns-then-self-clause-stands c site panel first calls stands =
-    let f = turned_by c.args.now c.args.requests.now.asked in
-    let items = c.args.self.now.timers.items in
-    let given : c.turn_timers-held.new.timers ≡ map f items = c.turn_timers-held.ensures.timers ∙ ap (map f) c.as_mut_slice.ensures.value in
-    record {
-      active = stands.active;
-      timers = turned_timers f items c.turn_timers-held.new.timers given ∙ found site panel calls c.args.now c.args.requests.now items stands.timers;
-      overrides = stands.overrides;
-    }
+returns-then-self-clause-stands c site panel first calls stands = record {
+  active = stands.active;
+  timers = written_back site panel calls c.args.now c.args.requests.now c.args.self.now.timers.items c.turn_timers-held.new.timers stands.timers
+      (c.turn_timers-held.ensures.timers ∙ ap (map (turned_by c.args.now c.args.requests.now.asked)) c.as_mut_slice.ensures.value);
+  overrides = stands.overrides;
+}
 
 pub returns-else-self-clause-stands : goal.returns-else-self-clause-stands
-returns-else-self-clause-stands c site panel first calls stands =
-    let f = turned_by c.args.now c.args.requests.now.asked in
-    let items = c.args.self.now.timers.items in
-    let given : c.turn_timers-held.new.timers ≡ map f items = c.turn_timers-held.ensures.timers ∙ ap (map f) c.as_mut_slice.ensures.value in
-    record {
-      active = stands.active;
-      timers = turned_timers f items c.turn_timers-held.new.timers given ∙ found site panel calls c.args.now c.args.requests.now items stands.timers;
-      overrides = stands.overrides;
-    }
+returns-else-self-clause-stands c site panel first calls stands = record {
+  active = stands.active;
+  timers = written_back site panel calls c.args.now c.args.requests.now c.args.self.now.timers.items c.turn_timers-held.new.timers stands.timers
+      (c.turn_timers-held.ensures.timers ∙ ap (map (turned_by c.args.now c.args.requests.now.asked)) c.as_mut_slice.ensures.value);
+  overrides = stands.overrides;
+}
 
 pub returns-then-self-clause-value : goal.returns-then-self-clause-value
 returns-then-self-clause-value c site panel first calls stands up =
@@ -88,4 +89,4 @@ invariant_of-self c =
     let f = turned_by c.args.now c.args.requests.now.asked in
     let items = c.args.self.now.timers.items in
     let given : c.turn_timers-held.new.timers ≡ map f items = c.turn_timers-held.ensures.timers ∙ ap (map f) c.as_mut_slice.ensures.value in
-    record { placed = placed_timers c.args.now c.args.requests.now.asked items c.turn_timers-held.new.timers c.args.self.now.placed given }
+    record { placed = placed_states f (λ timer. timer.place) (λ timer. refl) items c.turn_timers-held.new.timers c.args.self.now.placed given }

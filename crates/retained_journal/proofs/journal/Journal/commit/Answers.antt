@@ -1,7 +1,5 @@
-use Rattle.std.proofs.Common.{inl, inr, ◌∙◌, arith}
-use Rattle.panel_edges.proofs.Moments.{weaker}
-use Rattle.retained_journal.specs.Images.{OpensToKeptOrAttempt, OpensToKeptOrWith}
-use Rattle.retained_journal.proofs.Calls.{begun_number, counts_read, same_batch, with_attempt}
+use Rattle.std.proofs.Common.{inl, inr, arith}
+use Rattle.retained_journal.proofs.Calls.{attempted_in_turn, begun_number, counts_read}
 use Rattle.retained_journal.proofs.Images.{may_leave, opens_whole}
 use Rattle.retained_journal.proofs.journal.Journal.commit.Goals as goal
 
@@ -29,41 +27,19 @@ returns-in_err-mend-clause-in_turn g c honest room = inl (c.mend.ensures.same.sa
 
 pub returns-in_err-append-clause-in_turn : goal.returns-in_err-append-clause-in_turn
 returns-in_err-append-clause-in_turn g c honest room =
-    let begun = c.begin.new.self in
-    let same = c.mend.ensures.same in
     let is = c.begin.ensures in
-    inr (
-      same_batch begun c.append.new.self c.append.ensures.same.same_attempt ∙ is.1,
-      record {
-        between = c.mend.new.disk;
-        first = c.mend.ensures.moments honest (omega (arith, room));
-        second =
-            weaker g.D.Disk.moment g.D.Disk.left_since c.mend.new.disk c.append.new.disk (OpensToKeptOrAttempt begun)
-            (OpensToKeptOrWith c.args.self.now c.args.batch.now.items)
-            (with_attempt _ c.mend.new.self begun same is.0 c.args.batch.now.items is.1)
-            (c.append.ensures.moments (c.mend.ensures.honest.1 honest) (let number = begun_number _ c.mend.new.self begun same is.0 in
-            omega (arith, room, number)));
-      },
-    )
+    let number = begun_number _ c.mend.new.self c.begin.new.self c.mend.ensures.same is.0 in
+    inr (attempted_in_turn _ c.mend.new.self c.begin.new.self c.mend.ensures.same is.0 g.D.Disk.moment g.D.Disk.left_since c.args.disk.now
+    c.mend.new.disk c.append.new.disk c.args.batch.now.items c.append.new.self is.1 c.append.ensures.same.same_attempt
+    (c.mend.ensures.moments honest (omega (arith, room))) (c.append.ensures.moments (c.mend.ensures.honest.1 honest) (omega (arith, room, number))))
 
 pub returns-clause-in_turn : goal.returns-clause-in_turn
 returns-clause-in_turn g c honest room =
-    let begun = c.begin.new.self in
-    let same = c.mend.ensures.same in
     let is = c.begin.ensures in
-    inr (
-      same_batch begun c.append.new.self c.append.ensures.same.same_attempt ∙ is.1,
-      record {
-        between = c.mend.new.disk;
-        first = c.mend.ensures.moments honest (omega (arith, room));
-        second =
-            weaker g.D.Disk.moment g.D.Disk.left_since c.mend.new.disk c.append.new.disk (OpensToKeptOrAttempt begun)
-            (OpensToKeptOrWith c.args.self.now c.args.batch.now.items)
-            (with_attempt _ c.mend.new.self begun same is.0 c.args.batch.now.items is.1)
-            (c.append.ensures.moments (c.mend.ensures.honest.1 honest) (let number = begun_number _ c.mend.new.self begun same is.0 in
-            omega (arith, room, number)));
-      },
-    )
+    let number = begun_number _ c.mend.new.self c.begin.new.self c.mend.ensures.same is.0 in
+    inr (attempted_in_turn _ c.mend.new.self c.begin.new.self c.mend.ensures.same is.0 g.D.Disk.moment g.D.Disk.left_since c.args.disk.now
+    c.mend.new.disk c.append.new.disk c.args.batch.now.items c.append.new.self is.1 c.append.ensures.same.same_attempt
+    (c.mend.ensures.moments honest (omega (arith, room))) (c.append.ensures.moments (c.mend.ensures.honest.1 honest) (omega (arith, room, number))))
 
 pub returns-clause-cells : goal.returns-clause-cells
 returns-clause-cells g c honest =

@@ -1,7 +1,7 @@
 use Rattle.std.proofs.Common.{true, arith}
 use Rattle.retained_journal.proofs.Calls.{no_moment, other_stands}
 use Rattle.retained_journal.proofs.Calls.{sound_begun}
-use Rattle.retained_journal.proofs.Stepped.{move_begun}
+use Rattle.retained_journal.proofs.StepImages.{move_begun}
 use Rattle.retained_journal.proofs.journal.Journal.make_room.Goals as goal
 
 pub returns-then-self-lt-MOST_CELLS-clause-moments : goal.returns-then-self-lt-MOST_CELLS-clause-moments

@@ -1,7 +1,8 @@
 use Rattle.std.proofs.Common.{[], ◌∷◌}
 use Rattle.retained_journal.specs.declared.log_gate.LogGate.TheVariants.{Open}
 use Rattle.retained_journal.proofs.Calls.{its_moments, no_moment, sound_log, still_stands, then_stands}
-use Rattle.retained_journal.proofs.Stepped.{byte_now, log_opened, spares_log}
+use Rattle.retained_journal.proofs.SparedBytes.{spares_log}
+use Rattle.retained_journal.proofs.StepImages.{byte_now, log_opened}
 use Rattle.retained_journal.proofs.journal.Journal.open_log.Goals as goal
 
 pub returns-in_err-write_synced-in-Ready-clause-stands : goal.returns-in_err-write_synced-in-Ready-clause-stands

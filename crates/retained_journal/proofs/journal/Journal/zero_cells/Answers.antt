@@ -2,77 +2,40 @@ use Rattle.std.proofs.Common.{◌≡◌, ◌≤◌, ℕ, false, [], ◌∷◌, l
 use Rattle.panel_edges.specs.Disks.{Becomes, Holds}
 use Rattle.retained_journal.specs.declared.log_gate.LogGate.TheVariants.{Ready}
 use Rattle.retained_journal.specs.Places.{cell_place}
-use Rattle.retained_journal.specs.Images.{HasRoom}
-use Rattle.retained_journal.proofs.Calls.{its_moments, other_stands, still_stands}
-use Rattle.retained_journal.proofs.Stepped.{cells_ready, spares_cells}
-use Rattle.panel_edges.proofs.Moments.{then_more}
-use Rattle.retained_journal.specs.Images.{OpensToKeptOrAttempt}
+use Rattle.retained_journal.proofs.Calls.{other_stands, still_stands, then_moments}
+use Rattle.retained_journal.proofs.SparedBytes.{spares_cells}
+use Rattle.retained_journal.proofs.StepImages.{cells_ready}
 use Rattle.retained_journal.proofs.Calls.{all_zero, only_so, sound_ready}
 use Rattle.retained_journal.specs.Places.{whole_bytes}
 use Rattle.retained_journal.proofs.journal.Journal.zero_cells.Goals as goal
 
 pub returns-in_err-write_synced-clause-stands : goal.returns-in_err-write_synced-clause-stands
 returns-in_err-write_synced-clause-stands g c =
-    let j = c.args.self.now in
-    let at = c.cell_place.result in
-    let spares = spares_cells j at 1 c.requires.shut (let e = c.cell_place.ensures in omega (arith, e)) in
-    let call = c.write_synced.ensures in
-    let zeros = c.write_zeros.ensures in
-    let stands = still_stands g.D.Disk.honest g.D.Disk.images j c.write_zeros.new.disk c.write_synced.new.disk at 1 zeros.stands spares call.honest.0
-    call.crash in
-    let moments = λ (honest : g.D.Disk.honest c.args.disk.now) (room : HasRoom j).
-    then_more g.D.Disk.moment g.D.Disk.left_since c.args.disk.now c.write_zeros.new.disk c.write_synced.new.disk (OpensToKeptOrAttempt j)
-    (zeros.moments honest room)
-    (its_moments g.D.Disk.honest g.D.Disk.images g.D.Disk.moment g.D.Disk.left_since g.met.D.Disk.only_now j c.write_zeros.new.disk
-    c.write_synced.new.disk at 1 zeros.stands spares (zeros.honest.1 honest) room (call.time (zeros.honest.1 honest))) in
-    stands
+    still_stands g.D.Disk.honest g.D.Disk.images c.args.self.now c.write_zeros.new.disk c.write_synced.new.disk c.cell_place.result 1
+    c.write_zeros.ensures.stands (spares_cells c.args.self.now c.cell_place.result 1 c.requires.shut (let e = c.cell_place.ensures in omega (arith, e)))
+    c.write_synced.ensures.honest.0 c.write_synced.ensures.crash
 
 pub returns-in_err-write_synced-clause-moments : goal.returns-in_err-write_synced-clause-moments
-returns-in_err-write_synced-clause-moments g c =
-    let j = c.args.self.now in
-    let at = c.cell_place.result in
-    let spares = spares_cells j at 1 c.requires.shut (let e = c.cell_place.ensures in omega (arith, e)) in
-    let call = c.write_synced.ensures in
-    let zeros = c.write_zeros.ensures in
-    let stands = still_stands g.D.Disk.honest g.D.Disk.images j c.write_zeros.new.disk c.write_synced.new.disk at 1 zeros.stands spares call.honest.0
-    call.crash in
-    let moments = λ (honest : g.D.Disk.honest c.args.disk.now) (room : HasRoom j).
-    then_more g.D.Disk.moment g.D.Disk.left_since c.args.disk.now c.write_zeros.new.disk c.write_synced.new.disk (OpensToKeptOrAttempt j)
-    (zeros.moments honest room)
-    (its_moments g.D.Disk.honest g.D.Disk.images g.D.Disk.moment g.D.Disk.left_since g.met.D.Disk.only_now j c.write_zeros.new.disk
-    c.write_synced.new.disk at 1 zeros.stands spares (zeros.honest.1 honest) room (call.time (zeros.honest.1 honest))) in
-    moments
+returns-in_err-write_synced-clause-moments g c honest room =
+    then_moments g.D.Disk.honest g.D.Disk.images g.D.Disk.moment g.D.Disk.left_since g.met.D.Disk.only_now c.args.self.now
+    c.args.disk.now c.write_zeros.new.disk c.write_synced.new.disk c.cell_place.result 1 (c.write_zeros.ensures.moments honest)
+    c.write_zeros.ensures.stands (spares_cells c.args.self.now c.cell_place.result 1 c.requires.shut (let e = c.cell_place.ensures in omega (arith, e)))
+    (c.write_zeros.ensures.honest.1 honest) room (c.write_synced.ensures.time (c.write_zeros.ensures.honest.1 honest))
 
 pub returns-clause-moments : goal.returns-clause-moments
-returns-clause-moments g c =
-    let j = c.args.self.now in
-    let at = c.cell_place.result in
-    let spares = spares_cells j at 1 c.requires.shut (let e = c.cell_place.ensures in omega (arith, e)) in
-    let call = c.write_synced.ensures in
-    let zeros = c.write_zeros.ensures in
-    let stands = still_stands g.D.Disk.honest g.D.Disk.images j c.write_zeros.new.disk c.write_synced.new.disk at 1 zeros.stands spares call.honest.0
-    call.crash in
-    let moments = λ (honest : g.D.Disk.honest c.args.disk.now) (room : HasRoom j).
-    then_more g.D.Disk.moment g.D.Disk.left_since c.args.disk.now c.write_zeros.new.disk c.write_synced.new.disk (OpensToKeptOrAttempt j)
-    (zeros.moments honest room)
-    (its_moments g.D.Disk.honest g.D.Disk.images g.D.Disk.moment g.D.Disk.left_since g.met.D.Disk.only_now j c.write_zeros.new.disk
-    c.write_synced.new.disk at 1 zeros.stands spares (zeros.honest.1 honest) room (call.time (zeros.honest.1 honest))) in
-    moments
+returns-clause-moments g c honest room =
+    then_moments g.D.Disk.honest g.D.Disk.images g.D.Disk.moment g.D.Disk.left_since g.met.D.Disk.only_now c.args.self.now
+    c.args.disk.now c.write_zeros.new.disk c.write_synced.new.disk c.cell_place.result 1 (c.write_zeros.ensures.moments honest)
+    c.write_zeros.ensures.stands (spares_cells c.args.self.now c.cell_place.result 1 c.requires.shut (let e = c.cell_place.ensures in omega (arith, e)))
+    (c.write_zeros.ensures.honest.1 honest) room (c.write_synced.ensures.time (c.write_zeros.ensures.honest.1 honest))
 
 pub returns-clause-stands : goal.returns-clause-stands
 returns-clause-stands g c =
     let j = c.args.self.now in
-    let at = c.cell_place.result in
-    let spares = spares_cells j at 1 c.requires.shut (let e = c.cell_place.ensures in omega (arith, e)) in
     let call = c.write_synced.ensures in
-    let zeros = c.write_zeros.ensures in
-    let stands = still_stands g.D.Disk.honest g.D.Disk.images j c.write_zeros.new.disk c.write_synced.new.disk at 1 zeros.stands spares call.honest.0
-    call.crash in
-    let moments = λ (honest : g.D.Disk.honest c.args.disk.now) (room : HasRoom j).
-    then_more g.D.Disk.moment g.D.Disk.left_since c.args.disk.now c.write_zeros.new.disk c.write_synced.new.disk (OpensToKeptOrAttempt j)
-    (zeros.moments honest room)
-    (its_moments g.D.Disk.honest g.D.Disk.images g.D.Disk.moment g.D.Disk.left_since g.met.D.Disk.only_now j c.write_zeros.new.disk
-    c.write_synced.new.disk at 1 zeros.stands spares (zeros.honest.1 honest) room (call.time (zeros.honest.1 honest))) in
+    let stands =
+    still_stands g.D.Disk.honest g.D.Disk.images j c.write_zeros.new.disk c.write_synced.new.disk c.cell_place.result 1 c.write_zeros.ensures.stands
+    (spares_cells c.args.self.now c.cell_place.result 1 c.requires.shut (let e = c.cell_place.ensures in omega (arith, e))) call.honest.0 call.crash in
     other_stands g.D.Disk.honest g.D.Disk.images j (record j { log = Ready; cell_may_be_open = false }) c.write_synced.new.disk stands
     (sound_ready j c.requires.stands.sound c.requires.shut)
     (λ file honest here image.

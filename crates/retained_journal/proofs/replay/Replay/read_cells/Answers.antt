@@ -3,12 +3,13 @@ use Rattle.std.proofs.lemmas.Option.{IfSome_then}
 use Rattle.std.specs.Prelude.{IfSome, Ok}
 use Rattle.retained_journal.specs.Fields.{Agrees}
 use Rattle.retained_journal.specs.Places.{cell_place}
+use Rattle.retained_journal.specs.Places.{bytes_of_cell}
 use Rattle.retained_journal.specs.Replays.{EndsReplay, HasReplayed, RefusesReplay, TakesCell}
 use Rattle.retained_journal.proofs.Replaying.{replay_ends, replay_refuses, replay_stops, replayed_more, replayed_none}
 use Rattle.retained_journal.specs.declared.replay.Replay.{Replay}
 use Rattle.retained_journal.specs.declared.open_refusal.OpenRefusal.TheVariants.{DiskFault}
 use Rattle.retained_journal.proofs.Refused.{handed_on}
-use Rattle.retained_journal.proofs.Told.{both_told, each_told}
+use Rattle.retained_journal.proofs.SeenFiles.{both_told, each_told}
 use Rattle.retained_journal.proofs.Calls.{still_nothing_new, nothing_new}
 use Rattle.retained_journal.specs.Cells.{cell_changes}
 use Rattle.retained_journal.specs.Slots.{IsKeepable}
@@ -40,7 +41,7 @@ loop-cell-preserved g c =
     record {
       replayed =
           both_told (g.D.Disk.seen c.args.disk.now) before.replayed
-          (subst (λ seen. IfSome seen (λ file. Agrees 592 c.in_ok-bytes.bytes 0 file (cell_place c.loop-cell.cell))) before.seen
+          (subst (λ seen. IfSome seen (λ file. Agrees bytes_of_cell c.in_ok-bytes.bytes 0 file (cell_place c.loop-cell.cell))) before.seen
           c.in_ok-bytes.ensures.ok)
           (λ file replayed agrees. subst (λ new. HasReplayed file c.args.self.now new (c.loop-cell.cell + 1)) (sym took.2)
           (replayed_more file c.in_ok-bytes.bytes c.args.self.now c.loop-cell.self c.loop-cell.cell replayed agrees took.0 took.1));
@@ -70,7 +71,7 @@ returns-then-not-branch-clause-ok g c =
     let before = c.loop-cell.invariant in
     let took = subst (λ b. TakesCell c.loop-cell.self c.in_ok-bytes.bytes (Ok b) c.take.new.self) c.if-not-branch.true c.in_ok-take.ensures in
     both_told (g.D.Disk.seen c.args.disk.now) before.replayed
-    (subst (λ seen. IfSome seen (λ file. Agrees 592 c.in_ok-bytes.bytes 0 file (cell_place c.loop-cell.cell))) before.seen
+    (subst (λ seen. IfSome seen (λ file. Agrees bytes_of_cell c.in_ok-bytes.bytes 0 file (cell_place c.loop-cell.cell))) before.seen
     c.in_ok-bytes.ensures.ok)
     (λ file replayed agrees. subst (λ new. EndsReplay file c.args.self.now new) (sym took.1)
     (replay_stops file c.in_ok-bytes.bytes c.args.self.now c.loop-cell.self c.loop-cell.cell replayed agrees c.loop-cell-test.true took.0))
@@ -92,7 +93,7 @@ returns-in_err-take-clause-err g c =
     c.from_residual-in_err-take.ensures.1
     (λ e same no_fault.
     both_told (g.D.Disk.seen c.args.disk.now) before.replayed
-    (subst (λ seen. IfSome seen (λ file. Agrees 592 c.in_ok-bytes.bytes 0 file (cell_place c.loop-cell.cell))) before.seen
+    (subst (λ seen. IfSome seen (λ file. Agrees bytes_of_cell c.in_ok-bytes.bytes 0 file (cell_place c.loop-cell.cell))) before.seen
     c.in_ok-bytes.ensures.ok)
     (λ file replayed agrees. subst (λ r. RefusesReplay file c.args.self.now r) (sym (same ∙ took.1.3))
     (replay_refuses file c.in_ok-bytes.bytes c.args.self.now c.loop-cell.self c.loop-cell.cell replayed agrees c.loop-cell-test.true took.0 took.1.0

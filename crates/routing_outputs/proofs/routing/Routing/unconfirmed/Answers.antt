@@ -3,7 +3,7 @@ use Rattle.std.specs.Prelude.{not}
 use Rattle.site_types.specs.Bits.{has_bit}
 use Rattle.site_types.proofs.Masks.{mask_same}
 use Rattle.routing_outputs.specs.Confirmations.{is_watched, run_of, has_confirmation, ticks_of, spans, is_unconfirmed, state_of}
-use Rattle.routing_outputs.proofs.Bits.{bit_is}
+use Rattle.output_lists.proofs.Bits.{bit_is}
 use Rattle.routing_outputs.proofs.Runs.{is_unconfirmed_in}
 use Rattle.routing_outputs.proofs.routing.Routing.unconfirmed.Goals as goal
 

@@ -2,19 +2,19 @@ use tick_units::Tick;
 
 /// What is kept of a routing or protection output.
 #[derive(Clone, Copy, Default)]
-pub struct Line {
+pub struct WatchedOutput {
     /// Its bit in a mask.
     pub place: u8,
     /// The turn since which it has been on, if it is.
     pub since: Option<Tick>,
 }
 
-impl Line {
+impl WatchedOutput {
     ghost use Rattle.std.specs.Prelude.{◌≡◌};
-    ghost use Rattle.routing_outputs.specs.Lines.{is_late, turned};
+    ghost use Rattle.routing_outputs.specs.WatchedOutputs.{is_late, turned};
 
-    /// The same line after a turn of a tick.
-    pub fn turn(self, now: Tick, on: bool) -> Line
+    /// The same output after a turn of a tick.
+    pub fn turn(self, now: Tick, on: bool) -> WatchedOutput
         ensures { result ≡ turned now on self }
     {
         let since = if on {
@@ -22,7 +22,7 @@ impl Line {
         } else {
             None
         };
-        Line { since, ..self }
+        WatchedOutput { since, ..self }
     }
 
     /// Whether it has been on for the limit.

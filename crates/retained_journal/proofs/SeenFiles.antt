@@ -1,4 +1,4 @@
--- What is said of bytes where they are told.
+-- Claims on the bytes of a file, where the disk tells them.
 use Rattle.std.specs.Prelude.{Option, Some, None, IfSome}
 
 pub both_told : {X : Type 0} (o : Option X) {P Q R : X → Type 0} → IfSome o P → IfSome o Q → ((x : X) → P x → Q x → R x) → IfSome o R
