@@ -8,17 +8,18 @@ use Rattle.site_types.specs.declared.site.Site.{Site}
 use Rattle.panel_rules.specs.Moments.{Moment as MomentOf, Began, tick_of, up_to}
 use Rattle.panel_rules.specs.Operations.{Answered as AnsweredOf, Operations, Request as RequestOf, operations, requests as requests_of}
 use Rattle.panel_rules.specs.Timeline.{answer_in, answers_now, faces_of, failed_now}
-use Rattle.plain_panel.specs.declared.desk.Desk.{Desk}
-use Rattle.plain_panel.specs.declared.moment.Moment.{Moment}
-use Rattle.plain_panel.specs.declared.op_answered.OpAnswered.{OpAnswered as Answered}
-use Rattle.plain_panel.specs.declared.request.Request.{Request}
+use Rattle.plain_operations.specs.declared.desk.Desk.{Desk}
+use Rattle.plain_history.specs.declared.moment.Moment.{Moment}
+use Rattle.plain_operations.specs.declared.op_answered.OpAnswered.{OpAnswered as Answered}
+use Rattle.plain_operations.specs.declared.request.Request.{Request}
 use Rattle.plain_panel.specs.declared.telling.Telling.{Telling}
-use Rattle.plain_panel.specs.Desks.{StandsForDesk, all_answered, all_requests}
-use Rattle.plain_panel.specs.Histories.{history, moment_of}
+use Rattle.plain_operations.specs.Desks.{StandsForDesk, all_answered, all_requests}
+use Rattle.plain_history.specs.Histories.{history, moment_of}
 use Rattle.plain_panel.specs.Keepings.{StandsForKeeping}
-use Rattle.plain_panel.specs.Timelines.{StandsForTelling, steps_upto}
-use Rattle.plain_panel.proofs.Histories.{history_more}
-use Rattle.plain_panel.proofs.Timelines.{failed_began, faces_next, faces_stay, steps_next, steps_stay}
+use Rattle.plain_panel.specs.Timelines.{StandsForTelling}
+use Rattle.panel_bridges.specs.ClosedSteps.{steps_upto}
+use Rattle.plain_history.proofs.Histories.{history_more}
+use Rattle.panel_bridges.proofs.ClosedSteps.{failed_began, faces_next, faces_stay, steps_next, steps_stay}
 
 module _ (site : Site) (kept : Retained) where
   then_told : {A E : Type 0} (moments : List MomentOf) (after : Telling) (result : Result A E)

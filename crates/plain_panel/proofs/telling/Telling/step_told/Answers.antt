@@ -2,8 +2,8 @@ use Rattle.std.proofs.Common.{◌≡◌, ◌∙◌, ◌&&◌, Some, ap, length, 
 use Rattle.std.proofs.lemmas.List.{length-map}
 use Rattle.panel_rules.specs.Moments.{tick_of}
 use Rattle.panel_rules.specs.Timeline.{answers_now, is_told}
-use Rattle.plain_panel.specs.Desks.{answered_of}
-use Rattle.plain_panel.specs.Histories.{history}
+use Rattle.plain_operations.specs.Desks.{answered_of}
+use Rattle.plain_history.specs.Histories.{history}
 use Rattle.plain_panel.proofs.Tellers.{answers_are}
 use Rattle.plain_panel.proofs.Timelines.{closed_is, step_is, told_is}
 use Rattle.plain_panel.proofs.telling.Telling.step_told.Goals as goal

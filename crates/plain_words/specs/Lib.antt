@@ -1,0 +1,4 @@
+pub mod Askings
+pub mod Enterings
+pub mod Halves
+pub mod ZoneStates

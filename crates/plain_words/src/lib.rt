@@ -1,0 +1,24 @@
+//! What a panel's points answer, and what it makes of their answers: alarms, first states, missing points, words, entries.
+//!
+//! All answers are kept and looked through anew for each question. The zones and points that are told are exactly those
+//! of `coincidence_rules` and `panel_conditions` for the answers that the panel's Hold has taken.
+#![tactic(auto)]
+
+mod alarm;
+mod answered;
+mod asking;
+mod confirmed;
+mod counted;
+mod entering;
+mod entering_panels;
+mod missing;
+mod pairs;
+mod places;
+mod zone_state;
+
+pub use alarm::{is_by_hand, is_first, is_in_alarm, is_released};
+pub use answered::{answered_faults, answered_word};
+pub use asking::Asking;
+pub use entering::Entering;
+pub use entering_panels::{all_new, held_at, step_all};
+pub use missing::is_missing;
