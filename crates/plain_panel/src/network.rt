@@ -19,7 +19,7 @@ use marker_table::Facts;
 use panel_conditions::Outside;
 use panel_links::Ring;
 use plain_history::{Done, Moment, broken_loops, muted_before, shorted_loops, shown_supplies};
-use plain_words::{answered_faults, answered_word};
+use plain_words::Evidence;
 use site_types::{Answer, Buzzer, Event, FaultSet, Retained, Site, Word, mask_from_8};
 use tick_units::{Task, Tick};
 
@@ -71,9 +71,15 @@ impl Network {
     {
         if panel >= 1 && panel <= self.panels {
             let outside = self.outside(site, before, now, panel, unconfirmed);
-            let faults = answered_faults(site, kept, panel, done, answers, now, &outside);
+            let evidence = Evidence {
+                site,
+                kept,
+                done,
+                answers,
+            };
+            let faults = evidence.answered_faults(panel, now, &outside);
             let fault = has_fault(&faults);
-            let word = answered_word(site, kept, panel, done, answers, now, fault);
+            let word = evidence.answered_word(panel, now, fault);
             self.show(now, panel, word, faults);
         }
     }

@@ -7,8 +7,8 @@ ghost use Rattle.site_types.specs.Valid.{IsValid};
 ghost use Rattle.panel_rules.specs.Moments.{Moment as MomentOf, tick_of};
 ghost use Rattle.plain_history.specs.Histories.{all_done, moment_of};
 
-use crate::answered::zones_in_state;
 use crate::asking::Asking;
+use crate::evidence::Evidence;
 use crate::zone_state::ZoneState;
 use plain_history::{Done, Moment};
 use site_types::{Answer, Retained, Site};
@@ -168,7 +168,13 @@ fn is_in_fire(
     ensures { result ≡ holds_fire_alarm site.now kept.now (all_done done.now) tick.0 answers.now
         panel }
 {
-    zones_in_state(ZoneState::Alarm, site, kept, panel, done, answers, tick) != 0
+    let evidence = Evidence {
+        site,
+        kept,
+        done,
+        answers,
+    };
+    evidence.zones_in_state(ZoneState::Alarm, panel, tick) != 0
 }
 
 // What was not so is so now.

@@ -11,14 +11,13 @@ mod confirmed;
 mod counted;
 mod entering;
 mod entering_panels;
+mod evidence;
 mod missing;
 mod pairs;
 mod places;
 mod zone_state;
 
-pub use alarm::{is_by_hand, is_first, is_in_alarm, is_released};
-pub use answered::{answered_faults, answered_word};
 pub use asking::Asking;
 pub use entering::Entering;
 pub use entering_panels::{all_new, held_at, step_all};
-pub use missing::is_missing;
+pub use evidence::Evidence;

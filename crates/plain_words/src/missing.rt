@@ -4,7 +4,7 @@ ghost use Rattle.coincidence_rules.specs.Missing.{begins_silent, is_missing as i
 use site_types::{Answer, Heard};
 
 /// Whether the last three answers of a point were silent.
-pub fn is_missing(answers: &[Answer], point: usize) -> bool
+pub(crate) fn is_missing(answers: &[Answer], point: usize) -> bool
     ensures { result ≡ is_missing_by answers.now point }
 {
     ends_silent(3, point, answers)

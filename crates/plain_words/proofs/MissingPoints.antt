@@ -1,6 +1,6 @@
 -- Where a panel has no point in a half of a line, no bit of a mask of it is set.
 use Rattle.std.proofs.Common.{◌≡◌, ◌∙◌, ◌+◌, ◌<◌, ◌==◌, ◌&&◌, ℕ, zero, suc, Bool, true, false, List, [], ◌∷◌, Option, Some, None, length, get_or, arith, ap, refl, sym}
-use Rattle.std.specs.Prelude.{nat_le, nat_lt, not}
+use Rattle.std.specs.Prelude.{nat_le, nat_lt}
 use Rattle.std.specs.List.{list_any, position}
 use Rattle.std.proofs.lemmas.Bool.{eqb-true}
 use Rattle.std.proofs.lemmas.Bool.Decides.{nat_tests}
@@ -12,16 +12,14 @@ use Rattle.site_types.specs.declared.site.Site.{Site}
 use Rattle.site_types.specs.Bits.{mask_of}
 use Rattle.site_types.specs.Done.{Done}
 use Rattle.site_types.proofs.Masks.{has_bit-mask, mask_below, mask_empty}
-use Rattle.coincidence_rules.specs.Missing.{is_missing}
-use Rattle.panel_conditions.specs.Missing.{is_off}
 use Rattle.panel_conditions.specs.Points.{addressed, is_addressed, on_point}
-use Rattle.plain_words.specs.Halves.{lies_among}
+use Rattle.plain_words.specs.MissingPoints.{is_shown_missing, lies_among}
 use Rattle.plain_history.proofs.Reported.{or_first, or_rest}
 
 -- a point that a line and an address have is shown as missing
 abbrev pub point_test : Site → Retained → ℕ → List Done → List Answer → ℕ → ℕ → ℕ → ℕ → Bool
 point_test site kept panel done answers tick line past k =
-    on_point (λ place. is_missing answers place && not (is_off site kept done place tick)) (addressed site panel line (past + k + 1))
+    on_point (is_shown_missing site kept done answers tick) (addressed site panel line (past + k + 1))
 
 and_first : (a b : Bool) → (a && b) ≡ true → a ≡ true
 and_first true b e = refl
@@ -73,6 +71,6 @@ none_among site kept panel done answers tick line past none =
     sym
     (mask_empty 96 (mask_of 96 test) (mask_below 96 test)
     (λ k small. has_bit-mask 96 test k small
-    ∙ ap (on_point (λ place. is_missing answers place && not (is_off site kept done place tick)))
+    ∙ ap (on_point (is_shown_missing site kept done answers tick))
     (none_found (is_addressed panel line (past + k + 1)) (lies_among panel line past) (among panel line past k small) site.points none
     (addressed site panel line (past + k + 1)) refl)))
