@@ -44,6 +44,10 @@ uses site m place = list_any (looks_at site place) (terms_of (slice_get site.mar
 abbrev pub users_at : List (List ℕ) → ℕ → List ℕ
 users_at lists place = slice_index_or lists place []
 
+-- the users of a marker
+abbrev pub marker_users : List (List ℕ) → ℕ → List ℕ
+marker_users lists marker = users_at lists (markers_from + marker)
+
 -- the list at each place has exactly the markers that have what is there as a term
 abbrev pub AreUsersOf : Site → List (List ℕ) → Type 0
 AreUsersOf site lists = (place m : ℕ) → is_among m (users_at lists place) ≡ uses site m place

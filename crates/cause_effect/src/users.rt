@@ -5,7 +5,7 @@ ghost use Rattle.site_types.specs.Valid.{IsValid};
 ghost use Rattle.site_types.specs.declared.site.Site.{Site as SiteOf};
 ghost use Rattle.cause_effect.specs.Changes.{has_changed};
 ghost use Rattle.cause_effect.specs.Cycles.{has_term, is_among};
-ghost use Rattle.cause_effect.specs.Users.{AreUsersOf, faults_from, is_marked, markers_from, users_at, uses_word};
+ghost use Rattle.cause_effect.specs.Users.{AreUsersOf, faults_from, is_marked, marker_users, users_at, uses_word};
 
 use crate::members::Members;
 use marker_table::Facts;
@@ -15,8 +15,11 @@ use tick_units::Items;
 // Where in the one table the users of call points, of markers and of faults begin, behind those of the 256 zones, and
 // how many places there are.
 pub(crate) const MANUAL_FROM: usize = 256;
+
 pub(crate) const MARKERS_FROM: usize = 512;
+
 pub(crate) const FAULTS_FROM: usize = 768;
+
 pub(crate) const PLACES: usize = 776;
 
 /// For each fact and each marker, the markers that have it as a term: those of the 256 zones, of their call
@@ -61,7 +64,7 @@ impl Users {
     pub(crate) fn mark_users(&self, marker: u8, marks: &mut [bool; 256])
         ensures { (m : ℕ) → m < 256
             → is_marked marks.new m
-            ≡ (is_marked marks.old m || is_among m (users_at self.now.lists (markers_from + marker))) }
+            ≡ (is_marked marks.old m || is_among m (marker_users self.now.lists marker)) }
     {
         self.mark(MARKERS_FROM + marker as usize, marks);
     }

@@ -8,7 +8,9 @@ ghost use Rattle.panel_rules.specs.Outputs.{outputs_where};
 ghost use Rattle.plain_history.specs.Histories.{all_done};
 
 use crate::done::Done;
-use crate::numbered::{addresses_that, numbers_that, output_at, point_at, points_in_halves, zone_at};
+use crate::numbered::{
+    addresses_that, numbers_that, output_at, point_at, points_in_halves, zone_at,
+};
 use crate::setting::{Setting, in_force};
 use site_types::{PointSet, Retained, Site};
 use tick_units::Tick;

@@ -20,9 +20,7 @@ impl Evidence<'_> {
         ensures { result ≡ judged is_in_alarm_by self.now zone tick.0 }
     {
         let floor = floor_before(self.site, zone, tick, self.done);
-        self.answers
-            .iter()
-            .any(|answer| floor.0 < answer.stamp.0 && self.confirms(zone, answer))
+        self.answers.iter().any(|answer| floor.0 < answer.stamp.0 && self.confirms(zone, answer))
     }
 
     /// Whether a zone is in alarm by hand at a tick: a manual call point of it confirmed it after its floor.
@@ -30,9 +28,7 @@ impl Evidence<'_> {
         ensures { result ≡ judged is_by_hand_by self.now zone tick.0 }
     {
         let floor = floor_before(self.site, zone, tick, self.done);
-        self.answers
-            .iter()
-            .any(|answer| floor.0 < answer.stamp.0 && self.calls(zone, answer))
+        self.answers.iter().any(|answer| floor.0 < answer.stamp.0 && self.calls(zone, answer))
     }
 
     /// Whether a zone is released at a tick: outputs may act for it, by an answer after its floor.
@@ -40,9 +36,7 @@ impl Evidence<'_> {
         ensures { result ≡ judged is_released_by self.now zone tick.0 }
     {
         let floor = floor_before(self.site, zone, tick, self.done);
-        self.answers
-            .iter()
-            .any(|answer| floor.0 < answer.stamp.0 && self.releases(zone, answer))
+        self.answers.iter().any(|answer| floor.0 < answer.stamp.0 && self.releases(zone, answer))
     }
 
     /// Whether a zone is in first state at a tick: it is of type B, not in alarm, and a detector of it told.

@@ -18,7 +18,9 @@ use crate::evidence::Evidence;
 use crate::missing::is_missing;
 use crate::zone_state::ZoneState;
 use panel_conditions::Outside;
-use plain_history::{Setting, addresses_that, in_force, numbers_that, point_at, points_in_halves, zone_at};
+use plain_history::{
+    Setting, addresses_that, in_force, numbers_that, point_at, points_in_halves, zone_at,
+};
 use site_types::{FaultSet, Point, PointSet, Site, Word};
 use tick_units::Tick;
 
@@ -129,7 +131,8 @@ impl Evidence<'_> {
 
     // Whether a setting is in force at a tick.
     fn is_set(&self, setting: Setting, tick: Tick) -> bool
-        ensures { result ≡ value_at self.now.site.now self.now.kept.now (setting_from setting) tick.0
+        ensures { result
+            ≡ value_at self.now.site.now self.now.kept.now (setting_from setting) tick.0
             (all_done self.now.done.now) }
     {
         in_force(self.site, self.kept, setting, tick, self.done)
