@@ -6,9 +6,10 @@ ghost use Rattle.site_types.specs.Done.{Done};
 ghost use Rattle.site_types.specs.Valid.{IsValid};
 ghost use Rattle.panel_conditions.specs.Turns.{HoldTurn};
 
+use crate::news::has_fault;
 use crate::outside::Outside;
 use crate::points::Points;
-use crate::shown::{Shown, has_fault};
+use crate::shown::Shown;
 use crate::signs::Signs;
 use crate::zones::Zones;
 use arrayvec::ArrayVec;

@@ -4,7 +4,9 @@
 //! Begin with [`Hold`]. At each turn it takes findings of answers from a lane and what the other parts of the
 //! panel tell ([`Outside`]), and shows what follows. Operations that were done are given to it by
 //! [`Hold::apply`]; each is in force from the tick after its own. [`Hold::word`], [`Hold::zones`],
-//! [`Hold::faults`], [`Hold::buzzer`] and [`Hold::counter_entries`] tell what the latest turn showed.
+//! [`Hold::faults`], [`Hold::buzzer`] and [`Hold::counter_entries`] tell what the latest turn showed. Whether a
+//! word and faults show anything new ([`is_news`], [`has_fault`]) and what the buzzer then sounds ([`sounds`])
+//! are functions of values, which a plain panel calls too.
 //!
 //! Contracts speak of all that was ever taken: `HoldsFor` joins a [`Hold`] to the operations done and the
 //! turns made, and each call answers by definitions over these lists. The files of specs/ say, in the order
@@ -21,6 +23,7 @@ mod asked;
 mod hold;
 mod laws;
 mod loop_address;
+mod news;
 mod next_bit;
 mod outside;
 mod point_sets;
@@ -37,5 +40,6 @@ mod zones;
 pub use coincidence_rules::Finding;
 pub use hold::Hold;
 pub use laws::{answers_tell, missing_tells, zones_tell};
+pub use news::{has_fault, is_news, sounds};
 pub use outside::Outside;
 pub use site_types::Word;

@@ -1,11 +1,8 @@
-ghost use Rattle.std.specs.Prelude.{◌≡◌, [], ◌∷◌, slice_index, slice_index_or, length, not, ◌==◌};
-ghost use Rattle.panel_conditions.specs.Shown.{has_more, has_more_faults, has_more_points, is_in_fire_alarm, is_news};
-ghost use Rattle.panel_conditions.specs.Shown.{line_has_more, sounds};
-ghost use Rattle.panel_conditions.specs.Words.{has_fault as some_fault, has_points as some_point};
-ghost use Rattle.panel_conditions.specs.Words.{some_on_line as some_of_line};
+ghost use Rattle.std.specs.Prelude.{◌≡◌, [], ◌∷◌};
 ghost use Rattle.panel_conditions.specs.Stands.{entries_then, nothing_shown, shown_then};
 
-use site_types::{Buzzer, FaultSet, PointSet, Word};
+use crate::news::{is_news, sounds};
+use site_types::{Buzzer, FaultSet, Word};
 use tick_units::Tick;
 
 /// What a panel shows of its own after a turn.
@@ -37,7 +34,7 @@ impl Shown {
     pub fn after(&self, word: Word, faults: FaultSet, muted: Tick) -> Shown
         ensures { result ≡ shown_then self.now word faults muted }
     {
-        let newly = if news(&word, &faults, self) {
+        let newly = if is_news(&word, &faults, &self.word, &self.faults) {
             word.stamp
         } else {
             self.newly
@@ -47,88 +44,9 @@ impl Shown {
             faults,
             newly,
             entries: entries_after(self.entries, &word, &self.word),
-            buzzer: buzzer_of(&word, muted.0 < newly.0),
+            buzzer: sounds(&word, muted.0 < newly.0),
         }
     }
-}
-
-/// Whether some fault is shown.
-pub fn has_fault(faults: &FaultSet) -> bool
-    ensures { result ≡ some_fault faults.now }
-{
-    has_points(&faults.missing)
-        || (faults.broken != 0
-            || (faults.shorted != 0
-                || (faults.supply != 0
-                    || (faults.silent != 0 || (faults.links != 0 || faults.unconfirmed != 0)))))
-}
-
-fn has_points(set: &PointSet) -> bool
-    ensures { result ≡ some_point set.now }
-{
-    some_on_line(&set.loops[0])
-        || (some_on_line(&set.loops[1])
-            || (some_on_line(&set.loops[2]) || some_on_line(&set.loops[3])))
-}
-
-fn some_on_line(halves: &[u128; 2]) -> bool
-    ensures { result ≡ some_of_line halves.now }
-{
-    halves[0] != 0 || halves[1] != 0
-}
-
-// Whether a zone in alarm, a first state or a fault is shown that was not shown before.
-fn news(word: &Word, faults: &FaultSet, before: &Shown) -> bool
-    ensures { result ≡ is_news word.now faults.now before.now.word before.now.faults }
-{
-    more_32(word.alarm, before.word.alarm)
-        || (more_32(word.first, before.word.first) || more_faults(faults, &before.faults))
-}
-
-fn more_faults(shown: &FaultSet, before: &FaultSet) -> bool
-    ensures { result ≡ has_more_faults shown.now before.now }
-{
-    more_points(&shown.missing, &before.missing)
-        || (more_8(shown.broken, before.broken)
-            || (more_8(shown.shorted, before.shorted)
-                || (more_8(shown.supply, before.supply)
-                    || (more_8(shown.silent, before.silent)
-                        || (more_8(shown.links, before.links)
-                            || more_32(shown.unconfirmed, before.unconfirmed))))))
-}
-
-fn more_points(shown: &PointSet, before: &PointSet) -> bool
-    ensures { result ≡ has_more_points shown.now before.now }
-{
-    more_on_line(&shown.loops[0], &before.loops[0])
-        || (more_on_line(&shown.loops[1], &before.loops[1])
-            || (more_on_line(&shown.loops[2], &before.loops[2])
-                || more_on_line(&shown.loops[3], &before.loops[3])))
-}
-
-fn more_on_line(shown: &[u128; 2], before: &[u128; 2]) -> bool
-    ensures { result ≡ line_has_more shown.now before.now }
-{
-    more_128(shown[0], before[0]) || more_128(shown[1], before[1])
-}
-
-// Whether one mask has a bit that the other hasn't.
-fn more_8(shown: u8, before: u8) -> bool
-    ensures { result ≡ has_more 8 shown before }
-{
-    shown & !before != 0
-}
-
-fn more_32(shown: u32, before: u32) -> bool
-    ensures { result ≡ has_more 32 shown before }
-{
-    shown & !before != 0
-}
-
-fn more_128(shown: u128, before: u128) -> bool
-    ensures { result ≡ has_more 128 shown before }
-{
-    shown & !before != 0
 }
 
 // How often the panel entered the fire alarm condition, with a word after another.
@@ -139,20 +57,5 @@ fn entries_after(entries: u64, word: &Word, before: &Word) -> u64
         entries.saturating_add(1)
     } else {
         entries
-    }
-}
-
-// What the buzzer sounds, by whether anything was newly shown after the last mute.
-fn buzzer_of(word: &Word, unmuted: bool) -> Buzzer
-    ensures { result ≡ sounds word.now unmuted }
-{
-    if !unmuted {
-        Buzzer::Off
-    } else if word.alarm != 0 || word.first != 0 {
-        Buzzer::Fire
-    } else if word.fault {
-        Buzzer::Fault
-    } else {
-        Buzzer::Off
     }
 }

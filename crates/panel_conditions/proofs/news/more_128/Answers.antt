@@ -2,7 +2,7 @@ use Rattle.std.proofs.Common.{◌<◌, ◌^◌, ◌-◌, arith, bit_and}
 use Rattle.std.specs.Int.{w128}
 use Rattle.std.proofs.lemmas.Nat.{and_le_l}
 use Rattle.panel_conditions.proofs.Bits.{more_is}
-use Rattle.panel_conditions.proofs.shown.more_128.Goals as goal
+use Rattle.panel_conditions.proofs.news.more_128.Goals as goal
 
 pub returns : goal.returns
 returns c =
