@@ -1,7 +1,7 @@
 ghost use Rattle.std.specs.Prelude.{◌≡◌};
 ghost use Rattle.plain_panel.specs.Network.{no_indications, indications_then};
 
-use crate::news::is_news;
+use panel_conditions::is_news;
 use site_types::{FaultSet, Word};
 use tick_units::Tick;
 

@@ -10,7 +10,6 @@ mod faces_now;
 mod indications;
 mod keeping;
 mod network;
-mod news;
 mod site_state;
 mod telling;
 

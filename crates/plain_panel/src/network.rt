@@ -13,10 +13,9 @@ ghost use Rattle.panel_rules.specs.Zones.{held_answers};
 ghost use Rattle.panel_bridges.specs.FactMasks.{AreFacts};
 ghost use Rattle.plain_history.specs.Histories.{all_done, history, moment_of};
 
-use crate::news::{has_fault, sounds};
 use crate::indications::Indications;
 use marker_table::Facts;
-use panel_conditions::Outside;
+use panel_conditions::{Outside, has_fault, sounds};
 use panel_links::Ring;
 use plain_history::{Done, Moment, broken_loops, muted_before, shorted_loops, shown_supplies};
 use plain_words::Evidence;
