@@ -1,15 +1,14 @@
 -- What is kept of moments to tell what drives outputs, for a history of them.
-use Rattle.std.specs.Prelude.{◌≡◌, ℕ, ◌-◌, ◌<◌, ◌==◌, max, Bool, true, false, List, [], ◌∷◌, length, take, reverse}
+use Rattle.std.specs.Prelude.{◌≡◌, ℕ, ◌==◌, max, Bool, true, false, List, [], ◌∷◌, take, reverse}
 use Rattle.std.specs.Prelude.{slice_get, Option, Some, None}
 use Rattle.tick_units.specs.declared.task.Task.{Task}
 use Rattle.tick_units.specs.declared.task.Task.TheVariants.{Effect}
 use Rattle.site_types.specs.declared.event.Event.{Event}
 use Rattle.site_types.specs.declared.event.Event.TheVariants.{Confirmed}
 use Rattle.site_types.specs.declared.site.Site.{Site}
-use Rattle.site_types.specs.Bits.{has_bit}
 use Rattle.site_types.specs.Valid.{IsPanel}
 use Rattle.marker_table.specs.declared.facts.Facts.{Facts as Masks}
-use Rattle.marker_table.specs.Equations.{values_of, zone_bit}
+use Rattle.marker_table.specs.Equations.{values_of}
 use Rattle.panel_rules.specs.Latest.{made_latest}
 use Rattle.panel_rules.specs.Moments.{Moment as MomentOf, Began as BeganOf, Happened as HappenedOf}
 use Rattle.panel_rules.specs.Moments.{Turned as TurnedOf, Kept as KeptOf, is_turn, tick_of}

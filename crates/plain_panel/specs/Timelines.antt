@@ -1,14 +1,12 @@
 -- The timeline of a run as it is told tick by tick.
-use Rattle.std.specs.Prelude.{◌≡◌, ◌≤◌, ◌-◌, ◌&&◌, ℕ, Bool, List, Option, Some, None, filter, if◌then◌else◌, map}
-use Rattle.std.specs.Prelude.{nat_le}
-use Rattle.std.specs.List.{range_with_len}
+use Rattle.std.specs.Prelude.{◌≡◌, ◌≤◌, ◌-◌, Bool, List}
 use Rattle.tick_units.specs.declared.tick.Tick.{Tick}
 use Rattle.site_types.specs.declared.retained.Retained.{Retained}
 use Rattle.site_types.specs.declared.site.Site.{Site}
 use Rattle.face_text.specs.declared.face.Face.{Face}
 use Rattle.face_text.specs.declared.step.Step.{Step}
 use Rattle.panel_rules.specs.Moments.{Moment, tick_of, up_to}
-use Rattle.panel_rules.specs.Timeline.{faces_of, failed_now, is_told, step_of, told}
+use Rattle.panel_rules.specs.Timeline.{faces_of, failed_now, told}
 use Rattle.panel_rules.specs.Operations.{Answered}
 use Rattle.panel_bridges.specs.ClosedSteps.{steps_upto}
 use Rattle.plain_panel.specs.declared.telling.Telling.{Telling}
