@@ -11,12 +11,26 @@ use Rattle.marker_table.specs.Table.{input_of}
 use Rattle.cause_effect.specs.Cycles.{is_among, terms_of}
 use Rattle.cause_effect.specs.Changes.{differ}
 
+-- where in the one table the users of call points, of markers and of faults begin, behind those of the zones, and how
+-- many places there are
+abbrev pub manual_from : ℕ
+manual_from = 256
+
+abbrev pub markers_from : ℕ
+markers_from = 512
+
+abbrev pub faults_from : ℕ
+faults_from = 768
+
+abbrev pub places : ℕ
+places = 776
+
 -- the place of what a term looks at: the zones, their call points, the markers, the panels with their faults
 abbrev pub place_of : Input → ℕ
 place_of (ZoneInput place) = place
-place_of (ManualInput place) = 256 + place
-place_of (MarkerInput place) = 512 + place
-place_of (FaultInput place) = 768 + place
+place_of (ManualInput place) = manual_from + place
+place_of (MarkerInput place) = markers_from + place
+place_of (FaultInput place) = faults_from + place
 
 -- a term looks at what has this place
 abbrev pub looks_at : Site → ℕ → Term → Bool
@@ -29,6 +43,10 @@ uses site m place = list_any (looks_at site place) (terms_of (slice_get site.mar
 -- the users at a place
 abbrev pub users_at : List (List ℕ) → ℕ → List ℕ
 users_at lists place = slice_index_or lists place []
+
+-- the users of a marker
+abbrev pub marker_users : List (List ℕ) → ℕ → List ℕ
+marker_users lists marker = users_at lists (markers_from + marker)
 
 -- the list at each place has exactly the markers that have what is there as a term
 abbrev pub AreUsersOf : Site → List (List ℕ) → Type 0

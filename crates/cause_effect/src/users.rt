@@ -5,12 +5,22 @@ ghost use Rattle.site_types.specs.Valid.{IsValid};
 ghost use Rattle.site_types.specs.declared.site.Site.{Site as SiteOf};
 ghost use Rattle.cause_effect.specs.Changes.{has_changed};
 ghost use Rattle.cause_effect.specs.Cycles.{has_term, is_among};
-ghost use Rattle.cause_effect.specs.Users.{AreUsersOf, is_marked, users_at, uses_word};
+ghost use Rattle.cause_effect.specs.Users.{AreUsersOf, faults_from, is_marked, marker_users, users_at, uses_word};
 
 use crate::members::Members;
 use marker_table::Facts;
 use site_types::has_bit_32;
 use tick_units::Items;
+
+// Where in the one table the users of call points, of markers and of faults begin, behind those of the 256 zones, and
+// how many places there are.
+pub(crate) const MANUAL_FROM: usize = 256;
+
+pub(crate) const MARKERS_FROM: usize = 512;
+
+pub(crate) const FAULTS_FROM: usize = 768;
+
+pub(crate) const PLACES: usize = 776;
 
 /// For each fact and each marker, the markers that have it as a term: those of the 256 zones, of their call
 /// points, of the 256 markers and of the faults of 8 panels.
@@ -35,13 +45,18 @@ impl Users {
                 &mut marks,
             );
             self.mark_word(
-                256 + 32 * panel,
+                MANUAL_FROM + 32 * panel,
                 before.manual[panel],
                 after.manual[panel],
                 &mut marks,
             );
         }
-        self.mark_word(768, before.faults as u32, after.faults as u32, &mut marks);
+        self.mark_word(
+            FAULTS_FROM,
+            before.faults as u32,
+            after.faults as u32,
+            &mut marks,
+        );
         marks
     }
 
@@ -49,14 +64,14 @@ impl Users {
     pub(crate) fn mark_users(&self, marker: u8, marks: &mut [bool; 256])
         ensures { (m : ℕ) → m < 256
             → is_marked marks.new m
-            ≡ (is_marked marks.old m || is_among m (users_at self.now.lists (512 + marker))) }
+            ≡ (is_marked marks.old m || is_among m (marker_users self.now.lists marker)) }
     {
-        self.mark(512 + marker as usize, marks);
+        self.mark(MARKERS_FROM + marker as usize, marks);
     }
 
     // Marks the users of the bits that differ in two masks, the first bit's being at a place.
     fn mark_word(&self, first: usize, before: u32, after: u32, marks: &mut [bool; 256])
-        requires { first ≤ 768 }
+        requires { first ≤ faults_from }
         ensures { (m : ℕ) → m < 256
             → is_marked marks.new m
             ≡ (is_marked marks.old m || uses_word self.now.lists first before after m) }

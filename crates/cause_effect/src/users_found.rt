@@ -5,17 +5,14 @@ ghost use Rattle.std.specs.List.{list_any};
 ghost use Rattle.site_types.specs.Valid.{IsTerm, IsValid};
 ghost use Rattle.marker_table.specs.declared.input.Input.{Input as InputOf};
 ghost use Rattle.cause_effect.specs.Cycles.{is_among};
-ghost use Rattle.cause_effect.specs.Users.{AreUsersOf, looks_at, place_of as place_for, users_at};
+ghost use Rattle.cause_effect.specs.Users.{AreUsersOf, looks_at, place_of as place_for, places, users_at};
 
 use crate::members::Members;
-use crate::users::Users;
+use crate::users::{FAULTS_FROM, MANUAL_FROM, MARKERS_FROM, PLACES, Users};
 use marker_table::Input;
 use site_types::{Site, Term};
 use std::alloc::Global;
 use tick_units::{Items, NoMemory};
-
-// How many places there are.
-const PLACES: usize = 776;
 
 impl Users {
     // The users of each fact and each marker of a site.
@@ -35,7 +32,7 @@ impl Users {
 
 // A list for each place, without a user.
 fn no_users(alloc: Global) -> Result<Vec<Members>, NoMemory>
-    ensures { IfOk result (λ lists. lists.items ≡ replicate 776 []) }
+    ensures { IfOk result (λ lists. lists.items ≡ replicate places []) }
 {
     let mut lists = Vec::with_capacity(alloc, PLACES)?;
     for _place in 0..PLACES {
@@ -48,8 +45,8 @@ fn no_users(alloc: Global) -> Result<Vec<Members>, NoMemory>
 fn add_terms(site: &Site, terms: &[Term], marker: u8, lists: &mut [Members]) -> Result<(), NoMemory>
     requires valid { IsValid site.now }
     requires terms { All (IsTerm site.now) terms.now }
-    requires size { length lists.old ≡ 776 }
-    ensures size { length lists.new ≡ 776 }
+    requires size { length lists.old ≡ places }
+    ensures size { length lists.new ≡ places }
     ensures users { IfOk result (λ _. (place m : ℕ)
         → is_among m (users_at lists.new place) ≡ (is_among m (users_at lists.old place)
         || ((m == marker) && list_any (looks_at site.now place) terms.now))) }
@@ -66,8 +63,8 @@ fn place_of(input: Input) -> usize
 {
     match input {
         Input::Zone(place) => place as usize,
-        Input::Manual(place) => 256 + place as usize,
-        Input::Marker(place) => 512 + place as usize,
-        Input::Fault(place) => 768 + place as usize,
+        Input::Manual(place) => MANUAL_FROM + place as usize,
+        Input::Marker(place) => MARKERS_FROM + place as usize,
+        Input::Fault(place) => FAULTS_FROM + place as usize,
     }
 }

@@ -22,7 +22,7 @@ use Rattle.loop_poller.specs.Stands.{StandsFor as PollsFor}
 use Rattle.panel_rules.specs.Moments.{Moment, Happened, IsPanel}
 use Rattle.panel_rules.proofs.Bools.{parts as both_parts, at_any}
 use Rattle.panel_rules.proofs.Reports.{is_line}
-use Rattle.panel_rules.proofs.Told.{eq_true}
+use Rattle.panel_rules.proofs.AnswersTell.{eq_true}
 use Rattle.panel_rules.proofs.Floors.{lt_from}
 use Rattle.panel_core.specs.declared.parts.Parts.{Parts}
 use Rattle.panel_core.specs.declared.system.System.{System}

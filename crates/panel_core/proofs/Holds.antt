@@ -24,7 +24,7 @@ use Rattle.panel_conditions.specs.Turns.{HoldTurn, findings_taken, latest_tick}
 use Rattle.panel_rules.specs.Moments.{Moment, Began, Happened, Turned, Kept, IsRun, latest_turn, tick_of}
 use Rattle.panel_rules.specs.Counts.{taken_by_hold}
 use Rattle.panel_rules.proofs.Turns.{turn_lag}
-use Rattle.panel_rules.proofs.Told.{eq_true}
+use Rattle.panel_rules.proofs.AnswersTell.{eq_true}
 use Rattle.panel_core.specs.declared.parts.Parts.{Parts}
 use Rattle.panel_rules.specs.States.{piece_of}
 use Rattle.panel_rules.specs.Reports.{reports}

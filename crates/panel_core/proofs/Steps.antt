@@ -11,7 +11,7 @@ use Rattle.panel_rules.specs.Moments.{Moment, Turned}
 use Rattle.panel_rules.specs.Answers.{answers, asked}
 use Rattle.panel_rules.specs.Counts.{answer_count, taken_by_decide, taken_by_hold}
 use Rattle.panel_rules.proofs.Counts.{decide_behind, hold_behind}
-use Rattle.panel_rules.proofs.Told.{eq_true}
+use Rattle.panel_rules.proofs.AnswersTell.{eq_true}
 use Rattle.panel_core.specs.Lanes.{decided, answer_lane, found, finding_lane}
 use Rattle.panel_core.proofs.Fronts.{front_more, found_more, found_count}
 use Rattle.coincidence_rules.specs.declared.finding.Finding.{Finding}

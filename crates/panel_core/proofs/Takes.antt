@@ -15,7 +15,7 @@ use Rattle.panel_rules.specs.Moments.{Moment, Turned, IsRun, IsPanel, present}
 use Rattle.panel_rules.specs.Answers.{answers}
 use Rattle.panel_rules.specs.Counts.{taken_by_decide}
 use Rattle.panel_rules.proofs.Places.{take_get}
-use Rattle.panel_rules.proofs.Told.{told_by}
+use Rattle.panel_rules.proofs.AnswersTell.{told_by}
 use Rattle.panel_rules.proofs.Order.{answers_in_order}
 use Rattle.panel_core.specs.declared.parts.Parts.{Parts}
 use Rattle.panel_core.specs.Lanes.{answer_lane, decided}

@@ -14,7 +14,7 @@ use Rattle.panel_rules.specs.Operations.{desk_reply, after_request, after_desk, 
 use Rattle.panel_rules.specs.Timeline.{failed_ticks}
 use Rattle.panel_laws.specs.OtherDeadlines.{is_by_desk, AcceptedIsInForce}
 use Rattle.panel_rules.proofs.Bools.{both, either_left, either_right}
-use Rattle.panel_rules.proofs.Told.{eq_true}
+use Rattle.panel_rules.proofs.AnswersTell.{eq_true}
 use Rattle.panel_rules.proofs.Counting.{each_at, each_to}
 use Rattle.panel_laws.proofs.DeskOutcomes.{Outcome, told, at_once, goes_on, outcome}
 use Rattle.panel_laws.proofs.AnswerLaws.{answers_are_to}

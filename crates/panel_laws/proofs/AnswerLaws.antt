@@ -17,7 +17,7 @@ use Rattle.panel_rules.specs.Operations.{operations}
 use Rattle.panel_laws.specs.OperationLaws.{AnsweredOnce, AnswersAreToRequests, AnsweredByTheNextTick}
 use Rattle.panel_rules.proofs.Bools.{both, parts}
 use Rattle.panel_rules.proofs.Places.{get_front}
-use Rattle.panel_rules.proofs.Told.{eq_true}
+use Rattle.panel_rules.proofs.AnswersTell.{eq_true}
 use Rattle.panel_rules.proofs.Counting.{one, count, count-append, count-none, count-some, counted, one_place, each_at, each_by, each_to, each_more, each_filtered}
 use Rattle.panel_rules.proofs.Answering.{times, times_desk, times_keep, numbered_by_place}
 use Rattle.panel_rules.proofs.OpenRequests.{is_open, desk_takes, answered_few}

@@ -24,7 +24,7 @@ use Rattle.panel_rules.proofs.Counting.{count-none, count-some, each_at, each_by
 use Rattle.panel_laws.proofs.FewAnswers.{can_be_told, few_asked, is_early_up_to, length_filter, told_few}
 use Rattle.panel_rules.proofs.Floors.{le_to, lt_to}
 use Rattle.panel_rules.proofs.Places.{found_from}
-use Rattle.panel_rules.proofs.Told.{eq_true}
+use Rattle.panel_rules.proofs.AnswersTell.{eq_true}
 
 -- ---- an answer that is found
 

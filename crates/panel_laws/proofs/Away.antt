@@ -25,19 +25,19 @@ use Rattle.panel_rules.specs.Counts.{taken_by_hold}
 use Rattle.panel_rules.specs.Zones.{held_answers}
 use Rattle.panel_rules.specs.Kept.{made_at}
 use Rattle.panel_rules.specs.Due.{reached_at}
-use Rattle.panel_rules.proofs.LaidOut.{PointLies}
+use Rattle.panel_rules.proofs.SiteLayout.{PointLies}
 use Rattle.panel_laws.specs.FaceLaws.{HasEnded}
 use Rattle.panel_laws.specs.OtherDeadlines.{IsAway, AwayIsMissing}
 use Rattle.panel_rules.proofs.Bools.{both, parts, not_true}
 use Rattle.panel_rules.proofs.Floors.{le_to}
 use Rattle.panel_rules.proofs.Places.{get_take, take_get}
 use Rattle.panel_rules.proofs.Turns.{run_tail, owed_turn}
-use Rattle.panel_rules.proofs.Told.{eq_true, turn_in, polled, told_by}
+use Rattle.panel_rules.proofs.AnswersTell.{eq_true, turn_in, polled, told_by}
 use Rattle.panel_rules.proofs.Lags.{stamped_by, hold_has}
 use Rattle.panel_rules.proofs.Rounds.{asking}
 use Rattle.panel_rules.proofs.Order.{answers_in_order}
 use Rattle.panel_rules.proofs.KeptWords.{made_is}
-use Rattle.panel_rules.proofs.Laid.{laid_out, position_unique}
+use Rattle.panel_rules.proofs.ValidLayout.{laid_out, position_unique}
 use Rattle.panel_rules.proofs.Joined.{was_made}
 use Rattle.panel_laws.proofs.AnswerLaws.{eq_is}
 use Rattle.panel_laws.proofs.OwnTick.{made_now}

@@ -40,7 +40,7 @@ use Rattle.panel_laws.proofs.FewAnswers.{can_be_told, few_asked, few_in_tick, is
 use Rattle.panel_rules.proofs.Floors.{le_from, le_to, lt_to}
 use Rattle.panel_rules.proofs.OpenRequests.{answered_few}
 use Rattle.panel_rules.proofs.Places.{found_from}
-use Rattle.panel_rules.proofs.Told.{eq_true}
+use Rattle.panel_rules.proofs.AnswersTell.{eq_true}
 
 -- ---- few wait
 

@@ -14,7 +14,7 @@ use Rattle.panel_rules.specs.Moments.{Moment, tick_of}
 use Rattle.panel_rules.specs.Markers.{Facts, holds, equation, solved}
 use Rattle.panel_laws.proofs.Solutions.{one_holds}
 use Rattle.panel_rules.specs.Outputs.{on_output, is_true_over, panel_of_output}
-use Rattle.panel_rules.specs.Due.{CallPointSignals, Signals, by_call_point, by_one, by_itself, by_two, by_pair}
+use Rattle.panel_rules.specs.Due.{CallPointSignals, Signals, TwoHeld, by_call_point, by_one, by_itself, by_two, by_pair}
 use Rattle.panel_rules.specs.Due.{SignalsOut, by_signal, by_hand, by_second, IsDueAfter, own, by_way, IsDueOut}
 use Rattle.panel_rules.specs.Due.{IsDueByHand}
 use Rattle.panel_rules.specs.DueOutputs.{IsDueAsked, IsDueAskedByHand}
@@ -48,6 +48,20 @@ module _ (site : Site) (kept : Retained) (done : List Done) (moments : List Mome
     signals = h.held settled (omega arith) (omega (arith, some));
   }
 
+  -- one of the first of two points that signalled one after the other
+  by_two_held : (zone one other first settled : ℕ) → TwoHeld site kept done moments one other first settled → settled ≤ tick_of moments
+      → (is_of site zone one || on_partner site zone (λ z. is_of site z one)) ≡ true → HasSignalled site kept done moments zone
+  by_two_held zone one other first settled h l of_zone =
+      let f = h.follows in
+      record {
+        point = one;
+        tick = first;
+        begins = h.begins;
+        past = omega (arith, f, l);
+        of_zone = of_zone;
+        signals = h.first_held first (omega arith) (omega (arith, some));
+      }
+
   signalled : (zone settled : ℕ) → Signals site kept done moments zone (tick_of moments) settled → settled ≤ tick_of moments
       → HasSignalled site kept done moments zone
   signalled zone settled (by_call_point h) l = by_point zone settled h l
@@ -73,45 +87,18 @@ module _ (site : Site) (kept : Retained) (done : List Done) (moments : List Mome
             h.signals h.first (omega arith) (omega (arith, some));
       }
   signalled zone settled (by_two h) l =
-      let f = h.held.follows in
-      record {
-        point = h.first_point;
-        tick = h.first;
-        begins = h.held.begins;
-        past = omega (arith, f, l);
-        of_zone =
-            of_it zone h.first_point h.first_of_zone;
-        signals = h.held.first_held h.first (omega arith) (omega (arith, some));
-      }
+      by_two_held zone h.first_point h.second_point h.first settled h.held l (of_it zone h.first_point h.first_of_zone)
   signalled zone settled (by_pair h) l =
-      let f = h.held.follows in
-      record {
-        point = h.first_point;
-        tick = h.first;
-        begins = h.held.begins;
-        past = omega (arith, f, l);
-        of_zone =
-            pairs_of site zone h.first_point (λ other. is_of site other h.second_point) h.pairs;
-        signals =
-            h.held.first_held h.first (omega arith) (omega (arith, some));
-      }
+      by_two_held zone h.first_point h.second_point h.first settled h.held l
+      (pairs_of site zone h.first_point (λ other. is_of site other h.second_point) h.pairs)
 
   signalled_out : (zone settled : ℕ) → SignalsOut site kept done moments zone (tick_of moments) settled → settled ≤ tick_of moments
       → HasSignalled site kept done moments zone
   signalled_out zone settled (by_signal other h) l = signalled zone settled h l
   signalled_out zone settled (by_hand h) l = by_point zone settled h l
   signalled_out zone settled (by_second h) l =
-      let f = h.held.follows in
-      record {
-        point = h.first_point;
-        tick = h.first;
-        begins = h.held.begins;
-        past = omega (arith, f, l);
-        of_zone =
-            pairs_of site zone h.first_point (λ other. is_of site other h.second_point) h.pairs;
-        signals =
-            h.held.first_held h.first (omega arith) (omega (arith, some));
-      }
+      by_two_held zone h.first_point h.second_point h.first settled h.held l
+      (pairs_of site zone h.first_point (λ other. is_of site other h.second_point) h.pairs)
 
   due_past : (zone panel settled : ℕ) → IsDueAfter site kept done moments zone panel settled → settled ≤ tick_of moments
   due_past zone panel settled (own same l) = omega (arith, l)

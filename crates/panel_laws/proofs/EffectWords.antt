@@ -13,10 +13,10 @@ use Rattle.panel_rules.specs.Zones.{panel_of_zone, holds_released, holds_by_hand
 use Rattle.panel_rules.specs.Due.{IsDueAfter, own, by_way, IsDueOut, IsDueByHand}
 use Rattle.panel_rules.specs.CausedOutputs.{before_effect}
 use Rattle.panel_rules.proofs.Turns.{turn_lag, one_back, run_tail, past_on, before_past}
-use Rattle.panel_rules.proofs.Told.{turn_in}
+use Rattle.panel_rules.proofs.AnswersTell.{turn_in}
 use Rattle.panel_rules.proofs.KeptWords.{kept_is, heard_rises}
 use Rattle.panel_rules.proofs.Joined.{link_tick, own_word, joined_heard, kept_stamp}
-use Rattle.panel_rules.proofs.Laid.{laid_out}
+use Rattle.panel_rules.proofs.ValidLayout.{laid_out}
 use Rattle.panel_rules.proofs.InAlarm.{hand_holds, out_holds}
 
 module _ (site : Site) (kept : Retained) (done : List Done) (moments : List Moment) (valid : IsValid site) (run : IsRun site.panels moments) (ended :

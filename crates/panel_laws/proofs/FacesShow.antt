@@ -27,10 +27,10 @@ use Rattle.panel_rules.specs.Caused.{IsCausedAt}
 use Rattle.panel_rules.specs.CausedOutputs.{shown_at}
 use Rattle.panel_laws.specs.FaceLaws.{HasEnded, DueZoneIsShown, ShownZoneIsCaused, DueOutputIsShown, ShownOutputIsCaused}
 use Rattle.panel_rules.proofs.Bools.{both, parts}
-use Rattle.panel_rules.proofs.Told.{eq_true}
+use Rattle.panel_rules.proofs.AnswersTell.{eq_true}
 use Rattle.panel_rules.proofs.Turns.{turn_lag}
 use Rattle.panel_rules.proofs.KeptWords.{made_is, made_tick, kept_is}
-use Rattle.panel_rules.proofs.Laid.{laid_out, position_unique}
+use Rattle.panel_rules.proofs.ValidLayout.{laid_out, position_unique}
 use Rattle.panel_rules.proofs.InAlarm.{signal_holds}
 use Rattle.panel_rules.proofs.Causes.{alarm_caused}
 use Rattle.panel_rules.proofs.Joined.{due_kept, was_made}

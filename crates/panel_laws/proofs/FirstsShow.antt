@@ -26,7 +26,7 @@ use Rattle.panel_rules.specs.Zones.{held_answers, holds_alarm, holds_first}
 use Rattle.panel_rules.specs.Words.{word_made}
 use Rattle.panel_rules.specs.Run.{tells_fault}
 use Rattle.panel_laws.specs.FaceLaws.{LoneZoneIsShown}
-use Rattle.panel_rules.proofs.Told.{eq_true}
+use Rattle.panel_rules.proofs.AnswersTell.{eq_true}
 use Rattle.panel_rules.proofs.KeptWords.{made_is, made_tick}
 use Rattle.panel_rules.proofs.Causes.{held_front}
 use Rattle.panel_rules.proofs.Deadlines.{lone_shown}

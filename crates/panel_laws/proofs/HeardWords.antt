@@ -8,7 +8,7 @@ use Rattle.panel_rules.specs.Words.{word_made}
 use Rattle.panel_laws.specs.HeardWords.{KeptIsWord, HeardIsStamp}
 use Rattle.panel_rules.proofs.Turns.{own_turn, run_tail, tick_rises}
 use Rattle.panel_rules.proofs.Stays.{up_to_here}
-use Rattle.panel_rules.proofs.Told.{eq_true}
+use Rattle.panel_rules.proofs.AnswersTell.{eq_true}
 use Rattle.panel_rules.proofs.KeptWords.{IsMade, nothing, in_turn, kept_is}
 use Rattle.panel_laws.proofs.DueOn.{up_to_is_past}
 use Rattle.panel_rules.proofs.RingWords.{stamp_is}

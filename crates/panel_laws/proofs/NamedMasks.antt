@@ -26,7 +26,7 @@ use Rattle.panel_rules.specs.Outputs.{on_place, output_numbered, outputs_where}
 use Rattle.panel_laws.proofs.AnswerLaws.{eq_is}
 use Rattle.panel_rules.proofs.Bools.{both, parts, either}
 use Rattle.panel_rules.proofs.Floors.{le_to, lt_from}
-use Rattle.panel_rules.proofs.Told.{position_got}
+use Rattle.panel_rules.proofs.AnswersTell.{position_got}
 
 -- each bit of a mask has a name
 abbrev pub HasNames : ℕ → (ℕ → Bool) → ℕ → Type 0

@@ -22,7 +22,7 @@ use Rattle.panel_rules.specs.CausedOutputs.{before_effect}
 use Rattle.panel_laws.specs.OutputDeadlines.{DueOutputIsOn, own_facts, IsIndicated, IndicatedOutputIsOn, OnOutputIsCaused}
 use Rattle.panel_rules.proofs.Bools.{both, parts, either_left, either_right, not_true}
 use Rattle.panel_rules.proofs.Floors.{lt_from, lt_to, le_to}
-use Rattle.panel_rules.proofs.Told.{eq_true}
+use Rattle.panel_rules.proofs.AnswersTell.{eq_true}
 use Rattle.panel_rules.proofs.Stays.{up_to_here}
 use Rattle.panel_rules.proofs.Turns.{before_tick, before_past, past_on}
 use Rattle.panel_rules.proofs.KeptWords.{IsMade, nothing, in_turn, kept_is}

@@ -21,7 +21,7 @@ use Rattle.panel_rules.specs.Moments.{tick_of}
 use Rattle.panel_rules.specs.Outputs.{outputs_where}
 use Rattle.panel_rules.specs.Operations.{operations}
 use Rattle.panel_laws.specs.ShownSettings.{is_setting_at, SettingsAreShown, AcceptedIsShown}
-use Rattle.panel_rules.proofs.Told.{eq_true}
+use Rattle.panel_rules.proofs.AnswersTell.{eq_true}
 use Rattle.panel_laws.proofs.AnswerLaws.{eq_is, answers_are_to}
 use Rattle.panel_laws.proofs.Away.{point_bit}
 use Rattle.panel_laws.proofs.FacesShow.{output_bit}

@@ -31,7 +31,7 @@ use Rattle.panel_laws.proofs.FacesInForm.{faces_in_form}
 use Rattle.panel_rules.proofs.FaultsTold.{past_short}
 use Rattle.panel_rules.proofs.Places.{get_front}
 use Rattle.panel_laws.proofs.Steps.{untold_is_same, up_to_tick}
-use Rattle.panel_rules.proofs.Told.{eq_true}
+use Rattle.panel_rules.proofs.AnswersTell.{eq_true}
 use Rattle.panel_rules.proofs.Turns.{run_tail}
 
 -- ---- a history up to a tick can be told

@@ -21,9 +21,9 @@ use Rattle.panel_rules.proofs.Places.{take_get}
 use Rattle.panel_rules.proofs.Floors.{lt_from, le_from}
 use Rattle.panel_rules.proofs.Counts.{decide_behind, hold_behind}
 use Rattle.panel_rules.proofs.Lags.{held_past}
-use Rattle.panel_rules.proofs.Told.{eq_true}
+use Rattle.panel_rules.proofs.AnswersTell.{eq_true}
 use Rattle.panel_rules.proofs.Order.{answers_in_order}
-use Rattle.panel_rules.proofs.Grows.{confirms_grows, releases_grows}
+use Rattle.panel_rules.proofs.ConfirmedByFronts.{confirms_grows, releases_grows}
 
 -- one that was done in a span is not missed
 inside : (test : Done → Bool) (first last : ℕ) (d : Done) (ds : List Done) → latest_before test last (d ∷ ds) < first

@@ -15,7 +15,7 @@ use Rattle.panel_rules.specs.Zones.{panel_of_zone, held_answers, holds_alarm, ho
 use Rattle.panel_rules.specs.Due.{IsDueAfter, own, by_way}
 use Rattle.panel_rules.specs.Laws.{IsAfterTick, OwnZoneIsShown, OwnZoneIsReleased, OwnZoneIsByHand, OwnZoneIsCaused, OwnHandIsCaused, OwnReleaseIsCaused, LoneSignalIsShown}
 use Rattle.panel_rules.proofs.Turns.{turn_lag}
-use Rattle.panel_rules.proofs.Laid.{laid_out}
+use Rattle.panel_rules.proofs.ValidLayout.{laid_out}
 use Rattle.panel_rules.proofs.InAlarm.{signal_holds, hand_holds, out_holds}
 use Rattle.panel_rules.proofs.Causes.{alarm_caused, hand_caused, released_caused}
 

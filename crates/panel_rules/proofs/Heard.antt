@@ -8,7 +8,7 @@ use Rattle.panel_links.specs.Words.{carries, left_of, right_of}
 use Rattle.panel_rules.specs.Kept.{heard}
 use Rattle.panel_rules.proofs.Turns.{turn_lag, one_back, run_tail, past_on, owed_turn}
 use Rattle.panel_rules.proofs.Stays.{ByEvents, state_stays}
-use Rattle.panel_rules.proofs.Told.{eq_true}
+use Rattle.panel_rules.proofs.AnswersTell.{eq_true}
 use Rattle.panel_rules.proofs.KeptWords.{heard_next, takes_above, takes_below, own_heard}
 
 -- of two ticks one after the other one carries a panel's word

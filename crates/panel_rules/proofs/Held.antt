@@ -17,14 +17,14 @@ use Rattle.loop_poller.specs.Asked.{heard_of, is_asked}
 use Rattle.panel_rules.specs.Answers.{answers}
 use Rattle.panel_rules.specs.Counts.{taken_by_hold}
 use Rattle.panel_rules.specs.Zones.{held_answers, panel_of_zone}
-use Rattle.panel_rules.proofs.LaidOut.{IsLaidOut, PointLies}
+use Rattle.panel_rules.proofs.SiteLayout.{IsLaidOut, PointLies}
 use Rattle.panel_rules.specs.Due.{SignalsAt}
 use Rattle.panel_rules.proofs.Bools.{both, not_true}
 use Rattle.panel_rules.proofs.Places.{get_take}
 use Rattle.panel_rules.proofs.Turns.{turn_lag, run_tail, owed_turn}
 use Rattle.panel_rules.proofs.Lags.{hold_has}
 use Rattle.panel_rules.proofs.Rounds.{asking}
-use Rattle.panel_rules.proofs.Told.{Tells, told_by, turn_in, polled, eq_true}
+use Rattle.panel_rules.proofs.AnswersTell.{Tells, told_by, turn_in, polled, eq_true}
 
 -- an answer that counts, of a point, stamped within a span whose last tick isn't included
 pub record Counts (site : Site) (kept : Retained) (done : List Done) (xs : List Answer) (point first last : ℕ) : Type 0 where

@@ -18,7 +18,7 @@ use Rattle.panel_rules.specs.Moments.{Moment, tick_of, IsPanel, IsRun, IsPast, l
 use Rattle.panel_rules.specs.Answers.{answers}
 use Rattle.panel_rules.specs.Counts.{taken_by_hold}
 use Rattle.panel_rules.specs.Zones.{held_answers, panel_of_zone, holds_alarm, holds_by_hand, holds_released}
-use Rattle.panel_rules.proofs.LaidOut.{IsLaidOut}
+use Rattle.panel_rules.proofs.SiteLayout.{IsLaidOut}
 use Rattle.panel_rules.specs.Due.{NoFloor, NoCancelling, SignalsAt, TwoHeld, CallPointSignals, PointSignals}
 use Rattle.panel_rules.specs.Due.{DetectorSignals, DetectorsSignal, PairSignals, SecondSignals, Signals}
 use Rattle.panel_rules.specs.Due.{by_call_point, by_one, by_itself, by_two, by_pair, SignalsOut, by_signal, by_hand}
@@ -27,10 +27,10 @@ use Rattle.panel_rules.proofs.Bools.{both, parts, either_left, either_right, not
 use Rattle.panel_rules.proofs.Places.{take_get}
 use Rattle.panel_rules.proofs.Floors.{none_since, lt_to, le_to, le_from}
 use Rattle.panel_rules.proofs.Turns.{turn_lag, run_tail, tick_rises}
-use Rattle.panel_rules.proofs.Told.{told_by, eq_true}
+use Rattle.panel_rules.proofs.AnswersTell.{told_by, eq_true}
 use Rattle.panel_rules.proofs.Held.{signal_counts, IsAtPanel, at_panel, round_counts}
 use Rattle.panel_rules.proofs.Pairing.{kind_of, Pairs, pairs_of, of_pairs, swapped, pair_panels}
-use Rattle.panel_rules.proofs.Signals.{Sure, sure_since, by_call, by_rule, hand_releases, alarm_releases, TwoCount, two_in_order}
+use Rattle.panel_rules.proofs.Signals.{Sure, sure_by, sure_since, by_call, by_rule, hand_releases, alarm_releases, TwoCount, two_in_order}
 
 module _ (site : Site) (kept : Retained) (done : List Done) (moments past : List Moment) (panel zone : ℕ) (laid : IsLaidOut site) (run :
     IsRun site.panels moments) (before : IsPast past moments) (p : IsPanel site.panels panel) (home : panel_of_zone site zone ≡ panel) where
@@ -68,14 +68,9 @@ module _ (site : Site) (kept : Retained) (done : List Done) (moments past : List
   call_confirms : (settled : ℕ) → Sure (held_answers site panel past) settled (calls site kept done zone)
       → Sure (held_answers site panel past) settled (confirms site kept done (held_answers site panel past) zone)
   call_confirms settled s =
-      record {
-        place = s.place;
-        answer = s.answer;
-        is = s.is;
-        from = s.from;
-        passes =
-            by_call site kept done (held_answers site panel past) zone s.answer (parts _ _ s.passes).0 (parts _ _ s.passes).1;
-      }
+      let xs = held_answers site panel past in
+      sure_by xs settled (calls site kept done zone) (confirms site kept done xs zone)
+      (λ a h. by_call site kept done xs zone a (parts _ _ h).0 (parts _ _ h).1) s
 
   -- a point of a zone of type none or C
   one_sure : (settled : ℕ) → PointSignals site kept done moments zone (tick_of moments) settled
@@ -343,26 +338,16 @@ module _ (site : Site) (kept : Retained) (done : List Done) (moments past : List
       → Sure (held_answers site panel past) first (confirms site kept done (held_answers site panel past) zone)
       → Sure (held_answers site panel past) first (releases site kept done (held_answers site panel past) zone)
   released_by_alarm first n s =
-      record {
-        place = s.place;
-        answer = s.answer;
-        is = s.is;
-        from = s.from;
-        passes =
-            alarm_releases site kept done (held_answers site panel past) zone s.answer (rule_of (slice_get site.zones zone)) n s.passes;
-      }
+      let xs = held_answers site panel past in
+      sure_by xs first (confirms site kept done xs zone) (releases site kept done xs zone)
+      (λ a. alarm_releases site kept done xs zone a (rule_of (slice_get site.zones zone)) n) s
 
   released_by_hand : (first : ℕ) → Sure (held_answers site panel past) first (calls site kept done zone)
       → Sure (held_answers site panel past) first (releases site kept done (held_answers site panel past) zone)
   released_by_hand first s =
-      record {
-        place = s.place;
-        answer = s.answer;
-        is = s.is;
-        from = s.from;
-        passes =
-            hand_releases site kept done (held_answers site panel past) zone s.answer (rule_of (slice_get site.zones zone)) s.passes;
-      }
+      let xs = held_answers site panel past in
+      sure_by xs first (calls site kept done zone) (releases site kept done xs zone)
+      (λ a. hand_releases site kept done xs zone a (rule_of (slice_get site.zones zone))) s
 
   alarm_out : (settled : ℕ) → rule_of (slice_get site.zones zone) ≢ Some C → Signals site kept done moments zone (tick_of moments) settled
       → settled + round_of site.format + 1 ≤ latest_turn panel Hold past → holds_released site kept done panel past zone ≡ true

@@ -14,11 +14,11 @@ use Rattle.panel_rules.specs.Due.{IsDueAfter, own, by_way}
 use Rattle.panel_rules.specs.Caused.{IsCausedAt, IsCausedByHand, IsCausedOut}
 use Rattle.panel_rules.specs.Laws.{IsAfterTick, DueZoneIsKept, DueReleaseIsKept, DueHandIsKept, KeptZoneIsCaused, KeptReleaseIsCaused, KeptHandIsCaused}
 use Rattle.panel_rules.proofs.Turns.{turn_lag, one_back, run_tail, owed_turn}
-use Rattle.panel_rules.proofs.Told.{eq_true, turn_in}
+use Rattle.panel_rules.proofs.AnswersTell.{eq_true, turn_in}
 use Rattle.panel_rules.proofs.KeptWords.{IsMade, nothing, in_turn, kept_is, heard_rises, own_heard}
 use Rattle.panel_rules.proofs.Ways.{up_from, down_from, links_few, up_member, up_begins, up_ends, up_step, down_member, down_begins, down_ends, down_step, down_links}
 use Rattle.panel_rules.proofs.Heard.{upward, downward, heard_by_way}
-use Rattle.panel_rules.proofs.Laid.{laid_out}
+use Rattle.panel_rules.proofs.ValidLayout.{laid_out}
 use Rattle.panel_rules.proofs.InAlarm.{signal_holds, hand_holds, out_holds}
 use Rattle.panel_rules.proofs.Causes.{alarm_caused, hand_caused, released_caused}
 

@@ -10,7 +10,7 @@ use Rattle.panel_rules.specs.States.{is_up}
 use Rattle.panel_links.specs.Words.{carries, left_of, right_of}
 use Rattle.panel_rules.specs.Kept.{made_at, newer, taken_over, kept_at, heard}
 use Rattle.panel_rules.proofs.Turns.{from_start}
-use Rattle.panel_rules.proofs.Told.{eq_true}
+use Rattle.panel_rules.proofs.AnswersTell.{eq_true}
 
 -- a word of a panel: none, or one that it made in a turn of Hold
 pub data IsMade (source : ℕ) (word : List Moment) : Type 0 where

@@ -17,7 +17,7 @@ use Rattle.loop_poller.proofs.Places.{address_at, answer_at, line_at, places}
 use Rattle.panel_rules.specs.Answers.{answers, asked}
 use Rattle.panel_rules.proofs.Places.{get_either, IsBehind, found_from, range_got}
 use Rattle.panel_rules.proofs.Asked.{asked_now, answered_at, by_places}
-use Rattle.panel_rules.proofs.Told.{placed}
+use Rattle.panel_rules.proofs.AnswersTell.{placed}
 use Rattle.panel_rules.proofs.Counts.{of_panel}
 use Rattle.panel_rules.proofs.Lags.{stamped_by}
 

@@ -4,7 +4,7 @@ use Rattle.site_types.specs.declared.site.Site.{Site}
 use Rattle.site_types.specs.declared.point.Point.{Point}
 use Rattle.coincidence_rules.specs.Places.{is_of, is_manual, is_detector, lies_in, is_call_point, detects, on_zone, partner_of, on_partner, pairs_up}
 use Rattle.panel_rules.specs.Zones.{panel_of_zone}
-use Rattle.panel_rules.proofs.LaidOut.{IsLaidOut}
+use Rattle.panel_rules.proofs.SiteLayout.{IsLaidOut}
 use Rattle.panel_rules.proofs.Bools.{both, parts, either, either_left, either_right}
 use Rattle.panel_rules.proofs.Held.{IsAtPanel, at_panel, partner_at}
 

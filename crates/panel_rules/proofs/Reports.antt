@@ -18,7 +18,7 @@ use Rattle.panel_rules.specs.Answers.{asked}
 use Rattle.panel_rules.specs.Moments.{Moment, Began, Happened, Turned, Kept, tick_of}
 use Rattle.panel_rules.specs.Reports.{and_report, is_on_panel, is_own_loop, reports}
 use Rattle.panel_rules.specs.States.{told_point as point_after, told_piece, state_of, piece_of}
-use Rattle.panel_rules.proofs.Told.{eq_true, placed}
+use Rattle.panel_rules.proofs.AnswersTell.{eq_true, placed}
 
 -- of a point of the panel
 event_told : (site : Site) (panel point : ℕ) (event : Event) (calls : List Call) (was : PointState)

@@ -52,7 +52,8 @@ module _ (site : Site) (kept : Retained) (done : List Done) (told : ℕ → List
   taken_same source true false a b = refl
   taken_same source false carried a b = refl
 
-  up_same : (link : ℕ) (m : List Moment) → ring_is_up link (ring_calls site kept done told m) ≡ is_up link m
+  -- a link is up in the ring by the calls that a run makes of it where it is up in the run
+  pub up_same : (link : ℕ) (m : List Moment) → ring_is_up link (ring_calls site kept done told m) ≡ is_up link m
   up_same link [] = refl
   up_same link (Began ∷ before) = up_same link before
   up_same link (Happened (Link other up) ∷ before) = ap (λ b. if other == link then up else b) (up_same link before)

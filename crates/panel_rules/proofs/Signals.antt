@@ -1,4 +1,4 @@
--- A zone that has had a signal for a round is in alarm by what its panel's Hold has taken, whatever the order of turns.
+-- What one answer or two that count confirm, release and tell of a zone, and that a floor before them changes nothing.
 use Rattle.std.proofs.Common.{◌≡◌, ℕ, ◌+◌, ◌≤◌, ◌<◌, List, Option, Some, None, slice_get, ◌⊎◌, inl, inr, Bool, true, ◌≢◌, refl, ◌∙◌, ap, arith}
 use Rattle.std.proofs.lemmas.Bool.Decides.{leb_tells}
 use Rattle.site_types.specs.declared.site.Site.{Site}
@@ -23,7 +23,13 @@ pub record Sure (xs : List Answer) (first : ℕ) (test : Answer → Bool) : Type
   pub from : first ≤ answer.stamp.0
   pub passes : test answer ≡ true
 
--- and the floor lies before that tick
+-- where whatever passes the test passes another one too, it passes that
+pub sure_by : (xs : List Answer) (first : ℕ) (test other : Answer → Bool) → ((a : Answer) → test a ≡ true → other a ≡ true) → Sure xs first test
+    → Sure xs first other
+sure_by xs first test other more s =
+    record { place = s.place; answer = s.answer; is = s.is; from = s.from; passes = more s.answer s.passes }
+
+-- an answer from a tick on passes a test since the floor, which lies before that tick
 pub sure_since : (site : Site) (done : List Done) (xs : List Answer) (zone tick first : ℕ) (test : Answer → Bool)
     → floor_before site zone tick done < first → Sure xs first test → since_floor site done xs zone tick test ≡ true
 sure_since site done xs zone tick first test l s =

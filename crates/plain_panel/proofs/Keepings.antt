@@ -14,12 +14,12 @@ use Rattle.face_text.proofs.Listing.{items_more}
 use Rattle.panel_rules.specs.Batches.{changes_of, count_of, counts, kept_after, new_entries}
 use Rattle.panel_rules.specs.Moments.{Moment, Began, Happened, Turned, Kept}
 use Rattle.panel_rules.specs.Operations.{Operations, Request, operations}
-use Rattle.plain_panel.specs.declared.entering.Entering.{Entering}
+use Rattle.plain_words.specs.declared.entering.Entering.{Entering}
 use Rattle.plain_panel.specs.declared.keeping.Keeping.{Keeping}
-use Rattle.plain_panel.specs.Desks.{StandsForDesk, all_requests}
-use Rattle.plain_panel.specs.Enterings.{AllEnter}
+use Rattle.plain_operations.specs.Desks.{StandsForDesk, all_requests}
+use Rattle.plain_words.specs.Enterings.{AllEnter}
 use Rattle.plain_panel.specs.Keepings.{AllPlaced, StandsForKeeping, all_counted, counted, is_storing}
-use Rattle.plain_panel.specs.Standings.{StandsForStanding}
+use Rattle.plain_panel.specs.SiteStates.{StandsForSite}
 
 -- the entries of one panel more are counted
 pub counted_more : (panels : List Entering) (k : ℕ) (one d : Entering) (stored before after : Retained) → k < length panels
@@ -86,11 +86,11 @@ module _ (site : Site) (kept : Retained) (history : List Moment) where
   pub kept_ok : {T E : Type 0} (result : Result T E) (moment : Moment) (before between after : Keeping) → StandsForKeeping site kept history before →
       between.stored
       ≡ (if is_storing moment then changed_by (changes_of site (all_requests before.desk.outcomes.waiting.items))
-      (changed_by (all_counted before.standing.panels.items) before.stored) else before.stored) →
+      (changed_by (all_counted before.state.panels.items) before.stored) else before.stored) →
       after.stored ≡ between.stored → OnOk result (StandsForDesk site kept (moment ∷ history) after.desk) →
-      OnOk result (StandsForStanding site kept (operations site kept (moment ∷ history)).done (moment ∷ history) after.standing)
+      OnOk result (StandsForSite site kept (operations site kept (moment ∷ history)).done (moment ∷ history) after.state)
       → OnOk result (StandsForKeeping site kept (moment ∷ history) after)
-  kept_ok (Ok value) moment before between after stands stored same desk standing =
+  kept_ok (Ok value) moment before between after stands stored same desk state =
       let many : ℕ → List Change =
       λ n.
       flat_map
@@ -98,12 +98,12 @@ module _ (site : Site) (kept : Retained) (history : List Moment) where
       (new_entries site kept (operations site kept history).done panel history)) (range_with_len 1 n) in
       record {
         desk = desk;
-        standing = standing;
+        state = state;
         stored =
             same ∙ kept_then moment before.stored between.stored (all_requests before.desk.outcomes.waiting.items)
-            (all_counted before.standing.panels.items) stored stands.stored
+            (all_counted before.state.panels.items) stored stands.stored
             (ap (λ (o : Operations). o.waiting) stands.desk.became)
-            (counted_all site kept (operations site kept history).done history 1 before.standing.panels.items stands.standing.panels.all ∙ ap many
-            stands.standing.panels.count);
+            (counted_all site kept (operations site kept history).done history 1 before.state.panels.items stands.state.panels.all ∙ ap many
+            stands.state.panels.count);
       }
-  kept_ok (Err error) moment before between after stands stored same desk standing = tt
+  kept_ok (Err error) moment before between after stands stored same desk state = tt

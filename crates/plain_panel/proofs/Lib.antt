@@ -1,34 +1,10 @@
-pub mod Asked
-pub mod BadRuns
-pub mod CableReports
-pub mod ChangesMade
-pub mod Confirming
-pub mod Desks
-pub mod Elsewhere
-pub mod EnteringPanels
-pub mod Enterings
-pub mod FacesMore
-pub mod FactsKept
-pub mod FlagsTold
-pub mod Halves
-pub mod Histories
+-- what panels show of their own and of one another
 pub mod HoldsShown
-pub mod Joining
+pub mod Elsewhere
+pub mod SiteStates
+pub mod FacesMore
+-- what is kept
 pub mod Keepings
-pub mod Later
-pub mod Looking
-pub mod Masked
-pub mod NoFaults
-pub mod Outputs
-pub mod Reported
-pub mod Requesting
-pub mod RingsTold
-pub mod Silencing
-pub mod Silent
-pub mod Solving
-pub mod Standings
-pub mod TakenMoments
-pub mod Tellers
-pub mod Tellings
+-- steps of the timeline
 pub mod Timelines
-pub mod Unset
+pub mod Tellers

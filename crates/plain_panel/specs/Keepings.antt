@@ -9,15 +9,15 @@ use Rattle.site_types.specs.declared.site.Site.{Site}
 use Rattle.panel_rules.specs.Batches.{changes_of, kept_after}
 use Rattle.panel_rules.specs.Moments.{Moment, Began, Happened, Turned, Kept}
 use Rattle.plain_panel.specs.declared.keeping.Keeping.{Keeping}
-use Rattle.plain_panel.specs.declared.entering.Entering.{Entering}
-use Rattle.plain_panel.specs.Desks.{StandsForDesk, all_requests}
-use Rattle.plain_panel.specs.Standings.{StandsAfter}
+use Rattle.plain_words.specs.declared.entering.Entering.{Entering}
+use Rattle.plain_operations.specs.Desks.{StandsForDesk, all_requests}
+use Rattle.plain_panel.specs.SiteStates.{StandsAfter}
 
 -- the desk, what stands with the operations that it has done, and what is kept by then
 pub record StandsForKeeping (site : Site) (kept : Retained) (history : List Moment) (keeping : Keeping) :
     Type 0 where
   pub desk : StandsForDesk site kept history keeping.desk
-  pub standing : StandsAfter site kept history keeping.standing
+  pub state : StandsAfter site kept history keeping.state
   pub stored : keeping.stored ≡ kept_after site kept history
 
 -- a turn of Keep that doesn't fail
@@ -41,7 +41,7 @@ AllPlaced panels = AllByRecursion (λ entering. IsPanelNumber entering.panel) pa
 -- what is stored by a turn of Keep that doesn't fail: entries are counted, then operations that wait make their changes
 abbrev pub stored_by_keep : Site → Keeping → Retained
 stored_by_keep site keeping =
-    let counted_first = changed_by (all_counted keeping.standing.panels.items) keeping.stored in
+    let counted_first = changed_by (all_counted keeping.state.panels.items) keeping.stored in
     changed_by (changes_of site (all_requests keeping.desk.outcomes.waiting.items)) counted_first
 
 -- what is stored after a moment

@@ -28,25 +28,25 @@ use Rattle.panel_rules.specs.Faults.{broken_loops, is_unconfirmed, links_down, s
 use Rattle.panel_rules.specs.Faults.{supply_calls}
 use Rattle.panel_rules.specs.Run.{facts_of, faults_of, faults_with, tells_fault}
 use Rattle.panel_rules.specs.Faces.{last_news, shown_word}
-use Rattle.plain_panel.specs.declared.moment.Moment.{Moment}
-use Rattle.plain_panel.specs.declared.moment.Moment.TheVariants.{Turned}
+use Rattle.plain_history.specs.declared.moment.Moment.{Moment}
+use Rattle.plain_history.specs.declared.moment.Moment.TheVariants.{Turned}
 use Rattle.plain_panel.specs.declared.network.Network.{Network}
-use Rattle.plain_panel.specs.declared.own.Own.{Own}
+use Rattle.plain_panel.specs.declared.indications.Indications.{Indications}
 
 -- a number of a panel
 abbrev pub HasPanel : Network → ℕ → Type 0
 HasPanel network panel = (1 ≤ panel) × (panel ≤ network.panels)
 
-abbrev pub no_own : Own
-no_own = record { word = empty_word; faults = no_faults; news = record { 0 = 0 } }
+abbrev pub no_indications : Indications
+no_indications = record { word = empty_word; faults = no_faults; news = record { 0 = 0 } }
 
 -- what a panel shows of its own
-abbrev pub own_in : Network → ℕ → Own
-own_in network panel = slice_index_or network.own (panel - 1) no_own
+abbrev pub indications_in : Network → ℕ → Indications
+indications_in network panel = slice_index_or network.indications (panel - 1) no_indications
 
 -- what it shows after a turn of Hold made now
-abbrev pub own_then : Own → Tick → Word → FaultSet → Own
-own_then own now word faults =
+abbrev pub indications_then : Indications → Tick → Word → FaultSet → Indications
+indications_then own now word faults =
     record {
       word = word;
       faults = faults;
@@ -89,11 +89,11 @@ pub record StandsFor (site : Site) (kept : Retained) (done : List Done) (before 
   -- the ring has the links, and the words that panels keep
   pub ring : RingStandsFor site.panels (ring_calls site kept done (tells_fault site kept done) before) network.ring
   pub words : (panel : ℕ) → IsPanel site.panels panel
-      → (own_in network panel).word ≡ latest_word site kept done (tells_fault site kept done) panel before
+      → (indications_in network panel).word ≡ latest_word site kept done (tells_fault site kept done) panel before
   pub faults : (panel : ℕ) → IsPanel site.panels panel
-      → (own_in network panel).faults ≡ faults_of site kept done panel before
+      → (indications_in network panel).faults ≡ faults_of site kept done panel before
   pub news : (panel : ℕ) → IsPanel site.panels panel
-      → (own_in network panel).news.0 ≡ last_news site kept done panel before
+      → (indications_in network panel).news.0 ≡ last_news site kept done panel before
 
 -- a moment in a tick befalls the network, whatever the site, what is kept and done, and what befell before
 abbrev pub NetworkTakes : ℕ → MomentOf → Network → Network → Type 0

@@ -3,18 +3,14 @@
 ghost use Rattle.std.specs.Prelude.{◌≡◌, List};
 ghost use Rattle.site_types.specs.Valid.{IsPanel, IsValid};
 ghost use Rattle.panel_rules.specs.Moments.{Moment as MomentOf};
-ghost use Rattle.plain_panel.specs.Histories.{all_done};
+ghost use Rattle.plain_history.specs.Histories.{all_done};
 ghost use Rattle.plain_panel.specs.Network.{StandsFor, TellsWords};
-ghost use Rattle.plain_panel.specs.Standings.{TellsFace};
+ghost use Rattle.plain_panel.specs.SiteStates.{TellsFace};
 
-use crate::done::Done;
-use crate::driving::Driving;
 use crate::network::Network;
-use crate::output_masks::outputs_in;
-use crate::output_state::OutputState;
-use crate::setting::{Setting, in_force};
-use crate::settings_shown::{outputs_off, points_off, zones_in_test, zones_off};
 use face_text::Face;
+use plain_history::{Done, Setting, in_force, outputs_off, points_off, zones_in_test, zones_off};
+use plain_outputs::{Driving, OutputState, outputs_in};
 use site_types::{Retained, Site, Word};
 use tick_units::Tick;
 

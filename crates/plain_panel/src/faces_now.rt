@@ -5,13 +5,13 @@ ghost use Rattle.site_types.specs.Valid.{IsValid};
 ghost use Rattle.face_text.specs.Faces.{same_faces};
 ghost use Rattle.panel_rules.specs.Moments.{tick_of};
 ghost use Rattle.panel_rules.specs.Timeline.{faces_of};
-ghost use Rattle.plain_panel.specs.Histories.{history};
+ghost use Rattle.plain_history.specs.Histories.{history};
 ghost use Rattle.plain_panel.specs.Keepings.{StandsForKeeping};
 
 use crate::face_shown::face_of;
 use crate::keeping::Keeping;
-use crate::moment::Moment;
 use face_text::Face;
+use plain_history::Moment;
 use site_types::{Retained, Site};
 use std::alloc::Global;
 use tick_units::{NoMemory, Tick};
@@ -56,8 +56,8 @@ fn face_now(
     ensures { result ≡ face_after site.now kept.now panel (history before.now) }
 {
     face_of(
-        &keeping.standing.network,
-        &keeping.standing.driving,
+        &keeping.state.network,
+        &keeping.state.driving,
         site,
         kept,
         keeping.desk.outcomes().done.as_slice(),

@@ -1,16 +1,15 @@
 ghost use Rattle.std.specs.Prelude.{◌≡◌, ◌++◌, [], ◌∷◌, IfOk, OnOk};
 ghost use Rattle.site_types.specs.Valid.{IsValid};
 ghost use Rattle.panel_rules.specs.Moments.{tick_of};
-ghost use Rattle.plain_panel.specs.Desks.{StandsForDesk};
-ghost use Rattle.plain_panel.specs.Standings.{StandsAfter};
-ghost use Rattle.plain_panel.specs.Histories.{history, moment_of};
+ghost use Rattle.plain_operations.specs.Desks.{StandsForDesk};
+ghost use Rattle.plain_panel.specs.SiteStates.{StandsAfter};
+ghost use Rattle.plain_history.specs.Histories.{history, moment_of};
 ghost use Rattle.plain_panel.specs.Keepings.{StandsForKeeping};
 
-use crate::desk::Desk;
-use crate::entering::Entering;
-use crate::moment::Moment;
-use crate::standing::Standing;
-use crate::storing::{make_change, make_changes};
+use crate::site_state::SiteState;
+use plain_history::Moment;
+use plain_operations::{Desk, make_change, make_changes};
+use plain_words::Entering;
 use site_types::{Change, Retained, Site};
 use std::alloc::Global;
 use tick_units::{NoMemory, Tick};
@@ -19,7 +18,7 @@ use tick_units::{NoMemory, Tick};
 #[derive(Drop)]
 pub struct Keeping {
     pub desk: Desk,
-    pub standing: Standing,
+    pub state: SiteState,
     pub stored: Retained,
 }
 
@@ -31,7 +30,7 @@ impl Keeping {
     {
         Ok(Keeping {
             desk: Desk::new(alloc),
-            standing: Standing::new(alloc, site)?,
+            state: SiteState::new(alloc, site)?,
             stored: *kept,
         })
     }
@@ -72,24 +71,24 @@ impl Keeping {
     ) -> Result<(), NoMemory>
         requires valid { IsValid site.now }
         requires desk { StandsForDesk site.now kept.now (history before.now) self.old.desk }
-        requires standing { StandsAfter site.now kept.now (history before.now) self.old.standing }
+        requires state { StandsAfter site.now kept.now (history before.now) self.old.state }
         requires ticks { tick_of (history before.now) ≡ tick.0 }
         requires all { with_it.now ≡ before.now ++ moment.now ∷ [] }
         ensures desk { OnOk result
             (StandsForDesk site.now kept.now (moment_of moment.now ∷ history before.now)
             self.new.desk) }
-        ensures standing { OnOk result
+        ensures state { OnOk result
             (StandsAfter site.now kept.now (moment_of moment.now ∷ history before.now)
-            self.new.standing) }
+            self.new.state) }
         ensures stored { self.new.stored ≡ self.old.stored }
     {
         let changed = self.desk.step(site, kept, tick, moment)?;
         let done = self.desk.outcomes().done.as_slice();
         if changed {
-            self.standing = Standing::over(alloc, site, kept, done, with_it)?;
+            self.state = SiteState::over(alloc, site, kept, done, with_it)?;
             Ok(())
         } else {
-            self.standing
+            self.state
                 .step(alloc, site, kept, done, tick, before, moment)
         }
     }
@@ -97,10 +96,10 @@ impl Keeping {
     // What a moment stores, where it is a turn of Keep that does not fail.
     fn store_at(&mut self, site: &Site, moment: &Moment)
         requires valid { IsValid site.now }
-        requires placed { AllPlaced self.old.standing.panels.items }
+        requires placed { AllPlaced self.old.state.panels.items }
         ensures stored { self.new.stored ≡ stored_after site.now (moment_of moment.now) self.old }
         ensures desk { self.new.desk ≡ self.old.desk }
-        ensures standing { self.new.standing ≡ self.old.standing }
+        ensures state { self.new.state ≡ self.old.state }
     {
         if !stores(moment) {
             return;
@@ -111,12 +110,12 @@ impl Keeping {
     // What a turn of Keep stores that does not fail.
     fn store(&mut self, site: &Site)
         requires valid { IsValid site.now }
-        requires placed { AllPlaced self.old.standing.panels.items }
+        requires placed { AllPlaced self.old.state.panels.items }
         ensures stored { self.new.stored ≡ stored_by_keep site.now self.old }
         ensures desk { self.new.desk ≡ self.old.desk }
-        ensures standing { self.new.standing ≡ self.old.standing }
+        ensures state { self.new.state ≡ self.old.state }
     {
-        count_entries(&self.standing.panels, &mut self.stored);
+        count_entries(&self.state.panels, &mut self.stored);
         make_changes(site, &self.desk.outcomes().waiting, &mut self.stored);
     }
 }

@@ -10,20 +10,15 @@ ghost use Rattle.panel_rules.specs.Faces.{buzzer_of, last_news, shown_word};
 ghost use Rattle.panel_rules.specs.Run.{facts_of, faults_of, faults_with, tells_fault};
 ghost use Rattle.panel_rules.specs.Words.{kept_word_of, latest_word, word_made};
 ghost use Rattle.panel_rules.specs.Zones.{held_answers};
-ghost use Rattle.plain_panel.specs.Drives.{AreFacts};
-ghost use Rattle.plain_panel.specs.Histories.{all_done, history, moment_of};
+ghost use Rattle.panel_bridges.specs.FactMasks.{AreFacts};
+ghost use Rattle.plain_history.specs.Histories.{all_done, history, moment_of};
 
-use crate::answered::{answered_faults, answered_word};
-use crate::cables::{broken_loops, shorted_loops};
-use crate::done::Done;
-use crate::mark::muted_before;
-use crate::moment::Moment;
-use crate::news::{has_fault, sounds};
-use crate::own::Own;
-use crate::supplies::shown_supplies;
+use crate::indications::Indications;
 use marker_table::Facts;
-use panel_conditions::Outside;
+use panel_conditions::{Outside, has_fault, sounds};
 use panel_links::Ring;
+use plain_history::{Done, Moment, broken_loops, muted_before, shorted_loops, shown_supplies};
+use plain_words::Evidence;
 use site_types::{Answer, Buzzer, Event, FaultSet, Retained, Site, Word, mask_from_8};
 use tick_units::{Task, Tick};
 
@@ -33,14 +28,14 @@ pub struct Network {
     panels: u8,
     ring: Ring,
     /// By panel, panel 1 being the first.
-    own: [Own; 8],
+    indications: [Indications; 8],
     ghost same: { ring.panels ≡ panels },
     ghost few: { panels ≤ 8 },
 }
 
 impl Network {
     ghost use Rattle.plain_panel.specs.Network.{HasPanel, IsNotHold, IsOtherTask, NetworkHears, NetworkTakes};
-    ghost use Rattle.plain_panel.specs.Network.{ShowsAtHold, StandsFor, TakesHold, TellsOutside, own_in};
+    ghost use Rattle.plain_panel.specs.Network.{ShowsAtHold, StandsFor, TakesHold, TellsOutside, indications_in};
 
     /// The panels of a site before its first tick.
     pub fn new(site: &Site) -> Network
@@ -52,7 +47,7 @@ impl Network {
         Network {
             panels: site.panels,
             ring: Ring::new(site.panels),
-            own: [Own::nothing(); 8],
+            indications: [Indications::nothing(); 8],
         }
     }
 
@@ -75,18 +70,24 @@ impl Network {
     {
         if panel >= 1 && panel <= self.panels {
             let outside = self.outside(site, before, now, panel, unconfirmed);
-            let faults = answered_faults(site, kept, panel, done, answers, now, &outside);
+            let evidence = Evidence {
+                site,
+                kept,
+                done,
+                answers,
+            };
+            let faults = evidence.answered_faults(panel, now, &outside);
             let fault = has_fault(&faults);
-            let word = answered_word(site, kept, panel, done, answers, now, fault);
+            let word = evidence.answered_word(panel, now, fault);
             self.show(now, panel, word, faults);
         }
     }
 
-    fn own(&self, panel: u8) -> Own
+    fn indications(&self, panel: u8) -> Indications
         requires { HasPanel self.now panel }
-        ensures { result ≡ own_in self.now panel }
+        ensures { result ≡ indications_in self.now panel }
     {
-        self.own[panel as usize - 1]
+        self.indications[panel as usize - 1]
     }
 
     // Shows what a turn of Hold of a panel made.
@@ -95,8 +96,8 @@ impl Network {
         ensures stands { ShowsAtHold now.0 panel word faults self.old self.new }
         ensures panels { self.new.panels ≡ self.old.panels }
     {
-        let own = self.own(panel);
-        self.own[panel as usize - 1] = own.then(now, word, faults);
+        let shown = self.indications(panel);
+        self.indications[panel as usize - 1] = shown.then(now, word, faults);
     }
 
     // What stands besides missing points at a turn of Hold made now, with the outputs without confirmation then.
@@ -182,7 +183,7 @@ impl Network {
         ensures panels { self.new.panels ≡ self.old.panels }
     {
         if panel >= 1 && panel <= self.panels {
-            let word = self.own(panel).word;
+            let word = self.indications(panel).word;
             self.ring.turn(now, panel, word);
         }
     }
@@ -194,7 +195,7 @@ impl Network {
             → StandsFor site kept done before self.now
             → result ≡ latest_word site kept done (tells_fault site kept done) panel before }
     {
-        self.own(panel).word
+        self.indications(panel).word
     }
 
     /// The word of a panel that another one keeps.
@@ -230,7 +231,7 @@ impl Network {
             → StandsFor site kept done before self.now
             → result ≡ faults_of site kept done panel before }
     {
-        self.own(panel).faults
+        self.indications(panel).faults
     }
 
     /// The last tick in which a panel showed something new; 0 for none.
@@ -240,7 +241,7 @@ impl Network {
             → StandsFor site kept done before self.now
             → result.0 ≡ last_news site kept done panel before }
     {
-        self.own(panel).news
+        self.indications(panel).news
     }
 
     /// What the buzzer of a panel sounds.
@@ -250,9 +251,9 @@ impl Network {
             → StandsFor site.now kept (all_done done.now) before self.now
             → result ≡ buzzer_of site.now kept (all_done done.now) panel before }
     {
-        let own = self.own(panel);
-        let muted = muted_before(site, panel, own.word.stamp, done);
-        sounds(&own.word, muted.0 < own.news.0)
+        let shown = self.indications(panel);
+        let muted = muted_before(site, panel, shown.word.stamp, done);
+        sounds(&shown.word, muted.0 < shown.news.0)
     }
 
     /// The facts of an Effect turn of a panel made now: what the words that it keeps say of zones, and which

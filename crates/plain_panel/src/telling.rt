@@ -2,15 +2,13 @@ ghost use Rattle.std.specs.Prelude.{◌≡◌, ◌++◌, ◌∷◌, [], IfOk, On
 ghost use Rattle.site_types.specs.Valid.{IsValid};
 ghost use Rattle.panel_rules.specs.Moments.{tick_of};
 ghost use Rattle.panel_rules.specs.Timeline.{faces_of, timeline_of};
-ghost use Rattle.plain_panel.specs.Histories.{history, moment_of};
+ghost use Rattle.plain_history.specs.Histories.{history, moment_of};
 
-use crate::answers_told::{answers_now, told};
 use crate::faces_now::{are_same, faces_now};
 use crate::keeping::Keeping;
-use crate::moment::Moment;
-use crate::op_answered::OpAnswered;
-use crate::ticking::tick_after;
 use face_text::{Face, Step, Timeline};
+use plain_history::{Moment, tick_after};
+use plain_operations::{OpAnswered, answers_now, told};
 use site_types::{Retained, Site};
 use std::alloc::Global;
 use tick_units::{Items, NoMemory, Tick};
@@ -62,7 +60,8 @@ pub struct Telling {
 }
 
 impl Telling {
-    ghost use Rattle.plain_panel.specs.Timelines.{StandsForTelling, steps_upto};
+    ghost use Rattle.plain_panel.specs.Timelines.{StandsForTelling};
+    ghost use Rattle.panel_bridges.specs.ClosedSteps.{steps_upto};
 
     fn new(alloc: Global, site: &Site, kept: &Retained) -> Result<Telling, NoMemory>
         requires { IsValid site.now }
@@ -202,9 +201,10 @@ impl Telling {
 ghost use Rattle.std.specs.Prelude.{◌==◌, ◌&&◌, ◌||◌, length, map, nat_le, not};
 ghost use Rattle.std.specs.List.{cons_option};
 ghost use Rattle.face_text.specs.Faces.{same_faces};
-ghost use Rattle.plain_panel.specs.Desks.{answered_of};
+ghost use Rattle.plain_operations.specs.Desks.{answered_of};
 ghost use Rattle.plain_panel.specs.Keepings.{StandsForKeeping};
-ghost use Rattle.plain_panel.specs.Timelines.{step_closed, step_with};
+ghost use Rattle.plain_panel.specs.Timelines.{step_with};
+ghost use Rattle.panel_bridges.specs.ClosedSteps.{step_closed};
 
 // Whether a tick is told: it was counted, and a face is not as it was or something was answered.
 fn is_told(tick: Tick, faces: &[Face], last: &[Face], now: &[OpAnswered], failed: bool) -> bool

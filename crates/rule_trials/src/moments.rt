@@ -1,7 +1,7 @@
 ghost use Rattle.site_types.specs.Valid.{IsValid};
 
 use anyhow::{Result, bail};
-use plain_panel::Moment;
+use plain_history::Moment;
 use record_lines::{Line, LineReader, Step};
 use site_types::Site;
 use std::alloc::Global;

@@ -1,6 +1,6 @@
 use Rattle.std.proofs.Common.{refl}
 use Rattle.panel_rules.specs.Run.{facts_of}
-use Rattle.plain_panel.specs.Histories.{all_done}
+use Rattle.plain_history.specs.Histories.{all_done}
 use Rattle.plain_panel.proofs.face_shown.face_of.Goals as goal
 
 pub returns : goal.returns

@@ -1,5 +1,5 @@
 use Rattle.panel_rules.specs.Timeline.{face_of}
-use Rattle.plain_panel.specs.Histories.{history}
+use Rattle.plain_history.specs.Histories.{history}
 use Rattle.plain_panel.proofs.FacesMore.{more_faces}
 use Rattle.plain_panel.proofs.faces_now.faces_now.Goals as goal
 

@@ -1,5 +1,5 @@
 use Rattle.std.proofs.Common.{take}
-use Rattle.plain_panel.specs.Histories.{history}
+use Rattle.plain_history.specs.Histories.{history}
 use Rattle.plain_panel.specs.Timelines.{StandsForTelling}
 use Rattle.plain_panel.proofs.telling.timeline.Given as goal
 

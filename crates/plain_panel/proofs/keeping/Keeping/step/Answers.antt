@@ -1,6 +1,6 @@
 use Rattle.std.proofs.Common.{◌≤◌, ◌+◌, arith, length}
 use Rattle.panel_rules.specs.Operations.{operations}
-use Rattle.plain_panel.specs.Histories.{history, moment_of}
+use Rattle.plain_history.specs.Histories.{history, moment_of}
 use Rattle.plain_panel.proofs.Keepings.{all_placed, kept_ok}
 use Rattle.plain_panel.proofs.keeping.Keeping.step.Goals as goal
 
@@ -8,13 +8,13 @@ pub returns : goal.returns
 returns c =
     kept_ok c.args.site.now c.args.kept.now (history c.args.before.now) c.go_on.result (moment_of c.args.moment.now) c.args.self.now
     c.store_at.new.self c.go_on.new.self c.requires.stands
-    c.store_at.ensures.stored c.go_on.ensures.stored c.go_on.ensures.desk c.go_on.ensures.standing
+    c.store_at.ensures.stored c.go_on.ensures.stored c.go_on.ensures.desk c.go_on.ensures.state
 
 pub store_at-requires-clause-placed : goal.store_at-requires-clause-placed
 store_at-requires-clause-placed c =
     let above : 1 ≤ 1 = omega arith in
-    let below : 1 + length c.args.self.now.standing.panels.items ≤ 9 =
-    omega (arith, c.requires.stands.standing.panels.count, c.requires.valid.forms.panels.1) in
+    let below : 1 + length c.args.self.now.state.panels.items ≤ 9 =
+    omega (arith, c.requires.stands.state.panels.count, c.requires.valid.forms.panels.1) in
     all_placed c.args.site.now c.args.kept.now (operations c.args.site.now c.args.kept.now (history c.args.before.now)).done
-    (history c.args.before.now) 1 c.args.self.now.standing.panels.items
-    c.requires.stands.standing.panels.all above below
+    (history c.args.before.now) 1 c.args.self.now.state.panels.items
+    c.requires.stands.state.panels.all above below

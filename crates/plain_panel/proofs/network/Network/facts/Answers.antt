@@ -6,8 +6,8 @@ use Rattle.panel_links.specs.Stands.{kept_in}
 use Rattle.panel_rules.specs.Run.{facts_of, tells_fault}
 use Rattle.panel_rules.specs.Words.{ring_calls}
 use Rattle.panel_rules.proofs.RingWords.{kept_by_ring}
-use Rattle.plain_panel.specs.Drives.{AreFacts}
-use Rattle.plain_panel.proofs.FactsKept.{facts_are}
+use Rattle.panel_bridges.specs.FactMasks.{AreFacts}
+use Rattle.panel_bridges.proofs.WordFacts.{facts_are}
 use Rattle.plain_panel.proofs.network.Network.facts.Goals as goal
 
 pub returns : goal.returns

@@ -7,7 +7,7 @@ use Rattle.panel_conditions.specs.Words.{has_fault}
 use Rattle.panel_rules.specs.Moments.{Turned, tick_of}
 use Rattle.panel_rules.specs.Zones.{held_answers}
 use Rattle.panel_rules.proofs.FaultsTold.{faults_told}
-use Rattle.plain_panel.specs.Histories.{all_done, history}
+use Rattle.plain_history.specs.Histories.{all_done, history}
 use Rattle.plain_panel.specs.Network.{outside_told}
 use Rattle.plain_panel.proofs.network.Network.hold.Goals as goal
 

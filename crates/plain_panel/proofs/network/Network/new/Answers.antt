@@ -1,8 +1,8 @@
 use Rattle.std.proofs.Common.{◌∙◌, ℕ, ap, arith, refl}
 use Rattle.panel_rules.specs.Moments.{IsPanel}
-use Rattle.plain_panel.specs.declared.own.Own.{Own}
+use Rattle.plain_panel.specs.declared.indications.Indications.{Indications}
 use Rattle.plain_panel.proofs.HoldsShown.{none_shown}
-use Rattle.plain_panel.proofs.NoFaults.{no_faults_yet}
+use Rattle.panel_bridges.proofs.NoFaultsYet.{no_faults_yet}
 use Rattle.plain_panel.proofs.network.Network.new.Goals as goal
 
 pub returns-clause-stands : goal.returns-clause-stands
@@ -13,7 +13,7 @@ returns-clause-stands c kept done =
     record {
       size = refl;
       ring = c.new.ensures.stands;
-      words = λ panel p. ap (λ (o : Own). o.word) (none panel p);
-      faults = λ panel p. ap (λ (o : Own). o.faults) (none panel p) ∙ no_faults_yet c.args.site.now kept done panel;
-      news = λ panel p. ap (λ (o : Own). o.news.0) (none panel p);
+      words = λ panel p. ap (λ (o : Indications). o.word) (none panel p);
+      faults = λ panel p. ap (λ (o : Indications). o.faults) (none panel p) ∙ no_faults_yet c.args.site.now kept done panel;
+      news = λ panel p. ap (λ (o : Indications). o.news.0) (none panel p);
     }

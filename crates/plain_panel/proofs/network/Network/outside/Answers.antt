@@ -7,8 +7,8 @@ use Rattle.panel_rules.specs.Faults.{silent_panels}
 use Rattle.panel_rules.specs.Kept.{heard}
 use Rattle.panel_rules.specs.Run.{tells_fault}
 use Rattle.panel_rules.specs.Words.{ring_calls}
-use Rattle.plain_panel.specs.Histories.{history}
-use Rattle.plain_panel.proofs.RingsTold.{down_same, outside_same, silent_same}
+use Rattle.plain_history.specs.Histories.{history}
+use Rattle.panel_bridges.proofs.RingStates.{down_same, outside_same, silent_same}
 use Rattle.plain_panel.proofs.network.Network.outside.Goals as goal
 
 pub returns : goal.returns

@@ -1,6 +1,6 @@
 use Rattle.std.proofs.Common.{◌∷◌, subst, sym}
-use Rattle.plain_panel.specs.declared.moment.Moment.{Moment}
-use Rattle.plain_panel.specs.Histories.{moment_of}
+use Rattle.plain_history.specs.declared.moment.Moment.{Moment}
+use Rattle.plain_history.specs.Histories.{moment_of}
 use Rattle.plain_panel.specs.Network.{IsNotHold, StandsFor}
 use Rattle.plain_panel.proofs.network.Network.step.Goals as goal
 

@@ -1,9 +1,9 @@
 use Rattle.std.proofs.Common.{◌∙◌, ◌-◌, ◌++◌, [], ap, sym}
 use Rattle.std.specs.List.{cons_option}
 use Rattle.panel_rules.specs.Moments.{tick_of}
-use Rattle.plain_panel.specs.Histories.{history}
-use Rattle.plain_panel.specs.Timelines.{steps_upto}
-use Rattle.plain_panel.proofs.Timelines.{steps_closed}
+use Rattle.plain_history.specs.Histories.{history}
+use Rattle.panel_bridges.specs.ClosedSteps.{steps_upto}
+use Rattle.panel_bridges.proofs.ClosedSteps.{steps_closed}
 use Rattle.plain_panel.proofs.telling.Telling.close.Goals as goal
 
 pub returns-clause-steps : goal.returns-clause-steps

@@ -1,9 +1,9 @@
 use Rattle.std.proofs.Common.{◌∙◌, ◌∷◌, ◌||◌, ap, sym}
 use Rattle.panel_rules.specs.Moments.{tick_of}
 use Rattle.panel_rules.specs.Timeline.{failed_now}
-use Rattle.plain_panel.specs.Histories.{history, moment_of}
+use Rattle.plain_history.specs.Histories.{history, moment_of}
 use Rattle.plain_panel.proofs.Tellers.{began_told, other_told}
-use Rattle.plain_panel.proofs.Timelines.{failed_kept}
+use Rattle.panel_bridges.proofs.ClosedSteps.{failed_kept}
 use Rattle.plain_panel.proofs.telling.Telling.step.Goals as goal
 
 pub returns-in_ok-close-in-Began : goal.returns-in_ok-close-in-Began

@@ -1,0 +1,2 @@
+pub mod ClosedSteps
+pub mod FactMasks

@@ -1,0 +1,5 @@
+pub mod BadRuns
+pub mod Histories
+pub mod Numbers
+pub mod Reported
+pub mod Settings

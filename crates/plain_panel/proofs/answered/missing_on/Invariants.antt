@@ -1,8 +1,0 @@
-use Rattle.std.proofs.Common.{◌≡◌}
-use Rattle.site_types.specs.Bits.{mask_of}
-use Rattle.plain_panel.specs.Histories.{all_done}
-use Rattle.plain_panel.proofs.Masked.{point_test}
-use Rattle.plain_panel.proofs.answered.missing_on.Given as goal
-
-abbrev pub invariant-loop-bit : goal.invariant-loop-bit
-invariant-loop-bit l = l.mask ≡ mask_of l.bit (point_test l.site l.kept l.panel (all_done l.done) l.answers l.tick.0 l.line l.past)

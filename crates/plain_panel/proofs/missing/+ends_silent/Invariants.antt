@@ -1,5 +1,0 @@
-use Rattle.std.proofs.Common.{length}
-use Rattle.plain_panel.proofs.missing.+ends_silent.Given as goal
-
-abbrev pub decreases-ends_silent : goal.decreases-ends_silent
-decreases-ends_silent l = length l.answers.now

@@ -1,5 +1,0 @@
-use Rattle.std.proofs.Common.{length}
-use Rattle.plain_panel.proofs.on.+latest_on.Given as goal
-
-abbrev pub decreases-latest_on : goal.decreases-latest_on
-decreases-latest_on l = length l.seen.now

@@ -1,5 +1,0 @@
-use Rattle.std.proofs.Common.{length}
-use Rattle.plain_panel.proofs.on.+was_on_for.Given as goal
-
-abbrev pub decreases-was_on_for : goal.decreases-was_on_for
-decreases-was_on_for l = length l.seen.now

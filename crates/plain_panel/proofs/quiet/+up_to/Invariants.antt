@@ -1,5 +1,0 @@
-use Rattle.std.proofs.Common.{length}
-use Rattle.plain_panel.proofs.quiet.+up_to.Given as goal
-
-abbrev pub decreases-up_to : goal.decreases-up_to
-decreases-up_to l = length l.seen.now

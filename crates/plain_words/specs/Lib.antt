@@ -1,0 +1,5 @@
+pub mod Askings
+pub mod Enterings
+pub mod Judging
+pub mod MissingPoints
+pub mod ZoneStates
