@@ -6,3 +6,6 @@ mod Taking
 mod Mine
 mod Turning
 mod Turns
+mod Turned
+mod Begun
+mod Asked
