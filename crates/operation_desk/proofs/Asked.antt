@@ -1,5 +1,5 @@
 -- The desk after an event: an operation that is asked for stands behind those before it.
-use Rattle.std.proofs.Common.{◌≡◌, ◌≢◌, ℕ, zero, suc, ◌+◌, ◌-◌, ◌^◌, ◌≤◌, ◌<◌, ◌==◌, ◌&&◌, Bool, true, false, List, [], ◌∷◌, ◌++◌, length, Option, Some, None, slice_get, if◌then◌else◌, inl, inr, refl, sym, ◌∙◌, ap, subst, arith, length-append}
+use Rattle.std.proofs.Common.{◌≡◌, ℕ, zero, suc, ◌+◌, ◌-◌, ◌^◌, ◌≤◌, ◌<◌, ◌==◌, ◌&&◌, Bool, true, false, List, [], ◌∷◌, ◌++◌, length, Option, Some, None, slice_get, if◌then◌else◌, inl, inr, refl, sym, ◌∙◌, ap, subst, arith, length-append}
 use Rattle.std.specs.Prelude.{filter, nat_le, nat_lt, option_map, slice_index, slice_set}
 use Rattle.std.specs.List.{AllByRecursion, cons_option, filter_map}
 use Rattle.std.proofs.lemmas.Bool.Decides.{eqb_tells}
@@ -26,12 +26,11 @@ use Rattle.panel_rules.proofs.Places.{get_behind}
 use Rattle.panel_rules.proofs.Told.{eq_true}
 use Rattle.panel_laws.specs.OperationLaws.{AreOfSite}
 use Rattle.panel_laws.proofs.AnswersRise.{found}
-use Rattle.panel_laws.proofs.FewAnswers.{few_in_tick, is_early_up_to, length_filter}
+use Rattle.panel_laws.proofs.FewAnswers.{few_in_tick, is_early_up_to}
 use Rattle.operation_desk.specs.declared.desk.Desk.{Desk}
-use Rattle.operation_desk.specs.declared.request.Request.{Request}
 use Rattle.operation_desk.specs.Changes.{Asks, CanAsk, asked_now}
 use Rattle.operation_desk.specs.Requests.{and_done, is_early, request_from, requests_from}
-use Rattle.operation_desk.specs.Stands.{CanHear, DesksFor, given_in, told_in}
+use Rattle.operation_desk.specs.Stands.{DesksFor, given_in}
 
 -- ---- what was answered and what waits was asked for
 
@@ -212,14 +211,14 @@ module _ (site : Site) (kept : Retained) (panel level : ℕ) (operation : Operat
             let c = h.counts panel own in
             let step = early_more in
             let first : length (filter (is_early (tick_of before)) (requests site (Happened event ∷ before)))
-                ≡ length (filter (is_early (tick_of before)) (requests site before ++ r ∷ [])) =
+            ≡ length (filter (is_early (tick_of before)) (requests site before ++ r ∷ [])) =
             ap (λ xs. length (filter (is_early (tick_of before)) xs)) asked in
             let second : filter (is_early (tick_of before)) (requests site before ++ r ∷ [])
-                ≡ filter (is_early (tick_of before)) (requests site before) ++ r ∷ [] =
+            ≡ filter (is_early (tick_of before)) (requests site before) ++ r ∷ [] =
             step ∙ ap (λ b. filter (is_early (tick_of before)) (requests site before) ++ (if b then r ∷ [] else []))
             (lt_to (length (requests_in panel (tick_of before) (requests site before))) most_operations (omega (arith, c, less))) in
             let more : length (filter (is_early (tick_of before)) (requests site before ++ r ∷ []))
-                ≡ length (filter (is_early (tick_of before)) (requests site before)) + 1 =
+            ≡ length (filter (is_early (tick_of before)) (requests site before)) + 1 =
             ap length second ∙ length-append (filter (is_early (tick_of before)) (requests site before)) (r ∷ []) in
             let kept_so = length-map old.asked.items request_from in
             let here = ap length h.asked in
@@ -253,9 +252,10 @@ module _ (site : Site) (kept : Retained) (panel level : ℕ) (operation : Operat
           busy = λ q p. ap (λ x. slice_index x.busy (q - 1)) a.answers ∙ h.busy q p ∙ ap (busy_count q) (sym given_then);
           idle = λ q p e. ap (λ x. slice_index x.busy (q - 1)) a.answers ∙ h.idle q p e;
           failed = ap (λ x. x.failed) a.answers ∙ h.failed;
-          sized =
-              (ap length a.counts ∙ length-set old.counts (panel - 1) (slice_index old.counts (panel - 1) + 1) ∙ h.sized.0,
-              ap (λ x. length x.busy) a.answers ∙ h.sized.1);
+          sized = (
+            ap length a.counts ∙ length-set old.counts (panel - 1) (slice_index old.counts (panel - 1) + 1) ∙ h.sized.0,
+            ap (λ x. length x.busy) a.answers ∙ h.sized.1,
+          );
         }
       where
         given_then : given_in site kept (tick_of before) (operations site kept before).answers (requests site (Happened event ∷ before))

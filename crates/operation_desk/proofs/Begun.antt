@@ -1,12 +1,11 @@
 -- A new desk, and one at the beginning of a tick: nothing of an earlier tick is answered or done in it.
-use Rattle.std.proofs.Common.{◌≡◌, ◌≢◌, ℕ, zero, suc, ◌+◌, ◌-◌, ◌≤◌, ◌<◌, ◌==◌, ◌&&◌, Bool, true, false, List, [], ◌∷◌, ◌++◌, length, replicate, Option, Some, None, slice_get, if◌then◌else◌, inl, inr, refl, sym, ◌∙◌, ap, subst, arith}
-use Rattle.std.specs.Prelude.{filter, nat_lt, option_map, slice_index}
-use Rattle.std.specs.List.{AllByRecursion, filter_map, find, list_any}
+use Rattle.std.proofs.Common.{◌≡◌, ℕ, zero, suc, ◌+◌, ◌-◌, ◌≤◌, ◌==◌, ◌&&◌, Bool, true, false, List, [], ◌∷◌, ◌++◌, length, replicate, Option, Some, None, inl, inr, refl, sym, ◌∙◌, ap, arith}
+use Rattle.std.specs.Prelude.{filter, nat_lt, slice_index}
+use Rattle.std.specs.List.{AllByRecursion, filter_map, list_any}
 use Rattle.std.proofs.lemmas.Bool.Decides.{eqb_tells}
 use Rattle.tick_units.specs.declared.task.Task.TheVariants.{Desk as DeskTask}
 use Rattle.site_types.specs.declared.retained.Retained.{Retained}
 use Rattle.site_types.specs.declared.site.Site.{Site}
-use Rattle.site_types.specs.Changes.{IsPanelNumber}
 use Rattle.site_types.specs.Done.{Done}
 use Rattle.site_types.specs.Limits.{most_operations}
 use Rattle.panel_rules.specs.Moments.{Moment, Began, Happened, Turned, Kept, tick_of}
@@ -17,7 +16,7 @@ use Rattle.panel_rules.proofs.Answering.{requests_by}
 use Rattle.panel_rules.proofs.Counting.{each_at, each_filtered, each_to}
 use Rattle.operation_desk.specs.declared.desk.Desk.{Desk}
 use Rattle.operation_desk.specs.Requests.{and_done, is_early, requests_from}
-use Rattle.operation_desk.specs.Stands.{DesksFor, given_in, told_in}
+use Rattle.operation_desk.specs.Stands.{DesksFor, given_in}
 
 -- ---- what became of operations lies in the past
 

@@ -1,21 +1,19 @@
 -- What became of operations leaves room for one answer more: each is answered once, and few are told in a tick.
-use Rattle.std.proofs.Common.{◌≡◌, ℕ, zero, suc, ◌+◌, ◌≤◌, ◌<◌, ◌==◌, List, [], ◌∷◌, ◌++◌, length, take, drop, Option, Some, None, Bool, true, false, slice_get, refl, sym, ◌∙◌, ap, subst, arith}
-use Rattle.std.specs.List.{AllByRecursion, filter_map}
-use Rattle.std.proofs.lemmas.List.Elements.{filter-append}
-use Rattle.tick_units.specs.declared.task.Task.TheVariants.{Desk}
+use Rattle.std.proofs.Common.{◌≡◌, ℕ, ◌≤◌, ◌==◌, List, [], ◌∷◌, ◌++◌, length, Option, Some, None, Bool, true, false, slice_get, refl, sym, ◌∙◌, ap, subst, arith}
+use Rattle.std.specs.List.{AllByRecursion}
 use Rattle.site_types.specs.declared.retained.Retained.{Retained}
 use Rattle.site_types.specs.declared.site.Site.{Site}
 use Rattle.site_types.specs.Valid.{IsValid}
 use Rattle.panel_rules.specs.Moments.{Moment, IsRun, has_kept, tick_of}
 use Rattle.panel_rules.specs.Operations.{Answered, Operations, Reply, Request, after_desk, after_reply, after_request, desk_reply}
 use Rattle.panel_rules.specs.Operations.{operations, requests}
-use Rattle.panel_rules.specs.Timeline.{answer_in, is_busy, told_answer}
+use Rattle.panel_rules.specs.Timeline.{answer_in, is_busy}
 use Rattle.panel_rules.proofs.Answering.{numbered_by_place, times, times_desk}
 use Rattle.panel_rules.proofs.Counting.{count, count-some, each_at, each_by, each_to}
 use Rattle.panel_rules.proofs.OpenRequests.{answered_few}
 use Rattle.panel_rules.proofs.Told.{eq_true}
 use Rattle.panel_laws.specs.OperationLaws.{AreOfSite}
-use Rattle.panel_laws.proofs.AnswerLaws.{Fits, IsAsked, Waits, numbered_once, owed, same_request, sound}
+use Rattle.panel_laws.proofs.AnswerLaws.{Fits, IsAsked, Waits, numbered_once, owed, sound}
 use Rattle.panel_laws.proofs.AnswersFit.{IsEarly, IsFit, answers_fit}
 use Rattle.panel_laws.proofs.AnswersRise.{found, told_in_time}
 use Rattle.panel_laws.proofs.FewAnswers.{can_be_told, few_asked, told_few}
@@ -158,40 +156,47 @@ same_asked asked tick i j r x few is is' same =
     let at : Some r ≡ Some x = sym is ∙ ap (slice_get asked) place ∙ is' in
     cc
 
-module _ (site : Site) (kept : Retained) (asked : List Request) (tick : ℕ) (so_far : Operations) (few : AreFewAsked asked tick) (on :
-    CanGoOn asked tick so_far) where
-  pub few_told : length (told_in site kept tick so_far.answers asked) ≤ 64
-  few_told =
-      let l = told_few (answer_in site kept tick so_far.answers) (can_be_told tick) asked passes in
+module _ (site : Site) (kept : Retained) (asked : List Request) (tick : ℕ) (few : AreFewAsked asked tick) where
+  pub few_answers : (answers : List Answered) → AllByRecursion (IsInTime asked tick) answers → length (told_in site kept tick answers asked) ≤ 64
+  few_answers answers all =
+      let l = told_few (answer_in site kept tick answers) (can_be_told tick) asked passes in
       let m = few.few in
       omega (arith, l, m)
     where
-      passes : (k : ℕ) (r : Request) (a : Answered) → slice_get asked k ≡ Some r → answer_in site kept tick so_far.answers r ≡ Some a
+      passes : (k : ℕ) (r : Request) (a : Answered) → slice_get asked k ≡ Some r → answer_in site kept tick answers r ≡ Some a
           → is_busy a.reply ≡ false → can_be_told tick r ≡ true
       passes k r a is e free =
-          let f = found site kept so_far.answers tick r a e in
-          let t = each_at (IsInTime asked tick) so_far.answers f.place a on.answers f.is in
+          let f = found site kept answers tick r a e in
+          let t = each_at (IsInTime asked tick) answers f.place a all f.is in
           let same = same_asked asked tick t.from.place k a.request r few t.from.is is f.number in
           subst (λ (x : Request). can_be_told tick x ≡ true) same (t.soon f.tick_is free)
 
-  pub few_waiting : length so_far.waiting ≤ 64
-  few_waiting =
-      let whole = all_counted (can_be_told tick) so_far.waiting (each_to (IsWaiting asked tick) (λ r. can_be_told tick r ≡ true) so_far.waiting
-      (λ r w. w.soon) on.waiting) in
-      let l = on.few in
-      omega (arith, whole, l)
-    where
-      all_counted : (test : Request → Bool) (xs : List Request) → AllByRecursion (λ r. test r ≡ true) xs → count test xs ≡ length xs
-      all_counted test [] all = refl
-      all_counted test (x ∷ xs) all = let ih = all_counted test xs all.1 in rw all.0 (omega (arith, ih))
-
   -- one that has yet to be answered has no answer
-  pub none_yet : (r : Request) → times (λ (x : Request). x.number == r.number) so_far ≡ 0 → answer_in site kept tick so_far.answers r ≡ None
-  none_yet r unanswered = go (answer_in site kept tick so_far.answers r) refl
+  pub none_among : (answers : List Answered) (r : Request) → count (λ (a : Answered). a.request.number == r.number) answers ≡ 0
+      → answer_in site kept tick answers r ≡ None
+  none_among answers r unanswered = go (answer_in site kept tick answers r) refl
     where
-      go : (o : Option Answered) → answer_in site kept tick so_far.answers r ≡ o → o ≡ None
+      go : (o : Option Answered) → answer_in site kept tick answers r ≡ o → o ≡ None
       go None e = refl
       go (Some a) e =
-          let f = found site kept so_far.answers tick r a e in
-          let some = count-some (λ (x : Answered). x.request.number == r.number) so_far.answers f.place a f.is (eq_true a.request.number r.number f.number) in
+          let f = found site kept answers tick r a e in
+          let some = count-some (λ (x : Answered). x.request.number == r.number) answers f.place a f.is (eq_true a.request.number r.number f.number) in
           absurd (omega (arith, some, unanswered))
+
+  module _ (so_far : Operations) (on : CanGoOn asked tick so_far) where
+    pub few_told : length (told_in site kept tick so_far.answers asked) ≤ 64
+    few_told = few_answers so_far.answers on.answers
+
+    pub few_waiting : length so_far.waiting ≤ 64
+    few_waiting =
+        let whole = all_counted (can_be_told tick) so_far.waiting (each_to (IsWaiting asked tick) (λ r. can_be_told tick r ≡ true) so_far.waiting
+        (λ r w. w.soon) on.waiting) in
+        let l = on.few in
+        omega (arith, whole, l)
+      where
+        all_counted : (test : Request → Bool) (xs : List Request) → AllByRecursion (λ r. test r ≡ true) xs → count test xs ≡ length xs
+        all_counted test [] all = refl
+        all_counted test (x ∷ xs) all = let ih = all_counted test xs all.1 in rw all.0 (omega (arith, ih))
+
+    pub none_yet : (r : Request) → times (λ (x : Request). x.number == r.number) so_far ≡ 0 → answer_in site kept tick so_far.answers r ≡ None
+    none_yet r unanswered = none_among so_far.answers r (omega (arith, unanswered))

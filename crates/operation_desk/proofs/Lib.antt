@@ -9,3 +9,4 @@ mod Turns
 mod Turned
 mod Begun
 mod Asked
+mod Keeping

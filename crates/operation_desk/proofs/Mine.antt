@@ -1,5 +1,5 @@
 -- The operations of a panel in a tick: the first four, and those that find it busy.
-use Rattle.std.proofs.Common.{◌≡◌, ℕ, zero, suc, ◌+◌, ◌-◌, ◌≤◌, ◌<◌, ◌==◌, ◌&&◌, Bool, true, false, not, List, [], ◌∷◌, ◌++◌, length, Option, Some, None, slice_get, if◌then◌else◌, inl, inr, refl, sym, ◌∙◌, ap, subst, arith}
+use Rattle.std.proofs.Common.{◌≡◌, ℕ, zero, suc, ◌+◌, ◌-◌, ◌≤◌, ◌<◌, ◌==◌, ◌&&◌, Bool, true, false, not, List, [], ◌∷◌, ◌++◌, length, Some, slice_get, if◌then◌else◌, inl, inr, refl, sym, ◌∙◌, ap, subst, arith}
 use Rattle.std.specs.Prelude.{filter, nat_le, nat_lt, option_map}
 use Rattle.std.proofs.lemmas.Bool.Decides.{eqb_tells, leb_tells}
 use Rattle.std.proofs.lemmas.List.Elements.{filter-append}
@@ -10,8 +10,8 @@ use Rattle.site_types.proofs.Done.{lt_tells}
 use Rattle.access_levels.specs.Levels.{level_of}
 use Rattle.panel_rules.specs.Moments.{Moment, Began, Happened, Turned, Kept, tick_of}
 use Rattle.panel_rules.specs.Operations.{Request, request_of, requests, requests_in}
-use Rattle.panel_rules.proofs.Counting.{count, one}
-use Rattle.panel_rules.proofs.Places.{IsBehind, get_either}
+use Rattle.panel_rules.proofs.Counting.{count}
+use Rattle.panel_rules.proofs.Places.{get_either}
 use Rattle.operation_desk.specs.Requests.{is_early}
 
 -- in a list each comes after as many as its place says, from some number on

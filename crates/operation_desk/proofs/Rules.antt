@@ -1,5 +1,5 @@
 -- The answer at Desk's turn, from what waits, what was done in the tick and the settings in force.
-use Rattle.std.proofs.Common.{◌≡◌, ℕ, ◌≤◌, ◌<◌, ◌&&◌, ◌||◌, Bool, true, false, List, [], ◌∷◌, map, Option, Some, None, inl, inr, if◌then◌else◌, refl, sym, ◌∙◌, ap, subst, arith}
+use Rattle.std.proofs.Common.{◌≡◌, ℕ, ◌<◌, ◌&&◌, ◌||◌, Bool, true, false, List, [], ◌∷◌, Some, None, inl, inr, if◌then◌else◌, refl, sym, ◌∙◌, ap, subst, arith}
 use Rattle.std.specs.Prelude.{nat_le, nat_lt}
 use Rattle.std.specs.List.{AllByRecursion, list_any}
 use Rattle.std.proofs.lemmas.Bool.Decides.{leb_tells}
@@ -14,10 +14,9 @@ use Rattle.site_types.specs.Changes.{IsPanelNumber}
 use Rattle.site_types.specs.Done.{Done, Setting, PointOff, ZoneOff, OutputOff, InTest, DelaysOff, Counter, IsSetting}
 use Rattle.site_types.specs.Done.{is_on, is_setting, item_off, operation_setting, value_set}
 use Rattle.site_types.specs.Limits.{most_operations}
-use Rattle.site_types.proofs.Done.{lt_tells}
 use Rattle.access_levels.specs.Levels.{needed_by}
 use Rattle.face_text.specs.Faces.{same_truth}
-use Rattle.panel_rules.specs.Operations.{Operations, Reply, Request as RequestOf, Waiting, Already, Busy, Denied, desk_reply}
+use Rattle.panel_rules.specs.Operations.{Operations, Request as RequestOf, Waiting, Already, Busy, Denied, desk_reply}
 use Rattle.panel_rules.specs.Operations.{is_unsettled, setting_asked, setting_reply, stands_so}
 use Rattle.operation_desk.specs.declared.done_operation.DoneOperation.{DoneOperation}
 use Rattle.operation_desk.specs.declared.request.Request.{Request}

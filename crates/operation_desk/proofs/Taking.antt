@@ -1,7 +1,6 @@
 -- An operation that Desk takes: its answer, or its place among those that wait.
-use Rattle.std.proofs.Common.{◌≡◌, ℕ, ◌+◌, ◌≤◌, ◌<◌, Bool, true, not, List, [], ◌∷◌, ◌++◌, length, map, Option, Some, None, slice_get, refl, sym, ◌∙◌, ap, subst, arith, length-append}
+use Rattle.std.proofs.Common.{◌≡◌, ℕ, ◌+◌, ◌≤◌, ◌<◌, not, List, [], ◌∷◌, ◌++◌, length, Option, Some, None, slice_get, refl, sym, ◌∙◌, ap, subst, arith, length-append}
 use Rattle.std.specs.Prelude.{filter, option_map}
-use Rattle.std.specs.List.{AllByRecursion}
 use Rattle.std.proofs.lemmas.List.Filters.{length-filter_both}
 use Rattle.face_text.specs.declared.op_answer.OpAnswer.{OpAnswer}
 use Rattle.face_text.specs.declared.reply.Reply.{Reply}
@@ -9,8 +8,8 @@ use Rattle.face_text.specs.declared.reply.Reply.TheVariants.{Done as SaysDone, D
 use Rattle.site_types.specs.declared.retained.Retained.{Retained}
 use Rattle.site_types.specs.declared.site.Site.{Site}
 use Rattle.site_types.specs.Done.{Done}
-use Rattle.panel_rules.specs.Operations.{Answered, Operations, Reply as ReplyOf, Request as RequestOf, after_reply, after_request}
-use Rattle.panel_rules.specs.Operations.{and_done as done_where_told, desk_reply, done_in}
+use Rattle.panel_rules.specs.Operations.{Answered, Operations, Request as RequestOf, after_reply, after_request}
+use Rattle.panel_rules.specs.Operations.{and_done as done_where_told, desk_reply}
 use Rattle.panel_rules.specs.Timeline.{answer_in, told_answer}
 use Rattle.operation_desk.specs.declared.desk.Desk.{Desk}
 use Rattle.operation_desk.specs.declared.done_operation.DoneOperation.{DoneOperation}
@@ -72,16 +71,13 @@ done_length request Store done = omega arith
 
 module _ (site : Site) (kept : Retained) (asked : List RequestOf) (tick : ℕ) (numbered : AreNumbered 0 asked) where
   -- an answer leaves what waits as it was
-  abbrev answered_with : Request → Reply → Operations → Operations
-  answered_with request reply so_far =
-      record so_far {
-        answers = given tick request reply ∷ so_far.answers;
-        done = done_where_told (request_from request) (reply_from reply) so_far.done;
-      }
+  abbrev pub answered_with : Request → Reply → List Done → Operations → Operations
+  answered_with request reply done so_far =
+      record so_far { answers = given tick request reply ∷ so_far.answers; done = done }
 
   module _ (request : Request) (reply : Reply) (so_far : Operations) (place : ℕ) (is : slice_get asked place ≡ Some (request_from request))
-      (now : request.tick.0 ≡ tick) (unanswered : answer_in site kept tick so_far.answers (request_from request) ≡ None) where
-    pub told_then : told_in site kept tick (given tick request reply ∷ so_far.answers) asked
+      (unanswered : answer_in site kept tick so_far.answers (request_from request) ≡ None) where
+    told_then : told_in site kept tick (given tick request reply ∷ so_far.answers) asked
         ≡ put_by_number (answer_of request reply) (told_in site kept tick so_far.answers asked)
     told_then =
         told_more site kept tick so_far.answers (given tick request reply) asked place numbered is refl unanswered (answer_of request reply)
@@ -94,11 +90,13 @@ module _ (site : Site) (kept : Retained) (asked : List RequestOf) (tick : ℕ) (
         let l = ap length same in
         omega (arith, more, l, few)
 
-    pub outcomes_then : (old new : Desk) → TellsOutcomes site kept asked tick so_far old
+    pub outcomes_then : (done_then : List Done) (old new : Desk) → TellsOutcomes site kept asked tick so_far old
+        → ((done : List DoneOperation) (older : List Done) → so_far.done ≡ and_done tick done older
+        → done_then ≡ and_done tick (done_with request reply done) older)
         → new.answers.ops ≡ put_by_number (answer_of request reply) old.answers.ops
         → new.done.items ≡ done_with request reply old.done.items → new.waiting ≡ old.waiting → HasSameRest old new
-        → TellsOutcomes site kept asked tick (answered_with request reply so_far) new
-    outcomes_then old new h ops done waiting rest =
+        → TellsOutcomes site kept asked tick (answered_with request reply done_then so_far) new
+    outcomes_then done_then old new h grows ops done waiting rest =
         record {
           now = ap (λ t. t.0) rest.tick ∙ h.now;
           unsettled =
@@ -106,7 +104,7 @@ module _ (site : Site) (kept : Retained) (asked : List RequestOf) (tick : ℕ) (
                 waiting_is = ap (λ w. requests_from w.items) waiting ∙ h.unsettled.waiting_is;
                 older = h.unsettled.older;
                 done_is =
-                    done_grows tick request reply old.done.items h.unsettled.older so_far.done now h.unsettled.done_is
+                    grows old.done.items h.unsettled.older h.unsettled.done_is
                     ∙ ap (λ ds. and_done tick ds h.unsettled.older) (sym done);
                 earlier = h.unsettled.earlier;
               };
@@ -124,7 +122,10 @@ module _ (site : Site) (kept : Retained) (asked : List RequestOf) (tick : ℕ) (
 -- its answer is the one at Desk's turn
 pub taken_reply : (site : Site) (kept : Retained) (request : Request) (reply : Reply) (tick : ℕ) (so_far : Operations) → request.tick.0 ≡ tick
     → Some (reply_from reply) ≡ desk_reply site kept (request_from request) so_far
-    → answered_with site kept [] tick (λ k r is. cc) request reply so_far ≡ after_request site kept so_far (request_from request)
+    → (let o : Operations = record so_far {
+      answers = given tick request reply ∷ so_far.answers;
+      done = done_where_told (request_from request) (reply_from reply) so_far.done;
+    } in o) ≡ after_request site kept so_far (request_from request)
 taken_reply site kept request reply tick so_far now e =
     ap (λ t. (let o : Operations = record {
       waiting = so_far.waiting;
@@ -148,12 +149,15 @@ ruled_by site kept settings asked tick so_far request desk waiting done reply ru
 module _ (site : Site) (kept settings : Retained) (asked : List RequestOf) (tick : ℕ) (so_far : Operations) (request : Request) (reply : Reply)
     (old : Desk) (h : TellsOutcomes site kept asked tick so_far old) (m : MayTake site kept settings asked tick so_far request)
     (e : Some (reply_from reply) ≡ desk_reply site kept (request_from request) so_far) where
-  same_then : answered_with site kept asked tick m.numbered request reply so_far ≡ after_request site kept so_far (request_from request)
+  abbrev done_so : List Done
+  done_so = done_where_told (request_from request) (reply_from reply) so_far.done
+
+  same_then : answered_with site kept asked tick m.numbered request reply done_so so_far ≡ after_request site kept so_far (request_from request)
   same_then = taken_reply site kept request reply tick so_far m.now e
 
   pub room_taken : length old.answers.ops < 64
   room_taken =
-      room_then site kept asked tick m.numbered request reply so_far m.place m.is m.now m.unanswered old.answers.ops h.ops
+      room_then site kept asked tick m.numbered request reply so_far m.place m.is m.unanswered old.answers.ops h.ops
       (subst (λ (o : Operations). length (told_in site kept tick o.answers asked) ≤ 64) (sym same_then) m.few_told)
 
   pub taken : (new : Desk) → new.answers.ops ≡ put_by_number (answer_of request reply) old.answers.ops
@@ -161,4 +165,5 @@ module _ (site : Site) (kept settings : Retained) (asked : List RequestOf) (tick
       → TellsOutcomes site kept asked tick (after_request site kept so_far (request_from request)) new
   taken new ops done waiting rest =
       subst (λ (o : Operations). TellsOutcomes site kept asked tick o new) same_then
-      (outcomes_then site kept asked tick m.numbered request reply so_far m.place m.is m.now m.unanswered old new h ops done waiting rest)
+      (outcomes_then site kept asked tick m.numbered request reply so_far m.place m.is m.unanswered done_so old new h
+      (λ ds older is. done_grows tick request reply ds older so_far.done m.now is) ops done waiting rest)

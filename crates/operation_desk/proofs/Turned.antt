@@ -1,6 +1,6 @@
 -- The desk after a turn of Desk.
-use Rattle.std.proofs.Common.{◌≡◌, ◌≢◌, ℕ, ◌+◌, ◌-◌, ◌≤◌, ◌<◌, ◌==◌, ◌&&◌, Bool, true, false, not, List, [], ◌∷◌, ◌++◌, length, Some, slice_get, if◌then◌else◌, inl, inr, refl, sym, ◌∙◌, ap, subst, arith}
-use Rattle.std.specs.Prelude.{filter, nat_le, nat_lt, slice_index, slice_set}
+use Rattle.std.proofs.Common.{◌≡◌, ◌≢◌, ℕ, ◌+◌, ◌-◌, ◌==◌, ◌&&◌, Bool, true, false, not, List, [], ◌∷◌, length, if◌then◌else◌, inl, inr, refl, sym, ◌∙◌, ap, subst, arith}
+use Rattle.std.specs.Prelude.{nat_le, nat_lt, slice_index, slice_set}
 use Rattle.std.specs.List.{AllByRecursion}
 use Rattle.std.proofs.lemmas.Bool.Decides.{eqb_tells, leb_tells}
 use Rattle.std.proofs.lemmas.List.{get_or-set_other, get_or-set_same, length-set}
@@ -12,14 +12,13 @@ use Rattle.site_types.specs.Changes.{IsPanelNumber}
 use Rattle.site_types.specs.Limits.{most_operations}
 use Rattle.site_types.proofs.Done.{lt_tells}
 use Rattle.panel_rules.specs.Moments.{Moment, Turned, has_turned, tick_of}
-use Rattle.panel_rules.specs.Operations.{Operations, Request as RequestOf, after_desk, after_request, operations, requests, requests_in}
+use Rattle.panel_rules.specs.Operations.{Operations, Request as RequestOf, after_desk, after_request, operations, requests}
 use Rattle.panel_rules.specs.Timeline.{busy_count}
 use Rattle.panel_rules.proofs.Bools.{parts}
-use Rattle.panel_rules.proofs.Counting.{count, each_at, each_filtered, one}
+use Rattle.panel_rules.proofs.Counting.{count, each_filtered}
 use Rattle.panel_laws.proofs.AnswerLaws.{eq_is}
 use Rattle.operation_desk.specs.declared.desk.Desk.{Desk}
 use Rattle.operation_desk.specs.Changes.{HasSameRest, firsts_of}
-use Rattle.operation_desk.specs.Replies.{TellsOpen}
 use Rattle.operation_desk.specs.Requests.{and_done, requests_from}
 use Rattle.operation_desk.specs.Stands.{DesksFor, MayTurn, TellsOutcomes, given_in, told_in}
 use Rattle.operation_desk.proofs.Bounds.{few_of_run}
@@ -169,9 +168,10 @@ module _ (site : Site) (kept settings : Retained) (panel : ℕ) (before : List M
         busy = busy_then;
         idle = idle_then;
         failed = b.failed ∙ rest.failed ∙ h.failed;
-        sized =
-            (ap length (b.counts ∙ rest.counts) ∙ h.sized.0,
-            ap length b.busy_is ∙ length-set mid.answers.busy (panel - 1) (slice_index mid.counts (panel - 1) - 4) ∙ ap length rest.busy ∙ h.sized.1);
+        sized = (
+          ap length (b.counts ∙ rest.counts) ∙ h.sized.0,
+          ap length b.busy_is ∙ length-set mid.answers.busy (panel - 1) (slice_index mid.counts (panel - 1) - 4) ∙ ap length rest.busy ∙ h.sized.1,
+        );
       }
     where
       value : ℕ

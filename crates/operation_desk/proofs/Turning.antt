@@ -1,33 +1,25 @@
 -- A turn of Desk: its panel's operations of the tick, one after another.
-use Rattle.std.proofs.Common.{◌≡◌, ◌≢◌, ℕ, zero, suc, ◌+◌, ◌-◌, ◌≤◌, ◌<◌, ◌==◌, ◌&&◌, Bool, true, false, not, List, [], ◌∷◌, ◌++◌, length, map, take, drop, get_or, Option, Some, None, slice_get, if◌then◌else◌, inl, inr, refl, sym, ◌∙◌, ap, subst, arith}
-use Rattle.std.specs.Prelude.{filter, nat_le, nat_lt}
-use Rattle.std.specs.List.{AllByRecursion, fold}
-use Rattle.std.proofs.lemmas.Bool.Decides.{eqb_tells, leb_tells}
-use Rattle.std.proofs.lemmas.List.{take-append-drop}
-use Rattle.std.proofs.lemmas.List.Elements.{filter-append}
+use Rattle.std.proofs.Common.{◌≡◌, ℕ, ◌+◌, ◌==◌, ◌&&◌, Bool, true, false, List, [], ◌∷◌, ◌++◌, Option, Some, None, if◌then◌else◌, inl, inr, refl, sym, ◌∙◌, ap, subst, arith}
+use Rattle.std.specs.Prelude.{nat_le, nat_lt}
+use Rattle.std.specs.List.{AllByRecursion}
+use Rattle.std.proofs.lemmas.Bool.Decides.{leb_tells}
 use Rattle.std.proofs.lemmas.List.Sums.{fold-append}
-use Rattle.tick_units.specs.declared.task.Task.TheVariants.{Desk as DeskTask}
 use Rattle.site_types.specs.declared.retained.Retained.{Retained}
 use Rattle.site_types.specs.declared.site.Site.{Site}
-use Rattle.site_types.specs.Done.{Done, Setting, in_force, is_on, value_set}
+use Rattle.site_types.specs.Done.{Setting, in_force, is_on, value_set}
 use Rattle.access_levels.specs.Levels.{needed_by}
 use Rattle.site_types.specs.Limits.{most_operations}
-use Rattle.site_types.specs.Valid.{IsValid}
 use Rattle.site_types.proofs.Done.{lt_tells}
-use Rattle.panel_rules.specs.Moments.{Moment, Turned, IsPanel, IsRun, tick_of}
 use Rattle.panel_rules.specs.Operations.{Answered, Operations, Reply, Request, Busy, Denied, Waiting, Already, Store, WasDone}
-use Rattle.panel_rules.specs.Operations.{after_desk, after_reply, after_request, desk_reply, operations, requests, requests_in, setting_asked, setting_reply}
+use Rattle.panel_rules.specs.Operations.{after_desk, after_reply, after_request, desk_reply, setting_asked, setting_reply}
 use Rattle.panel_rules.specs.Operations.{done_in, is_unsettled, stands_so}
 use Rattle.panel_rules.specs.Timeline.{answer_in, busy_count, is_busy}
-use Rattle.panel_rules.proofs.Answering.{times, times_desk}
-use Rattle.panel_rules.proofs.Bools.{parts}
-use Rattle.panel_rules.proofs.Counting.{count, each_at, each_filtered, one}
+use Rattle.panel_rules.proofs.Answering.{times_desk}
+use Rattle.panel_rules.proofs.Counting.{count, one}
 use Rattle.panel_rules.proofs.Told.{eq_true}
-use Rattle.panel_laws.specs.OperationLaws.{AreOfSite}
-use Rattle.panel_laws.proofs.AnswerLaws.{IsAsked, eq_is}
-use Rattle.operation_desk.specs.Replies.{AreInForce}
-use Rattle.operation_desk.specs.Stands.{AreNumbered, TellsOutcomes, given_in, told_in}
-use Rattle.operation_desk.proofs.Bounds.{AreFewAsked, CanGoOn, can_go_back, few_told, few_waiting, none_yet}
+use Rattle.panel_laws.proofs.AnswerLaws.{IsAsked}
+use Rattle.operation_desk.specs.Stands.{given_in, told_in}
+use Rattle.operation_desk.proofs.Bounds.{AreFewAsked, CanGoOn, can_go_back, none_yet}
 use Rattle.operation_desk.proofs.Given.{busy_more, told_same}
 
 -- ---- a reply is busy exactly where four came earlier
@@ -123,7 +115,7 @@ module _ (site : Site) (kept : Retained) (asked : List Request) (tick : ℕ) (fe
         from = from.0;
         now = now.0;
         unanswered =
-            none_yet site kept asked tick (after_desk site kept taken start) few before r (omega (arith, once, more, here));
+            none_yet site kept asked tick few (after_desk site kept taken start) before r (omega (arith, once, more, here));
         on = on;
       }
 
@@ -201,8 +193,7 @@ module _ (site : Site) (kept : Retained) (asked : List Request) (tick : ℕ) (fe
       let ih' =
       subst
       (λ (o : Operations). ((after_desk site kept rest o).waiting ≡ o.waiting) × ((after_desk site kept rest o).done ≡ o.done)
-      × (told_in site kept tick (after_desk site kept rest o).answers asked ≡ told_in site kept tick o.answers asked)) on_from ih in
-      (
+      × (told_in site kept tick (after_desk site kept rest o).answers asked ≡ told_in site kept tick o.answers asked)) on_from ih in (
         ih'.0 ∙ ap (λ (o : Operations). o.waiting) step,
         ih'.1 ∙ ap (λ (o : Operations). o.done) step,
         ih'.2 ∙ ap (λ (o : Operations). told_in site kept tick o.answers asked) step ∙ told,

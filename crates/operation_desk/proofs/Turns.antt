@@ -1,9 +1,9 @@
 -- What a turn of Desk takes of the operations that the desk has.
-use Rattle.std.proofs.Common.{◌≡◌, ◌≢◌, ℕ, zero, suc, ◌+◌, ◌-◌, ◌≤◌, ◌<◌, ◌==◌, ◌&&◌, Bool, true, false, not, List, [], ◌∷◌, ◌++◌, length, map, take, drop, get_or, Option, Some, None, slice_get, if◌then◌else◌, inl, inr, refl, sym, ◌∙◌, ap, subst, arith}
-use Rattle.std.specs.Prelude.{filter, nat_le, nat_lt}
+use Rattle.std.proofs.Common.{◌≡◌, ◌≢◌, ℕ, zero, suc, ◌+◌, ◌<◌, ◌==◌, ◌&&◌, Bool, true, false, not, List, [], ◌∷◌, ◌++◌, length, map, take, drop, get_or, Some, slice_get, if◌then◌else◌, inl, inr, refl, sym, ◌∙◌, ap, subst, arith}
+use Rattle.std.specs.Prelude.{filter, nat_lt}
 use Rattle.std.specs.List.{AllByRecursion}
-use Rattle.std.proofs.lemmas.Bool.Decides.{eqb_tells, leb_tells}
-use Rattle.std.proofs.lemmas.List.{map-append, take-append-drop}
+use Rattle.std.proofs.lemmas.Bool.Decides.{eqb_tells}
+use Rattle.std.proofs.lemmas.List.{map-append}
 use Rattle.std.proofs.lemmas.List.Elements.{filter-append}
 use Rattle.std.proofs.lemmas.Option.{slice_get-get_or}
 use Rattle.std.proofs.lemmas.List.Sums.{fold-append}
@@ -12,22 +12,19 @@ use Rattle.site_types.specs.declared.retained.Retained.{Retained}
 use Rattle.site_types.specs.declared.site.Site.{Site}
 use Rattle.site_types.specs.Changes.{IsPanelNumber}
 use Rattle.site_types.specs.Limits.{most_operations}
-use Rattle.site_types.proofs.Done.{lt_tells}
-use Rattle.panel_rules.specs.Moments.{Moment, Turned, IsPanel, IsRun, tick_of}
+use Rattle.panel_rules.specs.Moments.{Moment, Turned, IsRun, tick_of}
 use Rattle.panel_rules.specs.Operations.{Operations, Request as RequestOf, after_desk, after_request, operations, requests, requests_in}
 use Rattle.panel_rules.proofs.Bools.{parts}
 use Rattle.panel_rules.proofs.Counting.{each_at, each_filtered}
 use Rattle.panel_rules.proofs.Floors.{lt_from}
-use Rattle.panel_laws.specs.OperationLaws.{AreOfSite}
 use Rattle.panel_laws.proofs.AnswerLaws.{IsAsked, eq_is}
 use Rattle.operation_desk.specs.declared.desk.Desk.{Desk}
 use Rattle.operation_desk.specs.declared.request.Request.{Request}
 use Rattle.operation_desk.specs.Changes.{HasSameRest, TakesRequest, firsts_of}
-use Rattle.operation_desk.specs.Replies.{AreInForce}
 use Rattle.operation_desk.specs.Requests.{is_early, request_from, requests_from}
 use Rattle.operation_desk.specs.Stands.{DesksFor, MayTake, MayTurn, TellsOutcomes}
 use Rattle.operation_desk.proofs.Bounds.{can_go_on, few_of_run, few_told, few_waiting}
-use Rattle.operation_desk.proofs.Mine.{AreCounted, counted, early_mine, firsts_first, is_first}
+use Rattle.operation_desk.proofs.Mine.{counted, early_mine, firsts_first, is_first}
 use Rattle.operation_desk.proofs.Turning.{AreTaken, IsNext, in_force_desk, next}
 
 -- ---- one place further
@@ -181,9 +178,9 @@ module _ (site : Site) (kept settings : Retained) (panel : ℕ) (before : List M
       in_force = λ setting known. m.in_force setting known ∙ sym (in_force_desk site kept setting tick (firsts_of panel (take n desk.asked.items)) start firsts_now);
       unanswered = next_is.unanswered;
       few_told =
-          few_told site kept all tick (after_request site kept so_far (request_from request)) (few_of_run site before tick) next_is.on;
+          few_told site kept all tick (few_of_run site before tick) (after_request site kept so_far (request_from request)) next_is.on;
       few_wait =
-          few_waiting site kept all tick (after_request site kept so_far (request_from request)) (few_of_run site before tick) next_is.on;
+          few_waiting site kept all tick (few_of_run site before tick) (after_request site kept so_far (request_from request)) next_is.on;
     }
 
 -- what a loop reads at a place

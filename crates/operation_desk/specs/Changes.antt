@@ -1,5 +1,5 @@
 -- What the calls make of a desk, whatever it stood for.
-use Rattle.std.specs.Prelude.{◌≡◌, ◌+◌, ◌-◌, ◌^◌, ◌<◌, ◌≤◌, ◌++◌, ℕ, nat_lt, Bool, List, [], ◌∷◌, length}
+use Rattle.std.specs.Prelude.{◌≡◌, ◌+◌, ◌-◌, ◌^◌, ◌<◌, ◌≤◌, ◌++◌, ℕ, nat_lt, Bool, List, [], ◌∷◌, length, take}
 use Rattle.std.specs.Prelude.{◌==◌, filter, slice_index, slice_set, if◌then◌else◌}
 use Rattle.site_types.specs.Changes.{IsPanelNumber}
 use Rattle.site_types.specs.Limits.{most_operations}
@@ -11,11 +11,13 @@ use Rattle.site_types.specs.declared.site.Site.{Site}
 use Rattle.panel_laws.specs.OperationLaws.{AreOfSite}
 use Rattle.panel_rules.specs.Moments.{Moment, Began, Happened, Turned, Kept, tick_of}
 use Rattle.panel_rules.specs.Operations.{Operations, Request as RequestOf, after_desk, after_request, operations}
-use Rattle.panel_rules.specs.Operations.{requests}
+use Rattle.panel_rules.specs.Operations.{answer_all, do_all, requests}
+use Rattle.panel_rules.specs.Timeline.{busy_count}
 use Rattle.operation_desk.specs.declared.desk.Desk.{Desk}
 use Rattle.operation_desk.specs.declared.request.Request.{Request}
 use Rattle.operation_desk.specs.Requests.{request_from, requests_from}
 use Rattle.operation_desk.specs.Stands.{DesksFor, MayKeep, MayTake, MayTurn, TellsOutcomes}
+use Rattle.operation_desk.specs.Stands.{given_in}
 
 -- a tick began: the one after that which began last
 abbrev pub BeginsTick : Desk → ℕ → Desk → Type 0
@@ -99,3 +101,28 @@ TakesOwn site settings panel old new =
     (kept : Retained) (before : List Moment) → DesksFor site kept before old → MayTurn site kept settings panel before
     → TellsOutcomes site kept (requests site before) (tick_of before)
     (after_desk site kept (firsts_of panel old.asked.items) (operations site kept before)) new
+
+-- what became of operations, once so many of those that wait were answered at a turn of Keep
+abbrev pub answered_so_far : ℕ → Bool → ℕ → Operations → Operations
+answered_so_far tick failed count start =
+    record start {
+      answers = answer_all tick failed (take count start.waiting) start.answers;
+      done = if failed then start.done else do_all tick (take count start.waiting) start.done;
+    }
+
+-- so many of those that wait were answered, none of them that its panel was busy
+pub record HasAnswered (site : Site) (kept : Retained) (failed : Bool) (count : ℕ) (before : List Moment) (desk :
+    Desk) : Type 0 where
+  pub told : TellsOutcomes site kept (requests site before) (tick_of before)
+      (answered_so_far (tick_of before) failed count (operations site kept before)) desk
+  pub busy : (panel : ℕ)
+      → busy_count panel (given_in site kept (tick_of before)
+      (answered_so_far (tick_of before) failed count (operations site kept before)).answers (requests site before))
+      ≡ busy_count panel (given_in site kept (tick_of before) (operations site kept before).answers
+      (requests site before))
+
+-- all of them were
+abbrev pub AnswersWaiting : Bool → Desk → Desk → Type 0
+AnswersWaiting failed old new =
+    (site : Site) (kept : Retained) (before : List Moment) → DesksFor site kept before old → MayKeep site failed before
+    → HasAnswered site kept failed (length (operations site kept before).waiting) before new

@@ -1,5 +1,5 @@
 -- Answers by number.
-use Rattle.std.specs.Prelude.{ℕ, nat_lt, not, Bool, List, [], ◌∷◌, ◌++◌, filter}
+use Rattle.std.specs.Prelude.{ℕ, nat_lt, not, Bool, List, ◌∷◌, ◌++◌, filter}
 use Rattle.face_text.specs.declared.op_answer.OpAnswer.{OpAnswer}
 
 abbrev pub comes_before : ℕ → OpAnswer → Bool

@@ -1,9 +1,9 @@
 -- What Desk says of an operation that is one of the first of its panel and tick.
-use Rattle.std.specs.Prelude.{◌≡◌, ◌<◌, ◌||◌, ◌++◌, ℕ, Bool, false, List, [], ◌∷◌, option_map, Option}
+use Rattle.std.specs.Prelude.{◌≡◌, ◌<◌, ◌||◌, ◌++◌, ℕ, Bool, false, List, [], ◌∷◌, option_map, Option, if◌then◌else◌}
 use Rattle.std.specs.List.{AllByRecursion, list_any}
 use Rattle.face_text.specs.declared.op_answer.OpAnswer.{OpAnswer}
 use Rattle.face_text.specs.declared.reply.Reply.{Reply}
-use Rattle.face_text.specs.declared.reply.Reply.TheVariants.{Done as SaysDone}
+use Rattle.face_text.specs.declared.reply.Reply.TheVariants.{Done as SaysDone, Store as NotStored}
 use Rattle.face_text.specs.Faces.{same_truth}
 use Rattle.site_types.specs.declared.retained.Retained.{Retained}
 use Rattle.site_types.specs.declared.site.Site.{Site}
@@ -56,3 +56,7 @@ answer_of request reply = record { number = request.number; reply = reply }
 abbrev pub done_with : Request → Reply → List DoneOperation → List DoneOperation
 done_with request SaysDone done = done ++ record { panel = request.panel; operation = request.operation } ∷ []
 done_with request _ done = done
+
+-- the answer of a turn of Keep
+abbrev pub kept_reply : Bool → Reply
+kept_reply failed = if failed then NotStored else SaysDone

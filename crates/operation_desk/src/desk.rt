@@ -33,8 +33,8 @@ pub struct Desk {
 }
 
 impl Desk {
-    ghost use Rattle.operation_desk.specs.Changes.{Asks, BeginsTick, CanAsk, HasSameRest, Hears, Keeps, TakesRequest};
-    ghost use Rattle.operation_desk.specs.Changes.{TakesOwn, TakesTurn};
+    ghost use Rattle.operation_desk.specs.Changes.{AnswersWaiting, Asks, BeginsTick, CanAsk, HasSameRest, Hears};
+    ghost use Rattle.operation_desk.specs.Changes.{Keeps, TakesOwn, TakesRequest, TakesTurn};
     ghost use Rattle.operation_desk.specs.Ordered.{put_by_number};
     ghost use Rattle.operation_desk.specs.Replies.{answer_of, done_with};
     ghost use Rattle.operation_desk.specs.Stands.{CanHear, CanKeep, CanTake, CanTurn, DesksFor};
@@ -92,8 +92,9 @@ impl Desk {
         ensures { TakesTurn site.now settings.now panel self.old self.new }
     {
         self.take_own(site, settings, panel);
-        self.answers.busy[panel as usize - 1] =
-            self.counts[panel as usize - 1].saturating_sub(MOST_OPERATIONS as u64);
+        self.answers.busy[panel as usize - 1] = self.counts[panel as usize - 1].saturating_sub(
+            MOST_OPERATIONS as u64,
+        );
     }
 
     /// The turn of Keep, which failed or kept the operations that wait.
@@ -101,11 +102,7 @@ impl Desk {
         requires { CanKeep failed self.old }
         ensures { Keeps failed self.old self.new }
     {
-        let reply = if failed { Reply::Store } else { Reply::Done };
-        for place in 0..self.waiting.len() {
-            let request = self.waiting.as_slice()[place];
-            self.answer(&request, reply);
-        }
+        self.answer_waiting(failed);
         self.waiting.clear();
         self.answers.failed = failed;
     }
@@ -194,6 +191,19 @@ impl Desk {
         }
     }
 
+    // Gives those that wait their answer.
+    fn answer_waiting(&mut self, failed: bool)
+        requires { CanKeep failed self.old }
+        ensures told { AnswersWaiting failed self.old self.new }
+        ensures rest { HasSameRest self.old self.new }
+    {
+        let reply = keep_reply(failed);
+        for place in 0..self.waiting.len() {
+            let request = self.waiting.as_slice()[place];
+            self.answer(&request, reply);
+        }
+    }
+
     // Gives an operation its answer.
     fn answer(&mut self, request: &Request, reply: Reply)
         requires room { length self.old.answers.ops < 64 }
@@ -242,4 +252,13 @@ fn level_by(code: &Option<Label>, site: &Site) -> u8
         None => level_of(None, site),
         Some(label) => level_of(Some(label.as_str()), site),
     }
+}
+
+ghost use Rattle.operation_desk.specs.Replies.{kept_reply};
+
+// The answer of a turn of Keep.
+fn keep_reply(failed: bool) -> Reply
+    ensures { result ≡ kept_reply failed }
+{
+    if failed { Reply::Store } else { Reply::Done }
 }

@@ -2,7 +2,7 @@ use Rattle.std.proofs.Common.{◌<◌, ◌++◌, ◌∷◌, List, length, not, s
 use Rattle.std.specs.Prelude.{filter}
 use Rattle.face_text.specs.declared.op_answer.OpAnswer.{OpAnswer}
 use Rattle.operation_desk.specs.Ordered.{comes_before}
-use Rattle.operation_desk.proofs.Ordering.{room_before, room_behind, room_within}
+use Rattle.operation_desk.proofs.Ordering.{room_before, room_behind}
 use Rattle.operation_desk.proofs.ordered.put_answer.Goals as goal
 
 pub push_if-requires : goal.push_if-requires

@@ -1,4 +1,4 @@
-use Rattle.std.proofs.Common.{◌≡◌, ◌∙◌, Some, ap, sym}
+use Rattle.std.proofs.Common.{◌∙◌, ap, sym}
 use Rattle.std.specs.Prelude.{option_map}
 use Rattle.operation_desk.specs.Requests.{reply_from}
 use Rattle.operation_desk.proofs.Taking.{room_taken, ruled_by, taken}
