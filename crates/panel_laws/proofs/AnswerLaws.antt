@@ -28,7 +28,7 @@ eq_is a b t = elim (eqb_tells a b) [ inl h ↦ h.1 | inr h ↦ (let e = sym t �
 -- ---- at most one
 
 -- a list that is numbered by places has each number once
-numbered_once : (n : ℕ) (rs : List Request) (past : ℕ) → ((k : ℕ) (r : Request) → slice_get rs k ≡ Some r → r.number ≡ past + k + 1)
+pub numbered_once : (n : ℕ) (rs : List Request) (past : ℕ) → ((k : ℕ) (r : Request) → slice_get rs k ≡ Some r → r.number ≡ past + k + 1)
     → count (λ (r : Request). r.number == n) rs ≤ 1
 numbered_once n [] past h = omega arith
 numbered_once n (r ∷ rs) past h =

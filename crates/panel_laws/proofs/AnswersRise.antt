@@ -42,13 +42,13 @@ find_got {X = X} test (y ∷ xs) x h = go (test y) refl h (find_got test xs x)
     go false e h ih = let g = ih h in record { place = suc g.place; is = g.is; passes = g.passes }
 
 -- the answer found for an operation is to its number, and of the tick
-record IsFound (answers : List Answered) (tick : ℕ) (r : Request) (a : Answered) : Type 0 where
-  place : ℕ
-  is : slice_get answers place ≡ Some a
-  number : a.request.number ≡ r.number
-  tick_is : a.tick ≡ tick
+pub record IsFound (answers : List Answered) (tick : ℕ) (r : Request) (a : Answered) : Type 0 where
+  pub place : ℕ
+  pub is : slice_get answers place ≡ Some a
+  pub number : a.request.number ≡ r.number
+  pub tick_is : a.tick ≡ tick
 
-found : (site : Site) (kept : Retained) (answers : List Answered) (tick : ℕ) (r : Request) (a : Answered)
+pub found : (site : Site) (kept : Retained) (answers : List Answered) (tick : ℕ) (r : Request) (a : Answered)
     → answer_in site kept tick answers r ≡ Some a → IsFound answers tick r a
 found site kept answers tick r a h =
     let g = find_got (λ (x : Answered). (x.request.number == r.number) && (x.tick == tick)) answers a h in
@@ -152,7 +152,7 @@ early_in tick r one eight early same =
     (both (nat_le 1 r.panel) (nat_le r.panel 8) (le_to 1 r.panel one) (le_to r.panel 8 eight))
     (both (r.tick == tick) (nat_lt r.earlier 4) (eq_true r.tick tick same) (lt_to r.earlier 4 early))
 
-told_in_time : (tick : ℕ) (r : Request) → 1 ≤ r.panel → r.panel ≤ 8 → r.earlier < 4 → r.tick ≤ tick → tick ≤ r.tick + 1 → can_be_told tick r ≡ true
+pub told_in_time : (tick : ℕ) (r : Request) → 1 ≤ r.panel → r.panel ≤ 8 → r.earlier < 4 → r.tick ≤ tick → tick ≤ r.tick + 1 → can_be_told tick r ≡ true
 told_in_time tick r one eight early low high =
     elim (eqb_tells r.tick tick) [
       | inl h ↦ either_left (is_early_up_to 8 tick r) (is_early_up_to 8 (tick - 1) r) (early_in tick r one eight early h.1)

@@ -1,0 +1,12 @@
+mod Given
+mod Bounds
+mod Ordering
+mod Rules
+mod Taking
+mod Mine
+mod Turning
+mod Turns
+mod Turned
+mod Begun
+mod Asked
+mod Keeping
