@@ -23,7 +23,7 @@ use Rattle.panel_rules.proofs.Answering.{numbered_by_place}
 use Rattle.panel_rules.proofs.Counting.{count, each_at, each_by, each_filtered, each_more, each_to, one}
 use Rattle.panel_rules.proofs.Floors.{le_to, lt_to}
 use Rattle.panel_rules.proofs.Places.{get_behind}
-use Rattle.panel_rules.proofs.Told.{eq_true}
+use Rattle.panel_rules.proofs.AnswersTell.{eq_true}
 use Rattle.panel_laws.specs.OperationLaws.{AreOfSite}
 use Rattle.panel_laws.proofs.AnswersRise.{found}
 use Rattle.panel_laws.proofs.FewAnswers.{few_in_tick, is_early_up_to}

@@ -11,7 +11,7 @@ use Rattle.panel_rules.specs.Timeline.{answer_in, is_busy}
 use Rattle.panel_rules.proofs.Answering.{numbered_by_place, times, times_desk}
 use Rattle.panel_rules.proofs.Counting.{count, count-some, each_at, each_by, each_to}
 use Rattle.panel_rules.proofs.OpenRequests.{answered_few}
-use Rattle.panel_rules.proofs.Told.{eq_true}
+use Rattle.panel_rules.proofs.AnswersTell.{eq_true}
 use Rattle.panel_laws.specs.OperationLaws.{AreOfSite}
 use Rattle.panel_laws.proofs.AnswerLaws.{Fits, IsAsked, Waits, numbered_once, owed, sound}
 use Rattle.panel_laws.proofs.AnswersFit.{IsEarly, IsFit, answers_fit}

@@ -13,7 +13,7 @@ use Rattle.panel_rules.specs.Operations.{Answered, Request}
 use Rattle.panel_rules.specs.Timeline.{answer_in, busy_count, is_busy, told_answer}
 use Rattle.panel_rules.proofs.Counting.{one, count, count-append}
 use Rattle.panel_rules.proofs.Floors.{lt_to}
-use Rattle.panel_rules.proofs.Told.{eq_true}
+use Rattle.panel_rules.proofs.AnswersTell.{eq_true}
 use Rattle.panel_laws.proofs.AnswersFit.{is_told_or_busy}
 use Rattle.panel_laws.proofs.AnswersRise.{found}
 use Rattle.panel_laws.proofs.FewAnswers.{length_filter}

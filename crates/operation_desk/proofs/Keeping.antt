@@ -13,7 +13,7 @@ use Rattle.panel_rules.specs.Moments.{Moment, Began, Happened, Turned, Kept, has
 use Rattle.panel_rules.specs.Operations.{Answered, Operations, Request as RequestOf, answer_all, do_all, done_in, keep_reply, operations, requests}
 use Rattle.panel_rules.specs.Timeline.{answer_in, busy_count, failed_now, is_busy}
 use Rattle.panel_rules.proofs.Counting.{count, each_at, one}
-use Rattle.panel_rules.proofs.Told.{eq_true}
+use Rattle.panel_rules.proofs.AnswersTell.{eq_true}
 use Rattle.operation_desk.specs.declared.desk.Desk.{Desk}
 use Rattle.operation_desk.specs.declared.done_operation.DoneOperation.{DoneOperation}
 use Rattle.operation_desk.specs.declared.request.Request.{Request}

@@ -16,7 +16,7 @@ use Rattle.panel_rules.specs.Operations.{done_in, is_unsettled, stands_so}
 use Rattle.panel_rules.specs.Timeline.{answer_in, busy_count, is_busy}
 use Rattle.panel_rules.proofs.Answering.{times_desk}
 use Rattle.panel_rules.proofs.Counting.{count, one}
-use Rattle.panel_rules.proofs.Told.{eq_true}
+use Rattle.panel_rules.proofs.AnswersTell.{eq_true}
 use Rattle.panel_laws.proofs.AnswerLaws.{IsAsked}
 use Rattle.operation_desk.specs.Stands.{given_in, told_in}
 use Rattle.operation_desk.proofs.Bounds.{AreFewAsked, CanGoOn, can_go_back, none_yet}
