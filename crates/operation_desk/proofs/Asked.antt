@@ -1,5 +1,7 @@
 -- The desk after an event: an operation that is asked for stands behind those before it.
-use Rattle.std.proofs.Common.{◌≡◌, ℕ, zero, suc, ◌+◌, ◌-◌, ◌^◌, ◌≤◌, ◌<◌, ◌==◌, ◌&&◌, Bool, true, false, List, [], ◌∷◌, ◌++◌, length, Option, Some, None, slice_get, if◌then◌else◌, inl, inr, refl, sym, ◌∙◌, ap, subst, arith, length-append}
+use Rattle.std.proofs.Common.{◌≡◌, ℕ, zero, suc, ◌+◌, ◌-◌, ◌^◌, ◌≤◌, ◌<◌, ◌==◌, ◌&&◌, Bool, true, false, List, []}
+use Rattle.std.proofs.Common.{◌∷◌, ◌++◌, length, Option, Some, None, slice_get, if◌then◌else◌, inl, inr, refl, sym}
+use Rattle.std.proofs.Common.{◌∙◌, ap, subst, arith, length-append}
 use Rattle.std.specs.Prelude.{filter, nat_le, nat_lt, option_map, slice_index, slice_set}
 use Rattle.std.specs.List.{AllByRecursion, cons_option, filter_map}
 use Rattle.std.proofs.lemmas.Bool.Decides.{eqb_tells}
@@ -16,7 +18,8 @@ use Rattle.site_types.specs.Limits.{most_operations}
 use Rattle.site_types.specs.Valid.{IsValid}
 use Rattle.access_levels.specs.Levels.{level_of}
 use Rattle.panel_rules.specs.Moments.{Moment, Began, Happened, Turned, Kept, tick_of}
-use Rattle.panel_rules.specs.Operations.{Answered, Operations, Reply, Request as RequestOf, after_desk, after_reply, after_request, answer_all}
+use Rattle.panel_rules.specs.Operations.{Answered, Operations, Reply, Request as RequestOf, after_desk, after_reply}
+use Rattle.panel_rules.specs.Operations.{after_request, answer_all}
 use Rattle.panel_rules.specs.Operations.{desk_reply, keep_reply, operations, request_of, requests, requests_in}
 use Rattle.panel_rules.specs.Timeline.{answer_in, busy_count, told_answer}
 use Rattle.panel_rules.proofs.Answering.{numbered_by_place}
@@ -29,7 +32,7 @@ use Rattle.panel_laws.proofs.AnswersRise.{found}
 use Rattle.panel_laws.proofs.FewAnswers.{few_in_tick, is_early_up_to}
 use Rattle.operation_desk.specs.declared.desk.Desk.{Desk}
 use Rattle.operation_desk.specs.Changes.{Asks, CanAsk, asked_now}
-use Rattle.operation_desk.specs.Requests.{and_done, is_early, request_from, requests_from}
+use Rattle.operation_desk.specs.Requests.{with_done, is_early, request_from, requests_from}
 use Rattle.operation_desk.specs.Stands.{DesksFor, given_in}
 
 -- ---- what was answered and what waits was asked for
@@ -239,7 +242,7 @@ module _ (site : Site) (kept : Retained) (panel level : ℕ) (operation : Operat
                       waiting_is = ap (λ w. requests_from w.items) a.waiting ∙ h.outcomes.unsettled.waiting_is;
                       older = h.outcomes.unsettled.older;
                       done_is =
-                          h.outcomes.unsettled.done_is ∙ ap (λ d. and_done (tick_of before) d.items h.outcomes.unsettled.older) (sym a.done);
+                          h.outcomes.unsettled.done_is ∙ ap (λ d. with_done (tick_of before) d.items h.outcomes.unsettled.older) (sym a.done);
                       earlier = h.outcomes.unsettled.earlier;
                     };
                 ops = ap (λ x. x.ops) a.answers ∙ h.outcomes.ops ∙ ap (filter_map told_answer) (sym given_then);

@@ -1,5 +1,6 @@
 -- A new desk, and one at the beginning of a tick: nothing of an earlier tick is answered or done in it.
-use Rattle.std.proofs.Common.{◌≡◌, ℕ, zero, suc, ◌+◌, ◌-◌, ◌≤◌, ◌==◌, ◌&&◌, Bool, true, false, List, [], ◌∷◌, ◌++◌, length, replicate, Option, Some, None, inl, inr, refl, sym, ◌∙◌, ap, arith}
+use Rattle.std.proofs.Common.{◌≡◌, ℕ, zero, suc, ◌+◌, ◌-◌, ◌≤◌, ◌==◌, ◌&&◌, Bool, true, false, List, [], ◌∷◌, ◌++◌}
+use Rattle.std.proofs.Common.{length, replicate, Option, Some, None, inl, inr, refl, sym, ◌∙◌, ap, arith}
 use Rattle.std.specs.Prelude.{filter, nat_lt, slice_index}
 use Rattle.std.specs.List.{AllByRecursion, filter_map, list_any}
 use Rattle.std.proofs.lemmas.Bool.Decides.{eqb_tells}
@@ -9,13 +10,15 @@ use Rattle.site_types.specs.declared.site.Site.{Site}
 use Rattle.site_types.specs.Done.{Done}
 use Rattle.site_types.specs.Limits.{most_operations}
 use Rattle.panel_rules.specs.Moments.{Moment, Began, Happened, Turned, Kept, tick_of}
-use Rattle.panel_rules.specs.Operations.{Answered, Busy, Denied, Waiting, Already, Store, WasDone, Operations, Reply, Request, answer_all, do_all, done_in, after_desk, after_reply}
-use Rattle.panel_rules.specs.Operations.{after_keep, after_request, desk_reply, keep_reply, operations, requests, requests_in}
+use Rattle.panel_rules.specs.Operations.{Answered, Busy, Denied, Waiting, Already, Store, WasDone, Operations}
+use Rattle.panel_rules.specs.Operations.{Reply, Request, answer_all, do_all, done_in, after_desk, after_reply}
+use Rattle.panel_rules.specs.Operations.{after_keep, after_request, desk_reply, keep_reply, operations, requests}
+use Rattle.panel_rules.specs.Operations.{requests_in}
 use Rattle.panel_rules.specs.Timeline.{answer_in, busy_count, failed_now, failed_ticks, told_answer}
 use Rattle.panel_rules.proofs.Answering.{requests_by}
 use Rattle.panel_rules.proofs.Counting.{each_at, each_filtered, each_to}
 use Rattle.operation_desk.specs.declared.desk.Desk.{Desk}
-use Rattle.operation_desk.specs.Requests.{and_done, is_early, requests_from}
+use Rattle.operation_desk.specs.Requests.{with_done, is_early, requests_from}
 use Rattle.operation_desk.specs.Stands.{DesksFor, given_in}
 
 -- ---- what became of operations lies in the past
@@ -175,7 +178,7 @@ desk_begun site kept before old new h a =
                 record {
                   waiting_is = ap (λ w. requests_from w.items) a.waiting ∙ h.outcomes.unsettled.waiting_is;
                   older = (operations site kept before).done;
-                  done_is = ap (λ ds. and_done (tick_of before + 1) ds (operations site kept before).done) (sym a.done);
+                  done_is = ap (λ ds. with_done (tick_of before + 1) ds (operations site kept before).done) (sym a.done);
                   earlier = each_to _ _ (operations site kept before).done (λ d l. omega (arith, l)) (past_of site kept before).done;
                 };
             ops = a.ops ∙ ap (filter_map told_answer) (sym (none_given site before kept));
@@ -203,7 +206,7 @@ desk_new site kept new now number counts asked waiting done ops busy failed =
                 record {
                   waiting_is = ap requests_from waiting;
                   older = [];
-                  done_is = ap (λ ds. and_done 0 ds []) (sym done);
+                  done_is = ap (λ ds. with_done 0 ds []) (sym done);
                   earlier = tt;
                 };
             ops = ops;

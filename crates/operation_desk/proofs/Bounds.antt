@@ -1,11 +1,13 @@
 -- What became of operations leaves room for one answer more: each is answered once, and few are told in a tick.
-use Rattle.std.proofs.Common.{◌≡◌, ℕ, ◌≤◌, ◌==◌, List, [], ◌∷◌, ◌++◌, length, Option, Some, None, Bool, true, false, slice_get, refl, sym, ◌∙◌, ap, subst, arith}
+use Rattle.std.proofs.Common.{◌≡◌, ℕ, ◌≤◌, ◌==◌, List, [], ◌∷◌, ◌++◌, length, Option, Some, None, Bool, true, false}
+use Rattle.std.proofs.Common.{slice_get, refl, sym, ◌∙◌, ap, subst, arith}
 use Rattle.std.specs.List.{AllByRecursion}
 use Rattle.site_types.specs.declared.retained.Retained.{Retained}
 use Rattle.site_types.specs.declared.site.Site.{Site}
 use Rattle.site_types.specs.Valid.{IsValid}
 use Rattle.panel_rules.specs.Moments.{Moment, IsRun, has_kept, tick_of}
-use Rattle.panel_rules.specs.Operations.{Answered, Operations, Reply, Request, after_desk, after_reply, after_request, desk_reply}
+use Rattle.panel_rules.specs.Operations.{Answered, Operations, Reply, Request, after_desk, after_reply}
+use Rattle.panel_rules.specs.Operations.{after_request, desk_reply}
 use Rattle.panel_rules.specs.Operations.{operations, requests}
 use Rattle.panel_rules.specs.Timeline.{answer_in, is_busy}
 use Rattle.panel_rules.proofs.Answering.{numbered_by_place, times, times_desk}
@@ -17,7 +19,7 @@ use Rattle.panel_laws.proofs.AnswerLaws.{Fits, IsAsked, Waits, numbered_once, ow
 use Rattle.panel_laws.proofs.AnswersFit.{IsEarly, IsFit, answers_fit}
 use Rattle.panel_laws.proofs.AnswersRise.{found, told_in_time}
 use Rattle.panel_laws.proofs.FewAnswers.{can_be_told, few_asked, told_few}
-use Rattle.operation_desk.specs.Stands.{AreNumbered, told_in}
+use Rattle.operation_desk.specs.Stands.{AreNumberedByPlace, told_in}
 
 -- an answer is to one that was asked for; one of the tick that isn't busy, to one of this tick or the last
 pub record IsInTime (asked : List Request) (tick : ℕ) (a : Answered) : Type 0 where
@@ -137,7 +139,7 @@ module _ (asked : List Request) (tick : ℕ) where
 -- ---- few are told, few wait
 
 pub record AreFewAsked (asked : List Request) (tick : ℕ) : Type 0 where
-  pub numbered : AreNumbered 0 asked
+  pub numbered : AreNumberedByPlace 0 asked
   pub few : count (can_be_told tick) asked ≤ 64
 
 pub few_of_run : (site : Site) (moments : List Moment) (tick : ℕ) → AreFewAsked (requests site moments) tick

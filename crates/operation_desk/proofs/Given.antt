@@ -1,5 +1,6 @@
 -- One answer more: those given in a tick, by number.
-use Rattle.std.proofs.Common.{◌≡◌, ◌≢◌, ℕ, zero, suc, ◌+◌, ◌<◌, ◌≤◌, ◌==◌, ◌&&◌, Bool, true, false, not, List, [], ◌∷◌, ◌++◌, Option, Some, None, inl, inr, slice_get, refl, sym, ◌∙◌, ap, subst, arith}
+use Rattle.std.proofs.Common.{◌≡◌, ◌≢◌, ℕ, zero, suc, ◌+◌, ◌<◌, ◌≤◌, ◌==◌, ◌&&◌, Bool, true, false, not, List, []}
+use Rattle.std.proofs.Common.{◌∷◌, ◌++◌, Option, Some, None, inl, inr, slice_get, refl, sym, ◌∙◌, ap, subst, arith}
 use Rattle.std.specs.Prelude.{filter, nat_lt}
 use Rattle.std.specs.List.{AllByRecursion, cons_option, filter_map}
 use Rattle.std.proofs.lemmas.Bool.Decides.{eqb_tells}
@@ -18,9 +19,9 @@ use Rattle.panel_laws.proofs.AnswersFit.{is_told_or_busy}
 use Rattle.panel_laws.proofs.AnswersRise.{found}
 use Rattle.panel_laws.proofs.FewAnswers.{length_filter}
 use Rattle.operation_desk.specs.Ordered.{comes_before, put_by_number}
-use Rattle.operation_desk.specs.Stands.{AreNumbered, given_in, told_in}
+use Rattle.operation_desk.specs.Stands.{AreNumberedByPlace, given_in, told_in}
 
-next_numbered : (past : ℕ) (r : Request) (asked : List Request) → AreNumbered past (r ∷ asked) → AreNumbered (past + 1) asked
+next_numbered : (past : ℕ) (r : Request) (asked : List Request) → AreNumberedByPlace past (r ∷ asked) → AreNumberedByPlace (past + 1) asked
 next_numbered past r asked h k x e = let m = h (suc k) x e in omega (arith, m)
 
 abbrev IsBelow : ℕ → Answered → Type 0
@@ -47,7 +48,7 @@ module _ (site : Site) (kept : Retained) (tick : ℕ) (answers : List Answered) 
   own_number a r same now = rw (eq_true a.request.number r.number same) (rw (eq_true a.tick tick now) refl)
 
   -- those that are numbered above it are looked up as before
-  same_above : (a : Answered) (past : ℕ) (asked : List Request) → AreNumbered past asked → a.request.number ≤ past
+  same_above : (a : Answered) (past : ℕ) (asked : List Request) → AreNumberedByPlace past asked → a.request.number ≤ past
       → filter_map (look_with a) asked ≡ filter_map look asked
   same_above a past [] numbered low = refl
   same_above a past (r ∷ asked) numbered low =
@@ -56,7 +57,7 @@ module _ (site : Site) (kept : Retained) (tick : ℕ) (answers : List Answered) 
       let ih = same_above a (past + 1) asked (next_numbered past r asked numbered) (omega (arith, low)) in
       rw (other_number a r apart, ih) refl
 
-  all_above : (n past : ℕ) (asked : List Request) → AreNumbered past asked → n ≤ past → AllByRecursion (IsAbove n) (filter_map look asked)
+  all_above : (n past : ℕ) (asked : List Request) → AreNumberedByPlace past asked → n ≤ past → AllByRecursion (IsAbove n) (filter_map look asked)
   all_above n past [] numbered low = tt
   all_above n past (r ∷ asked) numbered low =
       go (look r) refl (all_above n (past + 1) asked (next_numbered past r asked numbered) (omega (arith, low)))
@@ -75,7 +76,7 @@ module _ (site : Site) (kept : Retained) (tick : ℕ) (answers : List Answered) 
     pub below : AllByRecursion (IsBelow a.request.number) low
     pub above : AllByRecursion (IsAbove a.request.number) high
 
-  parted_at : (a : Answered) (past : ℕ) (asked : List Request) (place : ℕ) → AreNumbered past asked
+  parted_at : (a : Answered) (past : ℕ) (asked : List Request) (place : ℕ) → AreNumberedByPlace past asked
       → slice_get asked place ≡ Some a.request → a.tick ≡ tick → look a.request ≡ None → IsParted a asked
   parted_at a past [] place numbered is now none = cc
   parted_at a past (r ∷ asked) zero numbered is now none =
@@ -185,7 +186,7 @@ put_between op xs ys low high =
 -- ---- one answer more
 
 module _ (site : Site) (kept : Retained) (tick : ℕ) (answers : List Answered) (a : Answered) (asked : List Request) (place : ℕ)
-    (numbered : AreNumbered 0 asked) (is : slice_get asked place ≡ Some a.request) (now : a.tick ≡ tick)
+    (numbered : AreNumberedByPlace 0 asked) (is : slice_get asked place ≡ Some a.request) (now : a.tick ≡ tick)
     (none : answer_in site kept tick answers a.request ≡ None) where
   parted : IsParted site kept tick answers a asked
   parted = parted_at site kept tick answers a 0 asked place numbered is now none

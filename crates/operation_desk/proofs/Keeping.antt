@@ -1,5 +1,7 @@
 -- A turn of Keep: those that wait, one after another.
-use Rattle.std.proofs.Common.{◌≡◌, ℕ, zero, suc, ◌+◌, ◌-◌, ◌≤◌, ◌<◌, ◌==◌, ◌&&◌, Bool, true, false, List, [], ◌∷◌, ◌++◌, length, map, take, Some, None, slice_get, if◌then◌else◌, refl, sym, ◌∙◌, ap, subst, arith}
+use Rattle.std.proofs.Common.{◌≡◌, ℕ, zero, suc, ◌+◌, ◌-◌, ◌≤◌, ◌<◌, ◌==◌, ◌&&◌, Bool, true, false, List, [], ◌∷◌}
+use Rattle.std.proofs.Common.{◌++◌, length, map, take, Some, None, slice_get, if◌then◌else◌, refl, sym, ◌∙◌, ap}
+use Rattle.std.proofs.Common.{subst, arith}
 use Rattle.std.specs.Prelude.{slice_index}
 use Rattle.std.specs.List.{AllByRecursion}
 use Rattle.std.proofs.lemmas.List.{take_all}
@@ -10,7 +12,8 @@ use Rattle.site_types.specs.declared.site.Site.{Site}
 use Rattle.site_types.specs.declared.operation.Operation.TheVariants.{Mute}
 use Rattle.site_types.specs.Done.{Done}
 use Rattle.panel_rules.specs.Moments.{Moment, Began, Happened, Turned, Kept, has_kept, tick_of}
-use Rattle.panel_rules.specs.Operations.{Answered, Operations, Request as RequestOf, answer_all, do_all, done_in, keep_reply, operations, requests}
+use Rattle.panel_rules.specs.Operations.{Answered, Operations, Request as RequestOf, answer_all, do_all, done_in}
+use Rattle.panel_rules.specs.Operations.{keep_reply, operations, requests}
 use Rattle.panel_rules.specs.Timeline.{answer_in, busy_count, failed_now, is_busy}
 use Rattle.panel_rules.proofs.Counting.{count, each_at, one}
 use Rattle.panel_rules.proofs.AnswersTell.{eq_true}
@@ -19,9 +22,9 @@ use Rattle.operation_desk.specs.declared.done_operation.DoneOperation.{DoneOpera
 use Rattle.operation_desk.specs.declared.request.Request.{Request}
 use Rattle.operation_desk.specs.Changes.{HasAnswered, HasSameRest, answered_so_far}
 use Rattle.operation_desk.specs.Ordered.{put_by_number}
-use Rattle.operation_desk.specs.Replies.{answer_of, done_with, kept_reply}
-use Rattle.operation_desk.specs.Requests.{and_done, reply_from, request_from, requests_from}
-use Rattle.operation_desk.specs.Stands.{DesksFor, MayKeep, TellsOutcomes, given_in, told_in}
+use Rattle.operation_desk.specs.Replies.{numbered_reply, done_with, kept_reply}
+use Rattle.operation_desk.specs.Requests.{with_done, reply_from, request_from, requests_from}
+use Rattle.operation_desk.specs.Stands.{DesksFor, MayTakeKeepTurn, TellsOutcomes, given_in, told_in}
 use Rattle.operation_desk.proofs.Begun.{none_failed}
 use Rattle.operation_desk.proofs.Bounds.{CanGoOn, IsInTime, IsWaiting, can_go_on, few_answers, few_of_run, none_among}
 use Rattle.operation_desk.proofs.Given.{busy_more}
@@ -66,7 +69,7 @@ front_of P (suc n) (x ∷ xs) all = (all.0, front_of P n xs all.1)
 -- ---- one of them
 
 module _ (site : Site) (kept : Retained) (failed : Bool) (before : List Moment) (old : Desk) (h : DesksFor site kept before old) (m :
-    MayKeep site failed before) where
+    MayTakeKeepTurn site failed before) where
   abbrev all : List RequestOf
   all = requests site before
 
@@ -152,8 +155,8 @@ module _ (site : Site) (kept : Retained) (failed : Bool) (before : List Moment) 
               done = ds;
             } in o)) done_next
 
-    grows : (f : Bool) (so_far : List Done) (done : List DoneOperation) (older : List Done) → so_far ≡ and_done tick done older
-        → (if f then so_far else done_in tick (request_from request) ∷ so_far) ≡ and_done tick (done_with request (kept_reply f) done) older
+    grows : (f : Bool) (so_far : List Done) (done : List DoneOperation) (older : List Done) → so_far ≡ with_done tick done older
+        → (if f then so_far else done_in tick (request_from request) ∷ so_far) ≡ with_done tick (done_with request (kept_reply f) done) older
     grows true so_far done older is = is
     grows false so_far done older is =
         ap (λ ds. done_in tick (request_from request) ∷ ds) is
@@ -172,7 +175,7 @@ module _ (site : Site) (kept : Retained) (failed : Bool) (before : List Moment) 
         (few_answers site kept all tick (few_of_run site before tick) (given tick request (kept_reply failed) ∷ (so_many n).answers) answers_then)
 
     answered_by : (desk new : Desk) → HasAnswered site kept failed n before desk
-        → new.answers.ops ≡ put_by_number (answer_of request (kept_reply failed)) desk.answers.ops
+        → new.answers.ops ≡ put_by_number (numbered_reply request (kept_reply failed)) desk.answers.ops
         → new.done.items ≡ done_with request (kept_reply failed) desk.done.items → new.waiting ≡ desk.waiting → HasSameRest desk new
         → HasAnswered site kept failed (n + 1) before new
     answered_by desk new told ops done waiting rest =
@@ -202,11 +205,11 @@ module _ (site : Site) (kept : Retained) (failed : Bool) (before : List Moment) 
             ∙ ap (λ b. one ((request.panel == panel) && b)) (never_busy failed) ∙ shut (request.panel == panel)
 
     pub answered_more : (desk new : Desk) (reply : Reply) → HasAnswered site kept failed n before desk → reply ≡ kept_reply failed
-        → new.answers.ops ≡ put_by_number (answer_of request reply) desk.answers.ops
+        → new.answers.ops ≡ put_by_number (numbered_reply request reply) desk.answers.ops
         → new.done.items ≡ done_with request reply desk.done.items → new.waiting ≡ desk.waiting → HasSameRest desk new
         → HasAnswered site kept failed (n + 1) before new
     answered_more desk new reply told says ops done waiting rest =
-        answered_by desk new told (ops ∙ ap (λ r. put_by_number (answer_of request r) desk.answers.ops) says)
+        answered_by desk new told (ops ∙ ap (λ r. put_by_number (numbered_reply request r) desk.answers.ops) says)
         (done ∙ ap (λ r. done_with request r desk.done.items) says) waiting rest
 
   -- ---- all of them
@@ -239,7 +242,7 @@ module _ (site : Site) (kept : Retained) (failed : Bool) (before : List Moment) 
                     waiting_is = ap requests_from waiting;
                     older = told.told.unsettled.older;
                     done_is =
-                        done_all failed ∙ told.told.unsettled.done_is ∙ ap (λ d. and_done tick d.items told.told.unsettled.older) (sym done);
+                        done_all failed ∙ told.told.unsettled.done_is ∙ ap (λ d. with_done tick d.items told.told.unsettled.older) (sym done);
                     earlier = told.told.unsettled.earlier;
                   };
               ops = ops ∙ told.told.ops ∙ ap (λ xs. told_in site kept tick xs all) (sym answers_all);

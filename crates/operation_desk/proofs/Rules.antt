@@ -1,5 +1,6 @@
 -- The answer at Desk's turn, from what waits, what was done in the tick and the settings in force.
-use Rattle.std.proofs.Common.{◌≡◌, ℕ, ◌<◌, ◌&&◌, ◌||◌, Bool, true, false, List, [], ◌∷◌, Some, None, inl, inr, if◌then◌else◌, refl, sym, ◌∙◌, ap, subst, arith}
+use Rattle.std.proofs.Common.{◌≡◌, ℕ, ◌<◌, ◌&&◌, ◌||◌, Bool, true, false, List, [], ◌∷◌, Some, None, inl, inr}
+use Rattle.std.proofs.Common.{if◌then◌else◌, refl, sym, ◌∙◌, ap, subst, arith}
 use Rattle.std.specs.Prelude.{nat_le, nat_lt}
 use Rattle.std.specs.List.{AllByRecursion, list_any}
 use Rattle.std.proofs.lemmas.Bool.Decides.{leb_tells}
@@ -21,7 +22,7 @@ use Rattle.panel_rules.specs.Operations.{is_unsettled, setting_asked, setting_re
 use Rattle.operation_desk.specs.declared.done_operation.DoneOperation.{DoneOperation}
 use Rattle.operation_desk.specs.declared.request.Request.{Request}
 use Rattle.operation_desk.specs.Replies.{AreInForce, TellsOpen, has_value, waits_or_done}
-use Rattle.operation_desk.specs.Requests.{and_done, done_from, request_from, requests_from}
+use Rattle.operation_desk.specs.Requests.{with_done, done_from, request_from, requests_from}
 
 -- ---- what waits or was done in the tick
 
@@ -59,7 +60,7 @@ module _ (setting : Setting) (tick : ℕ) where
   fresh_is d = ap (λ b. is_on_it d && b) at_once ∙ and_true (is_on_it d)
 
   done_is : (done : List DoneOperation) (older : List Done)
-      → list_any is_fresh_on (and_done tick done older) ≡ (list_any is_on_it done || list_any is_fresh_on older)
+      → list_any is_fresh_on (with_done tick done older) ≡ (list_any is_on_it done || list_any is_fresh_on older)
   done_is [] older = refl
   done_is (d ∷ done) older =
       done_is done (done_from tick d ∷ older) ∙ ap (λ b. list_any is_on_it done || (b || list_any is_fresh_on older)) (fresh_is d)

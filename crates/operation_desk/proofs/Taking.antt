@@ -1,5 +1,6 @@
 -- An operation that Desk takes: its answer, or its place among those that wait.
-use Rattle.std.proofs.Common.{◌≡◌, ℕ, ◌+◌, ◌≤◌, ◌<◌, not, List, [], ◌∷◌, ◌++◌, length, Option, Some, None, slice_get, refl, sym, ◌∙◌, ap, subst, arith, length-append}
+use Rattle.std.proofs.Common.{◌≡◌, ℕ, ◌+◌, ◌≤◌, ◌<◌, not, List, [], ◌∷◌, ◌++◌, length, Option, Some, None}
+use Rattle.std.proofs.Common.{slice_get, refl, sym, ◌∙◌, ap, subst, arith, length-append}
 use Rattle.std.specs.Prelude.{filter, option_map}
 use Rattle.std.proofs.lemmas.List.Filters.{length-filter_both}
 use Rattle.face_text.specs.declared.op_answer.OpAnswer.{OpAnswer}
@@ -15,9 +16,9 @@ use Rattle.operation_desk.specs.declared.desk.Desk.{Desk}
 use Rattle.operation_desk.specs.declared.done_operation.DoneOperation.{DoneOperation}
 use Rattle.operation_desk.specs.declared.request.Request.{Request}
 use Rattle.operation_desk.specs.Ordered.{comes_before, put_by_number}
-use Rattle.operation_desk.specs.Replies.{AreInForce, Rules, TellsOpen, answer_of, done_with}
-use Rattle.operation_desk.specs.Requests.{and_done, done_from, reply_from, request_from, requests_from}
-use Rattle.operation_desk.specs.Stands.{AreNumbered, MayTake, TellsOutcomes, told_in}
+use Rattle.operation_desk.specs.Replies.{AreInForce, Rules, TellsOpen, numbered_reply, done_with}
+use Rattle.operation_desk.specs.Requests.{with_done, done_from, reply_from, request_from, requests_from}
+use Rattle.operation_desk.specs.Stands.{AreNumberedByPlace, MayRule, TellsOutcomes, told_in}
 use Rattle.operation_desk.specs.Changes.{HasSameRest}
 use Rattle.operation_desk.proofs.Given.{told_more}
 
@@ -30,7 +31,7 @@ put_length op ops =
     omega (arith, both, split)
 
 pub done_more : (tick : ℕ) (done : List DoneOperation) (d : DoneOperation) (older : List Done)
-    → and_done tick (done ++ d ∷ []) older ≡ done_from tick d ∷ and_done tick done older
+    → with_done tick (done ++ d ∷ []) older ≡ done_from tick d ∷ with_done tick done older
 done_more tick [] d older = refl
 done_more tick (x ∷ done) d older = done_more tick done d (done_from tick x ∷ older)
 
@@ -38,7 +39,7 @@ done_more tick (x ∷ done) d older = done_more tick done d (done_from tick x �
 abbrev pub given : ℕ → Request → Reply → Answered
 given tick request reply = record { request = request_from request; tick = tick; reply = reply_from reply }
 
-pub told_given : (tick : ℕ) (request : Request) (reply : Reply) → told_answer (given tick request reply) ≡ Some (answer_of request reply)
+pub told_given : (tick : ℕ) (request : Request) (reply : Reply) → told_answer (given tick request reply) ≡ Some (numbered_reply request reply)
 told_given tick request SaysDone = refl
 told_given tick request (Denied needs has) = refl
 told_given tick request Waiting = refl
@@ -47,8 +48,8 @@ told_given tick request Store = refl
 
 -- what was done grows by an operation whose answer says so
 done_grows : (tick : ℕ) (request : Request) (reply : Reply) (done : List DoneOperation) (older so_far : List Done) → request.tick.0 ≡ tick
-    → so_far ≡ and_done tick done older
-    → done_where_told (request_from request) (reply_from reply) so_far ≡ and_done tick (done_with request reply done) older
+    → so_far ≡ with_done tick done older
+    → done_where_told (request_from request) (reply_from reply) so_far ≡ with_done tick (done_with request reply done) older
 done_grows tick request SaysDone done older so_far now is =
     ap (λ t. (let d : Done = record { tick = t; panel = request.panel; operation = request.operation } in d) ∷ so_far) now
     ∙ ap (λ ds. (let d : Done = record { tick = tick; panel = request.panel; operation = request.operation } in d) ∷ ds) is
@@ -69,7 +70,7 @@ done_length request Store done = omega arith
 
 -- ---- one answer more
 
-module _ (site : Site) (kept : Retained) (asked : List RequestOf) (tick : ℕ) (numbered : AreNumbered 0 asked) where
+module _ (site : Site) (kept : Retained) (asked : List RequestOf) (tick : ℕ) (numbered : AreNumberedByPlace 0 asked) where
   -- an answer leaves what waits as it was
   abbrev pub answered_with : Request → Reply → List Done → Operations → Operations
   answered_with request reply done so_far =
@@ -78,22 +79,22 @@ module _ (site : Site) (kept : Retained) (asked : List RequestOf) (tick : ℕ) (
   module _ (request : Request) (reply : Reply) (so_far : Operations) (place : ℕ) (is : slice_get asked place ≡ Some (request_from request))
       (unanswered : answer_in site kept tick so_far.answers (request_from request) ≡ None) where
     told_then : told_in site kept tick (given tick request reply ∷ so_far.answers) asked
-        ≡ put_by_number (answer_of request reply) (told_in site kept tick so_far.answers asked)
+        ≡ put_by_number (numbered_reply request reply) (told_in site kept tick so_far.answers asked)
     told_then =
-        told_more site kept tick so_far.answers (given tick request reply) asked place numbered is refl unanswered (answer_of request reply)
+        told_more site kept tick so_far.answers (given tick request reply) asked place numbered is refl unanswered (numbered_reply request reply)
         (told_given tick request reply)
 
     pub room_then : (ops : List OpAnswer) → ops ≡ told_in site kept tick so_far.answers asked
         → length (told_in site kept tick (given tick request reply ∷ so_far.answers) asked) ≤ 64 → length ops < 64
     room_then ops same few =
-        let more = ap length told_then ∙ put_length (answer_of request reply) (told_in site kept tick so_far.answers asked) in
+        let more = ap length told_then ∙ put_length (numbered_reply request reply) (told_in site kept tick so_far.answers asked) in
         let l = ap length same in
         omega (arith, more, l, few)
 
     pub outcomes_then : (done_then : List Done) (old new : Desk) → TellsOutcomes site kept asked tick so_far old
-        → ((done : List DoneOperation) (older : List Done) → so_far.done ≡ and_done tick done older
-        → done_then ≡ and_done tick (done_with request reply done) older)
-        → new.answers.ops ≡ put_by_number (answer_of request reply) old.answers.ops
+        → ((done : List DoneOperation) (older : List Done) → so_far.done ≡ with_done tick done older
+        → done_then ≡ with_done tick (done_with request reply done) older)
+        → new.answers.ops ≡ put_by_number (numbered_reply request reply) old.answers.ops
         → new.done.items ≡ done_with request reply old.done.items → new.waiting ≡ old.waiting → HasSameRest old new
         → TellsOutcomes site kept asked tick (answered_with request reply done_then so_far) new
     outcomes_then done_then old new h grows ops done waiting rest =
@@ -105,14 +106,14 @@ module _ (site : Site) (kept : Retained) (asked : List RequestOf) (tick : ℕ) (
                 older = h.unsettled.older;
                 done_is =
                     grows old.done.items h.unsettled.older h.unsettled.done_is
-                    ∙ ap (λ ds. and_done tick ds h.unsettled.older) (sym done);
+                    ∙ ap (λ ds. with_done tick ds h.unsettled.older) (sym done);
                 earlier = h.unsettled.earlier;
               };
-          ops = ops ∙ ap (put_by_number (answer_of request reply)) h.ops ∙ sym told_then;
+          ops = ops ∙ ap (put_by_number (numbered_reply request reply)) h.ops ∙ sym told_then;
           few =
               (let one = ap length done in
               let two = done_length request reply old.done.items in
-              let three = ap length ops ∙ put_length (answer_of request reply) old.answers.ops in
+              let three = ap length ops ∙ put_length (numbered_reply request reply) old.answers.ops in
               let four = h.few in
               omega (arith, one, two, three, four));
         }
@@ -137,7 +138,7 @@ taken_reply site kept request reply tick so_far now e =
 -- what is ruled over the desk's lists
 pub ruled_by : (site : Site) (kept settings : Retained) (asked : List RequestOf) (tick : ℕ) (so_far : Operations) (request : Request) (desk : Desk)
     (waiting : List Request) (done : List DoneOperation) (reply : Option Reply) → Rules site settings waiting done request reply
-    → TellsOutcomes site kept asked tick so_far desk → MayTake site kept settings asked tick so_far request
+    → TellsOutcomes site kept asked tick so_far desk → MayRule site kept settings asked tick so_far request
     → waiting ≡ desk.waiting.items → done ≡ desk.done.items
     → option_map reply_from reply ≡ desk_reply site kept (request_from request) so_far
 ruled_by site kept settings asked tick so_far request desk waiting done reply rules h m w d =
@@ -147,7 +148,7 @@ ruled_by site kept settings asked tick so_far request desk waiting done reply ru
     (subst (λ t. AreInForce site kept t so_far.done settings) (sym m.now) m.in_force) m.panel m.early
 
 module _ (site : Site) (kept settings : Retained) (asked : List RequestOf) (tick : ℕ) (so_far : Operations) (request : Request) (reply : Reply)
-    (old : Desk) (h : TellsOutcomes site kept asked tick so_far old) (m : MayTake site kept settings asked tick so_far request)
+    (old : Desk) (h : TellsOutcomes site kept asked tick so_far old) (m : MayRule site kept settings asked tick so_far request)
     (e : Some (reply_from reply) ≡ desk_reply site kept (request_from request) so_far) where
   abbrev done_so : List Done
   done_so = done_where_told (request_from request) (reply_from reply) so_far.done
@@ -160,7 +161,7 @@ module _ (site : Site) (kept settings : Retained) (asked : List RequestOf) (tick
       room_then site kept asked tick m.numbered request reply so_far m.place m.is m.unanswered old.answers.ops h.ops
       (subst (λ (o : Operations). length (told_in site kept tick o.answers asked) ≤ 64) (sym same_then) m.few_told)
 
-  pub taken : (new : Desk) → new.answers.ops ≡ put_by_number (answer_of request reply) old.answers.ops
+  pub taken : (new : Desk) → new.answers.ops ≡ put_by_number (numbered_reply request reply) old.answers.ops
       → new.done.items ≡ done_with request reply old.done.items → new.waiting ≡ old.waiting → HasSameRest old new
       → TellsOutcomes site kept asked tick (after_request site kept so_far (request_from request)) new
   taken new ops done waiting rest =

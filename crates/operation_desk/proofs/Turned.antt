@@ -1,5 +1,6 @@
 -- The desk after a turn of Desk.
-use Rattle.std.proofs.Common.{◌≡◌, ◌≢◌, ℕ, ◌+◌, ◌-◌, ◌==◌, ◌&&◌, Bool, true, false, not, List, [], ◌∷◌, length, if◌then◌else◌, inl, inr, refl, sym, ◌∙◌, ap, subst, arith}
+use Rattle.std.proofs.Common.{◌≡◌, ◌≢◌, ℕ, ◌+◌, ◌-◌, ◌==◌, ◌&&◌, Bool, true, false, not, List, [], ◌∷◌, length}
+use Rattle.std.proofs.Common.{if◌then◌else◌, inl, inr, refl, sym, ◌∙◌, ap, subst, arith}
 use Rattle.std.specs.Prelude.{nat_le, nat_lt, slice_index, slice_set}
 use Rattle.std.specs.List.{AllByRecursion}
 use Rattle.std.proofs.lemmas.Bool.Decides.{eqb_tells, leb_tells}
@@ -12,15 +13,16 @@ use Rattle.site_types.specs.Changes.{IsPanelNumber}
 use Rattle.site_types.specs.Limits.{most_operations}
 use Rattle.site_types.proofs.Done.{lt_tells}
 use Rattle.panel_rules.specs.Moments.{Moment, Turned, has_turned, tick_of}
-use Rattle.panel_rules.specs.Operations.{Operations, Request as RequestOf, after_desk, after_request, operations, requests}
+use Rattle.panel_rules.specs.Operations.{Operations, Request as RequestOf, after_desk, after_request, operations}
+use Rattle.panel_rules.specs.Operations.{requests}
 use Rattle.panel_rules.specs.Timeline.{busy_count}
 use Rattle.panel_rules.proofs.Bools.{parts}
 use Rattle.panel_rules.proofs.Counting.{count, each_filtered}
 use Rattle.panel_laws.proofs.AnswerLaws.{eq_is}
 use Rattle.operation_desk.specs.declared.desk.Desk.{Desk}
 use Rattle.operation_desk.specs.Changes.{HasSameRest, firsts_of}
-use Rattle.operation_desk.specs.Requests.{and_done, requests_from}
-use Rattle.operation_desk.specs.Stands.{DesksFor, MayTurn, TellsOutcomes, given_in, told_in}
+use Rattle.operation_desk.specs.Requests.{with_done, requests_from}
+use Rattle.operation_desk.specs.Stands.{DesksFor, MayTakeTurn, TellsOutcomes, given_in, told_in}
 use Rattle.operation_desk.proofs.Bounds.{few_of_run}
 use Rattle.operation_desk.proofs.Mine.{counted, is_first, late_count}
 use Rattle.operation_desk.proofs.Turning.{busy_all, late_same}
@@ -54,7 +56,7 @@ count_other panel q test (r ∷ xs) apart all =
     rw here (omega (arith, ih))
 
 module _ (site : Site) (kept settings : Retained) (panel : ℕ) (before : List Moment) (old : Desk) (h : DesksFor site kept before old) (m :
-    MayTurn site kept settings panel before) where
+    MayTakeTurn site kept settings panel before) where
   abbrev all : List RequestOf
   all = requests site before
 
@@ -155,7 +157,7 @@ module _ (site : Site) (kept settings : Retained) (panel : ℕ) (before : List M
                     waiting_is = ap (λ w. requests_from w.items) b.waiting ∙ told.unsettled.waiting_is ∙ sym same.0;
                     older = told.unsettled.older;
                     done_is =
-                        same.1 ∙ told.unsettled.done_is ∙ ap (λ d. and_done tick d.items told.unsettled.older) (sym b.done);
+                        same.1 ∙ told.unsettled.done_is ∙ ap (λ d. with_done tick d.items told.unsettled.older) (sym b.done);
                     earlier = told.unsettled.earlier;
                   };
               ops = b.ops ∙ told.ops ∙ sym same.2;

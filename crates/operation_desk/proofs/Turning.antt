@@ -1,5 +1,6 @@
 -- A turn of Desk: its panel's operations of the tick, one after another.
-use Rattle.std.proofs.Common.{◌≡◌, ℕ, ◌+◌, ◌==◌, ◌&&◌, Bool, true, false, List, [], ◌∷◌, ◌++◌, Option, Some, None, if◌then◌else◌, inl, inr, refl, sym, ◌∙◌, ap, subst, arith}
+use Rattle.std.proofs.Common.{◌≡◌, ℕ, ◌+◌, ◌==◌, ◌&&◌, Bool, true, false, List, [], ◌∷◌, ◌++◌, Option, Some, None}
+use Rattle.std.proofs.Common.{if◌then◌else◌, inl, inr, refl, sym, ◌∙◌, ap, subst, arith}
 use Rattle.std.specs.Prelude.{nat_le, nat_lt}
 use Rattle.std.specs.List.{AllByRecursion}
 use Rattle.std.proofs.lemmas.Bool.Decides.{leb_tells}
@@ -10,8 +11,10 @@ use Rattle.site_types.specs.Done.{Setting, in_force, is_on, value_set}
 use Rattle.access_levels.specs.Levels.{needed_by}
 use Rattle.site_types.specs.Limits.{most_operations}
 use Rattle.site_types.proofs.Done.{lt_tells}
-use Rattle.panel_rules.specs.Operations.{Answered, Operations, Reply, Request, Busy, Denied, Waiting, Already, Store, WasDone}
-use Rattle.panel_rules.specs.Operations.{after_desk, after_reply, after_request, desk_reply, setting_asked, setting_reply}
+use Rattle.panel_rules.specs.Operations.{Answered, Operations, Reply, Request, Busy, Denied, Waiting, Already}
+use Rattle.panel_rules.specs.Operations.{Store, WasDone}
+use Rattle.panel_rules.specs.Operations.{after_desk, after_reply, after_request, desk_reply, setting_asked}
+use Rattle.panel_rules.specs.Operations.{setting_reply}
 use Rattle.panel_rules.specs.Operations.{done_in, is_unsettled, stands_so}
 use Rattle.panel_rules.specs.Timeline.{answer_in, busy_count, is_busy}
 use Rattle.panel_rules.proofs.Answering.{times_desk}

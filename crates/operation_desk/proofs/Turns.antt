@@ -1,5 +1,7 @@
 -- What a turn of Desk takes of the operations that the desk has.
-use Rattle.std.proofs.Common.{◌≡◌, ◌≢◌, ℕ, zero, suc, ◌+◌, ◌<◌, ◌==◌, ◌&&◌, Bool, true, false, not, List, [], ◌∷◌, ◌++◌, length, map, take, drop, get_or, Some, slice_get, if◌then◌else◌, inl, inr, refl, sym, ◌∙◌, ap, subst, arith}
+use Rattle.std.proofs.Common.{◌≡◌, ◌≢◌, ℕ, zero, suc, ◌+◌, ◌<◌, ◌==◌, ◌&&◌, Bool, true, false, not, List, [], ◌∷◌}
+use Rattle.std.proofs.Common.{◌++◌, length, map, take, drop, get_or, Some, slice_get, if◌then◌else◌, inl, inr, refl}
+use Rattle.std.proofs.Common.{sym, ◌∙◌, ap, subst, arith}
 use Rattle.std.specs.Prelude.{filter, nat_lt}
 use Rattle.std.specs.List.{AllByRecursion}
 use Rattle.std.proofs.lemmas.Bool.Decides.{eqb_tells}
@@ -13,7 +15,8 @@ use Rattle.site_types.specs.declared.site.Site.{Site}
 use Rattle.site_types.specs.Changes.{IsPanelNumber}
 use Rattle.site_types.specs.Limits.{most_operations}
 use Rattle.panel_rules.specs.Moments.{Moment, Turned, IsRun, tick_of}
-use Rattle.panel_rules.specs.Operations.{Operations, Request as RequestOf, after_desk, after_request, operations, requests, requests_in}
+use Rattle.panel_rules.specs.Operations.{Operations, Request as RequestOf, after_desk, after_request, operations}
+use Rattle.panel_rules.specs.Operations.{requests, requests_in}
 use Rattle.panel_rules.proofs.Bools.{parts}
 use Rattle.panel_rules.proofs.Counting.{each_at, each_filtered}
 use Rattle.panel_rules.proofs.Floors.{lt_from}
@@ -22,7 +25,7 @@ use Rattle.operation_desk.specs.declared.desk.Desk.{Desk}
 use Rattle.operation_desk.specs.declared.request.Request.{Request}
 use Rattle.operation_desk.specs.Changes.{HasSameRest, TakesRequest, firsts_of}
 use Rattle.operation_desk.specs.Requests.{is_early, request_from, requests_from}
-use Rattle.operation_desk.specs.Stands.{DesksFor, MayTake, MayTurn, TellsOutcomes}
+use Rattle.operation_desk.specs.Stands.{DesksFor, MayRule, MayTakeTurn, TellsOutcomes}
 use Rattle.operation_desk.proofs.Bounds.{can_go_on, few_of_run, few_told, few_waiting}
 use Rattle.operation_desk.proofs.Mine.{counted, early_mine, firsts_first, is_first}
 use Rattle.operation_desk.proofs.Turning.{AreTaken, IsNext, in_force_desk, next}
@@ -62,7 +65,7 @@ module _ (panel : ℕ) (asked : List Request) (n : ℕ) (request : Request) (is 
 -- ---- all of a turn
 
 module _ (site : Site) (kept settings : Retained) (panel : ℕ) (before : List Moment) (desk : Desk) (h : DesksFor site kept before desk) (m :
-    MayTurn site kept settings panel before) where
+    MayTakeTurn site kept settings panel before) where
   abbrev all : List RequestOf
   all = requests site before
 
@@ -167,7 +170,7 @@ module _ (site : Site) (kept settings : Retained) (panel : ℕ) (before : List M
         let few = m.valid.forms.panels.1 in
         (omega (arith, p.0, own), omega (arith, p.1, own, few))
 
-    pub may_take : MayTake site kept settings all tick so_far request
+    pub may_take : MayRule site kept settings all tick so_far request
     may_take = record {
       numbered = (few_of_run site before tick).numbered;
       place = next_is.from.place;
@@ -203,7 +206,7 @@ rest_then first second third h g = record {
 }
 
 module _ (site : Site) (kept settings : Retained) (panel : ℕ) (before : List Moment) (desk : Desk) (h : DesksFor site kept before desk) (m :
-    MayTurn site kept settings panel before) (n : ℕ) (request : Request) (is : slice_get desk.asked.items n ≡ Some request) where
+    MayTakeTurn site kept settings panel before) (n : ℕ) (request : Request) (is : slice_get desk.asked.items n ≡ Some request) where
   abbrev after_so_many : ℕ → Operations
   after_so_many k = after_desk site kept (firsts_of panel (take k desk.asked.items)) (operations site kept before)
 

@@ -16,18 +16,18 @@ use Rattle.panel_rules.specs.Timeline.{busy_count}
 use Rattle.operation_desk.specs.declared.desk.Desk.{Desk}
 use Rattle.operation_desk.specs.declared.request.Request.{Request}
 use Rattle.operation_desk.specs.Requests.{request_from, requests_from}
-use Rattle.operation_desk.specs.Stands.{DesksFor, MayKeep, MayTake, MayTurn, TellsOutcomes}
+use Rattle.operation_desk.specs.Stands.{DesksFor, MayTakeKeepTurn, MayRule, MayTakeTurn, TellsOutcomes}
 use Rattle.operation_desk.specs.Stands.{given_in}
 
 -- a tick began: the one after that which began last
-abbrev pub BeginsTick : Desk → ℕ → Desk → Type 0
-BeginsTick old tick new =
+abbrev pub BeginsAnew : Desk → ℕ → Desk → Type 0
+BeginsAnew old tick new =
     (site : Site) (kept : Retained) (before : List Moment) → DesksFor site kept before old
     → tick ≡ tick_of (Began ∷ before) → DesksFor site kept (Began ∷ before) new
 
 -- an event happened
-abbrev pub Hears : Site → Event → Desk → Desk → Type 0
-Hears site event old new =
+abbrev pub HearsEvent : Site → Event → Desk → Desk → Type 0
+HearsEvent site event old new =
     (kept : Retained) (before : List Moment) → DesksFor site kept before old → AreOfSite site (Happened event ∷ before)
     → DesksFor site kept (Happened event ∷ before) new
 
@@ -35,13 +35,13 @@ Hears site event old new =
 abbrev pub TakesTurn : Site → Retained → ℕ → Desk → Desk → Type 0
 TakesTurn site settings panel old new =
     (kept : Retained) (before : List Moment) → DesksFor site kept before old
-    → MayTurn site kept settings panel before → DesksFor site kept (Turned panel DeskTask ∷ before) new
+    → MayTakeTurn site kept settings panel before → DesksFor site kept (Turned panel DeskTask ∷ before) new
 
 -- Keep had its turn
-abbrev pub Keeps : Bool → Desk → Desk → Type 0
-Keeps failed old new =
+abbrev pub TakesKeepTurn : Bool → Desk → Desk → Type 0
+TakesKeepTurn failed old new =
     (site : Site) (kept : Retained) (before : List Moment) → DesksFor site kept before old
-    → MayKeep site failed before → DesksFor site kept (Kept failed ∷ before) new
+    → MayTakeKeepTurn site failed before → DesksFor site kept (Kept failed ∷ before) new
 
 -- what isn't open is as it was
 pub record HasSameRest (old new : Desk) : Type 0 where
@@ -56,7 +56,7 @@ pub record HasSameRest (old new : Desk) : Type 0 where
 abbrev pub TakesRequest : Site → Retained → Request → Desk → Desk → Type 0
 TakesRequest site settings request old new =
     (kept : Retained) (asked : List RequestOf) (tick : ℕ) (so_far : Operations)
-    → TellsOutcomes site kept asked tick so_far old → MayTake site kept settings asked tick so_far request
+    → TellsOutcomes site kept asked tick so_far old → MayRule site kept settings asked tick so_far request
     → TellsOutcomes site kept asked tick (after_request site kept so_far (request_from request)) new
 
 -- the operation as it is kept
@@ -98,7 +98,7 @@ firsts_of panel asked = filter (λ (r : RequestOf). r.panel == panel) (requests_
 -- they were taken
 abbrev pub TakesOwn : Site → Retained → ℕ → Desk → Desk → Type 0
 TakesOwn site settings panel old new =
-    (kept : Retained) (before : List Moment) → DesksFor site kept before old → MayTurn site kept settings panel before
+    (kept : Retained) (before : List Moment) → DesksFor site kept before old → MayTakeTurn site kept settings panel before
     → TellsOutcomes site kept (requests site before) (tick_of before)
     (after_desk site kept (firsts_of panel old.asked.items) (operations site kept before)) new
 
@@ -124,5 +124,5 @@ pub record HasAnswered (site : Site) (kept : Retained) (failed : Bool) (count : 
 -- all of them were
 abbrev pub AnswersWaiting : Bool → Desk → Desk → Type 0
 AnswersWaiting failed old new =
-    (site : Site) (kept : Retained) (before : List Moment) → DesksFor site kept before old → MayKeep site failed before
+    (site : Site) (kept : Retained) (before : List Moment) → DesksFor site kept before old → MayTakeKeepTurn site failed before
     → HasAnswered site kept failed (length (operations site kept before).waiting) before new

@@ -14,7 +14,7 @@ use Rattle.site_types.specs.Changes.{IsPanelNumber}
 use Rattle.panel_rules.specs.Operations.{Operations, desk_reply}
 use Rattle.operation_desk.specs.declared.done_operation.DoneOperation.{DoneOperation}
 use Rattle.operation_desk.specs.declared.request.Request.{Request}
-use Rattle.operation_desk.specs.Requests.{and_done, reply_from, request_from, requests_from}
+use Rattle.operation_desk.specs.Requests.{with_done, reply_from, request_from, requests_from}
 
 -- an operation on the setting waits, or was done in the tick
 abbrev pub waits_or_done : Setting → List Request → List DoneOperation → Bool
@@ -37,7 +37,7 @@ pub record TellsOpen (tick : ℕ) (so_far : Operations) (waiting : List Request)
     Type 0 where
   pub waiting_is : requests_from waiting ≡ so_far.waiting
   pub older : List Done
-  pub done_is : so_far.done ≡ and_done tick done older
+  pub done_is : so_far.done ≡ with_done tick done older
   pub earlier : AllByRecursion (λ (d : Done). d.tick < tick) older
 
 -- the answer is the rules', whatever the desk stands for
@@ -49,8 +49,8 @@ Rules site settings waiting done request reply =
     → option_map reply_from reply ≡ desk_reply site kept (request_from request) so_far
 
 -- an operation's answer by its number
-abbrev pub answer_of : Request → Reply → OpAnswer
-answer_of request reply = record { number = request.number; reply = reply }
+abbrev pub numbered_reply : Request → Reply → OpAnswer
+numbered_reply request reply = record { number = request.number; reply = reply }
 
 -- what was done, with an operation whose answer says so
 abbrev pub done_with : Request → Reply → List DoneOperation → List DoneOperation

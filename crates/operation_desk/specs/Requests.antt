@@ -2,14 +2,10 @@
 use Rattle.std.specs.Prelude.{ℕ, ◌==◌, ◌&&◌, nat_lt, Bool, List, [], ◌∷◌, filter, map}
 use Rattle.face_text.specs.declared.reply.Reply.{Reply}
 use Rattle.face_text.specs.declared.reply.Reply.TheVariants.{Done, Denied, Waiting, Already, Store}
-use Rattle.site_types.specs.declared.retained.Retained.{Retained}
-use Rattle.site_types.specs.declared.site.Site.{Site}
 use Rattle.site_types.specs.Done.{Done as DoneOf}
 use Rattle.site_types.specs.Limits.{most_operations}
-use Rattle.panel_rules.specs.Moments.{Moment, tick_of}
 use Rattle.panel_rules.specs.Operations.{Request as RequestOf, Reply as ReplyOf, Denied as DeniedTo}
 use Rattle.panel_rules.specs.Operations.{Waiting as Waits, Already as StandsSo, Store as NotStored, WasDone}
-use Rattle.panel_rules.specs.Operations.{operations}
 use Rattle.operation_desk.specs.declared.done_operation.DoneOperation.{DoneOperation}
 use Rattle.operation_desk.specs.declared.request.Request.{Request}
 
@@ -38,19 +34,10 @@ abbrev pub done_from : ℕ → DoneOperation → DoneOf
 done_from tick d = record { tick = tick; panel = d.panel; operation = d.operation }
 
 -- operations done in a tick, the oldest first, before others that were done
-abbrev pub and_done : ℕ → List DoneOperation → List DoneOf → List DoneOf
-and_done tick [] before = before
-and_done tick (d ∷ later) before = and_done tick later (done_from tick d ∷ before)
+abbrev pub with_done : ℕ → List DoneOperation → List DoneOf → List DoneOf
+with_done tick [] before = before
+with_done tick (d ∷ later) before = with_done tick later (done_from tick d ∷ before)
 
 -- one of the first operations of its panel in a tick
 abbrev pub is_early : ℕ → RequestOf → Bool
 is_early tick r = (r.tick == tick) && nat_lt r.earlier most_operations
-
--- the operations that are in force: those that were done before the tick that began last
-abbrev pub applied : Site → Retained → List Moment → List DoneOf
-applied site kept moments =
-    filter (λ (d : DoneOf). nat_lt d.tick (tick_of moments)) (operations site kept moments).done
-
--- of these those of a panel
-abbrev pub applied_at : Site → Retained → ℕ → List Moment → List DoneOf
-applied_at site kept panel moments = filter (λ (d : DoneOf). d.panel == panel) (applied site kept moments)

@@ -21,8 +21,8 @@ use Rattle.operation_desk.specs.Replies.{AreInForce, TellsOpen}
 use Rattle.operation_desk.specs.Requests.{is_early, request_from, requests_from}
 
 -- those asked for are numbered by their places, from one on
-abbrev pub AreNumbered : ℕ → List RequestOf → Type 0
-AreNumbered past asked = (k : ℕ) (r : RequestOf) → slice_get asked k ≡ Some r → r.number ≡ past + k + 1
+abbrev pub AreNumberedByPlace : ℕ → List RequestOf → Type 0
+AreNumberedByPlace past asked = (k : ℕ) (r : RequestOf) → slice_get asked k ≡ Some r → r.number ≡ past + k + 1
 
 module _ (site : Site) (kept : Retained) where
   -- the answers that are given in a tick to those that were asked for, by number
@@ -58,9 +58,9 @@ module _ (site : Site) (kept : Retained) where
     pub sized : (length desk.counts ≡ 8) × (length desk.answers.busy ≡ 8)
 
 -- an operation of a tick is taken next, of those that were asked for: it has no answer yet, and there is room for one
-pub record MayTake (site : Site) (kept settings : Retained) (asked : List RequestOf) (tick : ℕ) (so_far :
+pub record MayRule (site : Site) (kept settings : Retained) (asked : List RequestOf) (tick : ℕ) (so_far :
     Operations) (request : Request) : Type 0 where
-  pub numbered : AreNumbered 0 asked
+  pub numbered : AreNumberedByPlace 0 asked
   pub place : ℕ
   pub is : slice_get asked place ≡ Some (request_from request)
   pub now : request.tick.0 ≡ tick
@@ -72,17 +72,17 @@ pub record MayTake (site : Site) (kept settings : Retained) (asked : List Reques
       ≤ 64
   pub few_wait : length (after_request site kept so_far (request_from request)).waiting ≤ 64
 
-pub record CanTake (site : Site) (settings : Retained) (request : Request) (desk : Desk) : Type 0 where
+pub record CanRule (site : Site) (settings : Retained) (request : Request) (desk : Desk) : Type 0 where
   pub kept : Retained
   pub asked : List RequestOf
   pub tick : ℕ
   pub so_far : Operations
   pub stands : TellsOutcomes site kept asked tick so_far desk
-  pub may : MayTake site kept settings asked tick so_far request
+  pub may : MayRule site kept settings asked tick so_far request
 
 -- the desk stands for some history of a valid site, after which an event may happen; over a run fewer than 2 ^ 64
 -- operations are asked for
-pub record CanHear (site : Site) (event : Event) (desk : Desk) : Type 0 where
+pub record CanTakeEvent (site : Site) (event : Event) (desk : Desk) : Type 0 where
   pub kept : Retained
   pub before : List Moment
   pub stands : DesksFor site kept before desk
@@ -91,7 +91,7 @@ pub record CanHear (site : Site) (event : Event) (desk : Desk) : Type 0 where
   pub few : length (requests site before) < 2 ^ 64 - 1
 
 -- a history after which a panel's Desk may have its turn, with the settings that are in force
-pub record MayTurn (site : Site) (kept settings : Retained) (panel : ℕ) (before : List Moment) : Type 0 where
+pub record MayTakeTurn (site : Site) (kept settings : Retained) (panel : ℕ) (before : List Moment) : Type 0 where
   pub valid : IsValid site
   pub member : IsPanel site.panels panel
   pub run : IsRun site.panels (Turned panel DeskTask ∷ before)
@@ -102,17 +102,17 @@ pub record CanTurn (site : Site) (settings : Retained) (panel : ℕ) (desk : Des
   pub kept : Retained
   pub before : List Moment
   pub stands : DesksFor site kept before desk
-  pub may : MayTurn site kept settings panel before
+  pub may : MayTakeTurn site kept settings panel before
 
 -- a history after which Keep may have its turn
-pub record MayKeep (site : Site) (failed : Bool) (before : List Moment) : Type 0 where
+pub record MayTakeKeepTurn (site : Site) (failed : Bool) (before : List Moment) : Type 0 where
   pub valid : IsValid site
   pub run : IsRun site.panels (Kept failed ∷ before)
   pub of : AreOfSite site before
 
-pub record CanKeep (failed : Bool) (desk : Desk) : Type 0 where
+pub record CanAnswerAll (failed : Bool) (desk : Desk) : Type 0 where
   pub site : Site
   pub kept : Retained
   pub before : List Moment
   pub stands : DesksFor site kept before desk
-  pub may : MayKeep site failed before
+  pub may : MayTakeKeepTurn site failed before

@@ -33,11 +33,11 @@ pub struct Desk {
 }
 
 impl Desk {
-    ghost use Rattle.operation_desk.specs.Changes.{AnswersWaiting, Asks, BeginsTick, CanAsk, HasSameRest, Hears};
-    ghost use Rattle.operation_desk.specs.Changes.{Keeps, TakesOwn, TakesRequest, TakesTurn};
+    ghost use Rattle.operation_desk.specs.Changes.{AnswersWaiting, Asks, BeginsAnew, CanAsk, HasSameRest, HearsEvent};
+    ghost use Rattle.operation_desk.specs.Changes.{TakesKeepTurn, TakesOwn, TakesRequest, TakesTurn};
     ghost use Rattle.operation_desk.specs.Ordered.{put_by_number};
-    ghost use Rattle.operation_desk.specs.Replies.{answer_of, done_with};
-    ghost use Rattle.operation_desk.specs.Stands.{CanHear, CanKeep, CanTake, CanTurn, DesksFor};
+    ghost use Rattle.operation_desk.specs.Replies.{numbered_reply, done_with};
+    ghost use Rattle.operation_desk.specs.Stands.{CanTakeEvent, CanAnswerAll, CanRule, CanTurn, DesksFor};
 
     /// Nothing was asked for.
     pub fn new() -> Desk
@@ -60,7 +60,7 @@ impl Desk {
 
     /// A tick begins.
     pub fn begin(&mut self, tick: Tick)
-        ensures { BeginsTick self.old tick.0 self.new }
+        ensures { BeginsAnew self.old tick.0 self.new }
     {
         self.tick = tick;
         self.counts = [0; 8];
@@ -73,8 +73,8 @@ impl Desk {
 
     /// An event happens; one is that an operation is asked for.
     pub fn event(&mut self, site: &Site, event: &Event)
-        requires { CanHear site.now event.now self.old }
-        ensures { Hears site.now event.now self.old self.new }
+        requires { CanTakeEvent site.now event.now self.old }
+        ensures { HearsEvent site.now event.now self.old self.new }
     {
         if let Event::Op {
             panel,
@@ -99,8 +99,8 @@ impl Desk {
 
     /// The turn of Keep, which failed or kept the operations that wait.
     pub fn keep(&mut self, failed: bool)
-        requires { CanKeep failed self.old }
-        ensures { Keeps failed self.old self.new }
+        requires { CanAnswerAll failed self.old }
+        ensures { TakesKeepTurn failed self.old self.new }
     {
         self.answer_waiting(failed);
         self.waiting.clear();
@@ -162,7 +162,7 @@ impl Desk {
 
     // Takes an operation where it is one of a panel.
     fn take_of(&mut self, site: &Site, settings: &Retained, panel: u8, request: &Request)
-        requires { request.now.panel ≡ panel → CanTake site.now settings.now request.now self.old }
+        requires { request.now.panel ≡ panel → CanRule site.now settings.now request.now self.old }
         ensures own { request.now.panel ≡ panel
             → TakesRequest site.now settings.now request.now self.old self.new }
         ensures other { request.now.panel ≢ panel → self.new ≡ self.old }
@@ -175,7 +175,7 @@ impl Desk {
 
     // Gives an operation its answer, or lets it wait for Keep.
     fn take(&mut self, site: &Site, settings: &Retained, request: &Request)
-        requires { CanTake site.now settings.now request.now self.old }
+        requires { CanRule site.now settings.now request.now self.old }
         ensures took { TakesRequest site.now settings.now request.now self.old self.new }
         ensures rest { HasSameRest self.old self.new }
     {
@@ -193,7 +193,7 @@ impl Desk {
 
     // Gives those that wait their answer.
     fn answer_waiting(&mut self, failed: bool)
-        requires { CanKeep failed self.old }
+        requires { CanAnswerAll failed self.old }
         ensures told { AnswersWaiting failed self.old self.new }
         ensures rest { HasSameRest self.old self.new }
     {
@@ -209,7 +209,7 @@ impl Desk {
         requires room { length self.old.answers.ops < 64 }
         requires few { length self.old.done.items ≤ length self.old.answers.ops }
         ensures ops { self.new.answers.ops
-            ≡ put_by_number (answer_of request.now reply) self.old.answers.ops }
+            ≡ put_by_number (numbered_reply request.now reply) self.old.answers.ops }
         ensures done { self.new.done.items ≡ done_with request.now reply self.old.done.items }
         ensures waiting { self.new.waiting ≡ self.old.waiting }
         ensures rest { HasSameRest self.old self.new }

@@ -30,7 +30,7 @@ pub(crate) fn rule(
             has: denied.has,
         });
     }
-    let Some(setting) = setting_of(request.panel, &request.operation) else {
+    let Some(setting) = setting_of(request.panel, request.operation) else {
         return Some(Reply::Done);
     };
     if is_unsettled(waiting, done, setting) {
@@ -57,14 +57,14 @@ fn stands_so(site: &Site, settings: &Retained, request: &Request, setting: Setti
     if let Setting::Counter(_) = setting {
         return false;
     }
-    value_in(site, settings, setting) == value_set(&request.operation)
+    value_in(site, settings, setting) == value_set(request.operation)
 }
 
 fn any_waits(waiting: &[Request], setting: Setting) -> bool
     ensures { result ≡ list_any (λ r. is_setting (setting_from setting)
         (operation_setting r.panel r.operation)) waiting.now }
 {
-    waiting.iter().any(|request| is_on(request.panel, &request.operation, setting))
+    waiting.iter().any(|request| is_on(request.panel, request.operation, setting))
 }
 
 fn any_was_done(done: &[DoneOperation], setting: Setting) -> bool
@@ -72,12 +72,12 @@ fn any_was_done(done: &[DoneOperation], setting: Setting) -> bool
         (operation_setting d.panel d.operation)) done.now }
 {
     done.iter()
-        .any(|one| is_on(one.panel, &one.operation, setting))
+        .any(|one| is_on(one.panel, one.operation, setting))
 }
 
 // Whether an operation at a panel is on a setting.
-fn is_on(panel: u8, operation: &Operation, setting: Setting) -> bool
-    ensures { result ≡ is_setting (setting_from setting) (operation_setting panel operation.now) }
+fn is_on(panel: u8, operation: Operation, setting: Setting) -> bool
+    ensures { result ≡ is_setting (setting_from setting) (operation_setting panel operation) }
 {
     match setting_of(panel, operation) {
         None => false,

@@ -17,10 +17,10 @@ pub fn value_in(site: &Site, kept: &Retained, setting: Setting) -> bool
     ensures { result ≡ at_opening site.now kept.now (setting_from setting) }
 {
     match setting {
-        Setting::PointOff(point) => kept_point(kept, site.points.get(point as usize)),
-        Setting::ZoneOff(zone) => kept_zone(kept, site.zones.get(zone as usize)),
-        Setting::OutputOff(output) => kept_output(kept, site.outputs.get(output as usize)),
-        Setting::InTest(zone) => kept_test(kept, site.zones.get(zone as usize)),
+        Setting::PointOff(point) => kept_point(kept, site.points.get(point)),
+        Setting::ZoneOff(zone) => kept_zone(kept, site.zones.get(zone)),
+        Setting::OutputOff(output) => kept_output(kept, site.outputs.get(output)),
+        Setting::InTest(zone) => kept_test(kept, site.zones.get(zone)),
         Setting::DelaysOff(panel) => has_number_8(kept.delays_off, panel),
         Setting::Counter(_) => false,
     }

@@ -8,10 +8,10 @@ use site_types::{Item, Operation};
 /// What an operation may set until another sets it anew. Points, zones and outputs are places in the site's lists.
 #[derive(Clone, Copy, Debug, PartialEq, Eq)]
 pub enum Setting {
-    PointOff(u16),
-    ZoneOff(u16),
-    OutputOff(u16),
-    InTest(u16),
+    PointOff(usize),
+    ZoneOff(usize),
+    OutputOff(usize),
+    InTest(usize),
     DelaysOff(u8),
     Counter(u8),
 }
@@ -32,12 +32,12 @@ pub fn is_same(setting: Setting, other: Setting) -> bool
 }
 
 /// The setting that an operation at a panel is on.
-pub fn setting_of(panel: u8, operation: &Operation) -> Option<Setting>
-    ensures { option_map setting_from result ≡ operation_setting panel operation.now }
+pub fn setting_of(panel: u8, operation: Operation) -> Option<Setting>
+    ensures { option_map setting_from result ≡ operation_setting panel operation }
 {
-    match *operation {
+    match operation {
         Operation::Disable(item) | Operation::Enable(item) => Some(item_off(item)),
-        Operation::Test(zone) | Operation::Untest(zone) => Some(Setting::InTest(zone)),
+        Operation::Test(zone) | Operation::Untest(zone) => Some(Setting::InTest(zone as usize)),
         Operation::Delays(_) => Some(Setting::DelaysOff(panel)),
         Operation::Clear => Some(Setting::Counter(panel)),
         _ => None,
@@ -48,17 +48,17 @@ fn item_off(item: Item) -> Setting
     ensures { setting_from result ≡ setting_of_item item }
 {
     match item {
-        Item::Point(point) => Setting::PointOff(point),
-        Item::Zone(zone) => Setting::ZoneOff(zone),
-        Item::Output(output) => Setting::OutputOff(output),
+        Item::Point(point) => Setting::PointOff(point as usize),
+        Item::Zone(zone) => Setting::ZoneOff(zone as usize),
+        Item::Output(output) => Setting::OutputOff(output as usize),
     }
 }
 
 /// What an operation makes of its setting: true for disabled, in test, off.
-pub fn value_set(operation: &Operation) -> bool
-    ensures { result ≡ value_given operation.now }
+pub fn value_set(operation: Operation) -> bool
+    ensures { result ≡ value_given operation }
 {
-    match *operation {
+    match operation {
         Operation::Disable(_) | Operation::Test(_) => true,
         Operation::Delays(on) => !on,
         _ => false,

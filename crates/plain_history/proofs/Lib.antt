@@ -3,7 +3,6 @@ pub mod Histories
 pub mod Later
 pub mod TakenMoments
 -- what is kept at opening, and masks of outputs
-pub mod Unset
 pub mod Outputs
 -- reports of cables and supplies
 pub mod Reported

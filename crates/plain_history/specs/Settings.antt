@@ -2,24 +2,12 @@
 use Rattle.std.specs.Prelude.{◌≡◌, ◌<◌, ℕ, ◌==◌, ◌&&◌, Bool, false, List, length, nat_le, nat_lt, Option, if◌then◌else◌}
 use Rattle.std.specs.Prelude.{slice_index_or}
 use Rattle.site_types.specs.declared.site.Site.{Site}
-use Rattle.site_types.specs.Done.{Done as DoneOf, Setting as SettingOf, PointOff as PointOffOf, ZoneOff as ZoneOffOf}
-use Rattle.site_types.specs.Done.{OutputOff as OutputOffOf, InTest as InTestOf, DelaysOff as DelaysOffOf}
-use Rattle.site_types.specs.Done.{Counter as CounterOf, cancels, is_override, moves_floor, mutes, silence_then}
+use Rattle.site_types.specs.Done.{Done as DoneOf, Setting as SettingOf, ZoneOff as ZoneOffOf, InTest as InTestOf}
+use Rattle.site_types.specs.Done.{cancels, is_override, moves_floor, mutes, silence_then}
 use Rattle.plain_history.specs.declared.mark.Mark.{Mark}
 use Rattle.plain_history.specs.declared.mark.Mark.TheVariants.{Floor, Cancel, Mute}
 use Rattle.plain_history.specs.declared.settings_shown.ZoneSetting.{ZoneSetting}
 use Rattle.plain_history.specs.declared.settings_shown.ZoneSetting.TheVariants.{Off, Test}
-use Rattle.plain_history.specs.declared.setting.Setting.{Setting}
-use Rattle.plain_history.specs.declared.setting.Setting.TheVariants.{PointOff, ZoneOff, OutputOff, InTest, DelaysOff}
-use Rattle.plain_history.specs.declared.setting.Setting.TheVariants.{Counter}
-
-abbrev pub setting_from : Setting → SettingOf
-setting_from (PointOff point) = PointOffOf point
-setting_from (ZoneOff zone) = ZoneOffOf zone
-setting_from (OutputOff output) = OutputOffOf output
-setting_from (InTest zone) = InTestOf zone
-setting_from (DelaysOff panel) = DelaysOffOf panel
-setting_from (Counter panel) = CounterOf panel
 
 -- an operation leaves the mark
 abbrev pub leaves : Site → Mark → DoneOf → Bool

@@ -1,23 +1,12 @@
 ghost use Rattle.std.specs.Prelude.{◌≡◌};
 ghost use Rattle.site_types.specs.Done.{in_force as value_at, is_blocked as is_blocked_at};
 ghost use Rattle.plain_history.specs.Histories.{all_done};
-ghost use Rattle.plain_history.specs.Settings.{setting_from};
+ghost use Rattle.panel_settings.specs.Settings.{setting_from};
 
 use crate::done::Done;
-use crate::retained::at_opening;
-use site_types::{Item, Operation, Point, Retained, Site};
+use panel_settings::{Setting, is_same, setting_of, value_in, value_set};
+use site_types::{Point, Retained, Site};
 use tick_units::Tick;
-
-/// What an operation may set until another sets it anew. Points, zones and outputs are places in the site's lists.
-#[derive(Clone, Copy)]
-pub enum Setting {
-    PointOff(usize),
-    ZoneOff(usize),
-    OutputOff(usize),
-    InTest(usize),
-    DelaysOff(u8),
-    Counter(u8),
-}
 
 /// The value of a setting at a tick: by the latest operation on it that was done in a tick before, else the
 /// one that is kept.
@@ -25,7 +14,7 @@ pub fn in_force(site: &Site, kept: &Retained, setting: Setting, tick: Tick, done
     ensures { result
         ≡ value_at site.now kept.now (setting_from setting) tick.0 (all_done done.now) }
 {
-    let mut value = at_opening(site, kept, setting);
+    let mut value = value_in(site, kept, setting);
     for one in done {
         value = value_after(setting, tick, one, value);
     }
@@ -40,10 +29,9 @@ pub fn is_blocked(site: &Site, kept: &Retained, done: &[Done], point: usize, tic
         || is_zone_blocked(site, kept, done, site.points.get(point), tick)
 }
 
-ghost use Rattle.std.specs.Prelude.{◌&&◌, if◌then◌else◌, nat_lt, option_copied, option_map};
-ghost use Rattle.site_types.specs.Done.{is_on as is_on_setting, is_setting, is_zone_blocked as is_zone_blocked_at};
-ghost use Rattle.site_types.specs.Done.{item_off as setting_of_item, operation_setting as setting_of_operation};
-ghost use Rattle.site_types.specs.Done.{same_setting as is_same_setting, value_set as value_given};
+ghost use Rattle.std.specs.Prelude.{◌&&◌, if◌then◌else◌, nat_lt, option_copied};
+ghost use Rattle.site_types.specs.Done.{is_on as is_on_setting, is_zone_blocked as is_zone_blocked_at};
+ghost use Rattle.site_types.specs.Done.{value_set as value_given};
 ghost use Rattle.plain_history.specs.Histories.{done_of};
 
 // Whether the zone of a point is disabled or in test.
@@ -86,53 +74,5 @@ pub fn is_on(setting: Setting, done: &Done) -> bool
     match setting_of(done.panel, done.operation) {
         None => false,
         Some(other) => is_same(setting, other),
-    }
-}
-
-pub fn is_same(setting: Setting, other: Setting) -> bool
-    ensures { result ≡ is_same_setting (setting_from setting) (setting_from other) }
-{
-    match (setting, other) {
-        (Setting::PointOff(a), Setting::PointOff(b)) => a == b,
-        (Setting::ZoneOff(a), Setting::ZoneOff(b)) => a == b,
-        (Setting::OutputOff(a), Setting::OutputOff(b)) => a == b,
-        (Setting::InTest(a), Setting::InTest(b)) => a == b,
-        (Setting::DelaysOff(a), Setting::DelaysOff(b)) => a == b,
-        (Setting::Counter(a), Setting::Counter(b)) => a == b,
-        _ => false,
-    }
-}
-
-// The setting that an operation at a panel is on.
-pub fn setting_of(panel: u8, operation: Operation) -> Option<Setting>
-    ensures { option_map setting_from result ≡ setting_of_operation panel operation }
-{
-    match operation {
-        Operation::Disable(item) | Operation::Enable(item) => Some(item_off(item)),
-        Operation::Test(zone) | Operation::Untest(zone) => Some(Setting::InTest(zone as usize)),
-        Operation::Delays(_) => Some(Setting::DelaysOff(panel)),
-        Operation::Clear => Some(Setting::Counter(panel)),
-        _ => None,
-    }
-}
-
-fn item_off(item: Item) -> Setting
-    ensures { setting_from result ≡ setting_of_item item }
-{
-    match item {
-        Item::Point(point) => Setting::PointOff(point as usize),
-        Item::Zone(zone) => Setting::ZoneOff(zone as usize),
-        Item::Output(output) => Setting::OutputOff(output as usize),
-    }
-}
-
-// What an operation makes of its setting.
-pub fn value_set(operation: Operation) -> bool
-    ensures { result ≡ value_given operation }
-{
-    match operation {
-        Operation::Disable(_) | Operation::Test(_) => true,
-        Operation::Delays(on) => !on,
-        _ => false,
     }
 }

@@ -11,7 +11,8 @@ use crate::done::Done;
 use crate::numbered::{
     addresses_that, numbers_that, output_at, point_at, points_in_halves, zone_at,
 };
-use crate::setting::{Setting, in_force};
+use crate::setting::in_force;
+use panel_settings::Setting;
 use site_types::{PointSet, Retained, Site};
 use tick_units::Tick;
 

@@ -10,13 +10,14 @@ ghost use Rattle.panel_rules.specs.Operations.{setting_asked, setting_reply as r
 ghost use Rattle.panel_rules.specs.Operations.{stands_so as stands_already};
 ghost use Rattle.plain_operations.specs.Desks.{all_answered, all_requests, outcomes_of, reply_of, request_of};
 ghost use Rattle.plain_history.specs.Histories.{all_done, done_of};
-ghost use Rattle.plain_history.specs.Settings.{setting_from};
+ghost use Rattle.panel_settings.specs.Settings.{setting_from};
 
 use crate::op_answered::OpAnswered;
 use crate::reply::Reply;
 use crate::request::Request;
 use access_levels::allowed;
-use plain_history::{Done, Setting, in_force, is_on, is_same, setting_of, value_set};
+use panel_settings::{Setting, is_same, setting_of, value_set};
+use plain_history::{Done, in_force, is_on};
 use site_types::{MOST_OPERATIONS, Retained, Site};
 use std::alloc::Global;
 use tick_units::{NoMemory, Tick};

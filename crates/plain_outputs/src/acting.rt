@@ -13,7 +13,8 @@ use crate::quiet::is_quiet;
 use crate::requests::{is_requested, is_requested_by_hand, panel_of_output};
 use crate::seen::Seen;
 use crate::turns::is_turn;
-use plain_history::{Done, Setting, in_force, override_done_in};
+use panel_settings::Setting;
+use plain_history::{Done, in_force, override_done_in};
 use site_types::{OutputKind, Retained, Site};
 use tick_units::{Task, Tick};
 

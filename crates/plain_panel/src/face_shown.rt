@@ -9,7 +9,8 @@ ghost use Rattle.plain_panel.specs.SiteStates.{TellsFace};
 
 use crate::network::Network;
 use face_text::Face;
-use plain_history::{Done, Setting, in_force, outputs_off, points_off, zones_in_test, zones_off};
+use panel_settings::Setting;
+use plain_history::{Done, in_force, outputs_off, points_off, zones_in_test, zones_off};
 use plain_outputs::{Driving, OutputState, outputs_in};
 use site_types::{Retained, Site, Word};
 use tick_units::Tick;

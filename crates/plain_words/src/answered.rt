@@ -9,7 +9,7 @@ ghost use Rattle.panel_conditions.specs.Answered.{answered_word as answered_word
 ghost use Rattle.panel_conditions.specs.Missing.{is_off as is_off_at, zone_is_off as zone_is_off_at};
 ghost use Rattle.panel_conditions.specs.Points.{addresses_where, on_point, points_where};
 ghost use Rattle.plain_history.specs.Histories.{all_done};
-ghost use Rattle.plain_history.specs.Settings.{setting_from};
+ghost use Rattle.panel_settings.specs.Settings.{setting_from};
 ghost use Rattle.plain_words.specs.MissingPoints.{is_shown_missing, lies_among};
 ghost use Rattle.plain_words.specs.Judging.{judged, settled};
 ghost use Rattle.plain_words.specs.ZoneStates.{zone_in_state as zone_in_state_by};
@@ -18,8 +18,9 @@ use crate::evidence::Evidence;
 use crate::missing::is_missing;
 use crate::zone_state::ZoneState;
 use panel_conditions::Outside;
+use panel_settings::Setting;
 use plain_history::{
-    Setting, addresses_that, in_force, numbers_that, point_at, points_in_halves, zone_at,
+    addresses_that, in_force, numbers_that, point_at, points_in_halves, zone_at,
 };
 use site_types::{FaultSet, Point, PointSet, Site, Word};
 use tick_units::Tick;

@@ -1,4 +1,4 @@
-use Rattle.plain_history.specs.Settings.{setting_from}
+use Rattle.panel_settings.specs.Settings.{setting_from}
 use Rattle.plain_history.proofs.Later.{in_force_more}
 use Rattle.plain_history.proofs.setting.in_force.Goals as goal
 

@@ -1,7 +1,7 @@
 use Rattle.std.proofs.Common.{◌≡◌, take}
 use Rattle.site_types.specs.Done.{in_force}
 use Rattle.plain_history.specs.Histories.{all_done}
-use Rattle.plain_history.specs.Settings.{setting_from}
+use Rattle.panel_settings.specs.Settings.{setting_from}
 use Rattle.plain_history.proofs.setting.in_force.Given as goal
 
 abbrev pub invariant-loop-one : goal.invariant-loop-one

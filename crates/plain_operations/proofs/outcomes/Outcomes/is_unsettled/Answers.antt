@@ -1,5 +1,5 @@
 use Rattle.plain_operations.specs.Desks.{all_answered}
-use Rattle.plain_history.specs.Settings.{setting_from}
+use Rattle.panel_settings.specs.Settings.{setting_from}
 use Rattle.plain_operations.proofs.Desks.{unsettled_by_done, unsettled_by_waiting}
 use Rattle.plain_operations.proofs.outcomes.Outcomes.is_unsettled.Goals as goal
 
