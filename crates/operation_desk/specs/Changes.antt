@@ -98,8 +98,8 @@ firsts_of panel asked = filter (λ (r : RequestOf). r.panel == panel) (requests_
 -- they were taken
 abbrev pub TakesOwn : Site → Retained → ℕ → Desk → Desk → Type 0
 TakesOwn site settings panel old new =
-    (kept : Retained) (before : List Moment) → DesksFor site kept before old → MayTakeTurn site kept settings panel before
-    → TellsOutcomes site kept (requests site before) (tick_of before)
+    (kept : Retained) (before : List Moment) → DesksFor site kept before old
+    → MayTakeTurn site kept settings panel before → TellsOutcomes site kept (requests site before) (tick_of before)
     (after_desk site kept (firsts_of panel old.asked.items) (operations site kept before)) new
 
 -- what became of operations, once so many of those that wait were answered at a turn of Keep
@@ -124,5 +124,5 @@ pub record HasAnswered (site : Site) (kept : Retained) (failed : Bool) (count : 
 -- all of them were
 abbrev pub AnswersWaiting : Bool → Desk → Desk → Type 0
 AnswersWaiting failed old new =
-    (site : Site) (kept : Retained) (before : List Moment) → DesksFor site kept before old → MayTakeKeepTurn site failed before
-    → HasAnswered site kept failed (length (operations site kept before).waiting) before new
+    (site : Site) (kept : Retained) (before : List Moment) → DesksFor site kept before old
+    → MayTakeKeepTurn site failed before → HasAnswered site kept failed (length (operations site kept before).waiting) before new
