@@ -1,5 +1,5 @@
 -- What is written when a tick is closed.
-use Rattle.std.proofs.Common.{◌≡◌, ◌∙◌, ◌+◌, ◌++◌, ℕ, true, List, ◌∷◌, length, Option, Some, None, sym, ap, arith}
+use Rattle.std.proofs.Common.{◌≡◌, ◌∙◌, ◌+◌, ◌++◌, ℕ, true, List, ◌∷◌, length, Option, Some, None, sym, ap, arith, subst}
 use Rattle.site_types.specs.declared.site.Site.{Site}
 use Rattle.panel_rules.specs.Moments.{TickBlock, moments}
 use Rattle.panel_program.specs.declared.run.Run.{Run}
@@ -41,3 +41,13 @@ closed_more_by site ticks (Some block) old run h open_is closes =
 pub closed_more : (site : Site) (p : Progress) (old run : Run) → Stands site p old → old.is_open ≡ true → ClosesBy site p p.block run
     → More site p.run (closed p) (tick_text site run.ticks old.shown run.shown)
 closed_more site p old run h open_is closes = closed_more_by site p.run p.block old run h open_is closes
+
+-- what was written of a tick is what the text of all ticks has more
+pub told_more : (Wrote : List ℕ → Type 0) (site there : Site) (p : Progress) (old run : Run) → Stands site p old → old.is_open ≡ true
+    → ClosesBy site p p.block run → there ≡ site → Wrote (tick_text there run.ticks old.shown run.shown)
+    → (more : List ℕ) × (text_of site (closed p) ≡ text_of site p.run ++ more) × Wrote more
+told_more Wrote site there p old run h open_is closes same wrote = (
+  tick_text site run.ticks old.shown run.shown,
+  (closed_more site p old run h open_is closes).is,
+  subst (λ s. Wrote (tick_text s run.ticks old.shown run.shown)) same wrote,
+)

@@ -8,6 +8,8 @@ use Rattle.site_types.specs.Valid.{IsValid}
 use Rattle.panel_program.specs.declared.outcome.Outcome.{Outcome}
 use Rattle.panel_program.specs.declared.run.Run.{Run}
 use Rattle.panel_program.specs.declared.run_end.RunEnd.{RunEnd}
+use Rattle.panel_program.specs.declared.status.Status.TheVariants.{NoMemory, WriteFault}
+use Rattle.panel_program.specs.Statuses.{number_of}
 use Rattle.panel_program.specs.Endings.{end_of, within_limit, status_of, last_line}
 use Rattle.panel_program.specs.Records.{ticks_run}
 use Rattle.panel_program.specs.Runs.{Ran, ReadsTo, ReadsUntil, run_text}
@@ -32,12 +34,12 @@ front_whole site bytes consumed rest old new whole few g =
     subst (GrowsByFront old new) (sym text) (front_longer old new (text_at site consumed) (behind.rest ++ last) g)
 
 -- memory ran out
-pub ran_nothing : (site : Site) (bytes : List ℕ) (old : Option (List ℕ)) (outcome : Outcome) → outcome.status ≡ 9 → outcome.ticks ≡ 0
+pub ran_nothing : (site : Site) (bytes : List ℕ) (old : Option (List ℕ)) (outcome : Outcome) → outcome.status ≡ number_of NoMemory → outcome.ticks ≡ 0
     → Ran site bytes old old outcome
 ran_nothing site bytes old outcome status ticks = inl (record { status = status; ticks = ticks; same = refl })
 
 -- the first write failed
-pub ran_opening : (site : Site) (bytes : List ℕ) (old new : Option (List ℕ)) (outcome : Outcome) → IsValid site → outcome.status ≡ 7
+pub ran_opening : (site : Site) (bytes : List ℕ) (old new : Option (List ℕ)) (outcome : Outcome) → IsValid site → outcome.status ≡ number_of WriteFault
     → outcome.ticks ≡ 0 → GrowsByFront old new (text_of site []) → Ran site bytes old new outcome
 ran_opening site bytes old new outcome valid status ticks broke =
     inr (inr (record {
@@ -52,7 +54,7 @@ ran_opening site bytes old new outcome valid status ticks broke =
     }))
 
 -- a later write failed
-pub ran_until : (site : Site) (bytes : List ℕ) (old mid new : Option (List ℕ)) (run : Run) (outcome : Outcome) → IsValid site → outcome.status ≡ 7
+pub ran_until : (site : Site) (bytes : List ℕ) (old mid new : Option (List ℕ)) (run : Run) (outcome : Outcome) → IsValid site → outcome.status ≡ number_of WriteFault
     → outcome.ticks ≡ run.ticks → Grows old mid (text_of site []) → ReadsUntil site bytes mid new run → Ran site bytes old new outcome
 ran_until site bytes old mid new run outcome valid status ticks opened r =
     inr

@@ -188,3 +188,17 @@ pub next_taken : (site : Site) (before piece : List ℕ) (fed : Fed) (number : �
 next_taken site before piece fed number old new reader new_reader run new_run result h feeds is_number t =
     next_by site before piece fed.used number old new reader new_reader run new_run h feeds.stands is_number fed.step result
     (told_now site before piece fed new_reader feeds h.going.going).0 t
+
+-- the same by what the reader of the run's site and the run answered
+pub fed_next : (site there : Site) (before piece : List ℕ) (fed : Fed) (number : ℕ) (old new : Option (List ℕ)) (reader new_reader : LineReader)
+    (run new_run : Run) (result : Result (Option RunEnd) Failed) → IsAt site before reader run → there ≡ site
+    → ((bytes : List ℕ) → ReadsFor there bytes reader → Feeds there bytes piece fed new_reader) → StepBelongs there fed.step
+    → number ≡ (reading_of site before).number
+    → (MayStep site (progress_of site (reading_of site before).lines) fed.step
+    → TakesStep site (progress_of site (reading_of site before).lines) fed.step number old new run new_run result)
+    → NextBy site before piece fed.used old new new_reader new_run result
+fed_next site there before piece fed number old new reader new_reader run new_run result h same feeds belongs is_number takes =
+    let fed_so =
+    subst (λ s. Feeds s before piece fed new_reader) same (feeds before (subst (λ s. ReadsFor s before reader) (sym same) h.reads)) in
+    next_taken site before piece fed number old new reader new_reader run new_run result h fed_so is_number
+    (takes (may_step site before piece fed reader new_reader run h fed_so (subst (λ s. StepBelongs s fed.step) same belongs)))

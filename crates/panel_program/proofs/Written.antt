@@ -3,6 +3,7 @@ use Rattle.std.proofs.Common.{◌∙◌, ◌++◌, List, ℕ, [], Option, Some, 
 use Rattle.std.specs.Prelude.{OnOk, OnErr, IfSome}
 use Rattle.panel_edges.specs.Contents.{Grows, GrowsByFront}
 use Rattle.panel_edges.proofs.Growing.{grows_none, grows_more, front_more}
+use Rattle.panel_program.specs.declared.status.Status.{Status}
 use Rattle.panel_program.specs.Writings.{Advances, Breaks, Says}
 
 pub on_err : {T E : Type 0} {P Q : Type 0} (r : Result T E) → (P → Q) → OnErr r P → OnErr r Q
@@ -35,7 +36,7 @@ pub front_then : (a b c : Option (List ℕ)) (x y : List ℕ) → Grows a b x �
 front_then a b c x y g h = subst (GrowsByFront a c) (sym h.1) (front_more a b c x h.0 g h.2)
 
 -- a last text behind what was written
-pub says_then : (status ended : ℕ) (a b c : Option (List ℕ)) (x y : List ℕ) → Grows a b x → Says status y b c ended → Says status (x ++ y) a c ended
+pub says_then : (status : Status) (ended : ℕ) (a b c : Option (List ℕ)) (x y : List ℕ) → Grows a b x → Says status y b c ended → Says status (x ++ y) a c ended
 says_then status ended a b c x y g (inl h) = inl (h.0, grows_more a b c x y g h.1)
 says_then status ended a b c x y g (inr h) = inr (h.0, front_more a b c x y g h.1)
 

@@ -14,6 +14,8 @@ use Rattle.record_lines.specs.declared.line.Line.{Line}
 use Rattle.record_lines.specs.Lines.{Reading, reading_of}
 use Rattle.panel_program.specs.declared.run_end.RunEnd.{RunEnd}
 use Rattle.panel_program.specs.declared.run_end.RunEnd.TheVariants.{Ended, Refused, NotBuilt, TooManyBytes, ReadFault}
+use Rattle.panel_program.specs.declared.status.Status.{Status}
+use Rattle.panel_program.specs.declared.status.Status.TheVariants as exit
 use Rattle.panel_program.specs.Records.{is_built, built_lines}
 
 -- ---- how the bytes of a record end a run
@@ -49,24 +51,24 @@ end_of site bytes = end_in (length (within_limit bytes)) (reading_of site (withi
 
 -- ---- what is told of an end
 
-abbrev pub status_by : Why → ℕ
-status_by BadWord = 4
-status_by BadNumber = 4
-status_by NoSuch = 4
-status_by (BadTick expected found) = 4
-status_by (BadOrder place) = 4
-status_by LineTooLong = 4
-status_by NotAscii = 4
-status_by BeforeFirstTick = 4
-status_by Truncated = 4
-status_by TickLimit = 11
+abbrev pub status_by : Why → Status
+status_by BadWord = exit.BadRecord
+status_by BadNumber = exit.BadRecord
+status_by NoSuch = exit.BadRecord
+status_by (BadTick expected found) = exit.BadRecord
+status_by (BadOrder place) = exit.BadRecord
+status_by LineTooLong = exit.BadRecord
+status_by NotAscii = exit.BadRecord
+status_by BeforeFirstTick = exit.BadRecord
+status_by Truncated = exit.BadRecord
+status_by TickLimit = exit.Limit
 
-abbrev pub status_of : RunEnd → ℕ
-status_of Ended = 0
+abbrev pub status_of : RunEnd → Status
+status_of Ended = exit.Done
 status_of (Refused refusal) = status_by refusal.why
-status_of (NotBuilt line) = 4
-status_of TooManyBytes = 11
-status_of ReadFault = 6
+status_of (NotBuilt line) = exit.BadRecord
+status_of TooManyBytes = exit.Limit
+status_of ReadFault = exit.ReadFault
 
 -- a refused line: its number, that of the refusal and what is told besides
 abbrev pub refused_text : ℕ → List ℕ → List ℕ

@@ -1,4 +1,5 @@
 pub mod Words
+pub mod Statuses
 pub mod Lines
 pub mod Matrix
 pub mod Zones

@@ -3,6 +3,8 @@ use Rattle.std.specs.Prelude.{ℕ, ℤ, List, [], ◌++◌, codes, decimal}
 use Rattle.std.specs.Fmt.{signed_decimal}
 use Rattle.site_document.specs.declared.refusal.SiteRefusal.{SiteRefusal}
 use Rattle.site_document.specs.declared.refusal.SiteRefusal.TheVariants as code
+use Rattle.panel_program.specs.declared.status.Status.{Status}
+use Rattle.panel_program.specs.declared.status.Status.TheVariants as exit
 use Rattle.panel_program.specs.declared.stop.Stop.{Stop}
 use Rattle.panel_program.specs.declared.stop.Stop.TheVariants.{Absent, Refused, Cycle, NotBuilt, ReadFault, NoMemory}
 
@@ -31,18 +33,18 @@ refusal_text (code.PartnerNotMutual label) = named_text (codes "refused site 9 "
 refusal_text code.TooLong = codes "refused site 10\n"
 refusal_text code.NoMemory = []
 
-abbrev pub refusal_status : SiteRefusal → ℕ
-refusal_status code.NotToml = 3
-refusal_status (code.Missing key) = 3
-refusal_status (code.WrongKind key) = 3
-refusal_status (code.Unknown key) = 3
-refusal_status (code.OutOfRange key number) = 3
-refusal_status (code.Twice name) = 3
-refusal_status (code.NoSuch name) = 3
-refusal_status (code.SectionCrossesZones panel line place) = 3
-refusal_status (code.PartnerNotMutual label) = 3
-refusal_status code.TooLong = 3
-refusal_status code.NoMemory = 9
+abbrev pub refusal_status : SiteRefusal → Status
+refusal_status code.NotToml = exit.BadSite
+refusal_status (code.Missing key) = exit.BadSite
+refusal_status (code.WrongKind key) = exit.BadSite
+refusal_status (code.Unknown key) = exit.BadSite
+refusal_status (code.OutOfRange key number) = exit.BadSite
+refusal_status (code.Twice name) = exit.BadSite
+refusal_status (code.NoSuch name) = exit.BadSite
+refusal_status (code.SectionCrossesZones panel line place) = exit.BadSite
+refusal_status (code.PartnerNotMutual label) = exit.BadSite
+refusal_status code.TooLong = exit.BadSite
+refusal_status code.NoMemory = exit.NoMemory
 
 -- what is written of a stop, and its status
 abbrev pub stop_text : Stop → List ℕ
@@ -53,10 +55,10 @@ stop_text NotBuilt = codes "refused site 12\n"
 stop_text ReadFault = codes "fault read\n"
 stop_text NoMemory = []
 
-abbrev pub stop_status : Stop → ℕ
-stop_status Absent = 3
+abbrev pub stop_status : Stop → Status
+stop_status Absent = exit.BadSite
 stop_status (Refused refusal) = refusal_status refusal
-stop_status (Cycle line) = 3
-stop_status NotBuilt = 3
-stop_status ReadFault = 6
-stop_status NoMemory = 9
+stop_status (Cycle line) = exit.BadSite
+stop_status NotBuilt = exit.BadSite
+stop_status ReadFault = exit.ReadFault
+stop_status NoMemory = exit.NoMemory

@@ -15,6 +15,8 @@ use Rattle.panel_program.specs.declared.outcome.Outcome.{Outcome}
 use Rattle.panel_program.specs.declared.run.Run.{Run}
 use Rattle.panel_program.specs.declared.run_end.RunEnd.{RunEnd}
 use Rattle.panel_program.specs.declared.run_end.RunEnd.TheVariants.{ReadFault}
+use Rattle.panel_program.specs.declared.status.Status.TheVariants.{NoMemory, WriteFault}
+use Rattle.panel_program.specs.Statuses.{number_of}
 use Rattle.panel_program.specs.Endings.{end_of, within_limit, status_of, last_line}
 use Rattle.panel_program.specs.Records.{ticks_run}
 use Rattle.panel_program.specs.Stands.{HasRun, IsGoing, text_at}
@@ -91,12 +93,12 @@ pub record RanUntil (site : Site) (bytes : List ℕ) (old new : Option (List ℕ
   pub whole : bytes ≡ consumed ++ rest
   pub ticks : outcome.ticks ≡ length (ticks_run site consumed)
   pub promises : KeepsPromises site (ticks_run site consumed)
-  pub status : outcome.status ≡ 7
+  pub status : outcome.status ≡ number_of WriteFault
   pub broke : GrowsByFront old new (run_text site bytes)
 
 -- memory ran out before anything was written
 pub record RanNothing (old new : Option (List ℕ)) (outcome : Outcome) : Type 0 where
-  pub status : outcome.status ≡ 9
+  pub status : outcome.status ≡ number_of NoMemory
   pub ticks : outcome.ticks ≡ 0
   pub same : new ≡ old
 

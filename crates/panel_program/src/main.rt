@@ -33,6 +33,7 @@ mod run_end;
 mod saying;
 mod shown;
 mod site_lines;
+mod status;
 mod stop;
 mod taken;
 mod usage;
@@ -40,6 +41,7 @@ mod writing;
 
 use panel_edges::{FileShelf, StdSink, StdSource};
 use program::panel;
+use status::Status;
 use std::alloc::AllocError;
 use std::env;
 use std::io::ErrorKind;
@@ -47,7 +49,7 @@ use std::process::ExitCode;
 
 fn main(rt: HostRuntime) -> ExitCode {
     let Ok(words) = words_of(&rt) else {
-        return ExitCode::from(9);
+        return ExitCode::from(Status::NoMemory.number());
     };
     let mut shelf = FileShelf::new(&rt, rt.alloc());
     let mut input = StdSource::new(&rt);

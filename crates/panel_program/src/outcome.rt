@@ -1,10 +1,12 @@
 ghost use Rattle.std.specs.Prelude.{◌≡◌};
+ghost use Rattle.panel_program.specs.Statuses.{number_of};
+
+use crate::status::Status;
 
 /// How a command ended.
 #[derive(Clone, Copy, Debug, PartialEq, Eq)]
 pub struct Outcome {
-    /// What `main` ends with: 0 done, 2 usage, 3 site refused, 4 record refused, 6 read fault, 7 write fault,
-    /// 9 want of memory, 11 limit.
+    /// What `main` ends with: the number of a [`Status`].
     pub status: u8,
     /// How many ticks were run.
     pub ticks: u64,
@@ -14,11 +16,11 @@ pub struct Outcome {
 
 impl Outcome {
     /// A command that ended with this status after so many ticks.
-    pub fn after(status: u8, ticks: u64) -> Outcome
-        ensures { result ≡ record { status = status; ticks = ticks; store_failures = 0 } }
+    pub fn after(status: Status, ticks: u64) -> Outcome
+        ensures { result ≡ record { status = number_of status; ticks = ticks; store_failures = 0 } }
     {
         Outcome {
-            status,
+            status: status.number(),
             ticks,
             store_failures: 0,
         }

@@ -6,6 +6,7 @@ ghost use Rattle.std.specs.Prelude.{◌≡◌, ◌<◌, ◌≤◌, Some, None};
 use crate::outcome::Outcome;
 use crate::program::panel;
 use crate::shown::Shown;
+use crate::status::Status;
 use crate::writing::{PAGE_BYTES, write_tick};
 use panel_edges::{
     Failed, MemoryShelf, MemorySink, MemorySource, ShelfFile, Sink, SoundMemorySink, Source, Stream,
@@ -83,13 +84,13 @@ const FINE: Outside = Outside {
 // What came of a run, and the number of its reads and writes.
 #[derive(Drop)]
 struct Tried {
-    text: String,
+    text: Vec<u8>,
     outcome: Outcome,
     reads: u64,
     writes: u64,
 }
 
-// The example's site, and what its record gives, piece by piece as it is written.
+// The example's site.
 const MILL: &str = r#"format = 1
 site = "mill"
 panels = 1
@@ -107,16 +108,26 @@ point = [
 ]
 "#;
 
-const PIECES: [&str; 5] = [
-    "site mill panels 1\n",
-    "tick 37\n1 zone stairs on\n",
-    "tick 50\n1 first store on\n",
-    "tick 62\n1 zone store on\n1 first store off\n",
-    "end 72\n",
+const OPENING: &str = "site mill panels 1\n";
+
+// The text of each tick at whose end something is told.
+const TOLD: [(u64, &str); 3] = [
+    (37, "tick 37\n1 zone stairs on\n"),
+    (50, "tick 50\n1 first store on\n"),
+    (62, "tick 62\n1 zone store on\n1 first store off\n"),
 ];
 
-// The ticks at whose end something is told.
-const TOLD: [u64; 3] = [37, 50, 62];
+// What is written up to the end of a tick, with a line behind it.
+fn told_by(alloc: Global, last: u64, line: &str) -> Result<String, AllocError> {
+    let mut text = String::from_str(alloc, OPENING)?;
+    for (tick, told) in TOLD {
+        if tick <= last {
+            text.push_str(told)?;
+        }
+    }
+    text.push_str(line)?;
+    Ok(text)
+}
 
 // The example's record.
 fn morning(alloc: Global) -> Result<String, AllocError> {
@@ -190,16 +201,12 @@ fn try_run(alloc: Global, record: &str, outside: Outside) -> Result<Tried, Fail>
     let outcome = panel(alloc, &words, &mut shelf, &mut input, &mut out);
     let TrickleSource { source, .. } = input;
     let TrickleSink { sink, .. } = out;
-    let (reads, writes) = (source.calls, sink.calls);
-    match String::from_utf8(sink.bytes) {
-        Ok(text) => Ok(Tried {
-            text,
-            outcome,
-            reads,
-            writes,
-        }),
-        Err(_) => Err(Fail::from("text")),
-    }
+    Ok(Tried {
+        text: sink.bytes,
+        outcome,
+        reads: source.calls,
+        writes: sink.calls,
+    })
 }
 
 // The text is the same, and that of a tick is written in one call where the outside takes so much.
@@ -207,7 +214,7 @@ fn try_run(alloc: Global, record: &str, outside: Outside) -> Result<Tried, Fail>
 fn writes_the_same_however_the_outside_cuts(rt: HostRuntime) -> Result<(), Fail> {
     let alloc = rt.alloc();
     let record = morning(alloc)?;
-    let whole = PIECES.concat(alloc)?;
+    let whole = told_by(alloc, 72, "end 72\n")?;
     for (read_bytes, write_bytes) in [
         (4096usize, 65_536usize),
         (1, 65_536),
@@ -220,12 +227,12 @@ fn writes_the_same_however_the_outside_cuts(rt: HostRuntime) -> Result<(), Fail>
             ..FINE
         };
         let run = try_run(alloc, record.as_str(), outside)?;
-        let is_same = run.text.as_str() == whole.as_str() && run.outcome == Outcome::after(0, 72);
-        if !is_same || (write_bytes > 1 && run.writes != 5) {
-            return Err(Fail::from(format!(in alloc;
-                "reads of {read_bytes}, writes of {write_bytes}"
-            )?));
-        }
+        let is_whole = run.text.as_slice() == whole.as_str().as_bytes();
+        assert!(rt;
+            is_whole && run.outcome == Outcome::after(Status::Done, 72),
+            "{read_bytes}"
+        );
+        assert!(rt; write_bytes == 1 || run.writes == 5, "{read_bytes}");
     }
     Ok(())
 }
@@ -265,11 +272,15 @@ fn ends_where_a_read_fails(rt: HostRuntime) -> Result<(), Fail> {
         };
         let run = try_run(alloc, record, outside)?;
         let ticks = ticks_begun(record.as_bytes(), before.saturating_mul(7)).saturating_sub(1);
-        let told = TOLD.iter().filter(|tick| **tick <= ticks).count();
-        let wanted = format!(in alloc; "{}fault read\n", PIECES[..told + 1].concat(alloc)?)?;
-        if run.outcome != Outcome::after(6, ticks) || run.text.as_str() != wanted.as_str() {
-            return Err(Fail::from(format!(in alloc; "behind {before} reads")?));
-        }
+        let wanted = told_by(alloc, ticks, "fault read\n")?;
+        assert!(rt;
+            run.outcome == Outcome::after(Status::ReadFault, ticks),
+            "{before}"
+        );
+        assert!(rt;
+            run.text.as_slice() == wanted.as_str().as_bytes(),
+            "{before}"
+        );
     }
     Ok(())
 }
@@ -280,7 +291,8 @@ fn ends_where_a_write_fails(rt: HostRuntime) -> Result<(), Fail> {
     let alloc = rt.alloc();
     let record = morning(alloc)?;
     let record = record.as_str();
-    let whole = PIECES.concat(alloc)?;
+    let whole = told_by(alloc, 72, "end 72\n")?;
+    let whole = whole.as_str().as_bytes();
     for write_bytes in [65_536usize, 5] {
         let cut = Outside {
             write_bytes,
@@ -292,37 +304,15 @@ fn ends_where_a_write_fails(rt: HostRuntime) -> Result<(), Fail> {
                 ..cut
             };
             let run = try_run(alloc, record, outside)?;
-            let text = run.text.as_str();
-            let is_front = whole.as_str().starts_with(text) && text.len() < whole.len();
-            if run.outcome.status != 7 || !is_front {
-                return Err(Fail::from(format!(in alloc; "behind {before} writes")?));
-            }
-        }
-    }
-    Ok(())
-}
-
-#[test]
-fn refuses_the_record_cut_behind_any_line(rt: HostRuntime) -> Result<(), Fail> {
-    let alloc = rt.alloc();
-    let record = morning(alloc)?;
-    let mut front = String::new(alloc);
-    let mut lines = 0u64;
-    for line in record.as_str().lines() {
-        lines = lines.wrapping_add(1);
-        front.push_str(line)?;
-        front.push_str("\n")?;
-        let run = try_run(alloc, front.as_str(), FINE)?;
-        let (status, last) = if line == "end" {
-            (0, String::from_str(alloc, "end 72\n")?)
-        } else {
-            (
-                4,
-                format!(in alloc; "refused line {} 9\n", lines.wrapping_add(1))?,
-            )
-        };
-        if run.outcome.status != status || !run.text.as_str().ends_with(last.as_str()) {
-            return Err(Fail::from(format!(in alloc; "cut behind line {lines}")?));
+            let text = run.text.as_slice();
+            assert!(rt;
+                run.outcome.status == Status::WriteFault.number(),
+                "{before}"
+            );
+            assert!(rt;
+                whole.starts_with(text) && text.len() < whole.len(),
+                "{before}"
+            );
         }
     }
     Ok(())
@@ -337,35 +327,38 @@ fn ends_with_the_faults_of_shelf_and_first_calls(rt: HostRuntime) -> Result<(), 
     let mut input = source(alloc, "tick 1\n", vec![in alloc; 2]?)?;
     let mut out = sink(alloc, vec![in alloc; 3]?)?;
     let outcome = panel(alloc, &words, &mut shelf, &mut input, &mut out);
-    assert_eq!(rt; outcome, Outcome::after(6, 0));
-    assert_eq!(rt; out.bytes.as_slice(), b"fault read\n".as_slice());
+    assert!(rt; outcome == Outcome::after(Status::ReadFault, 0));
+    assert!(rt; out.bytes.as_slice() == b"fault read\n".as_slice());
     out.bytes.clear();
     let outcome = panel(alloc, &words, &mut shelf, &mut input, &mut out);
-    assert_eq!(rt; outcome, Outcome::after(7, 0));
-    assert_eq!(rt; out.bytes.as_slice(), PIECES[0].as_bytes());
+    assert!(rt; outcome == Outcome::after(Status::WriteFault, 0));
+    assert!(rt; out.bytes.as_slice() == OPENING.as_bytes());
     Ok(())
+}
+
+// A site of 32 zones with names of 14 bytes.
+fn thirty_two_zones(alloc: Global) -> Result<String, AllocError> {
+    let mut text = String::from_str(alloc, "format = 1\nsite = \"one\"\npanels = 1\n")?;
+    for before in 0..32u8 {
+        let number = before + 1;
+        let zone = format!(in alloc; "[[zone]]\npanel = 1\nname = \"hall-number-{number}\"\n")?;
+        text.push_str(zone.as_str())?;
+        text.push_str(format!(in alloc; "number = {number}\n")?.as_str())?;
+    }
+    Ok(text)
 }
 
 #[test]
 fn writes_the_text_of_a_tick_in_one_piece(rt: HostRuntime) -> Result<(), Fail> {
     let alloc = rt.alloc();
-    let mut text = String::from_str(alloc, "format = 1\nsite = \"one\"\npanels = 1\n")?;
-    for before in 0..32u8 {
-        let number = before + 1;
-        text.push_str("[[zone]]\npanel = 1\n")?;
-        text.push_str(format!(in alloc;
-            "name = \"hall-number-{number}\"\nnumber = {number}\n"
-        )?.as_str())?;
-    }
+    let text = thirty_two_zones(alloc)?;
     let Ok(site) = read_site(alloc, text.as_str().as_bytes()) else {
         return Err(Fail::from("site"));
     };
     let Ok(mut page) = SoundMemorySink::new(alloc, PAGE_BYTES) else {
         return Err(Fail::from("memory"));
     };
-    let Ok(mut out) = MemorySink::new(alloc, PAGE_BYTES, Vec::new(alloc)) else {
-        return Err(Fail::from("memory"));
-    };
+    let mut out = sink(alloc, Vec::new(alloc))?;
     let before = Shown {
         alarm: 0,
         first: u32::MAX,
@@ -375,6 +368,6 @@ fn writes_the_text_of_a_tick_in_one_piece(rt: HostRuntime) -> Result<(), Fail> {
         first: 0,
     };
     assert!(rt; write_tick(&mut page, &site, 7, before, after, &mut out).is_ok());
-    assert_eq!(rt; (out.calls, out.bytes.len()), (1, 1_653));
+    assert!(rt; out.calls == 1 && out.bytes.len() == 1_653);
     Ok(())
 }

@@ -3,6 +3,7 @@ ghost use Rattle.cause_effect.specs.Stands.{IsPlanOf};
 ghost use Rattle.panel_edges.specs.Faults.{Rose};
 ghost use Rattle.panel_edges.specs.Shelves.{file_of};
 ghost use Rattle.panel_program.specs.Commands.{Answers, AnswersTold, Draws, site_word};
+ghost use Rattle.panel_program.specs.Statuses.{BlamesReads, BlamesWrites, IsSilentWithoutMemory, number_of};
 ghost use Rattle.panel_program.specs.Words.{command_of as command_by};
 ghost use Rattle.panel_program.specs.declared.command.Command.TheVariants.{Check as CheckCommand};
 ghost use Rattle.panel_program.specs.declared.command.Command.TheVariants.{Matrix as MatrixCommand};
@@ -17,6 +18,7 @@ use crate::outcome::Outcome;
 use crate::reading::run_site;
 use crate::saying::say;
 use crate::site_lines::stop_with;
+use crate::status::Status;
 use crate::usage::USAGE;
 use cause_effect::Plan;
 use panel_edges::{Shelf, Sink, Source};
@@ -25,9 +27,7 @@ use std::alloc::Global;
 
 /// Does what the words ask for. All that is said goes to `out`, refusals too.
 ///
-/// The status of the outcome says how it ended: 2 where the words are no command's, 3 and 4 where site or
-/// record is refused, 11 where the record passes a limit; 6 and 7 where the outside failed, and 9, with
-/// nothing written, where memory ran out.
+/// The status of the outcome is the number of a [`Status`]. Where memory ran out nothing was written.
 pub fn panel<F: Shelf, S: Source, K: Sink>(
     alloc: Global,
     words: &[String],
@@ -38,14 +38,15 @@ pub fn panel<F: Shelf, S: Source, K: Sink>(
     ensures answers { AnswersTold (command_by (map string_bytes words.now))
         (site_word (map string_bytes words.now)) (F.files shelf.old) (S.left input.old)
         (K.written out.old) (K.written out.new) result }
-    ensures read { result.status ≡ 6 → Rose (F.faults shelf.old) (F.faults shelf.new)
+    ensures read { result.status ≡ number_of Status.ReadFault
+        → Rose (F.faults shelf.old) (F.faults shelf.new)
         ⊎ Rose (S.read_faults input.old) (S.read_faults input.new) }
-    ensures write { result.status ≡ 7 → Rose (K.write_faults out.old) (K.write_faults out.new) }
-    ensures memory { result.status ≡ 9 → K.written out.new ≡ K.written out.old }
+    ensures write { BlamesWrites result (K.write_faults out.old) (K.write_faults out.new) }
+    ensures memory { IsSilentWithoutMemory result (K.written out.old) (K.written out.new) }
     ensures store { result.store_failures ≡ 0 }
 {
     match command_of(words) {
-        Command::Usage => say(USAGE, 2, 0, out),
+        Command::Usage => say(USAGE, Status::Usage, 0, out),
         Command::Check => check(alloc, words[1].as_str(), shelf, out),
         Command::Run => run(alloc, words[1].as_str(), shelf, input, out),
         Command::Matrix => matrix(alloc, words[1].as_str(), shelf, out),
@@ -57,15 +58,15 @@ fn check<F: Shelf, K: Sink>(alloc: Global, name: &str, shelf: &mut F, out: &mut 
     ensures answers { IfSome (F.files shelf.old)
         (λ held. Answers CheckCommand (file_of name.now held) [] (K.written out.old)
         (K.written out.new) result) }
-    ensures read { result.status ≡ 6 → Rose (F.faults shelf.old) (F.faults shelf.new) }
-    ensures write { result.status ≡ 7 → Rose (K.write_faults out.old) (K.write_faults out.new) }
-    ensures memory { result.status ≡ 9 → K.written out.new ≡ K.written out.old }
+    ensures read { BlamesReads result (F.faults shelf.old) (F.faults shelf.new) }
+    ensures write { BlamesWrites result (K.write_faults out.old) (K.write_faults out.new) }
+    ensures memory { IsSilentWithoutMemory result (K.written out.old) (K.written out.new) }
     ensures store { result.store_failures ≡ 0 }
 {
     match load(alloc, Command::Check, name, shelf) {
         Ok(loaded) => {
             let line = counts_line(&loaded.site);
-            say(line.as_str().as_bytes(), 0, 0, out)
+            say(line.as_str().as_bytes(), Status::Done, 0, out)
         }
         Err(stop) => stop_with(&stop, out),
     }
@@ -76,9 +77,9 @@ fn matrix<F: Shelf, K: Sink>(alloc: Global, name: &str, shelf: &mut F, out: &mut
     ensures answers { IfSome (F.files shelf.old)
         (λ held. Answers MatrixCommand (file_of name.now held) [] (K.written out.old)
         (K.written out.new) result) }
-    ensures read { result.status ≡ 6 → Rose (F.faults shelf.old) (F.faults shelf.new) }
-    ensures write { result.status ≡ 7 → Rose (K.write_faults out.old) (K.write_faults out.new) }
-    ensures memory { result.status ≡ 9 → K.written out.new ≡ K.written out.old }
+    ensures read { BlamesReads result (F.faults shelf.old) (F.faults shelf.new) }
+    ensures write { BlamesWrites result (K.write_faults out.old) (K.write_faults out.new) }
+    ensures memory { IsSilentWithoutMemory result (K.written out.old) (K.written out.new) }
     ensures store { result.store_failures ≡ 0 }
 {
     match load(alloc, Command::Matrix, name, shelf) {
@@ -92,14 +93,14 @@ fn draw<K: Sink>(alloc: Global, site: &Site, plan: &Plan, out: &mut K) -> Outcom
     requires valid { IsValid site.now }
     requires plan { IsPlanOf site.now plan.now }
     ensures drawn { Draws (K.written out.old) (K.written out.new) result (Ok site.now) }
-    ensures read { result.status ≢ 6 }
-    ensures write { result.status ≡ 7 → Rose (K.write_faults out.old) (K.write_faults out.new) }
-    ensures memory { result.status ≡ 9 → K.written out.new ≡ K.written out.old }
+    ensures read { result.status ≢ number_of Status.ReadFault }
+    ensures write { BlamesWrites result (K.write_faults out.old) (K.write_faults out.new) }
+    ensures memory { IsSilentWithoutMemory result (K.written out.old) (K.written out.new) }
     ensures store { result.store_failures ≡ 0 }
 {
     match matrix_of(alloc, site, plan) {
-        Ok(text) => say(text.as_slice(), 0, 0, out),
-        Err(_) => Outcome::after(9, 0),
+        Ok(text) => say(text.as_slice(), Status::Done, 0, out),
+        Err(_) => Outcome::after(Status::NoMemory, 0),
     }
 }
 
@@ -113,10 +114,11 @@ fn run<F: Shelf, S: Source, K: Sink>(
 ) -> Outcome
     ensures answers { AnswersTold RunCommand name.now (F.files shelf.old) (S.left input.old)
         (K.written out.old) (K.written out.new) result }
-    ensures read { result.status ≡ 6 → Rose (F.faults shelf.old) (F.faults shelf.new)
+    ensures read { result.status ≡ number_of Status.ReadFault
+        → Rose (F.faults shelf.old) (F.faults shelf.new)
         ⊎ Rose (S.read_faults input.old) (S.read_faults input.new) }
-    ensures write { result.status ≡ 7 → Rose (K.write_faults out.old) (K.write_faults out.new) }
-    ensures memory { result.status ≡ 9 → K.written out.new ≡ K.written out.old }
+    ensures write { BlamesWrites result (K.write_faults out.old) (K.write_faults out.new) }
+    ensures memory { IsSilentWithoutMemory result (K.written out.old) (K.written out.new) }
     ensures store { result.store_failures ≡ 0 }
 {
     match load(alloc, Command::Run, name, shelf) {

@@ -8,6 +8,7 @@ ghost use Rattle.panel_program.specs.Records.{Progress, at_beginning};
 ghost use Rattle.panel_program.specs.Runs.{Ran, ReadsRecord};
 ghost use Rattle.panel_program.specs.Stands.{IsAt, IsAtSome, MayStep, MayStepSome, Stands, StandsAtBeginning};
 ghost use Rattle.panel_program.specs.Stands.{TakesNext, TakesPiece, TakesStep};
+ghost use Rattle.panel_program.specs.Statuses.{BlamesReads, BlamesWrites, IsSilentWithoutMemory};
 ghost use Rattle.panel_program.specs.Writings.{Says};
 ghost use Rattle.panel_program.specs.declared.run_end.RunEnd.TheVariants.{ReadFault as ReadFaultEnd};
 ghost use Rattle.site_types.specs.Valid.{IsValid};
@@ -18,6 +19,7 @@ use crate::outcome::Outcome;
 use crate::run::Run;
 use crate::run_end::{RunEnd, status_of};
 use crate::saying::say;
+use crate::status::Status;
 use crate::taken::Taken;
 use panel_edges::{Failed, MOST_RECORD_BYTES, Sink, Source};
 use record_lines::{LineReader, Step};
@@ -38,20 +40,20 @@ pub fn run_site<S: Source, K: Sink>(
     requires one { site.panels ≡ 1 }
     ensures ran { IfSome (S.left input.old)
         (λ bytes. Ran site bytes (K.written out.old) (K.written out.new) result) }
-    ensures read { result.status ≡ 6 → Rose (S.read_faults input.old) (S.read_faults input.new) }
-    ensures write { result.status ≡ 7 → Rose (K.write_faults out.old) (K.write_faults out.new) }
-    ensures memory { result.status ≡ 9 → K.written out.new ≡ K.written out.old }
+    ensures read { BlamesReads result (S.read_faults input.old) (S.read_faults input.new) }
+    ensures write { BlamesWrites result (K.write_faults out.old) (K.write_faults out.new) }
+    ensures memory { IsSilentWithoutMemory result (K.written out.old) (K.written out.new) }
     ensures store { result.store_failures ≡ 0 }
 {
     let Ok(mut run) = Run::open(alloc, site) else {
-        return Outcome::after(9, 0);
+        return Outcome::after(Status::NoMemory, 0);
     };
     let Ok(()) = run.write_opening(out) else {
-        return Outcome::after(7, 0);
+        return Outcome::after(Status::WriteFault, 0);
     };
     match read_record(&mut run, input, out) {
         Ok(end) => finish(end, run.ticks(), out),
-        Err(Failed) => Outcome::after(7, run.ticks()),
+        Err(Failed) => Outcome::after(Status::WriteFault, run.ticks()),
     }
 }
 
@@ -174,7 +176,7 @@ fn finish<K: Sink>(end: RunEnd, ticks: u64, out: &mut K) -> Outcome
     ensures says { Says (status_of_end end) (last_text ticks end) (K.written out.old)
         (K.written out.new) result.status }
     ensures ticks { (result.ticks ≡ ticks) × (result.store_failures ≡ 0) }
-    ensures write { result.status ≡ 7 → Rose (K.write_faults out.old) (K.write_faults out.new) }
+    ensures write { BlamesWrites result (K.write_faults out.old) (K.write_faults out.new) }
     ensures later { K.write_faults out.old ≤ K.write_faults out.new }
 {
     let line = last_line(end, ticks);

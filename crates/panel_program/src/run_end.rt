@@ -1,6 +1,7 @@
 ghost use Rattle.std.specs.Prelude.{◌≡◌, ◌≢◌};
 ghost use Rattle.panel_program.specs.Endings.{status_by as status_told_by, status_of as status_told};
 
+use crate::status::Status;
 use record_lines::{Refusal, Why};
 
 /// How the reading of a record came to its end.
@@ -19,23 +20,23 @@ pub enum RunEnd {
 }
 
 /// The status of a run with this end.
-pub fn status_of(end: RunEnd) -> u8
+pub fn status_of(end: RunEnd) -> Status
     ensures { result ≡ status_told end }
 {
     match end {
-        RunEnd::Ended => 0,
+        RunEnd::Ended => Status::Done,
         RunEnd::Refused(refusal) => status_by(refusal.why),
-        RunEnd::NotBuilt { .. } => 4,
-        RunEnd::TooManyBytes => 11,
-        RunEnd::ReadFault => 6,
+        RunEnd::NotBuilt { .. } => Status::BadRecord,
+        RunEnd::TooManyBytes => Status::Limit,
+        RunEnd::ReadFault => Status::ReadFault,
     }
 }
 
-fn status_by(why: Why) -> u8
+fn status_by(why: Why) -> Status
     ensures { result ≡ status_told_by why }
 {
     match why {
-        Why::TickLimit => 11,
+        Why::TickLimit => Status::Limit,
         Why::BadWord
         | Why::BadNumber
         | Why::NoSuch
@@ -44,6 +45,6 @@ fn status_by(why: Why) -> u8
         | Why::LineTooLong
         | Why::NotAscii
         | Why::BeforeFirstTick
-        | Why::Truncated => 4,
+        | Why::Truncated => Status::BadRecord,
     }
 }

@@ -3,12 +3,14 @@
 ghost use Rattle.std.specs.Prelude.{◌≡◌, ◌≤◌, ◌+◌, ◌++◌, OnOk, OnErr, codes, decimal, length};
 ghost use Rattle.std.specs.Fmt.{signed_decimal};
 ghost use Rattle.panel_edges.specs.Contents.{Grows, GrowsByFront};
-ghost use Rattle.panel_edges.specs.Faults.{HasCause, Rose};
+ghost use Rattle.panel_edges.specs.Faults.{HasCause};
 ghost use Rattle.panel_program.specs.Refusals.{named_text, range_text, refusal_status, refusal_text, stop_status};
 ghost use Rattle.panel_program.specs.Refusals.{stop_text};
+ghost use Rattle.panel_program.specs.Statuses.{BlamesWrites, number_of};
 ghost use Rattle.panel_program.specs.Writings.{Says};
 
 use crate::outcome::Outcome;
+use crate::status::Status;
 use crate::stop::Stop;
 use arrayvec::ArrayString;
 use itoa::Buffer;
@@ -20,38 +22,38 @@ pub fn stop_with<K: Sink>(stop: &Stop, out: &mut K) -> Outcome
     ensures says { Says (stop_status stop.now) (stop_text stop.now) (K.written out.old)
         (K.written out.new) result.status }
     ensures ticks { (result.ticks ≡ 0) × (result.store_failures ≡ 0) }
-    ensures write { result.status ≡ 7 → Rose (K.write_faults out.old) (K.write_faults out.new) }
-    ensures memory { stop_status stop.now ≡ 9
-        → (result.status ≡ 9) × (K.written out.new ≡ K.written out.old) }
+    ensures write { BlamesWrites result (K.write_faults out.old) (K.write_faults out.new) }
+    ensures memory { stop_status stop.now ≡ Status.NoMemory
+        → (result.status ≡ number_of Status.NoMemory) × (K.written out.new ≡ K.written out.old) }
 {
     let status = status_of_stop(stop);
-    if status == 9 {
-        return Outcome::after(9, 0);
+    if status == Status::NoMemory {
+        return Outcome::after(Status::NoMemory, 0);
     }
     match write_stop(stop, out) {
         Ok(()) => Outcome::after(status, 0),
-        Err(Failed) => Outcome::after(7, 0),
+        Err(Failed) => Outcome::after(Status::WriteFault, 0),
     }
 }
 
-fn status_of_stop(stop: &Stop) -> u8
+fn status_of_stop(stop: &Stop) -> Status
     ensures { result ≡ stop_status stop.now }
 {
     match stop {
-        Stop::Absent => 3,
+        Stop::Absent => Status::BadSite,
         Stop::Refused(refusal) => status_of_refusal(refusal),
-        Stop::Cycle(_) => 3,
-        Stop::NotBuilt => 3,
-        Stop::ReadFault => 6,
-        Stop::NoMemory => 9,
+        Stop::Cycle(_) => Status::BadSite,
+        Stop::NotBuilt => Status::BadSite,
+        Stop::ReadFault => Status::ReadFault,
+        Stop::NoMemory => Status::NoMemory,
     }
 }
 
-fn status_of_refusal(refusal: &SiteRefusal) -> u8
+fn status_of_refusal(refusal: &SiteRefusal) -> Status
     ensures { result ≡ refusal_status refusal.now }
 {
     match refusal {
-        SiteRefusal::NoMemory => 9,
+        SiteRefusal::NoMemory => Status::NoMemory,
         SiteRefusal::NotToml
         | SiteRefusal::Missing(_)
         | SiteRefusal::WrongKind(_)
@@ -61,7 +63,7 @@ fn status_of_refusal(refusal: &SiteRefusal) -> u8
         | SiteRefusal::NoSuch(_)
         | SiteRefusal::SectionCrossesZones { .. }
         | SiteRefusal::PartnerNotMutual(_)
-        | SiteRefusal::TooLong => 3,
+        | SiteRefusal::TooLong => Status::BadSite,
     }
 }
 

@@ -1,4 +1,5 @@
 use Rattle.std.proofs.Common.{subst, inr}
+use Rattle.panel_program.specs.declared.status.Status.TheVariants.{Done}
 use Rattle.panel_program.specs.Writings.{Says}
 use Rattle.panel_program.proofs.program.draw.Goals as goal
 
@@ -7,7 +8,7 @@ returns-in-Ok-clause-drawn g c = inr (
   c.in-Ok.text,
   c.in-Ok.ensures,
   record {
-    says = subst (λ text. Says 0 text (g.K.Stream.written c.args.out.now) (g.K.Stream.written c.say.new.out) c.say.result.status) c.as_slice.ensures
+    says = subst (λ text. Says Done text (g.K.Stream.written c.args.out.now) (g.K.Stream.written c.say.new.out) c.say.result.status) c.as_slice.ensures
         c.say.ensures.says;
     ticks = c.say.ensures.ticks.0;
   },

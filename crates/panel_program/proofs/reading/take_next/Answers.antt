@@ -6,7 +6,7 @@ use Rattle.record_lines.specs.Stands.{StandsFor as ReadsFor, Feeds}
 use Rattle.record_lines.specs.declared.refusal.Refusal.{Refusal}
 use Rattle.panel_program.specs.Records.{progress_of}
 use Rattle.panel_program.specs.Stands.{TakesNext}
-use Rattle.panel_program.proofs.Steps.{may_step, next_taken, NextBy}
+use Rattle.panel_program.proofs.Steps.{fed_next, may_step, NextBy}
 use Rattle.panel_program.proofs.reading.take_next.Goals as goal
 
 pub take_step-requires : goal.take_step-requires
@@ -28,36 +28,24 @@ take_step-requires g c =
 
 pub returns-in_err-end-clause-takes : goal.returns-in_err-end-clause-takes
 returns-in_err-end-clause-takes g c site before h =
-    let old = g.K.Stream.written c.args.out.now in
-    let new = g.K.Stream.written c.take_step.new.out in
+    let next = fed_next site _ before c.args.piece.now c.feed-fed.result c.finish-number.result.line (g.K.Stream.written c.args.out.now)
+    (g.K.Stream.written c.take_step.new.out) c.args.reader.now c.feed-fed.new.self c.args.run.now c.take_step.new.run c.take_step.result h
+    (c.site.ensures site _ h.stands) c.feed-fed.ensures.feeds c.feed-fed.ensures.belongs
+    (ap (λ (r : Refusal). r.line) (c.finish-number.ensures site before h.reads h.going.going)) (c.take_step.ensures.takes site _ h.stands) in
     let q = err_from_is_err_and c.from_residual.result c.from_residual.ensures.1 in
-    let p = progress_of site (reading_of site before).lines in
-    let same = c.site.ensures site p h.stands in
-    let feeds =
-    subst (λ s. Feeds s before c.args.piece.now c.feed-fed.result c.feed-fed.new.self) same
-    (c.feed-fed.ensures.feeds before (subst (λ s. ReadsFor s before c.args.reader.now) (sym same) h.reads)) in
-    let comes =
-    may_step site before c.args.piece.now c.feed-fed.result c.args.reader.now c.feed-fed.new.self c.args.run.now h feeds
-    (subst (λ s. StepBelongs s c.feed-fed.result.step) same c.feed-fed.ensures.belongs) in
-    let number = ap (λ (r : Refusal). r.line) (c.finish-number.ensures site before h.reads h.going.going) in
-    let next = next_taken site before c.args.piece.now c.feed-fed.result c.finish-number.result.line old new c.args.reader.now c.feed-fed.new.self
-    c.args.run.now c.take_step.new.run c.take_step.result h feeds number (c.take_step.ensures.takes site p h.stands comes) in
-    subst (TakesNext site before c.args.piece.now old new c.feed-fed.new.self c.take_step.new.run) (sym q.1)
-    (subst (NextBy site before c.args.piece.now c.feed-fed.result.used old new c.feed-fed.new.self c.take_step.new.run) c.in_err-end.was next)
+    subst
+    (TakesNext site before c.args.piece.now (g.K.Stream.written c.args.out.now) (g.K.Stream.written c.take_step.new.out) c.feed-fed.new.self
+    c.take_step.new.run) (sym q.1)
+    (subst
+    (NextBy site before c.args.piece.now c.feed-fed.result.used (g.K.Stream.written c.args.out.now) (g.K.Stream.written c.take_step.new.out)
+    c.feed-fed.new.self c.take_step.new.run) c.in_err-end.was next)
 
 pub returns-clause-takes : goal.returns-clause-takes
 returns-clause-takes g c site before h =
-    let old = g.K.Stream.written c.args.out.now in
-    let new = g.K.Stream.written c.take_step.new.out in
-    let p = progress_of site (reading_of site before).lines in
-    let same = c.site.ensures site p h.stands in
-    let feeds =
-    subst (λ s. Feeds s before c.args.piece.now c.feed-fed.result c.feed-fed.new.self) same
-    (c.feed-fed.ensures.feeds before (subst (λ s. ReadsFor s before c.args.reader.now) (sym same) h.reads)) in
-    let comes =
-    may_step site before c.args.piece.now c.feed-fed.result c.args.reader.now c.feed-fed.new.self c.args.run.now h feeds
-    (subst (λ s. StepBelongs s c.feed-fed.result.step) same c.feed-fed.ensures.belongs) in
-    let number = ap (λ (r : Refusal). r.line) (c.finish-number.ensures site before h.reads h.going.going) in
-    let next = next_taken site before c.args.piece.now c.feed-fed.result c.finish-number.result.line old new c.args.reader.now c.feed-fed.new.self
-    c.args.run.now c.take_step.new.run c.take_step.result h feeds number (c.take_step.ensures.takes site p h.stands comes) in
-    subst (NextBy site before c.args.piece.now c.feed-fed.result.used old new c.feed-fed.new.self c.take_step.new.run) c.in_ok-end.was next
+    let next = fed_next site _ before c.args.piece.now c.feed-fed.result c.finish-number.result.line (g.K.Stream.written c.args.out.now)
+    (g.K.Stream.written c.take_step.new.out) c.args.reader.now c.feed-fed.new.self c.args.run.now c.take_step.new.run c.take_step.result h
+    (c.site.ensures site _ h.stands) c.feed-fed.ensures.feeds c.feed-fed.ensures.belongs
+    (ap (λ (r : Refusal). r.line) (c.finish-number.ensures site before h.reads h.going.going)) (c.take_step.ensures.takes site _ h.stands) in
+    subst
+    (NextBy site before c.args.piece.now c.feed-fed.result.used (g.K.Stream.written c.args.out.now) (g.K.Stream.written c.take_step.new.out)
+    c.feed-fed.new.self c.take_step.new.run) c.in_ok-end.was next

@@ -1,0 +1,29 @@
+-- The exit status of the program, and what must have come before some of them.
+use Rattle.std.specs.Prelude.{◌≡◌, ℕ, List, Option}
+use Rattle.panel_edges.specs.Faults.{Rose}
+use Rattle.panel_program.specs.declared.outcome.Outcome.{Outcome}
+use Rattle.panel_program.specs.declared.status.Status.{Status}
+use Rattle.panel_program.specs.declared.status.Status.TheVariants as exit
+
+-- the number of each way in which a command ends
+abbrev pub number_of : Status → ℕ
+number_of exit.Done = 0
+number_of exit.Usage = 2
+number_of exit.BadSite = 3
+number_of exit.BadRecord = 4
+number_of exit.ReadFault = 6
+number_of exit.WriteFault = 7
+number_of exit.NoMemory = 9
+number_of exit.Limit = 11
+
+-- a command ends with a read fault only where the count of those of a stream has risen
+abbrev pub BlamesReads : Outcome → ℕ → ℕ → Type 0
+BlamesReads outcome before after = outcome.status ≡ number_of exit.ReadFault → Rose before after
+
+-- and with a write fault only where that of the output has
+abbrev pub BlamesWrites : Outcome → ℕ → ℕ → Type 0
+BlamesWrites outcome before after = outcome.status ≡ number_of exit.WriteFault → Rose before after
+
+-- where memory ran out nothing was written
+abbrev pub IsSilentWithoutMemory : Outcome → Option (List ℕ) → Option (List ℕ) → Type 0
+IsSilentWithoutMemory outcome old new = outcome.status ≡ number_of exit.NoMemory → new ≡ old

@@ -1,0 +1,41 @@
+ghost use Rattle.std.specs.Prelude.{◌≡◌};
+ghost use Rattle.panel_program.specs.Statuses.{number_of};
+
+/// How a command ended, as the program's exit status tells.
+#[derive(Clone, Copy, Debug, PartialEq, Eq)]
+pub enum Status {
+    /// It did what it was asked for.
+    Done,
+    /// The words are no command's.
+    Usage,
+    /// The site file is absent or refused, or its markers depend on themselves.
+    BadSite,
+    /// A line of the record is refused, or the record ends too soon.
+    BadRecord,
+    /// The site file or the record can't be read.
+    ReadFault,
+    /// The text can't be written.
+    WriteFault,
+    /// Memory ran out before anything was written.
+    NoMemory,
+    /// The record passes a limit.
+    Limit,
+}
+
+impl Status {
+    /// The exit status.
+    pub fn number(self) -> u8
+        ensures { result ≡ number_of self }
+    {
+        match self {
+            Status::Done => 0,
+            Status::Usage => 2,
+            Status::BadSite => 3,
+            Status::BadRecord => 4,
+            Status::ReadFault => 6,
+            Status::WriteFault => 7,
+            Status::NoMemory => 9,
+            Status::Limit => 11,
+        }
+    }
+}
