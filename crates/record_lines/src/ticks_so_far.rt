@@ -1,8 +1,8 @@
-/// Where a record stands between two lines.
+/// How far a record has come between two lines.
 #[derive(Clone, Copy)]
-pub struct Standing {
+pub struct TicksSoFar {
     /// How many ticks have begun.
     pub ticks: u64,
-    /// Whether the tick has its order.
+    /// Whether the latest of them has its order.
     pub has_order: bool,
 }
