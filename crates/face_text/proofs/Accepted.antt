@@ -22,9 +22,9 @@ use Rattle.face_text.proofs.ReadSoFar.{AreEntries, entries_text, told_after, tol
 use Rattle.face_text.specs.Slots.{value_in}
 use Rattle.face_text.specs.Telling.{face_told}
 use Rattle.face_text.specs.Timelines.{empty_faces, end_line, faces_text, opening_line, steps_text, tick_line}
-use Rattle.face_text.proofs.ToldBlocks.{IsBlock, IsNextBlock, answer_block, block_text, busy_block, change_block, failed_block}
-use Rattle.face_text.proofs.ToldForms.{IsToldForm, befores_of, closed, head_text, no_answers_text, told_faces_are, told_text_is, untold_block}
-use Rattle.face_text.proofs.ToldPages.{same_faces_no_text}
+use Rattle.face_text.proofs.TickBlocks.{IsBlock, IsNextBlock, answer_block, block_text, busy_block, change_block, failed_block}
+use Rattle.face_text.proofs.ReadInForm.{IsToldForm, befores_of, closed, head_text, no_answers_text, told_faces_are, told_text_is, untold_block}
+use Rattle.face_text.proofs.ChangedFaces.{same_faces_no_text}
 use Rattle.site_types.specs.Valid.{IsValid}
 
 pub if_taken : {A : Type 0} (b : Bool) (x y : A) → (if b then Some x else None) ≡ Some y → (b ≡ true) × (x ≡ y)

@@ -17,7 +17,7 @@ use Rattle.face_text.proofs.FaceForm.{keeps_form}
 use Rattle.face_text.proofs.OneMoreLine.{apart_ranks, line_in, text_is}
 use Rattle.face_text.proofs.PageOrder.{IsAmong, RiseBetween, slot_there, slots_are, slots_rise}
 use Rattle.face_text.proofs.SameSlots.{are_their_slots}
-use Rattle.face_text.proofs.ToldValues.{tells_this_alone}
+use Rattle.face_text.proofs.ChangedSlots.{tells_this_alone}
 
 -- ---- the change that tells what a slot is
 

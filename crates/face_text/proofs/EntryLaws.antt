@@ -13,7 +13,7 @@ use Rattle.face_text.specs.EntryLines.{IsLineOf}
 use Rattle.face_text.proofs.ReadSoFar.{IsOneLine}
 use Rattle.face_text.specs.Spelled.{entry_spelled}
 use Rattle.face_text.specs.Timelines.{opening_line}
-use Rattle.face_text.proofs.Joined.{ends_joined, joined}
+use Rattle.face_text.proofs.EntryFields.{ends_joined, joined}
 use Rattle.line_fields.proofs.Plain.{are_plain, decimal_plain, is_plain, name_plain}
 use Rattle.face_text.proofs.SpelledEntries.{entry_is}
 

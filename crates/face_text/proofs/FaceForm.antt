@@ -24,7 +24,7 @@ use Rattle.face_text.specs.Timelines.{IsFaceOf, kept_points, of_site}
 use Rattle.face_text.proofs.EqualFaces.{faces_from, faults_from, points_from}
 use Rattle.face_text.proofs.KeptMasks.{bit_kept, by_number, less_one, none_kept, panels_kept}
 use Rattle.face_text.proofs.KeptPoints.{holds_named, holds_none, holds_told, loops_kept}
-use Rattle.face_text.proofs.ToldValues.{with_thing_keeps}
+use Rattle.face_text.proofs.ChangedSlots.{with_thing_keeps}
 
 -- the site has a name for the thing of a group on the page of a panel
 abbrev pub named : Site → ℕ → Group → ℕ → Bool

@@ -15,7 +15,7 @@ use Rattle.face_text.proofs.Accepted.{all_told, ended_told, goes_on, goes_on_bef
 use Rattle.face_text.proofs.LineEnds.{first_lines-line}
 use Rattle.face_text.proofs.RunChanges.{entries_join, leads_on}
 use Rattle.face_text.proofs.SameTexts.{same_front}
-use Rattle.face_text.proofs.ToldForms.{IsToldForm, nothing_is_told, nothing_told_text}
+use Rattle.face_text.proofs.ReadInForm.{IsToldForm, nothing_is_told, nothing_told_text}
 use Rattle.face_text.proofs.EntryLaws.{entry_line-determines, entry_line-one, opening_line-one}
 use Rattle.site_types.specs.Valid.{IsValid}
 use Rattle.face_text.proofs.CountedLines.{IsLinesOf, lines_join, lines_of_front, one_line_of}

@@ -12,7 +12,7 @@ use Rattle.site_types.specs.Bits.{IsPlace, bit_of, half_of, has_bit, has_point, 
 use Rattle.site_types.proofs.ChangedBits.{half_small, set-other}
 use Rattle.site_types.proofs.Masks.{has_bit-mask, has_bit-zero, mask_below, mask_from_bits}
 use Rattle.face_text.proofs.KeptMasks.{at_number, by_number, with_bit_below}
-use Rattle.face_text.proofs.ToldValues.{HasHalves}
+use Rattle.face_text.proofs.ChangedSlots.{HasHalves}
 
 -- the two numbers of a loop
 abbrev pub loop_of : PointSet → ℕ → List ℕ

@@ -5,12 +5,12 @@ pub mod Pages
 pub mod PageOrder
 pub mod Listing
 pub mod NamedThings
-pub mod Joining
+pub mod ListItems
 pub mod EqualFaces
 pub mod SameFaces
 pub mod SameSlots
 -- the line of an entry: its fields, its end, the entry that it spells
-pub mod Joined
+pub mod EntryFields
 pub mod LineEnds
 pub mod Parting
 pub mod SpelledLines
@@ -18,11 +18,11 @@ pub mod SpelledEntries
 pub mod EntryLaws
 pub mod EntryRead
 -- what lines before told, and what one line more tells
-pub mod ToldValues
-pub mod ToldForms
-pub mod ToldBlocks
-pub mod ToldPages
-pub mod ToldAnswers
+pub mod ChangedSlots
+pub mod ReadInForm
+pub mod TickBlocks
+pub mod ChangedFaces
+pub mod AnswerLines
 pub mod ReadSoFar
 pub mod ReadSteps
 pub mod OneMoreLine

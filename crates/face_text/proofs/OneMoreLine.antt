@@ -14,7 +14,7 @@ use Rattle.face_text.proofs.FaceTelling.{AddsItsLine, AddsOneLine, IsSameBehind,
 use Rattle.face_text.specs.Timelines.{IsFaceOf}
 use Rattle.face_text.proofs.FaceForm.{keeps_form}
 use Rattle.face_text.proofs.PageOrder.{IsAmong, RiseBetween, among_behind, slot_there, slots_are, slots_rise}
-use Rattle.face_text.proofs.ToldValues.{tells_this_alone}
+use Rattle.face_text.proofs.ChangedSlots.{tells_this_alone}
 
 -- the line of a slot of a panel's page, where its value was another before
 abbrev pub line_in : Site → ℕ → Face → Face → Slot → List ℕ

@@ -20,8 +20,8 @@ use Rattle.face_text.specs.ReadSoFar.{HasPlaceOf, IsEndOf, Turns}
 use Rattle.face_text.proofs.ReadSoFar.{IsReadSoFar}
 use Rattle.face_text.specs.Timelines.{opening_line}
 use Rattle.face_text.proofs.FirstBad.{bad_behind_end, bad_first, bad_first_unended, bad_refused, bad_unended, begun_reading, read_on, read_to_end, told_form}
-use Rattle.face_text.proofs.ToldPages.{few_panels}
-use Rattle.face_text.proofs.ToldValues.{change_placed}
+use Rattle.face_text.proofs.ChangedFaces.{few_panels}
+use Rattle.face_text.proofs.ChangedSlots.{change_placed}
 
 -- ---- the first line
 

@@ -17,7 +17,7 @@ use Rattle.face_text.proofs.ReadSoFar.{AreEntries, told_after}
 use Rattle.face_text.specs.Slots.{value_in}
 use Rattle.face_text.specs.Telling.{face_told}
 use Rattle.face_text.proofs.Accepted.{after_more}
-use Rattle.face_text.proofs.ToldPages.{ArePages, rank_is_small}
+use Rattle.face_text.proofs.ChangedFaces.{ArePages, rank_is_small}
 use Rattle.face_text.proofs.AllLines.{changes_lead_there}
 
 -- ---- lines behind lines

@@ -16,10 +16,10 @@ use Rattle.face_text.specs.Timelines.{AreAnswers, AreFaces, AreSteps, HasAnswer,
 use Rattle.face_text.proofs.Accepted.{all_told, ended_told, or_second, zero_or_more}
 use Rattle.face_text.proofs.RunAnswers.{answer_entries, answer_entries_are, answers_lead}
 use Rattle.face_text.proofs.RunChanges.{entries_join, face_entries, face_entries_are, faces_lead, leads_first, leads_on, shown}
-use Rattle.face_text.proofs.ToldAnswers.{AreAnswersTold, no_ops_below}
-use Rattle.face_text.proofs.ToldBlocks.{IsBlock}
-use Rattle.face_text.proofs.ToldForms.{IsToldForm, befores_of, closed, empty_faces_are, nothing_is_told, nothing_told_text, pages_are, told_faces_are}
-use Rattle.face_text.proofs.ToldPages.{all_untold, few_panels}
+use Rattle.face_text.proofs.AnswerLines.{AreAnswersTold, no_ops_below}
+use Rattle.face_text.proofs.TickBlocks.{IsBlock}
+use Rattle.face_text.proofs.ReadInForm.{IsToldForm, befores_of, closed, empty_faces_are, nothing_is_told, nothing_told_text, pages_are, told_faces_are}
+use Rattle.face_text.proofs.ChangedFaces.{all_untold, few_panels}
 use Rattle.site_types.specs.Valid.{IsValid}
 
 -- ---- a step

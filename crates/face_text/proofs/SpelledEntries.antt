@@ -25,7 +25,7 @@ use Rattle.face_text.specs.Slots.{buzzer_line, buzzer_word, counter_line, delays
 use Rattle.face_text.specs.Spelled.{answer_spelled, by_panel, denied_spelled, panel_spelled, plain_spelled, reply_spelled, sound_of}
 use Rattle.face_text.specs.Timelines.{IsReply}
 use Rattle.line_fields.proofs.Joined.{HasFields}
-use Rattle.face_text.proofs.Joined.{fields_of, joined}
+use Rattle.face_text.proofs.EntryFields.{fields_of, joined}
 use Rattle.face_text.proofs.NamedThings.{below_back}
 use Rattle.line_fields.specs.Numbers.{number_below}
 use Rattle.line_fields.specs.Words.{truth_of}

@@ -18,7 +18,7 @@ use Rattle.site_types.specs.Fields.{field}
 use Rattle.face_text.specs.Slots.{kind_of, last_of, line_of, line_of_thing, name_in, number_of_truth, on_word, word_of}
 use Rattle.face_text.specs.Spelled.{by_panel, entry_spelled, panel_spelled, thing_spelled, told_of, truth_place}
 use Rattle.line_fields.proofs.Joined.{HasFields}
-use Rattle.face_text.proofs.Joined.{fields_of, joined}
+use Rattle.face_text.proofs.EntryFields.{fields_of, joined}
 use Rattle.face_text.proofs.NamedThings.{ThingBack, below_back, thing_back, word_at, words_of}
 use Rattle.line_fields.specs.Numbers.{number_below}
 use Rattle.line_fields.specs.Words.{truth_of}

@@ -32,6 +32,7 @@ mod answers;
 mod change_lines;
 mod conditions;
 mod face;
+mod face_items;
 mod face_list;
 mod face_pair;
 mod group;

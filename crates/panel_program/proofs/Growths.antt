@@ -42,7 +42,7 @@ grown_rest a (Some why) going = record { more = []; lines = sym (append-nil a.li
 
 -- a line end behind a rest
 grown_bytes : (site : Site) (a : Reading) (text : List ℕ) (o : Option Why) → a.ending ≡ None → Grown (refused_rest a o) (by_bytes site a text o)
-grown_bytes site a text None going = grown_verdict a (judged site a.standing text) going
+grown_bytes site a text None going = grown_verdict a (judged site a.so_far text) going
 grown_bytes site a text (Some why) going = grown_same (refused a why) (refused a why) refl
 
 grown_end : (site : Site) (a : Reading) (text : List ℕ) (o : Option Over) → a.ending ≡ o → Grown (rest_by_ending a text o) (by_ending site a text o)

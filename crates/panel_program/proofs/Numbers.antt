@@ -21,7 +21,7 @@ use Rattle.record_lines.specs.Lines.{Reading, at_start, by_bytes, by_ending, byt
 use Rattle.record_lines.specs.declared.line.Line.{Line}
 use Rattle.record_lines.specs.declared.line.Line.TheVariants.{Tick, Event as EventLine, Order, End}
 use Rattle.record_lines.specs.declared.over.Over.{Over}
-use Rattle.record_lines.specs.declared.standing.Standing.{Standing}
+use Rattle.record_lines.specs.declared.ticks_so_far.TicksSoFar.{TicksSoFar}
 use Rattle.record_lines.specs.declared.why.Why.{Why}
 use Rattle.panel_program.specs.Endings.{number_behind}
 use Rattle.panel_program.specs.Stands.{IsNext}
@@ -93,51 +93,51 @@ next_ordered : (ticks : ℕ) (r : Result (List Seat) Why) → NextIn ticks (orde
 next_ordered ticks (Ok seats) = tt
 next_ordered ticks (Err why) = tt
 
-next_content : (site : Site) (standing : Standing) (form : Form) (text : List ℕ) → NextIn standing.ticks (content_of site standing form text)
-next_content site standing TickForm text = next_tick standing.ticks (number_of (field 1 text))
-next_content site standing (OfEvent form) text = next_event site standing.ticks (event_of site form text)
-next_content site standing OrderForm text =
-    next_if standing.ticks standing.has_order _ _ (λ e. tt)
-    (next_ordered standing.ticks (order_of site.panels (seats_of (space_count text) (after_space text))))
-next_content site standing EndForm text = tt
+next_content : (site : Site) (so_far : TicksSoFar) (form : Form) (text : List ℕ) → NextIn so_far.ticks (content_of site so_far form text)
+next_content site so_far TickForm text = next_tick so_far.ticks (number_of (field 1 text))
+next_content site so_far (OfEvent form) text = next_event site so_far.ticks (event_of site form text)
+next_content site so_far OrderForm text =
+    next_if so_far.ticks so_far.has_order _ _ (λ e. tt)
+    (next_ordered so_far.ticks (order_of site.panels (seats_of (space_count text) (after_space text))))
+next_content site so_far EndForm text = tt
 
-next_as : (site : Site) (standing : Standing) (text : List ℕ) (o : Option Form) → NextIn standing.ticks (judged_as site standing text o)
-next_as site standing text None = tt
-next_as site standing text (Some form) =
-    next_if standing.ticks (may_stand standing form) _ _
-    (λ e. next_if standing.ticks (has_numbers form text) _ _ (λ f. next_content site standing form text) tt) tt
+next_as : (site : Site) (so_far : TicksSoFar) (text : List ℕ) (o : Option Form) → NextIn so_far.ticks (judged_as site so_far text o)
+next_as site so_far text None = tt
+next_as site so_far text (Some form) =
+    next_if so_far.ticks (may_stand so_far form) _ _
+    (λ e. next_if so_far.ticks (has_numbers form text) _ _ (λ f. next_content site so_far form text) tt) tt
 
 -- ---- readings
 
 -- a reading's line number and its ticks go by its lines
 pub record IsCounted (r : Reading) : Type 0 where
   pub number : r.number ≡ number_behind r.lines
-  pub ticks : r.standing.ticks ≡ tick_count r.lines
+  pub ticks : r.so_far.ticks ≡ tick_count r.lines
   pub numbered : AreNumbered 0 r.lines
 
 number_more : (n : ℕ) → min (min (n + 1) (2 ^ 64 - 1) + 1) (2 ^ 64 - 1) ≡ min (n + 1 + 1) (2 ^ 64 - 1)
 number_more n = omega arith
 
-stands_more : (standing : Standing) (lines : List Line) (line : Line) → standing.ticks ≡ tick_count lines → IsNext line (tick_count lines)
-    → (stands_behind standing line).ticks ≡ tick_count lines + tick_count (line ∷ [])
-stands_more standing lines (Tick tick) e next = omega (arith, next)
-stands_more standing lines (EventLine event) e next = omega (arith, e)
-stands_more standing lines (Order seats) e next = omega (arith, e)
-stands_more standing lines End e next = omega (arith, e)
+stands_more : (so_far : TicksSoFar) (lines : List Line) (line : Line) → so_far.ticks ≡ tick_count lines → IsNext line (tick_count lines)
+    → (stands_behind so_far line).ticks ≡ tick_count lines + tick_count (line ∷ [])
+stands_more so_far lines (Tick tick) e next = omega (arith, next)
+stands_more so_far lines (EventLine event) e next = omega (arith, e)
+stands_more so_far lines (Order seats) e next = omega (arith, e)
+stands_more so_far lines End e next = omega (arith, e)
 
-counted_verdict : (r : Reading) (v : Result Line Why) → IsCounted r → NextIn r.standing.ticks v → IsCounted (verdict r v)
+counted_verdict : (r : Reading) (v : Result Line Why) → IsCounted r → NextIn r.so_far.ticks v → IsCounted (verdict r v)
 counted_verdict r (Ok line) c next =
     let comes = subst (IsNext line) c.ticks next in
     let count = length-append r.lines (line ∷ []) in
     record {
       number = ap next_number c.number ∙ number_more (length r.lines) ∙ ap (λ n. min (n + 1) (2 ^ 64 - 1)) (sym count);
-      ticks = stands_more r.standing r.lines line c.ticks comes ∙ sym (count_more r.lines line);
+      ticks = stands_more r.so_far r.lines line c.ticks comes ∙ sym (count_more r.lines line);
       numbered = numbered_more 0 r.lines line c.numbered (subst (IsNext line) (omega arith) comes);
     }
 counted_verdict r (Err why) c next = record { number = c.number; ticks = c.ticks; numbered = c.numbered }
 
 counted_bytes : (site : Site) (r : Reading) (text : List ℕ) (o : Option Why) → IsCounted r → IsCounted (by_bytes site r text o)
-counted_bytes site r text None c = counted_verdict r (judged site r.standing text) c (next_as site r.standing text (form_of text))
+counted_bytes site r text None c = counted_verdict r (judged site r.so_far text) c (next_as site r.so_far text (form_of text))
 counted_bytes site r text (Some why) c = record { number = c.number; ticks = c.ticks; numbered = c.numbered }
 
 counted_line : (site : Site) (r : Reading) (text : List ℕ) (o : Option Over) → IsCounted r → IsCounted (by_ending site r text o)

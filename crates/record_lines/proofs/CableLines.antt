@@ -19,7 +19,7 @@ use Rattle.record_lines.specs.Printed.{event_text, joined, piece_state_word}
 use Rattle.record_lines.specs.Words.{piece_state_of}
 use Rattle.record_lines.specs.declared.form.EventForm.TheVariants.{Cable as CableForm}
 use Rattle.record_lines.specs.declared.line.Line.TheVariants.{Event as EventLine}
-use Rattle.record_lines.specs.declared.standing.Standing.{Standing}
+use Rattle.record_lines.specs.declared.ticks_so_far.TicksSoFar.{TicksSoFar}
 use Rattle.line_fields.proofs.Joined.{HasFields}
 use Rattle.record_lines.proofs.Joins.{fields_of, fit_more, joined_text}
 use Rattle.line_fields.proofs.Plain.{are_fit, number_fit, octet_small}
@@ -108,10 +108,10 @@ cable_back text panel line piece state are has =
     (octet_back (field 2 text) line (has.at 2) are.line_is)
     ∙ ap (option_map (λ n. Cable panel line n state)) (octet_back (field 3 text) piece (has.at 3) are.piece_is)
 
-pub cable_printed : (site : Site) → IsValid site → (standing : Standing) → 1 ≤ standing.ticks → (panel line piece : ℕ) (state : PieceState)
+pub cable_printed : (site : Site) → IsValid site → (so_far : TicksSoFar) → 1 ≤ so_far.ticks → (panel line piece : ℕ) (state : PieceState)
     → has_event site (Cable panel line piece state) ≡ true →
-    IsTextOf site standing (EventLine (Cable panel line piece state)) (event_text site (Cable panel line piece state))
-cable_printed site valid standing due panel line piece state there =
+    IsTextOf site so_far (EventLine (Cable panel line piece state)) (event_text site (Cable panel line piece state))
+cable_printed site valid so_far due panel line piece state there =
     let are = octets_of site valid panel line piece there in
     let fields = cable_fields panel line piece state in
     let text = joined (codes "cable") fields in
@@ -120,8 +120,8 @@ cable_printed site valid standing due panel line piece state there =
     record {
       bytes = joined_text 20 (codes "cable") fields refl fit (omega arith);
       says =
-          judged_event site standing text (codes "cable") (CableForm state) (EventLine (Cable panel line piece state)) (has.at 0) refl (cable_form_is text panel line piece state has)
-          (begun standing due)
+          judged_event site so_far text (codes "cable") (CableForm state) (EventLine (Cable panel line piece state)) (has.at 0) refl (cable_form_is text panel line piece state has)
+          (begun so_far due)
           (cable_numbers text panel line piece state are has)
           (event_from site (CableForm state) text (Cable panel line piece state) (cable_back text panel line piece state are has) there);
     }

@@ -15,7 +15,7 @@ use Rattle.record_lines.specs.Judged.{IsVerdict, judged, judged_as, tick_as}
 use Rattle.record_lines.specs.Printed.{joined}
 use Rattle.record_lines.specs.declared.line.Line.{Line}
 use Rattle.record_lines.specs.declared.line.Line.TheVariants.{Tick}
-use Rattle.record_lines.specs.declared.standing.Standing.{Standing}
+use Rattle.record_lines.specs.declared.ticks_so_far.TicksSoFar.{TicksSoFar}
 use Rattle.record_lines.specs.declared.why.Why.{Why}
 use Rattle.record_lines.specs.declared.why.Why.TheVariants.{BadNumber, BadTick, BadWord, TickLimit}
 use Rattle.record_lines.proofs.Joins.{fields_of, fit_more}
@@ -23,10 +23,10 @@ use Rattle.record_lines.proofs.Rows.{tick_row}
 use Rattle.record_lines.proofs.Verdicts.{counted, number_back}
 
 -- a row that is there where a test passes
-row_if : (site : Site) (standing : Standing) (text : List ℕ) (test : Bool) (form : Form) →
-    judged_as site standing text (if test then Some form else None) ≡ (if test then judged_as site standing text (Some form) else Err BadWord)
-row_if site standing text true form = refl
-row_if site standing text false form = refl
+row_if : (site : Site) (so_far : TicksSoFar) (text : List ℕ) (test : Bool) (form : Form) →
+    judged_as site so_far text (if test then Some form else None) ≡ (if test then judged_as site so_far text (Some form) else Err BadWord)
+row_if site so_far text true form = refl
+row_if site so_far text false form = refl
 
 -- ---- ticks
 
@@ -61,22 +61,22 @@ tick_here text fields number word behind is =
     tick_spelled text (after_space text) number
     (parted_text text (some_number (after_space text) number there) ∙ ap (λ w. w ++ 32 ∷ after_space text) word) there
 
-judged_tick : (site : Site) (standing : Standing) (text : List ℕ) (number : ℕ) → SpellsTick text number
-    → judged site standing text ≡ tick_as standing.ticks (Some number)
-judged_tick site standing text number spelled =
-    ap (judged_as site standing text) spelled.row ∙ ap (λ o. if is_some o then tick_as standing.ticks o else Err BadNumber) spelled.numbered
+judged_tick : (site : Site) (so_far : TicksSoFar) (text : List ℕ) (number : ℕ) → SpellsTick text number
+    → judged site so_far text ≡ tick_as so_far.ticks (Some number)
+judged_tick site so_far text number spelled =
+    ap (judged_as site so_far text) spelled.row ∙ ap (λ o. if is_some o then tick_as so_far.ticks o else Err BadNumber) spelled.numbered
 
 -- a line that begins with `tick`, by its number of fields and its number
-tick_by : (site : Site) (standing : Standing) (text : List ℕ) → field 0 text ≡ codes "tick" →
-    judged site standing text ≡ (if field_count text == 2 then (if is_number (field 1 text) then tick_as standing.ticks (number_of (field 1 text))
+tick_by : (site : Site) (so_far : TicksSoFar) (text : List ℕ) → field 0 text ≡ codes "tick" →
+    judged site so_far text ≡ (if field_count text == 2 then (if is_number (field 1 text) then tick_as so_far.ticks (number_of (field 1 text))
     else Err BadNumber) else Err BadWord)
-tick_by site standing text word = ap (judged_as site standing text) (tick_row text word) ∙ row_if site standing text (field_count text == 2) TickForm
+tick_by site so_far text word = ap (judged_as site so_far text) (tick_row text word) ∙ row_if site so_far text (field_count text == 2) TickForm
 
-pub tick_unnumbered : (site : Site) (standing : Standing) (text fields : List ℕ) → field 0 text ≡ codes "tick" → fields ≡ after_space text
-    → None ≡ number_of fields → space_count text ≡ 1 → judged site standing text ≡ Err BadNumber
-tick_unnumbered site standing text fields word behind none one =
-    tick_by site standing text word ∙ counted (field_count text) 2 _ (Err BadWord) (ap (λ n. n + 1) one)
-    ∙ ap (λ o. if is_some o then tick_as standing.ticks o else Err BadNumber) (ap number_of (two_fields text one ∙ sym behind) ∙ sym none)
+pub tick_unnumbered : (site : Site) (so_far : TicksSoFar) (text fields : List ℕ) → field 0 text ≡ codes "tick" → fields ≡ after_space text
+    → None ≡ number_of fields → space_count text ≡ 1 → judged site so_far text ≡ Err BadNumber
+tick_unnumbered site so_far text fields word behind none one =
+    tick_by site so_far text word ∙ counted (field_count text) 2 _ (Err BadWord) (ap (λ n. n + 1) one)
+    ∙ ap (λ o. if is_some o then tick_as so_far.ticks o else Err BadNumber) (ap number_of (two_fields text one ∙ sym behind) ∙ sym none)
 
 -- ---- what is answered of them
 
@@ -87,8 +87,8 @@ tick_says true c ticks number is e = e
 tick_says false true ticks number is e = e
 tick_says false false ticks number is e = e
 
-pub tick_told : (site : Site) (standing : Standing) (text : List ℕ) (number : ℕ) (result : Result Line Why) → SpellsTick text number
-    → result ≡ tick_as standing.ticks (Some number) → IsVerdict (judged site standing text) result
-tick_told site standing text number result spelled is =
-    subst (IsVerdict (judged site standing text)) (sym is) (tick_says (nat_le last_tick standing.ticks) (number == standing.ticks + 1) standing.ticks
-    number (judged site standing text) (judged_tick site standing text number spelled))
+pub tick_told : (site : Site) (so_far : TicksSoFar) (text : List ℕ) (number : ℕ) (result : Result Line Why) → SpellsTick text number
+    → result ≡ tick_as so_far.ticks (Some number) → IsVerdict (judged site so_far text) result
+tick_told site so_far text number result spelled is =
+    subst (IsVerdict (judged site so_far text)) (sym is) (tick_says (nat_le last_tick so_far.ticks) (number == so_far.ticks + 1) so_far.ticks
+    number (judged site so_far text) (judged_tick site so_far text number spelled))

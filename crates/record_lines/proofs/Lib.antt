@@ -1,20 +1,24 @@
-pub mod CableLines
+-- bytes, pieces and lines
 pub mod Cuts
-pub mod Joins
-pub mod Openings
-pub mod OpLines
-pub mod OrderLines
 pub mod Pieces
-pub mod PointLines
-pub mod PrintedLines
-pub mod PrintedNames
-pub mod PrintedWords
-pub mod Printing
-pub mod ReadBack
 pub mod Refusals
+-- what a text says
 pub mod Rows
-pub mod SeatFields
-pub mod SupplyLines
-pub mod TickLines
 pub mod Verdicts
 pub mod Judging
+pub mod SeatFields
+-- what is printed of a line
+pub mod Printing
+pub mod Joins
+pub mod PrintedNames
+pub mod PrintedWords
+-- each kind of line, printed and read back
+pub mod TickLines
+pub mod OrderLines
+pub mod PointLines
+pub mod CableLines
+pub mod SupplyLines
+pub mod OpLines
+pub mod PrintedLines
+pub mod Openings
+pub mod ReadBack

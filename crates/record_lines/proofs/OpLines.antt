@@ -31,7 +31,7 @@ use Rattle.record_lines.specs.declared.form.Action.TheVariants.{Plain, Cancel, T
 use Rattle.record_lines.specs.declared.form.Kind.{Kind}
 use Rattle.record_lines.specs.declared.form.Kind.TheVariants.{Point as PointKind, Zone as ZoneKind, Output as OutputKind}
 use Rattle.record_lines.specs.declared.line.Line.TheVariants.{Event as EventLine}
-use Rattle.record_lines.specs.declared.standing.Standing.{Standing}
+use Rattle.record_lines.specs.declared.ticks_so_far.TicksSoFar.{TicksSoFar}
 use Rattle.line_fields.proofs.Joined.{HasFields}
 use Rattle.record_lines.proofs.Joins.{fields_of, fit_more, joined_text}
 use Rattle.line_fields.proofs.Plain.{are_fit, code_fit, is_fit, number_fit, octet_small}
@@ -276,10 +276,10 @@ op_back text site panel code operation below spelled named has =
     ∙ ap (made panel read) (operation_back text site (decimal panel) (code_text code) operation has named)
     ∙ ap (λ c. made panel c (Some operation)) (ap (λ t. option_map labelled (code_in t)) (has.at 2) ∙ code_back code spelled)
 
-pub op_printed : (site : Site) → IsValid site → (standing : Standing) → 1 ≤ standing.ticks
+pub op_printed : (site : Site) → IsValid site → (so_far : TicksSoFar) → 1 ≤ so_far.ticks
     → (panel : ℕ) (code : Option ArrayString) (operation : Operation) → IsCode code → has_event site (Op panel code operation) ≡ true →
-    IsTextOf site standing (EventLine (Op panel code operation)) (event_text site (Op panel code operation))
-op_printed site valid standing due panel code operation spelled there =
+    IsTextOf site so_far (EventLine (Op panel code operation)) (event_text site (Op panel code operation))
+op_printed site valid so_far due panel code operation spelled there =
     let parts = and_parts (is_panel site panel) (has_operands site panel operation) there in
     let below = panel_octet site valid panel parts.0 in
     let named = are_named site valid panel operation parts.1 in
@@ -293,8 +293,8 @@ op_printed site valid standing due panel code operation spelled there =
     record {
       bytes = joined_text 20 (codes "op") fields refl fit (omega (arith, few));
       says =
-          judged_event site standing text (codes "op") (OpForm (action_for operation)) (EventLine (event_view (Op panel code operation))) (has.at 0) refl
-          (op_form_is text site (decimal panel) code operation spelled has) (begun standing due)
+          judged_event site so_far text (codes "op") (OpForm (action_for operation)) (EventLine (event_view (Op panel code operation))) (has.at 0) refl
+          (op_form_is text site (decimal panel) code operation spelled has) (begun so_far due)
           (number_there (field 1 text) panel (has.at 1) (octet_small panel below))
           (event_from site (OpForm (action_for operation)) text (event_view (Op panel code operation))
           (op_back text site panel code operation below spelled named has) there);

@@ -16,7 +16,7 @@ use Rattle.record_lines.specs.declared.step.Step.TheVariants.{Need, Line as Line
 use Rattle.record_lines.specs.declared.over.Over.{Over}
 use Rattle.record_lines.specs.declared.over.Over.TheVariants.{Refused}
 use Rattle.record_lines.specs.declared.reader.LineReader.{LineReader}
-use Rattle.record_lines.specs.declared.standing.Standing.{Standing}
+use Rattle.record_lines.specs.declared.ticks_so_far.TicksSoFar.{TicksSoFar}
 use Rattle.record_lines.specs.declared.why.Why.{Why}
 use Rattle.record_lines.specs.declared.why.Why.TheVariants.{LineTooLong, NotAscii}
 use Rattle.record_lines.proofs.Cuts.{cut_more, cut_end}
@@ -33,7 +33,7 @@ open_is site bytes reader waiting =
 
 -- one whole line more
 pub read_more : (site : Site) (whole : List (List ℕ)) (text : List ℕ) → (lines_read site whole).ending ≡ None → byte_refusal text ≡ None →
-    lines_read site (whole ++ text ∷ []) ≡ verdict (lines_read site whole) (judged site (lines_read site whole).standing text)
+    lines_read site (whole ++ text ∷ []) ≡ verdict (lines_read site whole) (judged site (lines_read site whole).so_far text)
 read_more site whole text going fine =
     fold_push (next_line site) at_start whole text ∙ ap (by_ending site (lines_read site whole) text) going ∙ ap
     (by_bytes site (lines_read site whole) text) fine
@@ -44,11 +44,11 @@ no_rest reading (Some over) = refl
 
 -- the whole lines behind a line end
 lines_behind : (site : Site) (bytes : List ℕ) (byte : ℕ) (reader : LineReader) → (byte == 10) ≡ true → IsOpen site bytes reader →
-    lines_read site (cut (bytes ++ byte ∷ [])).whole ≡ verdict (lines_read site (cut bytes).whole) (judged site reader.standing reader.text.items)
+    lines_read site (cut (bytes ++ byte ∷ [])).whole ≡ verdict (lines_read site (cut bytes).whole) (judged site reader.so_far reader.text.items)
 lines_behind site bytes byte reader is waiting =
     ap (λ c. lines_read site c.whole) (cut_end bytes byte is) ∙ read_more site (cut bytes).whole (cut bytes).rest waiting.going waiting.fine
     ∙ ap (λ s. verdict (lines_read site (cut bytes).whole) (judged site s (cut bytes).rest)) (sym waiting.stands)
-    ∙ ap (λ t. verdict (lines_read site (cut bytes).whole) (judged site reader.standing t)) (sym waiting.keeps)
+    ∙ ap (λ t. verdict (lines_read site (cut bytes).whole) (judged site reader.so_far t)) (sym waiting.keeps)
 
 rest_behind : (bytes : List ℕ) (byte : ℕ) → (byte == 10) ≡ true → (cut (bytes ++ byte ∷ [])).rest ≡ []
 rest_behind bytes byte is = ap (λ c. c.rest) (cut_end bytes byte is)
@@ -64,7 +64,7 @@ reading_behind site bytes byte is =
 
 pub pushed : (site : Site) (bytes : List ℕ) (byte : ℕ) (old reader : LineReader) → (byte == 10) ≡ false → length old.text.items < 512
     → is_printable byte ≡ true →
-    reader.over ≡ None → reader.standing ≡ old.standing → reader.number ≡ old.number → reader.text.items ≡ old.text.items ++ byte ∷ [] →
+    reader.over ≡ None → reader.so_far ≡ old.so_far → reader.number ≡ old.number → reader.text.items ≡ old.text.items ++ byte ∷ [] →
     IsOpen site bytes old → TakesByte site bytes byte reader Need
 pushed site bytes byte old reader other few good over stands counts keeps waiting =
     let c = cut bytes in
@@ -72,7 +72,7 @@ pushed site bytes byte old reader other few good over stands counts keeps waitin
     let few_rest : length c.rest < 512 = omega (arith, ap length waiting.keeps, few) in
     let on : IsOpen site (bytes ++ byte ∷ []) reader = record {
       going = ap (λ k. (lines_read site k.whole).ending) e ∙ waiting.going;
-      stands = stands ∙ waiting.stands ∙ sym (ap (λ k. (lines_read site k.whole).standing) e);
+      stands = stands ∙ waiting.stands ∙ sym (ap (λ k. (lines_read site k.whole).so_far) e);
       counts = counts ∙ waiting.counts ∙ sym (ap (λ k. (lines_read site k.whole).number) e);
       keeps = keeps ∙ ap (λ t. t ++ byte ∷ []) waiting.keeps ∙ sym (ap (λ k. k.rest) e);
       fine = ap (λ k. byte_refusal k.rest) e ∙ fine_more c.rest 512 byte waiting.fine few_rest good;
@@ -129,11 +129,11 @@ not_ascii site bytes byte old reader step other few bad refuses waiting =
 
 -- ---- a line end
 
-view_stands : (standing : Standing) (line : Line) → stands_behind standing (line_view line) ≡ stands_behind standing line
-view_stands standing (Tick tick) = refl
-view_stands standing (Event event) = refl
-view_stands standing (Order order) = refl
-view_stands standing End = refl
+view_stands : (so_far : TicksSoFar) (line : Line) → stands_behind so_far (line_view line) ≡ stands_behind so_far line
+view_stands so_far (Tick tick) = refl
+view_stands so_far (Event event) = refl
+view_stands so_far (Order order) = refl
+view_stands so_far End = refl
 
 view_ends : (line : Line) → ends_with (line_view line) ≡ ends_with line
 view_ends (Tick tick) = refl
@@ -143,7 +143,7 @@ view_ends End = refl
 
 -- behind a line the reader waits, or is over
 stands_as : (site : Site) (bytes : List ℕ) (reader : LineReader) (ending : Option Over) → reading_of site bytes ≡ lines_read site (cut bytes).whole →
-    (lines_read site (cut bytes).whole).ending ≡ ending → reader.standing ≡ (lines_read site (cut bytes).whole).standing
+    (lines_read site (cut bytes).whole).ending ≡ ending → reader.so_far ≡ (lines_read site (cut bytes).whole).so_far
     → reader.number ≡ (lines_read site (cut bytes).whole).number →
     reader.text.items ≡ (cut bytes).rest → byte_refusal (cut bytes).rest ≡ None → StandsBy site bytes reader ending
 stands_as site bytes reader None is ends stands counts keeps fine =
@@ -151,7 +151,7 @@ stands_as site bytes reader None is ends stands counts keeps fine =
 stands_as site bytes reader (Some over) is ends stands counts keeps fine = ap (λ r. r.ending) is ∙ ends
 
 line_told : (site : Site) (bytes : List ℕ) (byte : ℕ) (old reader : LineReader) (line : Line) → (byte == 10) ≡ true → old.over ≡ None →
-    judged site old.standing old.text.items ≡ Ok (line_view line) → Accepts old line reader → IsOpen site bytes old
+    judged site old.so_far old.text.items ≡ Ok (line_view line) → Accepts old line reader → IsOpen site bytes old
     → TakesByte site bytes byte reader (LineStep line)
 line_told site bytes byte old reader line is waits says accepts waiting =
     let before = lines_read site (cut bytes).whole in
@@ -161,7 +161,7 @@ line_told site bytes byte old reader line is waits says accepts waiting =
     let rest = rest_behind bytes byte is in
     let ends : (lines_read site (cut (bytes ++ byte ∷ [])).whole).ending ≡ ends_with line = ap (λ r. r.ending) whole ∙ view_ends line in
     let stood =
-    accepts.stands ∙ ap (λ s. stands_behind s line) waiting.stands ∙ sym (view_stands before.standing line) ∙ sym (ap (λ r. r.standing) whole) in
+    accepts.stands ∙ ap (λ s. stands_behind s line) waiting.stands ∙ sym (view_stands before.so_far line) ∙ sym (ap (λ r. r.so_far) whole) in
     let counted = accepts.counts ∙ ap next_number waiting.counts ∙ sym (ap (λ r. r.number) whole) in
     let by = stands_as site (bytes ++ byte ∷ []) reader (ends_with line) at ends stood counted (accepts.keeps ∙ sym rest) (ap byte_refusal rest) in
     record {
@@ -173,7 +173,7 @@ line_told site bytes byte old reader line is waits says accepts waiting =
     }
 
 line_refused : (site : Site) (bytes : List ℕ) (byte : ℕ) (why : Why) (old reader : LineReader) (step : Step) → (byte == 10) ≡ true →
-    judged site old.standing old.text.items ≡ Err why → Refuses old why reader step → IsOpen site bytes old → TakesByte site bytes byte reader step
+    judged site old.so_far old.text.items ≡ Err why → Refuses old why reader step → IsOpen site bytes old → TakesByte site bytes byte reader step
 line_refused site bytes byte why old reader step is says refuses waiting =
     let before = lines_read site (cut bytes).whole in
     told_refused site bytes byte why old reader step

@@ -27,7 +27,7 @@ use Rattle.record_lines.specs.Seats.{is_numbered, order_of, order_unless, panel_
 use Rattle.record_lines.specs.Words.{task_of}
 use Rattle.record_lines.specs.Forms.{OrderForm}
 use Rattle.record_lines.specs.declared.line.Line.TheVariants.{Order as OrderLine}
-use Rattle.record_lines.specs.declared.standing.Standing.{Standing}
+use Rattle.record_lines.specs.declared.ticks_so_far.TicksSoFar.{TicksSoFar}
 use Rattle.record_lines.specs.declared.why.Why.TheVariants.{BadOrder}
 use Rattle.line_fields.proofs.Joined.{each_parted, fit_all_clear}
 use Rattle.record_lines.proofs.Joins.{after_joined, fields_of, joined_text, seats_parted}
@@ -141,18 +141,18 @@ order_form_is text seats some is =
     order_row text is.first ∙ passed (nat_le 2 (field_count text) && seated) (Some OrderForm) None
     (and_from (nat_le 2 (field_count text)) seated many is.are_seats)
 
-order_line_is : (site : Site) (standing : Standing) (text : List ℕ) (seats : List Seat) → standing.has_order ≡ false → IsOrder site.panels seats
+order_line_is : (site : Site) (so_far : TicksSoFar) (text : List ℕ) (seats : List Seat) → so_far.has_order ≡ false → IsOrder site.panels seats
     → IsOrderText text seats →
-    order_line site standing text ≡ Ok (OrderLine seats)
-order_line_is site standing text seats first order is =
+    order_line site so_far text ≡ Ok (OrderLine seats)
+order_line_is site so_far text seats first order is =
     let read = ordered (order_of site.panels (seats_of (space_count text) (after_space text))) in
-    cond-false standing.has_order (Err (BadOrder 0)) read first ∙ ap (λ s. ordered (order_of site.panels s)) is.back ∙ ap
+    cond-false so_far.has_order (Err (BadOrder 0)) read first ∙ ap (λ s. ordered (order_of site.panels s)) is.back ∙ ap
     (λ fault. ordered (order_unless seats fault)) ((order_fault-none site.panels seats).1 order)
 
-pub order_printed : (site : Site) → IsValid site → (standing : Standing) → 1 ≤ standing.ticks → standing.has_order ≡ false → (seats : List Seat)
+pub order_printed : (site : Site) → IsValid site → (so_far : TicksSoFar) → 1 ≤ so_far.ticks → so_far.has_order ≡ false → (seats : List Seat)
     → IsOrder site.panels seats →
-    IsTextOf site standing (OrderLine seats) (line_text site (OrderLine seats))
-order_printed site valid standing due first seats order =
+    IsTextOf site so_far (OrderLine seats) (line_text site (OrderLine seats))
+order_printed site valid so_far due first seats order =
     let few = valid.forms.panels.1 in
     let all = seats_printed site.panels few seats order in
     let fields = map seat_text seats in
@@ -162,6 +162,6 @@ order_printed site valid standing due first seats order =
     let is = walked seats all in
     record {
       bytes = joined_text 5 (codes "order") fields refl fit (omega (arith, count, few, length-map seats seat_text));
-      says = judged_from site standing text OrderForm (OrderLine seats) (order_form_is text seats (omega (arith, count)) is) (begun standing due)
-          is.are_numbered (order_line_is site standing text seats first order is);
+      says = judged_from site so_far text OrderForm (OrderLine seats) (order_form_is text seats (omega (arith, count)) is) (begun so_far due)
+          is.are_numbered (order_line_is site so_far text seats first order is);
     }

@@ -29,11 +29,11 @@ grow before piece k within = append_assoc before (take k piece) (get_or piece k 
 
 -- the record stands where its reader does
 pub may_come_when : (site : Site) (before : List ℕ) (reader : LineReader) (step : Step) → reader.over ≡ None → StandsFor site before reader
-    → StepMayCome site reader.standing step →
-    StepMayCome site (reading_of site before).standing step
+    → StepMayCome site reader.so_far step →
+    StepMayCome site (reading_of site before).so_far step
 may_come_when site before reader step over stands may =
     let waiting = waits_when site before reader over stands in
-    subst (λ s. StepMayCome site s step) (waiting.stands ∙ sym (ap (λ r. r.standing) (open_is site before reader waiting))) may
+    subst (λ s. StepMayCome site s step) (waiting.stands ∙ sym (ap (λ r. r.so_far) (open_is site before reader waiting))) may
 
 no_ending : (site : Site) (bytes : List ℕ) (reader : LineReader) → IsOpen site bytes reader → (reading_of site bytes).ending ≡ None
 no_ending site bytes reader waiting = ap (λ r. r.ending) (open_is site bytes reader waiting) ∙ waiting.going
@@ -48,7 +48,7 @@ ongoing_kept site before piece count old reader kept waiting =
     omega (arith, ap length waiting.keeps, ap length kept.text, length-append old.text.items front, kept.room) in
     let on : IsOpen site (before ++ front) reader = record {
       going = ap (λ k. (lines_read site k.whole).ending) e ∙ waiting.going;
-      stands = kept.stands ∙ waiting.stands ∙ sym (ap (λ k. (lines_read site k.whole).standing) e);
+      stands = kept.stands ∙ waiting.stands ∙ sym (ap (λ k. (lines_read site k.whole).so_far) e);
       counts = kept.counts ∙ waiting.counts ∙ sym (ap (λ k. (lines_read site k.whole).number) e);
       keeps = kept.text ∙ ap (λ t. t ++ front) waiting.keeps ∙ sym (ap (λ k. k.rest) e);
       fine = ap (λ k. byte_refusal k.rest) e ∙ fine_on (cut before).rest front 512 waiting.fine kept.printable fits;

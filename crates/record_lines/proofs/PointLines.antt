@@ -17,7 +17,7 @@ use Rattle.record_lines.specs.Printed.{event_text, joined, name_text, point_stat
 use Rattle.record_lines.specs.Words.{point_state_of}
 use Rattle.record_lines.specs.declared.form.EventForm.TheVariants.{Point as PointForm, Routing as RoutingForm}
 use Rattle.record_lines.specs.declared.line.Line.TheVariants.{Event as EventLine}
-use Rattle.record_lines.specs.declared.standing.Standing.{Standing}
+use Rattle.record_lines.specs.declared.ticks_so_far.TicksSoFar.{TicksSoFar}
 use Rattle.line_fields.proofs.Joined.{HasFields}
 use Rattle.record_lines.proofs.Joins.{fields_of, fit_more, joined_text}
 use Rattle.record_lines.proofs.PrintedNames.{output_there, point_there}
@@ -32,10 +32,10 @@ point_form_is text name state has =
     (ap (λ n. n + 1) has.count)
     ∙ ap (λ word. option_map (λ s. PointForm s) (point_state_of word)) (has.at 2) ∙ ap (option_map (λ s. PointForm s)) (point_word state).back
 
-pub point_printed : (site : Site) → IsValid site → (standing : Standing) → 1 ≤ standing.ticks → (point : ℕ) (state : PointState)
+pub point_printed : (site : Site) → IsValid site → (so_far : TicksSoFar) → 1 ≤ so_far.ticks → (point : ℕ) (state : PointState)
     → has_event site (Point point state) ≡ true →
-    IsTextOf site standing (EventLine (Point point state)) (event_text site (Point point state))
-point_printed site valid standing due point state there =
+    IsTextOf site so_far (EventLine (Point point state)) (event_text site (Point point state))
+point_printed site valid so_far due point state there =
     let name = name_text site (PointThing point) in
     let named = point_there site valid point there in
     let fields = name ∷ point_state_word state ∷ [] in
@@ -47,7 +47,7 @@ point_printed site valid standing due point state there =
     named.found in
     record {
       bytes = joined_text 20 (codes "point") fields refl fit (omega arith);
-      says = judged_event site standing text (codes "point") (PointForm state) (EventLine (Point point state)) (has.at 0) refl (point_form_is text name state has) (begun standing due)
+      says = judged_event site so_far text (codes "point") (PointForm state) (EventLine (Point point state)) (has.at 0) refl (point_form_is text name state has) (begun so_far due)
           refl (event_from site (PointForm state) text (Point point state) is there);
     }
 
@@ -58,10 +58,10 @@ routing_form_is text name has =
     routing_row text (has.at 0) ∙ passed ((field_count text == 3) && bytes_eq (field 2 text) (codes "confirmed")) (Some RoutingForm) None
     (and_from (field_count text == 3) (bytes_eq (field 2 text) (codes "confirmed")) count word)
 
-pub routing_printed : (site : Site) → IsValid site → (standing : Standing) → 1 ≤ standing.ticks → (output : ℕ)
+pub routing_printed : (site : Site) → IsValid site → (so_far : TicksSoFar) → 1 ≤ so_far.ticks → (output : ℕ)
     → has_event site (Confirmed output) ≡ true →
-    IsTextOf site standing (EventLine (Confirmed output)) (event_text site (Confirmed output))
-routing_printed site valid standing due output there =
+    IsTextOf site so_far (EventLine (Confirmed output)) (event_text site (Confirmed output))
+routing_printed site valid so_far due output there =
     let name = name_text site (OutputThing output) in
     let named = output_there site valid _ output there in
     let fields = name ∷ codes "confirmed" ∷ [] in
@@ -73,6 +73,6 @@ routing_printed site valid standing due output there =
     named.found in
     record {
       bytes = joined_text 20 (codes "routing") fields refl fit (omega arith);
-      says = judged_event site standing text (codes "routing") RoutingForm (EventLine (Confirmed output)) (has.at 0) refl (routing_form_is text name has) (begun standing due) refl
+      says = judged_event site so_far text (codes "routing") RoutingForm (EventLine (Confirmed output)) (has.at 0) refl (routing_form_is text name has) (begun so_far due) refl
           (event_from site RoutingForm text (Confirmed output) is there);
     }

@@ -1,4 +1,4 @@
--- The fields of a printed text are those that were joined.
+-- A printed text grows by a space and a field, and is its first field and then each other one behind a space.
 use Rattle.std.proofs.Common.{◌≡◌, ◌∙◌, ◌+◌, ◌<◌, ◌++◌, ℕ, List, [], ◌∷◌, length, get_or, map, take, refl, sym, ap, append_assoc}
 use Rattle.std.proofs.lemmas.List.{append-nil, map_more}
 use Rattle.tick_units.specs.declared.seat.Seat.{Seat}

@@ -69,7 +69,7 @@ quiet site before text between fine =
 
 -- at its end it is judged
 read_line : (site : Site) (before text : List ℕ) → IsBetweenLines site before → IsLineText text →
-    reading_of site (before ++ text ++ 10 ∷ []) ≡ verdict (reading_of site before) (judged site (reading_of site before).standing text)
+    reading_of site (before ++ text ++ 10 ∷ []) ≡ verdict (reading_of site before) (judged site (reading_of site before).so_far text)
 read_line site before text between fine =
     let whole = (cut before).whole in
     let ended : cut ((before ++ text) ++ 10 ∷ []) ≡ record { whole = whole ++ text ∷ []; rest = [] } =
@@ -78,9 +78,9 @@ read_line site before text between fine =
     in
     reading_behind site (before ++ text) 10 refl ∙ ap (λ (c : Cut). lines_read site c.whole) ended
     ∙ read_more site whole text (lines_go_on site before between) (fine_bytes text 512 fine.printable fine.short)
-    ∙ ap (λ r. verdict r (judged site r.standing text)) (sym (at_beginning site before between.fresh))
+    ∙ ap (λ r. verdict r (judged site r.so_far text)) (sym (at_beginning site before between.fresh))
 
-told : (site : Site) (line : Line) (text before : List ℕ) → IsBetweenLines site before → IsTextOf site (reading_of site before).standing line text →
+told : (site : Site) (line : Line) (text before : List ℕ) → IsBetweenLines site before → IsTextOf site (reading_of site before).so_far line text →
     reading_of site (before ++ text ++ 10 ∷ []) ≡ accepted (reading_of site before) (line_view line)
 told site line text before between is = read_line site before text between is.bytes ∙ ap (verdict (reading_of site before)) is.says
 
@@ -112,7 +112,7 @@ part_quiet site before text used between fine within =
 
 -- all of them bring the line
 whole_told : (site : Site) (line : Line) (text before : List ℕ) (used : ℕ) → IsBetweenLines site before
-    → IsTextOf site (reading_of site before).standing line text → length text < used →
+    → IsTextOf site (reading_of site before).so_far line text → length text < used →
     reading_of site (before ++ take used (text ++ 10 ∷ [])) ≡ accepted (reading_of site before) (line_view line)
 whole_told site line text before used between is past =
     ap (λ t. reading_of site (before ++ t)) (take_all used (text ++ 10 ∷ []) (omega (arith, past, length-append text (10 ∷ [])))) ∙ ap
@@ -134,7 +134,7 @@ used_within site before text used place first =
     omega (arith, last, within, length-append text (10 ∷ []))
 
 by_step : (site : Site) (line : Line) (text before : List ℕ) (used : ℕ) (step : Step) → IsBetweenLines site before
-    → IsTextOf site (reading_of site before).standing line text →
+    → IsTextOf site (reading_of site before).so_far line text →
     Tells (reading_of site before) (reading_of site (before ++ take used (text ++ 10 ∷ []))) step → Uses site before (text ++ 10 ∷ []) used step
     → IsAnswer line step × (used ≡ length text + 1)
 by_step site line text before used Need between is tells uses =
@@ -165,7 +165,7 @@ by_step site line text before used (RefusedStep refusal) between is tells uses =
     ]
 
 answered : (site : Site) (line : Line) (text before : List ℕ) → IsBetweenLines site before
-    → IsTextOf site (reading_of site before).standing line text →
+    → IsTextOf site (reading_of site before).so_far line text →
     (fed : Fed) (reader : LineReader) → Feeds site before (text ++ 10 ∷ []) fed reader → IsAnswer line fed.step × (fed.used ≡ length text + 1)
 answered site line text before between is fed reader feeds =
     let answers = subst (λ e. Answers site before (text ++ 10 ∷ []) fed e) between.going feeds.answers in
@@ -175,5 +175,5 @@ answered site line text before between is fed reader feeds =
 
 pub printed_back : (site : Site) → IsValid site → (line : Line) → ReadsBack site line (line_text site line)
 printed_back site valid line before between may =
-    let is = line_printed site valid (reading_of site before).standing line may in
+    let is = line_printed site valid (reading_of site before).so_far line may in
     record { told = told site line (line_text site line) before between is; answered = answered site line (line_text site line) before between is }

@@ -16,7 +16,7 @@ use Rattle.record_lines.specs.Printed.{bad_word, event_text, joined, supply_word
 use Rattle.record_lines.specs.Words.{is_bad_of, is_up_of, supply_kind_of}
 use Rattle.record_lines.specs.declared.form.EventForm.TheVariants.{Supply as SupplyForm, Link as LinkForm}
 use Rattle.record_lines.specs.declared.line.Line.TheVariants.{Event as EventLine}
-use Rattle.record_lines.specs.declared.standing.Standing.{Standing}
+use Rattle.record_lines.specs.declared.ticks_so_far.TicksSoFar.{TicksSoFar}
 use Rattle.line_fields.proofs.Joined.{HasFields}
 use Rattle.record_lines.proofs.Joins.{fields_of, fit_more, joined_text}
 use Rattle.line_fields.proofs.Plain.{number_fit, octet_small}
@@ -49,10 +49,10 @@ supply_form_is text panel kind bad has =
     ∙ ap (λ word. read (supply_kind_of word)) (has.at 2) ∙ ap read (kind_word kind).back
     ∙ ap (λ word. option_map (λ b. SupplyForm kind b) (is_bad_of word)) (has.at 3) ∙ ap (option_map (λ b. SupplyForm kind b)) (word_of_bad bad).back
 
-pub supply_printed : (site : Site) → IsValid site → (standing : Standing) → 1 ≤ standing.ticks → (panel : ℕ) (kind : SupplyKind) (bad : Bool)
+pub supply_printed : (site : Site) → IsValid site → (so_far : TicksSoFar) → 1 ≤ so_far.ticks → (panel : ℕ) (kind : SupplyKind) (bad : Bool)
     → has_event site (Supply panel kind bad) ≡ true →
-    IsTextOf site standing (EventLine (Supply panel kind bad)) (event_text site (Supply panel kind bad))
-supply_printed site valid standing due panel kind bad there =
+    IsTextOf site so_far (EventLine (Supply panel kind bad)) (event_text site (Supply panel kind bad))
+supply_printed site valid so_far due panel kind bad there =
     let below = panel_octet site valid panel there in
     let fields = decimal panel ∷ supply_word kind ∷ bad_word bad ∷ [] in
     let text = joined (codes "supply") fields in
@@ -65,8 +65,8 @@ supply_printed site valid standing due panel kind bad there =
     ap (option_map (λ p. Supply p kind bad)) (octet_back (field 1 text) panel (has.at 1) below) in
     record {
       bytes = joined_text 20 (codes "supply") fields refl fit (omega arith);
-      says = judged_event site standing text (codes "supply") (SupplyForm kind bad) (EventLine (Supply panel kind bad)) (has.at 0) refl (supply_form_is text panel kind bad has)
-          (begun standing due)
+      says = judged_event site so_far text (codes "supply") (SupplyForm kind bad) (EventLine (Supply panel kind bad)) (has.at 0) refl (supply_form_is text panel kind bad has)
+          (begun so_far due)
           (number_there (field 1 text) panel (has.at 1) (octet_small panel below))
           (event_from site (SupplyForm kind bad) text (Supply panel kind bad) is there);
     }
@@ -79,10 +79,10 @@ link_form_is text link up has =
     link_row text (has.at 0) ∙ counted (field_count text) 3 (option_map (λ u. LinkForm u) (is_up_of (field 2 text))) None (ap (λ n. n + 1) has.count)
     ∙ ap (λ word. option_map (λ u. LinkForm u) (is_up_of word)) (has.at 2) ∙ ap (option_map (λ u. LinkForm u)) (word_of_up up).back
 
-pub link_printed : (site : Site) → IsValid site → (standing : Standing) → 1 ≤ standing.ticks → (link : ℕ) (up : Bool)
+pub link_printed : (site : Site) → IsValid site → (so_far : TicksSoFar) → 1 ≤ so_far.ticks → (link : ℕ) (up : Bool)
     → has_event site (Link link up) ≡ true →
-    IsTextOf site standing (EventLine (Link link up)) (event_text site (Link link up))
-link_printed site valid standing due link up there =
+    IsTextOf site so_far (EventLine (Link link up)) (event_text site (Link link up))
+link_printed site valid so_far due link up there =
     let below = link_octet site valid link there in
     let fields = decimal link ∷ up_word up ∷ [] in
     let text = joined (codes "link") fields in
@@ -93,6 +93,6 @@ link_printed site valid standing due link up there =
     let is : link_of up text ≡ Some (Link link up) = ap (option_map (λ l. Link l up)) (octet_back (field 1 text) link (has.at 1) below) in
     record {
       bytes = joined_text 20 (codes "link") fields refl fit (omega arith);
-      says = judged_event site standing text (codes "link") (LinkForm up) (EventLine (Link link up)) (has.at 0) refl (link_form_is text link up has) (begun standing due)
+      says = judged_event site so_far text (codes "link") (LinkForm up) (EventLine (Link link up)) (has.at 0) refl (link_form_is text link up has) (begun so_far due)
           (number_there (field 1 text) link (has.at 1) (octet_small link below)) (event_from site (LinkForm up) text (Link link up) is there);
     }

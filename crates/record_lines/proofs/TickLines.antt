@@ -11,7 +11,7 @@ use Rattle.record_lines.specs.Judged.{tick_as}
 use Rattle.record_lines.specs.Printed.{joined, line_text}
 use Rattle.record_lines.specs.Forms.{TickForm}
 use Rattle.record_lines.specs.declared.line.Line.TheVariants.{Tick as TickLine, End}
-use Rattle.record_lines.specs.declared.standing.Standing.{Standing}
+use Rattle.record_lines.specs.declared.ticks_so_far.TicksSoFar.{TicksSoFar}
 use Rattle.record_lines.specs.declared.why.Why.TheVariants.{BadTick, TickLimit}
 use Rattle.record_lines.proofs.Joins.{fields_of, fit_more, joined_text}
 use Rattle.line_fields.proofs.Plain.{number_fit}
@@ -26,9 +26,9 @@ tick_next ticks tick high due =
     cond-false (nat_le last_tick ticks) (Err TickLimit) other (lt-leb last_tick ticks more) ∙ counted tick.0 (ticks + 1) (Ok (TickLine tick))
     (Err (BadTick (ticks + 1) tick.0)) due
 
-pub tick_printed : (site : Site) (standing : Standing) (tick : Tick) → tick.0 ≤ last_tick → tick.0 ≡ standing.ticks + 1
-    → IsTextOf site standing (TickLine tick) (line_text site (TickLine tick))
-tick_printed site standing tick high due =
+pub tick_printed : (site : Site) (so_far : TicksSoFar) (tick : Tick) → tick.0 ≤ last_tick → tick.0 ≡ so_far.ticks + 1
+    → IsTextOf site so_far (TickLine tick) (line_text site (TickLine tick))
+tick_printed site so_far tick high due =
     let small : tick.0 < 2 ^ 64 = omega (arith, high) in
     let fields = decimal tick.0 ∷ [] in
     let text = joined (codes "tick") fields in
@@ -39,9 +39,9 @@ tick_printed site standing tick high due =
     record {
       bytes = joined_text 20 (codes "tick") fields refl fit (omega arith);
       says =
-          judged_from site standing text TickForm (TickLine tick) row refl (number_there (field 1 text) tick.0 (has.at 1) small)
-          (ap (tick_as standing.ticks) number ∙ tick_next standing.ticks tick high due);
+          judged_from site so_far text TickForm (TickLine tick) row refl (number_there (field 1 text) tick.0 (has.at 1) small)
+          (ap (tick_as so_far.ticks) number ∙ tick_next so_far.ticks tick high due);
     }
 
-pub end_printed : (site : Site) (standing : Standing) → IsTextOf site standing End (line_text site End)
-end_printed site standing = record { bytes = joined_text 20 (codes "end") [] refl refl (omega arith); says = refl }
+pub end_printed : (site : Site) (so_far : TicksSoFar) → IsTextOf site so_far End (line_text site End)
+end_printed site so_far = record { bytes = joined_text 20 (codes "end") [] refl refl (omega arith); says = refl }

@@ -17,29 +17,29 @@ use Rattle.record_lines.specs.Judged.{content_of, event_in, event_line, judged, 
 use Rattle.record_lines.specs.declared.form.EventForm.{EventForm}
 use Rattle.record_lines.specs.declared.line.Line.{Line}
 use Rattle.record_lines.specs.declared.line.Line.TheVariants.{Event as EventLine}
-use Rattle.record_lines.specs.declared.standing.Standing.{Standing}
+use Rattle.record_lines.specs.declared.ticks_so_far.TicksSoFar.{TicksSoFar}
 use Rattle.record_lines.specs.declared.why.Why.TheVariants.{BadNumber, BeforeFirstTick, NoSuch}
 use Rattle.record_lines.proofs.Joins.{IsLineText}
 
 -- a line whose row, turn, numbers and content are right
-pub judged_from : (site : Site) (standing : Standing) (text : List ℕ) (form : Form) (line : Line) → form_of text ≡ Some form
-    → may_stand standing form ≡ true → has_numbers form text ≡ true →
-    content_of site standing form text ≡ Ok line → judged site standing text ≡ Ok line
-judged_from site standing text form line row due numbers content =
-    let numbered = if has_numbers form text then content_of site standing form text else Err BadNumber in
-    ap (judged_as site standing text) row ∙ cond-true (may_stand standing form) numbered (Err BeforeFirstTick) due
-    ∙ cond-true (has_numbers form text) (content_of site standing form text) (Err BadNumber) numbers ∙ content
+pub judged_from : (site : Site) (so_far : TicksSoFar) (text : List ℕ) (form : Form) (line : Line) → form_of text ≡ Some form
+    → may_stand so_far form ≡ true → has_numbers form text ≡ true →
+    content_of site so_far form text ≡ Ok line → judged site so_far text ≡ Ok line
+judged_from site so_far text form line row due numbers content =
+    let numbered = if has_numbers form text then content_of site so_far form text else Err BadNumber in
+    ap (judged_as site so_far text) row ∙ cond-true (may_stand so_far form) numbered (Err BeforeFirstTick) due
+    ∙ cond-true (has_numbers form text) (content_of site so_far form text) (Err BadNumber) numbers ∙ content
 
 -- a text whose first word is that of no other row is of an event's
 pub of_event : (text word : List ℕ) → field 0 text ≡ word → value_beside word other_rows ≡ None
     → form_of text ≡ option_map (λ form. OfEvent form) (event_form_of text)
 of_event text word is none = ap (λ w. by_row text (value_beside w other_rows)) is ∙ ap (by_row text) none
 
-pub judged_event : (site : Site) (standing : Standing) (text word : List ℕ) (form : EventForm) (line : Line) → field 0 text ≡ word
-    → value_beside word other_rows ≡ None → event_form_of text ≡ Some form → may_stand standing (OfEvent form) ≡ true
-    → has_event_numbers form text ≡ true → event_line site form text ≡ Ok line → judged site standing text ≡ Ok line
-judged_event site standing text word form line is none row due numbers content =
-    judged_from site standing text (OfEvent form) line (of_event text word is none ∙ ap (option_map (λ form. OfEvent form)) row) due numbers content
+pub judged_event : (site : Site) (so_far : TicksSoFar) (text word : List ℕ) (form : EventForm) (line : Line) → field 0 text ≡ word
+    → value_beside word other_rows ≡ None → event_form_of text ≡ Some form → may_stand so_far (OfEvent form) ≡ true
+    → has_event_numbers form text ≡ true → event_line site form text ≡ Ok line → judged site so_far text ≡ Ok line
+judged_event site so_far text word form line is none row due numbers content =
+    judged_from site so_far text (OfEvent form) line (of_event text word is none ∙ ap (option_map (λ form. OfEvent form)) row) due numbers content
 
 -- an event that the site has
 pub event_from : (site : Site) (form : EventForm) (text : List ℕ) (event : Event) → event_of site form text ≡ Some event → has_event site event ≡ true
@@ -70,10 +70,10 @@ passed test x y is = cond-true test x y is
 
 -- ---- what is to be shown of each line
 
-pub record IsTextOf (site : Site) (standing : Standing) (line : Line) (text : List ℕ) : Type 0 where
+pub record IsTextOf (site : Site) (so_far : TicksSoFar) (line : Line) (text : List ℕ) : Type 0 where
   pub bytes : IsLineText text
-  pub says : judged site standing text ≡ Ok (line_view line)
+  pub says : judged site so_far text ≡ Ok (line_view line)
 
 -- a tick has begun
-pub begun : (standing : Standing) → 1 ≤ standing.ticks → nat_lt 0 standing.ticks ≡ true
-begun standing due = lt-ltb 0 standing.ticks (omega (arith, due))
+pub begun : (so_far : TicksSoFar) → 1 ≤ so_far.ticks → nat_lt 0 so_far.ticks ≡ true
+begun so_far due = lt-ltb 0 so_far.ticks (omega (arith, due))

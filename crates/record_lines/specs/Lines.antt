@@ -9,7 +9,7 @@ use Rattle.record_lines.specs.declared.line.Line.{Line}
 use Rattle.record_lines.specs.declared.line.Line.TheVariants.{Tick, Event, Order, End}
 use Rattle.record_lines.specs.declared.over.Over.{Over}
 use Rattle.record_lines.specs.declared.over.Over.TheVariants.{Ended, Refused}
-use Rattle.record_lines.specs.declared.standing.Standing.{Standing}
+use Rattle.record_lines.specs.declared.ticks_so_far.TicksSoFar.{TicksSoFar}
 use Rattle.record_lines.specs.declared.why.Why.{Why}
 use Rattle.record_lines.specs.declared.why.Why.TheVariants.{LineTooLong, NotAscii}
 
@@ -58,14 +58,14 @@ byte_refusal text = refusal_within line_bytes text
 pub record Reading : Type 0 where
   pub lines : List Line
   pub number : ℕ
-  pub standing : Standing
+  pub so_far : TicksSoFar
   pub ending : Option Over
 
 abbrev pub at_start : Reading
 at_start = record {
   lines = [];
   number = 1;
-  standing = record { ticks = 0; has_order = false };
+  so_far = record { ticks = 0; has_order = false };
   ending =
       None;
 }
@@ -74,11 +74,11 @@ abbrev pub next_number : ℕ → ℕ
 next_number number = min (number + 1) (2 ^ 64 - 1)
 
 -- where the record stands behind a line
-abbrev pub stands_behind : Standing → Line → Standing
-stands_behind standing (Tick tick) = record { ticks = tick.0; has_order = false }
-stands_behind standing (Event event) = standing
-stands_behind standing (Order order) = record { ticks = standing.ticks; has_order = true }
-stands_behind standing End = standing
+abbrev pub stands_behind : TicksSoFar → Line → TicksSoFar
+stands_behind so_far (Tick tick) = record { ticks = tick.0; has_order = false }
+stands_behind so_far (Event event) = so_far
+stands_behind so_far (Order order) = record { ticks = so_far.ticks; has_order = true }
+stands_behind so_far End = so_far
 
 abbrev pub ends_with : Line → Option Over
 ends_with (Tick tick) = None
@@ -91,8 +91,8 @@ accepted reading line =
     record {
       lines = reading.lines ++ line ∷ [];
       number = next_number reading.number;
-      standing =
-          stands_behind reading.standing line;
+      so_far =
+          stands_behind reading.so_far line;
       ending = ends_with line;
     }
 
@@ -101,7 +101,7 @@ refused reading why =
     record {
       lines = reading.lines;
       number = reading.number;
-      standing = reading.standing;
+      so_far = reading.so_far;
       ending =
           Some (Refused (record { line = reading.number; why = why }));
     }
@@ -112,7 +112,7 @@ verdict reading (Err why) = refused reading why
 
 -- a whole line, by the refusal of its bytes
 abbrev pub by_bytes : Site → Reading → List ℕ → Option Why → Reading
-by_bytes site reading text None = verdict reading (judged site reading.standing text)
+by_bytes site reading text None = verdict reading (judged site reading.so_far text)
 by_bytes site reading text (Some why) = refused reading why
 
 abbrev pub by_ending : Site → Reading → List ℕ → Option Over → Reading

@@ -15,7 +15,7 @@ use Rattle.record_lines.specs.declared.step.Step.{Step}
 use Rattle.record_lines.specs.declared.step.Step.TheVariants.{Need, Line as LineStep, Refused as RefusedStep}
 use Rattle.record_lines.specs.declared.line.Line.{Line}
 use Rattle.record_lines.specs.declared.line.Line.TheVariants.{Tick, Event as EventLine, Order, End}
-use Rattle.record_lines.specs.declared.standing.Standing.{Standing}
+use Rattle.record_lines.specs.declared.ticks_so_far.TicksSoFar.{TicksSoFar}
 
 -- the record stands at the beginning of a line, and neither its end nor a refusal has come
 pub record IsBetweenLines (site : Site) (before : List ℕ) : Type 0 where
@@ -44,23 +44,23 @@ HasSpelling End = Unit {0}
 
 -- where a record stands so, this line's turn has come: a tick follows the one before, an event and an order
 -- come in a tick, a tick has at most one order
-abbrev pub IsDue : Standing → Line → Type 0
-IsDue standing (Tick tick) = tick.0 ≡ standing.ticks + 1
-IsDue standing (EventLine event) = 1 ≤ standing.ticks
-IsDue standing (Order order) = (1 ≤ standing.ticks) × (standing.has_order ≡ false)
-IsDue standing End = Unit {0}
+abbrev pub IsDue : TicksSoFar → Line → Type 0
+IsDue so_far (Tick tick) = tick.0 ≡ so_far.ticks + 1
+IsDue so_far (EventLine event) = 1 ≤ so_far.ticks
+IsDue so_far (Order order) = (1 ≤ so_far.ticks) × (so_far.has_order ≡ false)
+IsDue so_far End = Unit {0}
 
 -- the line may come where a record of the site stands so
-pub record MayCome (site : Site) (standing : Standing) (line : Line) : Type 0 where
+pub record MayCome (site : Site) (so_far : TicksSoFar) (line : Line) : Type 0 where
   pub belongs : Belongs site line
   pub spelled : HasSpelling line
-  pub due : IsDue standing line
+  pub due : IsDue so_far line
 
 -- a line that is answered may come where the record stands so
-abbrev pub StepMayCome : Site → Standing → Step → Type 0
-StepMayCome site standing Need = Unit {0}
-StepMayCome site standing (LineStep line) = MayCome site standing line
-StepMayCome site standing (RefusedStep refusal) = Unit {0}
+abbrev pub StepMayCome : Site → TicksSoFar → Step → Type 0
+StepMayCome site so_far Need = Unit {0}
+StepMayCome site so_far (LineStep line) = MayCome site so_far line
+StepMayCome site so_far (RefusedStep refusal) = Unit {0}
 
 -- the answer is the line
 abbrev pub IsAnswer : Line → Step → Type 0
@@ -78,4 +78,4 @@ pub record IsReadAs (site : Site) (line : Line) (text before : List ℕ) : Type 
 -- the text is read as the line wherever the line may come
 abbrev pub ReadsBack : Site → Line → List ℕ → Type 0
 ReadsBack site line text = (before : List ℕ) → IsBetweenLines site before
-    → MayCome site (reading_of site before).standing line → IsReadAs site line text before
+    → MayCome site (reading_of site before).so_far line → IsReadAs site line text before

@@ -20,7 +20,7 @@ use Rattle.record_lines.specs.declared.why.Why.{Why}
 -- the reader waits for more: it keeps what has come of the next line
 pub record IsOpen (site : Site) (bytes : List ℕ) (reader : LineReader) : Type 0 where
   pub going : (lines_read site (cut bytes).whole).ending ≡ None
-  pub stands : reader.standing ≡ (lines_read site (cut bytes).whole).standing
+  pub stands : reader.so_far ≡ (lines_read site (cut bytes).whole).so_far
   pub counts : reader.number ≡ (lines_read site (cut bytes).whole).number
   pub keeps : reader.text.items ≡ (cut bytes).rest
   pub fine : byte_refusal (cut bytes).rest ≡ None
@@ -78,7 +78,7 @@ pub record Keeps (old : LineReader) (piece : List ℕ) (count : ℕ) (reader : L
   pub text : reader.text.items ≡ old.text.items ++ take count piece
   pub printable : list_all is_printable (take count piece) ≡ true
   pub room : length reader.text.items ≤ line_bytes
-  pub stands : reader.standing ≡ old.standing
+  pub stands : reader.so_far ≡ old.so_far
   pub counts : reader.number ≡ old.number
   pub over : reader.over ≡ old.over
 
@@ -95,7 +95,7 @@ EndsLine (RefusedStep refusal) = Unit {0}
 -- the reader goes on behind a line
 pub record Accepts (old : LineReader) (line : Line) (reader : LineReader) : Type 0 where
   pub counts : reader.number ≡ next_number old.number
-  pub stands : reader.standing ≡ stands_behind old.standing line
+  pub stands : reader.so_far ≡ stands_behind old.so_far line
   pub keeps : reader.text.items ≡ []
   pub ends : (old.over ≡ None) → reader.over ≡ ends_with line
 
@@ -107,10 +107,10 @@ pub record Refuses (old : LineReader) (why : Why) (reader : LineReader) (step : 
 -- the reader judges the line that it keeps
 abbrev pub TakesLine : Site → LineReader → LineReader → Step → Type 0
 TakesLine site old reader Need = ⊥
-TakesLine site old reader (LineStep line) = (judged site old.standing old.text.items ≡ Ok (line_view line))
+TakesLine site old reader (LineStep line) = (judged site old.so_far old.text.items ≡ Ok (line_view line))
     × Accepts old line reader
 TakesLine site old reader (RefusedStep refusal) =
-    (why : Why) × (judged site old.standing old.text.items ≡ Err why)
+    (why : Why) × (judged site old.so_far old.text.items ≡ Err why)
     × Refuses old why reader (RefusedStep refusal)
 
 -- the reader takes a byte more

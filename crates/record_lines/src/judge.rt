@@ -7,7 +7,7 @@ ghost use Rattle.site_types.specs.declared.site.Site.{Site as SiteOf};
 ghost use Rattle.record_lines.specs.Forms.{OfEvent, event_form_of, form_of};
 ghost use Rattle.record_lines.specs.Judged.{IsVerdict, event_line, judged, order_with, tick_as};
 ghost use Rattle.record_lines.specs.ReadBack.{MayCome};
-ghost use Rattle.record_lines.specs.declared.standing.Standing.{Standing as StandingOf};
+ghost use Rattle.record_lines.specs.declared.ticks_so_far.TicksSoFar.{TicksSoFar as TicksSoFarOf};
 
 use crate::event_lines::read_event;
 use crate::form::EventForm;
@@ -15,7 +15,7 @@ use crate::form_words::event_form;
 use crate::line::Line;
 use crate::number_fields::has_numbers;
 use crate::order_lines::{make_order, read_seats};
-use crate::standing::Standing;
+use crate::ticks_so_far::TicksSoFar;
 use crate::why::Why;
 use arrayvec::ArrayVec;
 use line_fields::{is_word, space_count, split_field};
@@ -23,34 +23,34 @@ use site_types::{Site, read_number};
 use tick_units::{LAST_TICK, Seat, Tick};
 
 /// The line that a text of printable bytes is where a record stands so.
-pub fn judge(site: &Site, standing: &Standing, text: &[u8]) -> Result<Line, Why>
+pub fn judge(site: &Site, so_far: &TicksSoFar, text: &[u8]) -> Result<Line, Why>
     requires valid { IsValid site.now }
     requires short { length text.now ≤ 512 }
-    ensures answer { IsVerdict (judged site.now standing.now text.now) result }
-    ensures may_come { IfOk result (λ line. MayCome site.now standing.now line) }
+    ensures answer { IsVerdict (judged site.now so_far.now text.now) result }
+    ensures may_come { IfOk result (λ line. MayCome site.now so_far.now line) }
 {
     let (word, fields) = split_field(text);
     if is_word(word, b"tick") {
-        judge_tick(standing, text, fields)
+        judge_tick(so_far, text, fields)
     } else if is_word(word, b"order") {
-        judge_order(site, standing, text, fields)
+        judge_order(site, so_far, text, fields)
     } else if is_word(word, b"end") {
         judge_end(text)
     } else {
-        judge_event(site, standing, text, word)
+        judge_event(site, so_far, text, word)
     }
 }
 
 // A line that begins with `tick`. A number has no space, so it is the only field behind the word.
-fn judge_tick(standing: &Standing, text: &[u8], fields: &[u8]) -> Result<Line, Why>
+fn judge_tick(so_far: &TicksSoFar, text: &[u8], fields: &[u8]) -> Result<Line, Why>
     requires word { field_at 0 text.now ≡ codes "tick" }
     requires fields { fields.now ≡ behind_space text.now }
     ensures answer { (site : SiteOf)
-        → IsVerdict (judged site standing.now text.now) result }
-    ensures may_come { (site : SiteOf) → IfOk result (λ line. MayCome site standing.now line) }
+        → IsVerdict (judged site so_far.now text.now) result }
+    ensures may_come { (site : SiteOf) → IfOk result (λ line. MayCome site so_far.now line) }
 {
     match read_number(fields) {
-        Some(found) => tick(standing, found),
+        Some(found) => tick(so_far, found),
         None => {
             if space_count(text) == 1 {
                 Err(Why::BadNumber)
@@ -62,13 +62,13 @@ fn judge_tick(standing: &Standing, text: &[u8], fields: &[u8]) -> Result<Line, W
 }
 
 // A line that begins with `order`.
-fn judge_order(site: &Site, standing: &Standing, text: &[u8], fields: &[u8]) -> Result<Line, Why>
+fn judge_order(site: &Site, so_far: &TicksSoFar, text: &[u8], fields: &[u8]) -> Result<Line, Why>
     requires valid { IsValid site.now }
     requires short { length text.now ≤ 512 }
     requires word { field_at 0 text.now ≡ codes "order" }
     requires fields { fields.now ≡ behind_space text.now }
-    ensures answer { IsVerdict (judged site.now standing.now text.now) result }
-    ensures may_come { IfOk result (λ line. MayCome site.now standing.now line) }
+    ensures answer { IsVerdict (judged site.now so_far.now text.now) result }
+    ensures may_come { IfOk result (λ line. MayCome site.now so_far.now line) }
 {
     let count = space_count(text);
     let mut seats = ArrayVec::new();
@@ -78,22 +78,22 @@ fn judge_order(site: &Site, standing: &Standing, text: &[u8], fields: &[u8]) -> 
     if count == 0 {
         return Err(Why::BadWord);
     }
-    if standing.ticks == 0 {
+    if so_far.ticks == 0 {
         return Err(Why::BeforeFirstTick);
     }
     if !numbered {
         return Err(Why::BadNumber);
     }
-    order(site, standing, &seats)
+    order(site, so_far, &seats)
 }
 
 // A line that begins with `end`.
 fn judge_end(text: &[u8]) -> Result<Line, Why>
     requires { field_at 0 text.now ≡ codes "end" }
-    ensures answer { (site : SiteOf) (standing : StandingOf)
-        → IsVerdict (judged site standing text.now) result }
-    ensures may_come { (site : SiteOf) (standing : StandingOf)
-        → IfOk result (λ line. MayCome site standing line) }
+    ensures answer { (site : SiteOf) (so_far : TicksSoFarOf)
+        → IsVerdict (judged site so_far text.now) result }
+    ensures may_come { (site : SiteOf) (so_far : TicksSoFarOf)
+        → IfOk result (λ line. MayCome site so_far line) }
 {
     if space_count(text) == 0 {
         Ok(Line::End)
@@ -103,18 +103,18 @@ fn judge_end(text: &[u8]) -> Result<Line, Why>
 }
 
 // A line that tells what befalls the site: its words, whether it may come, its numbers, then its names.
-fn judge_event(site: &Site, standing: &Standing, text: &[u8], word: &[u8]) -> Result<Line, Why>
+fn judge_event(site: &Site, so_far: &TicksSoFar, text: &[u8], word: &[u8]) -> Result<Line, Why>
     requires valid { IsValid site.now }
     requires word { word.now ≡ field_at 0 text.now }
     requires event { form_of text.now ≡ option_map OfEvent (event_form_of text.now) }
-    ensures answer { IsVerdict (judged site.now standing.now text.now) result }
-    ensures may_come { IfOk result (λ line. MayCome site.now standing.now line) }
+    ensures answer { IsVerdict (judged site.now so_far.now text.now) result }
+    ensures may_come { IfOk result (λ line. MayCome site.now so_far.now line) }
 {
     let form = match event_form(text, word) {
         Some(form) => form,
         None => return Err(Why::BadWord),
     };
-    if standing.ticks == 0 {
+    if so_far.ticks == 0 {
         return Err(Why::BeforeFirstTick);
     }
     if !has_numbers(form, text) {
@@ -124,14 +124,14 @@ fn judge_event(site: &Site, standing: &Standing, text: &[u8], word: &[u8]) -> Re
 }
 
 /// The tick of this number.
-pub(crate) fn tick(standing: &Standing, found: u64) -> Result<Line, Why>
-    ensures answer { result ≡ tick_as standing.now.ticks (Some found) }
-    ensures may_come { (site : SiteOf) → IfOk result (λ line. MayCome site standing.now line) }
+pub(crate) fn tick(so_far: &TicksSoFar, found: u64) -> Result<Line, Why>
+    ensures answer { result ≡ tick_as so_far.now.ticks (Some found) }
+    ensures may_come { (site : SiteOf) → IfOk result (λ line. MayCome site so_far.now line) }
 {
-    if standing.ticks >= LAST_TICK {
+    if so_far.ticks >= LAST_TICK {
         return Err(Why::TickLimit);
     }
-    let expected = standing.ticks + 1;
+    let expected = so_far.ticks + 1;
     if found == expected {
         Ok(Line::Tick(Tick(found)))
     } else {
@@ -139,14 +139,14 @@ pub(crate) fn tick(standing: &Standing, found: u64) -> Result<Line, Why>
     }
 }
 
-fn order(site: &Site, standing: &Standing, seats: &[Seat]) -> Result<Line, Why>
+fn order(site: &Site, so_far: &TicksSoFar, seats: &[Seat]) -> Result<Line, Why>
     requires valid { IsValid site.now }
     requires short { length seats.now ≤ 512 }
-    requires begun { 1 ≤ standing.now.ticks }
-    ensures answer { result ≡ order_with site.now standing.now seats.now }
-    ensures may_come { IfOk result (λ line. MayCome site.now standing.now line) }
+    requires begun { 1 ≤ so_far.now.ticks }
+    ensures answer { result ≡ order_with site.now so_far.now seats.now }
+    ensures may_come { IfOk result (λ line. MayCome site.now so_far.now line) }
 {
-    if standing.has_order {
+    if so_far.has_order {
         return Err(Why::BadOrder { place: 0 });
     }
     match make_order(site.panels, seats) {
@@ -158,8 +158,8 @@ fn order(site: &Site, standing: &Standing, seats: &[Seat]) -> Result<Line, Why>
 fn event(site: &Site, form: EventForm, text: &[u8]) -> Result<Line, Why>
     requires { IsValid site.now }
     ensures answer { IsVerdict (event_line site.now form text.now) result }
-    ensures may_come { (standing : StandingOf) → 1 ≤ standing.ticks
-        → IfOk result (λ line. MayCome site.now standing line) }
+    ensures may_come { (so_far : TicksSoFarOf) → 1 ≤ so_far.ticks
+        → IfOk result (λ line. MayCome site.now so_far line) }
 {
     match read_event(site, form, text) {
         Some(event) => {

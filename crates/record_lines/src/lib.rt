@@ -34,10 +34,10 @@ mod print;
 mod print_words;
 mod reader;
 mod refusal;
-mod standing;
 mod step;
 #[cfg(test)]
 mod tests;
+mod ticks_so_far;
 mod why;
 mod words;
 

@@ -5,7 +5,7 @@ ghost use Rattle.std.specs.List.{list_all};
 ghost use Rattle.record_lines.specs.Belongs.{StepBelongs};
 ghost use Rattle.record_lines.specs.Lines.{is_printable as is_printable_byte, reading_of};
 ghost use Rattle.record_lines.specs.ReadBack.{StepMayCome};
-ghost use Rattle.record_lines.specs.declared.standing.Standing.{Standing as StandingOf};
+ghost use Rattle.record_lines.specs.declared.ticks_so_far.TicksSoFar.{TicksSoFar as TicksSoFarOf};
 ghost use Rattle.record_lines.specs.Stands.{Accepts, EndsLine, Feeds, IsOpen, Keeps, Refuses, StandsFor, Stops};
 ghost use Rattle.record_lines.specs.Stands.{TakesByte, TakesLine, over_step};
 ghost use Rattle.site_types.specs.Valid.{IsValid};
@@ -16,8 +16,8 @@ use crate::judge::judge;
 use crate::line::Line;
 use crate::over::Over;
 use crate::refusal::Refusal;
-use crate::standing::Standing;
 use crate::step::Step;
+use crate::ticks_so_far::TicksSoFar;
 use crate::why::Why;
 use arrayvec::ArrayVec;
 use site_types::Site;
@@ -25,7 +25,7 @@ use site_types::Site;
 /// Reads the lines of a record, however its bytes are cut into pieces.
 #[derive(Drop)]
 pub struct LineReader {
-    standing: Standing,
+    so_far: TicksSoFar,
     // The number of the line that comes next.
     number: u64,
     // What has come of it.
@@ -39,7 +39,7 @@ impl LineReader {
         ensures { (site : SiteOf) → StandsFor site [] result }
     {
         LineReader {
-            standing: Standing {
+            so_far: TicksSoFar {
                 ticks: 0,
                 has_order: false,
             },
@@ -60,7 +60,7 @@ impl LineReader {
         // A tick, an event and an order are the site's, and each line comes where it may come.
         ensures belongs { StepBelongs site.now result.step }
         ensures may_come { (before : List ℕ) → StandsFor site.now before self.old
-            → StepMayCome site.now (reading_of site.now before).standing result.step }
+            → StepMayCome site.now (reading_of site.now before).so_far result.step }
     {
         if let Some(over) = self.over {
             return Fed {
@@ -115,7 +115,7 @@ impl LineReader {
         requires stops { Stops self.old byte }
         ensures ends { EndsLine result }
         ensures belongs { StepBelongs site.now result }
-        ensures may_come { StepMayCome site.now self.old.standing result }
+        ensures may_come { StepMayCome site.now self.old.so_far result }
         ensures takes { (before : List ℕ) → IsOpen site.now before self.old
             → TakesByte site.now before byte self.new result }
     {
@@ -132,9 +132,9 @@ impl LineReader {
         requires { IsValid site.now }
         ensures takes { TakesLine site.now self.old self.new result }
         ensures belongs { StepBelongs site.now result }
-        ensures may_come { StepMayCome site.now self.old.standing result }
+        ensures may_come { StepMayCome site.now self.old.so_far result }
     {
-        match judge(site, &self.standing, &self.text) {
+        match judge(site, &self.so_far, &self.text) {
             Ok(line) => {
                 self.accept(&line);
                 Step::Line(line)
@@ -151,13 +151,13 @@ impl LineReader {
         self.text.clear();
         match line {
             Line::Tick(tick) => {
-                self.standing = Standing {
+                self.so_far = TicksSoFar {
                     ticks: tick.0,
                     has_order: false,
                 };
             }
             Line::Event(_) => {}
-            Line::Order(_) => self.standing.has_order = true,
+            Line::Order(_) => self.so_far.has_order = true,
             Line::End => self.over = Some(Over::Ended),
         }
     }
@@ -165,8 +165,8 @@ impl LineReader {
     fn refuse(&mut self, why: Why) -> Step
         ensures refuses { Refuses self.old why self.new result }
         ensures belongs { (site : SiteOf) → StepBelongs site result }
-        ensures may_come { (site : SiteOf) (standing : StandingOf)
-            → StepMayCome site standing result }
+        ensures may_come { (site : SiteOf) (so_far : TicksSoFarOf)
+            → StepMayCome site so_far result }
     {
         let refusal = Refusal {
             line: self.number,
@@ -181,7 +181,7 @@ impl LineReader {
 fn again(over: Over) -> Step
     ensures step { result ≡ over_step over }
     ensures belongs { (site : SiteOf) → StepBelongs site result }
-    ensures may_come { (site : SiteOf) (standing : StandingOf) → StepMayCome site standing result }
+    ensures may_come { (site : SiteOf) (so_far : TicksSoFarOf) → StepMayCome site so_far result }
 {
     match over {
         Over::Ended => Step::Line(Line::End),

@@ -1,7 +1,7 @@
 use crate::form_words::form;
 use crate::judge::tick;
 use crate::order_lines::{make_order, read_seats};
-use crate::standing::Standing;
+use crate::ticks_so_far::TicksSoFar;
 use crate::{LineReader, Refusal, Why};
 use tick_units::LAST_TICK;
 
@@ -74,11 +74,11 @@ fn refuses_every_tick_behind_the_last(rt: HostRuntime) {
         (LAST_TICK, 1, Some(Why::TickLimit)),
     ];
     for (ticks, number, refusal) in table {
-        let standing = Standing {
+        let so_far = TicksSoFar {
             ticks,
             has_order: false,
         };
-        let found = match tick(&standing, number) {
+        let found = match tick(&so_far, number) {
             Ok(_) => None,
             Err(why) => Some(why),
         };

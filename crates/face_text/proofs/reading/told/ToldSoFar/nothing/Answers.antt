@@ -1,4 +1,4 @@
-use Rattle.face_text.proofs.ToldForms.{empty_faces_more}
+use Rattle.face_text.proofs.ReadInForm.{empty_faces_more}
 use Rattle.face_text.proofs.reading.told.ToldSoFar.nothing.Goals as goal
 
 pub loop-place-preserved : goal.loop-place-preserved

@@ -1,27 +1,29 @@
-use Rattle.std.proofs.Common.{◌≡◌, ◌∙◌, ◌+◌, ◌++◌, ◌<◌, ap, arith, subst}
-use Rattle.face_text.specs.Lists.{begun_after, group_items, item_of}
+use Rattle.std.proofs.Common.{◌≡◌, ◌∙◌, ◌+◌, ◌++◌, ◌<◌, [], ap, arith, if◌then◌else◌, subst, sym}
+use Rattle.face_text.specs.Lists.{begun_after, group_items, item_of, listed}
 use Rattle.face_text.specs.Slots.{last_of}
 use Rattle.face_text.proofs.Holding.{moves_next, puts_broken}
-use Rattle.face_text.proofs.Joining.{next_begun, next_listed, part_listed}
+use Rattle.face_text.proofs.ListItems.{next_begun, next_listed, part_listed}
 use Rattle.face_text.proofs.Listing.{range_front, range_more}
-use Rattle.face_text.proofs.lists.push_group_items.Goals as goal
+use Rattle.face_text.proofs.face_items.FaceItems.push_group.Goals as goal
 
 pub returns-in_err-push_item-clause-text : goal.returns-in_err-push_item-clause-text
 returns-in_err-push_item-clause-text g c =
-    let item = item_of c.args.site.now c.args.face.now c.args.group in
+    let item = item_of c.args.self.now.site.now c.args.self.now.face.now c.args.group in
     let place = c.loop-place.place in
     let within = subst (λ n. place < n) c.last_number-place-end.ensures c.loop-place-test.true in
     let front = range_front item (last_of c.args.group) (place + 1) (omega (arith, within)) in
+    let all = group_items c.args.self.now.site.now c.args.self.now.face.now c.args.group (last_of c.args.group) in
+    let in_list = ap (λ b. listed c.args.begun.now (if b then all else [])) (sym c.if-not-is_in.ensures) in
     puts_broken c.args.held.now c.loop-place.held c.push_item.new.held _ _ _ _ _ _ _ c.from_residual.result c.from_residual.ensures.0
-    (part_listed c.args.begun.now c.loop-place.begun _ (group_items c.args.site.now c.args.face.now c.args.group place) (item (place + 1)) front.0
+    (in_list ∙ part_listed c.args.begun.now c.loop-place.begun _ (group_items c.args.self.now.site.now c.args.self.now.face.now c.args.group place) (item (place + 1)) front.0
     (front.1 ∙ ap (λ xs. xs ++ front.0) (range_more item place)) c.loop-place.invariant.begun)
     c.loop-place.invariant.text c.in_err-push_item.ensures.text.err
 
 pub loop-place-preserved : goal.loop-place-preserved
 loop-place-preserved g c =
-    let item = item_of c.args.site.now c.args.face.now c.args.group in
+    let item = item_of c.args.self.now.site.now c.args.self.now.face.now c.args.group in
     let place = c.loop-place.place in
-    let so_far = group_items c.args.site.now c.args.face.now c.args.group place in
+    let so_far = group_items c.args.self.now.site.now c.args.self.now.face.now c.args.group place in
     let before = c.loop-place.invariant in
     let call = c.push_item.ensures in
     record {
@@ -37,6 +39,8 @@ loop-place-preserved g c =
 
 pub returns-clause-begun : goal.returns-clause-begun
 returns-clause-begun g c =
+    let items = group_items c.args.self.now.site.now c.args.self.now.face.now c.args.group in
     let done : c.loop-place.place ≡ last_of c.args.group =
     omega (arith, c.loop-place-test.false, c.loop-place.auto.place-end, c.last_number-place-end.ensures) in
-    c.loop-place.invariant.begun ∙ ap (λ n. begun_after c.args.begun.now (group_items c.args.site.now c.args.face.now c.args.group n)) done
+    c.loop-place.invariant.begun ∙ ap (λ n. begun_after c.args.begun.now (items n)) done
+    ∙ ap (λ b. begun_after c.args.begun.now (if b then items (last_of c.args.group) else [])) c.if-not-is_in.ensures

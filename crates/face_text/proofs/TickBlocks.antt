@@ -16,8 +16,8 @@ use Rattle.face_text.specs.Slots.{value_in}
 use Rattle.face_text.specs.Telling.{face_told}
 use Rattle.face_text.specs.Timelines.{faces_text}
 use Rattle.face_text.specs.Faces.{empty_face}
-use Rattle.face_text.proofs.ToldAnswers.{AreAnswersTold, answer_told, busy_told, failure_told, later_answers, nothing_answered_text}
-use Rattle.face_text.proofs.ToldPages.{ArePagesTold, change_told, few_panels, later_pages, rank_is_small}
+use Rattle.face_text.proofs.AnswerLines.{AreAnswersTold, answer_told, busy_told, failure_told, later_answers, nothing_answered_text}
+use Rattle.face_text.proofs.ChangedFaces.{ArePagesTold, change_told, few_panels, later_pages, rank_is_small}
 use Rattle.face_text.proofs.EntryLaws.{entry_line-one}
 use Rattle.site_types.specs.Valid.{IsValid}
 

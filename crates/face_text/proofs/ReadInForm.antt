@@ -16,9 +16,9 @@ use Rattle.face_text.specs.Faces.{empty_face}
 use Rattle.face_text.specs.Reading.{Told, block_of, may_close, no_answers, nothing_told, opened_by, steps_by}
 use Rattle.face_text.proofs.ReadSoFar.{faces_behind, told_text}
 use Rattle.face_text.specs.Timelines.{AreAnswers, AreFaces, AreSteps, HasAnswer, IsFaceOf, empty_faces, faces_text, opening_line, step_text, steps_text, tick_line}
-use Rattle.face_text.proofs.ToldAnswers.{answered_or_not, answers_are, nothing_answered, nothing_answered_text}
-use Rattle.face_text.proofs.ToldBlocks.{IsBlock, block_text}
-use Rattle.face_text.proofs.ToldPages.{ArePages, pages_after, same_faces_no_text, untold_pages}
+use Rattle.face_text.proofs.AnswerLines.{answered_or_not, answers_are, nothing_answered, nothing_answered_text}
+use Rattle.face_text.proofs.TickBlocks.{IsBlock, block_text}
+use Rattle.face_text.proofs.ChangedFaces.{ArePages, pages_after, same_faces_no_text, untold_pages}
 use Rattle.face_text.proofs.FaceForm.{keeps_form}
 
 -- ---- faces of all panels
