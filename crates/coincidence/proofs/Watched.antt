@@ -151,6 +151,19 @@ module _ {site : Site} {kept : Retained} {panel : ℕ} {done : List Done} {taken
   partner_number_fits place zone seen found is None h = subst IsNumber (sym h.0) (stands.wired.zones place zone is).1
   partner_number_fits place zone seen found is (Some other) h = partner_number other zone seen found (slice_get site.zones other) refl h
 
+  -- the numbers of the zone and of what is found for its partner
+  pub numbers_fit : (answer : Answer) (fits : Fits site panel done taken answer) (r : PointWatch) (z : ZoneWatch)
+      → r ≡ get_or decide.points.items answer.point r → z ≡ get_or decide.zones.items r.zone z → (seen : Observation) (found : PartnerFinding)
+      → ((place : ℕ) (plan : ZonePlan) → slice_get site.zones place ≡ Some plan → plan.panel ≡ panel → WatchesZone site kept done taken place plan z
+      → FindsPartner site plan plan.partner seen found)
+      → IsNumber z.number × IsNumber found.number
+  numbers_fit answer fits r z e h seen found finds =
+      let w = watched answer.point fits.own in (
+        number_fits answer.point fits.own r z e h,
+        partner_number_fits w.point.zone w.zone seen found w.is_zone w.zone.partner
+            (finds w.point.zone w.zone w.is_zone w.zone_at (zone_watched answer.point fits.own r z e h)),
+      )
+
   -- a switch was not set after a stamp
   pub off_since : (answer : Answer) (fits : Fits site panel done taken answer) (r : PointWatch) → r ≡ get_or decide.points.items answer.point r
       → r.off.since.0 ≤ answer.stamp.0
