@@ -182,7 +182,7 @@ pub zone_since : {site : Site} {kept : Retained} {panel : ℕ} {done : List Done
     × ((is_on (InTest place) (done_now at panel operation) ≡ true) → watch.test.since.0 < at.0)
 zone_since {panel = panel} {done = done} {decide = decide} stands operation at may place own watch e =
     let w = watched_zone stands place own.zone own.is own.at in
-    let same : watch ≡ w.over = read_is decide.zones.items place watch w.over e w.is_over in (
+    let same : watch ≡ w.zone_watch = read_is decide.zones.items place watch w.zone_watch e w.is_zone_watch in (
       λ on. subst (λ (o : ZoneWatch). o.off.since.0 < at.0) (sym same)
           (subst (λ n. n < at.0) (sym w.watches.off.since)
           (set_before at.0 (ZoneOff place) done may.next.from_one may.next.since (may.next.once (ZoneOff place) on))),

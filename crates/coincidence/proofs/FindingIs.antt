@@ -11,6 +11,7 @@ use Rattle.site_types.specs.declared.rule.Rule.{Rule}
 use Rattle.site_types.specs.declared.rule.Rule.TheVariants.{Plain, A, B, C}
 use Rattle.site_types.proofs.Masks.{has_bit-zero}
 use Rattle.std.specs.List.{list_any}
+use Rattle.coincidence_rules.proofs.Lists.{and_false}
 use Rattle.coincidence_rules.proofs.ZoneMasks.{zones_from_bits}
 use Rattle.coincidence_rules.specs.declared.finding.Finding.{Finding}
 use Rattle.coincidence_rules.specs.Places.{is_detector, is_of, numbered, on_zone, pairs_up, rule_of, zones_where}
@@ -31,7 +32,10 @@ use Rattle.coincidence.proofs.Masked.{IsOther, IsSecondBit, bit_of, mask_is}
 use Rattle.coincidence.proofs.ConfirmedZones.{own_confirmed_is, own_released_is, partner_confirmed_is, partner_released_is}
 use Rattle.coincidence.proofs.ConfirmedZones.{none_confirmed, none_released, none_called, none_counted, own_called, own_counted}
 
--- the bits of a mask
+-- the one bit of a mask, and the two of another
+abbrev pub HasBit : ℕ → ℕ → Bool → Type 0
+HasBit mask number on = (k : ℕ) → k < 32 → has_bit mask k ≡ (if (k + 1) == number then on else false)
+
 abbrev pub HasBits : ℕ → ℕ → Bool → ℕ → Bool → Type 0
 HasBits mask number on other also = (k : ℕ) → k < 32 → has_bit mask k ≡ (if (k + 1) == number then on else (((k + 1) == other) && also))
 
@@ -82,10 +86,15 @@ module _ {site : Site} {kept : Retained} {panel : ℕ} {done : List Done} {all :
       → has_bit mask k ≡ bit_of w.zone.number on other also (k + 1)
   own_bits mask on other also bits k small = bits k small ∙ ap (λ n. bit_of n on other also (k + 1)) z_watches.number
 
+  own_bit : (mask : ℕ) (on : Bool) → HasBit mask z.number on → (k : ℕ) → k < 32 → has_bit mask k ≡ bit_of w.zone.number on z.number false (k + 1)
+  own_bit mask on bit =
+      own_bits mask on z.number false
+      (λ k small. bit k small ∙ ap (λ b. if (k + 1) == z.number then on else b) (sym (and_false ((k + 1) == z.number) false refl)))
+
   pub finding_is : IsObserved → FindsPartner site w.zone w.zone.partner seen found → (counted confirmed manual released : ℕ) (missing : Bool)
       → counted < 2 ^ 32 → confirmed < 2 ^ 32 → manual < 2 ^ 32 → released < 2 ^ 32
-      → HasBits counted z.number seen.counted z.number false → HasBits confirmed z.number (own_confirmed z.rule seen) found.number found.confirmed
-      → HasBits manual z.number (seen.counted && seen.manual) z.number false
+      → HasBit counted z.number seen.counted → HasBits confirmed z.number (own_confirmed z.rule seen) found.number found.confirmed
+      → HasBit manual z.number (seen.counted && seen.manual)
       → HasBits released z.number (own_released z.rule seen) found.number found.released → missing ≡ nat_le missing_askings r.silent
       → ◌≡◌ {A = Finding} (record {
         stamp = answer.stamp;
@@ -103,7 +112,7 @@ module _ {site : Site} {kept : Retained} {panel : ℕ} {done : List Done} {all :
       seen.counted
       (own_counted site kept done all answer w.point w.zone seen stands.wired w.is_point w.is_zone stands.order fits.late observes)
       z.number false None counted c refl (λ q apart x. none_counted site kept done all answer w.point w.zone seen stands.wired w.is_point w.is_zone
-      stands.order fits.late observes q apart) (own_bits counted seen.counted z.number false cs))
+      stands.order fits.late observes q apart) (own_bit counted seen.counted cs))
       (mask_is site stands.wired panel w.point.zone w.zone w.is_zone w.zone_at (λ q. confirms site kept done all q answer)
       (own_confirmed z.rule seen)
       (sym (ap (λ y. own_confirmed y seen) z_watches.rule ∙ own_confirmed_is site kept done all answer w.point w.zone seen stands.wired w.is_point
@@ -114,7 +123,7 @@ module _ {site : Site} {kept : Retained} {panel : ℕ} {done : List Done} {all :
       (mask_is site stands.wired panel w.point.zone w.zone w.is_zone w.zone_at (λ q. calls site kept done q answer) (seen.counted && seen.manual)
       (own_called site kept done all answer w.point w.zone seen stands.wired w.is_point w.is_zone stands.order fits.late observes)
       z.number false None manual m refl (λ q apart x. none_called site kept done all answer w.point w.zone seen stands.wired w.is_point w.is_zone
-      stands.order fits.late observes q apart) (own_bits manual (seen.counted && seen.manual) z.number false ms))
+      stands.order fits.late observes q apart) (own_bit manual (seen.counted && seen.manual) ms))
       (mask_is site stands.wired panel w.point.zone w.zone w.is_zone w.zone_at (λ q. releases site kept done all q answer) (own_released z.rule seen)
       (sym (ap (λ y. own_released y seen) z_watches.rule ∙ own_released_is site kept done all answer w.point w.zone seen stands.wired w.is_point
       w.is_zone stands.order fits.late observes))

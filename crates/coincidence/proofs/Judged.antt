@@ -17,7 +17,7 @@ use Rattle.coincidence.specs.declared.decide.Decide.{Decide}
 use Rattle.coincidence.specs.Parts.{switch_at, besides}
 use Rattle.tick_units.specs.LastTicks.{last_at}
 use Rattle.coincidence.specs.Stands.{is_reset, resets, is_move, moves, DecidesFor, Fits}
-use Rattle.coincidence.proofs.Watched.{read_is, watched, watched_zone, over_read, off_since, zone_off_since, test_since}
+use Rattle.coincidence.proofs.Watched.{read_is, watched, watched_zone, zone_watch_read, off_since, zone_off_since, test_since}
 
 -- the latest of two kinds of operations
 latest_or : (one other : Done → Bool) (x : ℕ) (done : List Done)
@@ -71,7 +71,7 @@ module _ {site : Site} {kept : Retained} {panel : ℕ} {done : List Done} {taken
       → max (last_at x decide.reset) (last_at x z.moved) ≡ floor_before site zone x done
   floor_is x zone plan by' is at z e =
       let w = watched_zone stands zone plan is at in
-      let same : z ≡ w.over = read_is decide.zones.items zone z w.over e w.is_over in
+      let same : z ≡ w.zone_watch = read_is decide.zones.items zone z w.zone_watch e w.is_zone_watch in
       let reset = stands.reset.at x (stands.reset.by x by') in
       let moved : last_at x z.moved ≡ latest_before (moves zone) x done =
       ap (λ (o : ZoneWatch). last_at x o.moved) same ∙ sym (w.watches.moved.at x (w.watches.moved.by x by')) in
@@ -88,16 +88,16 @@ module _ {site : Site} {kept : Retained} {panel : ℕ} {done : List Done} {taken
       let x = answer.stamp.0 in
       let w = watched stands answer.point fits.own in
       let same : r ≡ w.watch = read_is decide.points.items answer.point r w.watch e w.is_watch in
-      let over : z ≡ w.over = over_read stands answer.point fits.own r z e h in
+      let zone_watch : z ≡ w.zone_watch = zone_watch_read stands answer.point fits.own r z e h in
       let point =
       ap (λ (o : PointWatch). switch_at x o.off) same ∙ sym
       (w.watches.off.at x (subst (λ (o : PointWatch). o.off.since.0 ≤ x) same (off_since stands answer fits r e))) in
       let off =
-      ap (λ (o : ZoneWatch). switch_at x o.off) over ∙ sym
-      (w.watches_zone.off.at x (subst (λ (o : ZoneWatch). o.off.since.0 ≤ x) over (zone_off_since stands answer fits r z e h))) in
+      ap (λ (o : ZoneWatch). switch_at x o.off) zone_watch ∙ sym
+      (w.watches_zone.off.at x (subst (λ (o : ZoneWatch). o.off.since.0 ≤ x) zone_watch (zone_off_since stands answer fits r z e h))) in
       let test =
-      ap (λ (o : ZoneWatch). switch_at x o.test) over ∙ sym
-      (w.watches_zone.test.at x (subst (λ (o : ZoneWatch). o.test.since.0 ≤ x) over (test_since stands answer fits r z e h))) in
+      ap (λ (o : ZoneWatch). switch_at x o.test) zone_watch ∙ sym
+      (w.watches_zone.test.at x (subst (λ (o : ZoneWatch). o.test.since.0 ≤ x) zone_watch (test_since stands answer fits r z e h))) in
       ap (λ b. is_alarm answer.heard && not (b || (switch_at x z.off || switch_at x z.test))) point
       ∙ ap (λ b. is_alarm answer.heard && not (in_force site kept (PointOff answer.point) x done || (b || switch_at x z.test))) off
       ∙ ap (λ b. is_alarm answer.heard
@@ -112,7 +112,7 @@ module _ {site : Site} {kept : Retained} {panel : ℕ} {done : List Done} {taken
   second_is zone plan answer by' is at z e floor tick f t =
       let x = answer.stamp.0 in
       let w = watched_zone stands zone plan is at in
-      let same : z ≡ w.over = read_is decide.zones.items zone z w.over e w.is_over in
+      let same : z ≡ w.zone_watch = read_is decide.zones.items zone z w.zone_watch e w.is_zone_watch in
       let cancelled : last_at x z.cancelled ≡ cancelled_before zone x done =
       ap (λ (o : ZoneWatch). last_at x o.cancelled) same ∙ sym (w.watches.cancelled.at x (w.watches.cancelled.by x by')) in
       let rule : z.rule ≡ plan.rule = ap (λ (o : ZoneWatch). o.rule) same ∙ w.watches.rule in

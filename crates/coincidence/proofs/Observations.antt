@@ -46,16 +46,16 @@ module _ {site : Site} {kept : Retained} {panel : ℕ} {done : List Done} {taken
   pub zone_there : (r : PointWatch) → r ≡ get_or decide.points.items answer.point r → slice_get site.zones r.zone ≡ Some zone
   zone_there r e = ap (slice_get site.zones) (zone_of_read r e) ∙ is_zone
 
-  over_of : (r : PointWatch) (z : ZoneWatch) → r ≡ get_or decide.points.items answer.point r → z ≡ get_or decide.zones.items r.zone z
+  zone_watch_of : (r : PointWatch) (z : ZoneWatch) → r ≡ get_or decide.points.items answer.point r → z ≡ get_or decide.zones.items r.zone z
       → WatchesZone site kept done taken point.zone zone z
-  over_of r z e h =
+  zone_watch_of r z e h =
       let wz = watched_zone stands point.zone zone is_zone zone_at in
       subst (WatchesZone site kept done taken point.zone zone)
-      (sym (read_is decide.zones.items r.zone z wz.over h (ap (slice_get decide.zones.items) (zone_of_read r e) ∙ wz.is_over))) wz.watches
+      (sym (read_is decide.zones.items r.zone z wz.zone_watch h (ap (slice_get decide.zones.items) (zone_of_read r e) ∙ wz.is_zone_watch))) wz.watches
 
   pub own_partner_read : (r : PointWatch) (z : ZoneWatch) → r ≡ get_or decide.points.items answer.point r → z ≡ get_or decide.zones.items r.zone z
       → IsOwnPartner site panel z.partner
-  own_partner_read r z e h = partner_own stands point.zone zone is_zone zone_at z.partner (sym (over_of r z e h).partner)
+  own_partner_read r z e h = partner_own stands point.zone zone is_zone zone_at z.partner (sym (zone_watch_of r z e h).partner)
 
   pub observes_read : (r : PointWatch) (z : ZoneWatch) → r ≡ get_or decide.points.items answer.point r → z ≡ get_or decide.zones.items r.zone z
       → (judgement : Judgement) (own_second partner_second : Option Tick) → Judges site kept done answer judgement
@@ -77,7 +77,7 @@ module _ {site : Site} {kept : Retained} {panel : ℕ} {done : List Done} {taken
     run = (watch_of r e).run;
     floor = judges.floor point is_point;
     own_second = n ∙ ap (λ p. second_of site kept done taken p zone.rule answer) (zone_of_read r e);
-    partner_second = l ∙ ap (λ o. partner_second_of site kept done taken o answer) (over_of r z e h).partner;
+    partner_second = l ∙ ap (λ o. partner_second_of site kept done taken o answer) (zone_watch_of r z e h).partner;
   }
 
 module _ {site : Site} {kept : Retained} {panel : ℕ} {done : List Done} {taken : List Answer} {decide : Decide} (stands :
@@ -91,7 +91,7 @@ module _ {site : Site} {kept : Retained} {panel : ℕ} {done : List Done} {taken
       let p : plan.partner ≡ Some other = sym watches.partner ∙ partner in
       let has = stands.wired.partners place other plan is p in
       let wz = watched_zone stands other has.partner has.is (has.at_panel ∙ at) in
-      let same : y ≡ wz.over = read_is decide.zones.items other y wz.over e wz.is_over in
+      let same : y ≡ wz.zone_watch = read_is decide.zones.items other y wz.zone_watch e wz.is_zone_watch in
       let rule : y.rule ≡ has.partner.rule = ap (λ (o : ZoneWatch). o.rule) same ∙ wz.watches.rule in
       subst (λ o. FindsPartner site plan o seen b) (sym p)
       (subst (λ o. partner_is o seen b) (sym has.is) (

@@ -31,7 +31,7 @@ use Rattle.coincidence.specs.declared.decide.Decide.{Decide}
 use Rattle.coincidence.specs.Parts.{stamp_of, besides_by, besides, other_after, noted, silent_then, point_noted, zone_noted}
 use Rattle.coincidence.specs.Stands.{WatchesPoint, WatchesZone, DecidesFor}
 use Rattle.coincidence.specs.Premises.{IsOwn, MayTake}
-use Rattle.coincidence.proofs.Watched.{read_is, Watched, watched, zone_read, over_read}
+use Rattle.coincidence.proofs.Watched.{read_is, Watched, watched, zone_read, zone_watch_read}
 
 -- one more answer: the newest first, the run, the latest of another point
 latest_more : (point : ℕ) (xs : List Answer) (x : Answer)
@@ -224,9 +224,9 @@ module _ {site : Site} {kept : Retained} {panel : ℕ} {done : List Done} {taken
   pairs_is : counted ≡ is_counted site kept done answer → pairs ≡ may_pair site kept done w.point.zone w.zone.rule answer
   pairs_is c =
       let point : r ≡ w.watch = read_is decide.points.items answer.point r w.watch e w.is_watch in
-      let over : z ≡ w.over = over_read stands answer.point own r z e h in
+      let zone_watch : z ≡ w.zone_watch = zone_watch_read stands answer.point own r z e h in
       let manual : r.manual ≡ w.point.manual = ap (λ (o : PointWatch). o.manual) point ∙ w.watches.manual in
-      let rule : z.rule ≡ w.zone.rule = ap (λ (o : ZoneWatch). o.rule) over ∙ w.watches_zone.rule in
+      let rule : z.rule ≡ w.zone.rule = ap (λ (o : ZoneWatch). o.rule) zone_watch ∙ w.watches_zone.rule in
       ap (λ b. b && (is_type_C z.rule || not r.manual)) c
       ∙ ap (λ q. is_counted site kept done answer && (is_type_C q || not r.manual)) rule
       ∙ ap (λ m. is_counted site kept done answer && (is_type_C w.zone.rule || not m)) manual
@@ -265,7 +265,7 @@ module _ {site : Site} {kept : Retained} {panel : ℕ} {done : List Done} {taken
       (λ here.
       let own_zone : place ≡ w.point.zone = here.0 ∙ zone_read stands answer.point own r e in
       let same : w.zone ≡ zone = same_place site.zones w.point.zone place w.zone zone (sym own_zone) w.is_zone is in
-      let read : z ≡ w.over = over_read stands answer.point own r z e h in
+      let read : z ≡ w.zone_watch = zone_watch_read stands answer.point own r z e h in
       let old : WatchesZone site kept done taken w.point.zone w.zone z =
       subst (WatchesZone site kept done taken w.point.zone w.zone) (sym read) w.watches_zone in
       subst (WatchesZone site kept done (taken ++ answer ∷ []) place zone) here.1
@@ -327,17 +327,17 @@ quiet_noted {site} {kept} {panel} {done} {taken} {decide} stands answer may quie
     let counted = is_counted site kept done answer in
     let uncounted : counted ≡ false = ap (λ b. b && not (is_blocked site kept done answer.point answer.stamp.0)) quiet in
     let floor : Tick = record { 0 = floor_before site q.zone answer.stamp.0 done } in
-    let there : get_or decide.zones.items q.zone w.over ≡ w.over =
-    ap (λ k. get_or decide.zones.items k w.over) (zone_read stands answer.point own q eq) ∙ get_or_from_slice_get decide.zones.items w.point.zone
-    w.over w.over w.is_over
+    let there : get_or decide.zones.items q.zone w.zone_watch ≡ w.zone_watch =
+    ap (λ k. get_or decide.zones.items k w.zone_watch) (zone_read stands answer.point own q eq) ∙ get_or_from_slice_get decide.zones.items w.point.zone
+    w.zone_watch w.zone_watch w.is_zone_watch
     in
     let noted =
-    stands_noted stands answer may q w.over eq (sym there) counted floor s w.over false
+    stands_noted stands answer may q w.zone_watch eq (sym there) counted floor s w.zone_watch false
     (es ∙ sym (ap (λ b. point_noted answer.heard b floor answer.stamp q) uncounted))
-    (sym (ap (λ b. b && (is_type_C w.over.rule || not q.manual)) uncounted)) refl refl refl
+    (sym (ap (λ b. b && (is_type_C w.zone_watch.rule || not q.manual)) uncounted)) refl refl refl
     in
-    let items : set decide.zones.items q.zone w.over ≡ decide.zones.items =
-    ap (set decide.zones.items q.zone) (sym there) ∙ set-get_or decide.zones.items q.zone w.over
+    let items : set decide.zones.items q.zone w.zone_watch ≡ decide.zones.items =
+    ap (set decide.zones.items q.zone) (sym there) ∙ set-get_or decide.zones.items q.zone w.zone_watch
     in
     record {
       wired = noted.wired;

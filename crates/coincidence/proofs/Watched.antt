@@ -38,15 +38,15 @@ pub record Watched (site : Site) (kept : Retained) (panel : ℕ) (done : List Do
   pub zone : ZonePlan
   pub is_zone : slice_get site.zones point.zone ≡ Some zone
   pub zone_at : zone.panel ≡ panel
-  pub over : ZoneWatch
-  pub is_over : slice_get decide.zones.items point.zone ≡ Some over
-  pub watches_zone : WatchesZone site kept done taken point.zone zone over
+  pub zone_watch : ZoneWatch
+  pub is_zone_watch : slice_get decide.zones.items point.zone ≡ Some zone_watch
+  pub watches_zone : WatchesZone site kept done taken point.zone zone zone_watch
 
 pub record WatchedZone (site : Site) (kept : Retained) (done : List Done) (taken : List Answer) (decide : Decide) (place : ℕ) (zone : ZonePlan) :
     Type 0 where
-  pub over : ZoneWatch
-  pub is_over : slice_get decide.zones.items place ≡ Some over
-  pub watches : WatchesZone site kept done taken place zone over
+  pub zone_watch : ZoneWatch
+  pub is_zone_watch : slice_get decide.zones.items place ≡ Some zone_watch
+  pub watches : WatchesZone site kept done taken place zone zone_watch
 
 -- the tick of the last operation on a setting is that of an operation done
 pub set_in_by : (x : ℕ) (setting : Setting) (done : List Done) → AreBy x done → set_in setting done ≤ x
@@ -63,8 +63,8 @@ module _ {site : Site} {kept : Retained} {panel : ℕ} {done : List Done} {taken
       → WatchedZone site kept done taken decide place zone
   watched_zone place zone is at =
       let small = get_small site.zones place zone is in
-      let over = get_any decide.zones.items place (subst (λ n. place < n) (sym stands.zone_count) small) in
-      record { over = over.0; is_over = over.1; watches = stands.zones place over.0 zone over.1 is at }
+      let zone_watch = get_any decide.zones.items place (subst (λ n. place < n) (sym stands.zone_count) small) in
+      record { zone_watch = zone_watch.0; is_zone_watch = zone_watch.1; watches = stands.zones place zone_watch.0 zone zone_watch.1 is at }
 
   pub watched : (place : ℕ) → IsOwn site panel place → Watched site kept panel done taken decide place
   watched place own =
@@ -82,8 +82,8 @@ module _ {site : Site} {kept : Retained} {panel : ℕ} {done : List Done} {taken
         zone = zoned.zone;
         is_zone = zoned.is;
         zone_at = zoned.at_panel ∙ own.at;
-        over = zone.over;
-        is_over = zone.is_over;
+        zone_watch = zone.zone_watch;
+        is_zone_watch = zone.is_zone_watch;
         watches_zone = zone.watches;
       }
 
@@ -97,24 +97,24 @@ module _ {site : Site} {kept : Retained} {panel : ℕ} {done : List Done} {taken
       let w = watched place own in
       ap (λ (x : PointWatch). x.zone) (read_is decide.points.items place r w.watch e w.is_watch) ∙ w.watches.zone
 
-  pub over_read : (place : ℕ) (own : IsOwn site panel place) (r : PointWatch) (z : ZoneWatch) → r ≡ get_or decide.points.items place r
-      → z ≡ get_or decide.zones.items r.zone z → z ≡ (watched place own).over
-  over_read place own r z e h =
+  pub zone_watch_read : (place : ℕ) (own : IsOwn site panel place) (r : PointWatch) (z : ZoneWatch) → r ≡ get_or decide.points.items place r
+      → z ≡ get_or decide.zones.items r.zone z → z ≡ (watched place own).zone_watch
+  zone_watch_read place own r z e h =
       let w = watched place own in
-      read_is decide.zones.items r.zone z w.over h (ap (slice_get decide.zones.items) (zone_read place own r e) ∙ w.is_over)
+      read_is decide.zones.items r.zone z w.zone_watch h (ap (slice_get decide.zones.items) (zone_read place own r e) ∙ w.is_zone_watch)
 
   pub zone_watched : (place : ℕ) (own : IsOwn site panel place) (r : PointWatch) (z : ZoneWatch) → r ≡ get_or decide.points.items place r
       → z ≡ get_or decide.zones.items r.zone z
       → WatchesZone site kept done taken (watched place own).point.zone (watched place own).zone z
   zone_watched place own r z e h =
       let w = watched place own in
-      subst (WatchesZone site kept done taken w.point.zone w.zone) (sym (over_read place own r z e h)) w.watches_zone
+      subst (WatchesZone site kept done taken w.point.zone w.zone) (sym (zone_watch_read place own r z e h)) w.watches_zone
 
   pub zone_small : (place : ℕ) → IsOwn site panel place → (r : PointWatch) → r ≡ get_or decide.points.items place r
       → r.zone < length decide.zones.items
   zone_small place own r e =
       let w = watched place own in
-      subst (λ n. n < length decide.zones.items) (sym (zone_read place own r e)) (get_small decide.zones.items w.point.zone w.over w.is_over)
+      subst (λ n. n < length decide.zones.items) (sym (zone_read place own r e)) (get_small decide.zones.items w.point.zone w.zone_watch w.is_zone_watch)
 
   -- the partner of a zone of the panel is one
   pub partner_own : (place : ℕ) (zone : ZonePlan) → slice_get site.zones place ≡ Some zone → zone.panel ≡ panel → (partner : Option ℕ)
@@ -131,14 +131,14 @@ module _ {site : Site} {kept : Retained} {panel : ℕ} {done : List Done} {taken
       → z ≡ get_or decide.zones.items r.zone z → IsPlaceIn z.partner (length decide.zones.items)
   partner_small place own r z e h =
       let w = watched place own in
-      let same : z.partner ≡ w.zone.partner = ap (λ (x : ZoneWatch). x.partner) (over_read place own r z e h) ∙ w.watches_zone.partner in
+      let same : z.partner ≡ w.zone.partner = ap (λ (x : ZoneWatch). x.partner) (zone_watch_read place own r z e h) ∙ w.watches_zone.partner in
       place_in z.partner (partner_own w.point.zone w.zone w.is_zone w.zone_at z.partner (sym same))
 
   pub number_fits : (place : ℕ) → IsOwn site panel place → (r : PointWatch) (z : ZoneWatch) → r ≡ get_or decide.points.items place r
       → z ≡ get_or decide.zones.items r.zone z → IsNumber z.number
   number_fits place own r z e h =
       let w = watched place own in
-      let same : z.number ≡ w.zone.number = ap (λ (x : ZoneWatch). x.number) (over_read place own r z e h) ∙ w.watches_zone.number in
+      let same : z.number ≡ w.zone.number = ap (λ (x : ZoneWatch). x.number) (zone_watch_read place own r z e h) ∙ w.watches_zone.number in
       subst IsNumber (sym same) (stands.wired.zones w.point.zone w.zone w.is_zone).1
 
   partner_number : (place : ℕ) (zone : ZonePlan) (seen : Observation) (found : PartnerFinding) → (o : Option ZonePlan) → slice_get site.zones place ≡ o
@@ -150,6 +150,19 @@ module _ {site : Site} {kept : Retained} {panel : ℕ} {done : List Done} {taken
       → FindsPartner site zone partner seen found → IsNumber found.number
   partner_number_fits place zone seen found is None h = subst IsNumber (sym h.0) (stands.wired.zones place zone is).1
   partner_number_fits place zone seen found is (Some other) h = partner_number other zone seen found (slice_get site.zones other) refl h
+
+  -- the numbers of the zone and of what is found for its partner
+  pub numbers_fit : (answer : Answer) (fits : Fits site panel done taken answer) (r : PointWatch) (z : ZoneWatch)
+      → r ≡ get_or decide.points.items answer.point r → z ≡ get_or decide.zones.items r.zone z → (seen : Observation) (found : PartnerFinding)
+      → ((place : ℕ) (plan : ZonePlan) → slice_get site.zones place ≡ Some plan → plan.panel ≡ panel → WatchesZone site kept done taken place plan z
+      → FindsPartner site plan plan.partner seen found)
+      → IsNumber z.number × IsNumber found.number
+  numbers_fit answer fits r z e h seen found finds =
+      let w = watched answer.point fits.own in (
+        number_fits answer.point fits.own r z e h,
+        partner_number_fits w.point.zone w.zone seen found w.is_zone w.zone.partner
+            (finds w.point.zone w.zone w.is_zone w.zone_at (zone_watched answer.point fits.own r z e h)),
+      )
 
   -- a switch was not set after a stamp
   pub off_since : (answer : Answer) (fits : Fits site panel done taken answer) (r : PointWatch) → r ≡ get_or decide.points.items answer.point r
@@ -164,7 +177,7 @@ module _ {site : Site} {kept : Retained} {panel : ℕ} {done : List Done} {taken
       → r ≡ get_or decide.points.items answer.point r → z ≡ get_or decide.zones.items r.zone z → z.off.since.0 ≤ answer.stamp.0
   zone_off_since answer fits r z e h =
       let w = watched answer.point fits.own in
-      let same : z ≡ w.over = over_read answer.point fits.own r z e h in
+      let same : z ≡ w.zone_watch = zone_watch_read answer.point fits.own r z e h in
       subst (λ (x : ZoneWatch). x.off.since.0 ≤ answer.stamp.0) (sym same)
       (subst (λ n. n ≤ answer.stamp.0) (sym w.watches_zone.off.since) (set_in_by answer.stamp.0 (ZoneOff w.point.zone) done fits.since))
 
@@ -172,7 +185,7 @@ module _ {site : Site} {kept : Retained} {panel : ℕ} {done : List Done} {taken
       → r ≡ get_or decide.points.items answer.point r → z ≡ get_or decide.zones.items r.zone z → z.test.since.0 ≤ answer.stamp.0
   test_since answer fits r z e h =
       let w = watched answer.point fits.own in
-      let same : z ≡ w.over = over_read answer.point fits.own r z e h in
+      let same : z ≡ w.zone_watch = zone_watch_read answer.point fits.own r z e h in
       subst (λ (x : ZoneWatch). x.test.since.0 ≤ answer.stamp.0) (sym same)
       (subst (λ n. n ≤ answer.stamp.0) (sym w.watches_zone.test.since) (set_in_by answer.stamp.0 (InTest w.point.zone) done fits.since))
 

@@ -1,13 +1,20 @@
-ghost use Rattle.std.specs.Prelude.{◌≡◌, ◌<◌, ◌≤◌, ◌+◌, ◌==◌, ◌&&◌, ℕ, if◌then◌else◌};
+ghost use Rattle.std.specs.Prelude.{◌≡◌, ◌<◌, ◌≤◌, ◌+◌, ◌==◌, ◌&&◌, ℕ, if◌then◌else◌, false};
 ghost use Rattle.site_types.specs.Bits.{has_bit};
 ghost use Rattle.site_types.specs.Changes.{IsNumber};
 
 use site_types::with_bit_32;
 
+/// The mask of the zone with a number, if it is on.
+pub fn one_bit(number: u8, on: bool) -> u32
+    requires { IsNumber number }
+    ensures { (k : ℕ) → k < 32 → has_bit result k ≡ (if (k + 1) == number then on else false) }
+{
+    with_bit_32(0, number - 1, on)
+}
+
 /// A mask of zones with at most two bits: those of two numbers, which may be the same, where the first decides.
 pub fn two_bits(number: u8, on: bool, other: u8, also: bool) -> u32
-    requires number { IsNumber number }
-    requires other { IsNumber other }
+    requires { IsNumber number × IsNumber other }
     ensures { (k : ℕ) → k < 32
         → has_bit result k ≡ (if (k + 1) == number then on else (((k + 1) == other) && also)) }
 {

@@ -2,7 +2,7 @@ ghost use Rattle.std.specs.Prelude.{◌≡◌, ◌<◌, ◌≤◌, [], ◌∷◌
 ghost use Rattle.site_types.specs.Valid.{IsValid};
 ghost use Rattle.tick_units.specs.Lane.{HasRoom, after_turn};
 
-use crate::bits::two_bits;
+use crate::bits::{one_bit, two_bits};
 use crate::judgement::Judgement;
 use crate::observation::Observation;
 use crate::partner_finding::PartnerFinding;
@@ -204,17 +204,19 @@ impl Decide {
         let zone = &self.zones[point.zone as usize];
         let partner_finding = self.partner_finding(zone, &observation);
         let number = zone.number;
+        let counted = one_bit(number, observation.counted);
+        let manual = one_bit(number, observation.calls());
         Finding {
             stamp: answer.stamp,
             point: answer.point,
-            counted: two_bits(number, observation.counted, number, false),
+            counted,
             confirmed: two_bits(
                 number,
                 observation.confirms_own(zone.rule),
                 partner_finding.number,
                 partner_finding.confirmed,
             ),
-            manual: two_bits(number, observation.calls(), number, false),
+            manual,
             released: two_bits(
                 number,
                 observation.releases_own(zone.rule),

@@ -63,7 +63,7 @@ AnswersTellWord =
     → word_at site panel done (findings_of site kept panel done answers) tick fault
     ≡ answered_word site kept panel done answers tick fault
 
--- and so do its faults
+-- its faults go by the answers whose findings it took
 abbrev pub AnswersTellFaults : Type 0
 AnswersTellFaults =
     (site : Site) (kept : Retained) (panel tick : ℕ) (done : List Done) (answers : List Answer) (outside :

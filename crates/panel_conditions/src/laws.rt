@@ -17,7 +17,7 @@ pub fn missing_tells()
     ensures { FindingsTellMissing }
 {}
 
-/// So the word and the faults of a panel go by the answers whose findings it took.
+/// The word and the faults of a panel go by the answers whose findings it took.
 pub fn answers_tell()
     ensures word { AnswersTellWord }
     ensures faults { AnswersTellFaults }

@@ -66,7 +66,7 @@ impl Points {
         self.mark(place, finding.missing);
     }
 
-    // Whether the last finding of a point told the same.
+    // Whether the last finding of a point told it missing, or not, as this one does.
     fn has_told(&self, place: usize, missing: bool) -> bool
         ensures { result ≡ true → slice_get self.now.told.items place ≡ Some missing }
     {

@@ -23,7 +23,7 @@ pub struct ZoneWatch {
     pub cancelled: LastDone,
     /// The latest stamp at which an answer confirmed it; 0 for none, as below.
     pub confirmed: Tick,
-    /// The same of a manual call point.
+    /// The latest stamp at which a manual call point of it confirmed it.
     pub called: Tick,
     /// The latest stamp at which an answer released it.
     pub released: Tick,
@@ -77,7 +77,7 @@ impl ZoneWatch {
         self.cancelled.raise_if(cancelled, at);
     }
 
-    /// Whether the zone is in alarm, and the like, at a tick.
+    /// Whether the zone shows a sign at a tick.
     pub fn shows(&self, sign: Sign, now: Tick) -> bool
         ensures { result ≡ zone_shows sign now.0 self.now }
     {
