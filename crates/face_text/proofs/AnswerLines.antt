@@ -102,13 +102,6 @@ busy_more place count busy size within some none =
 
 -- ---- all answers of a tick whose last line has a place
 
--- how the places of answers, busy panels and the store begin
-abbrev pub first_op : ℕ
-first_op = 1000000
-
-abbrev pub first_busy : ℕ
-first_busy = 1000000 + 2 ^ 64
-
 pub record AreAnswersTold (site : Site) (rank : ℕ) (answers : Answers) : Type 0 where
   pub ops : AreOpsUpTo 0 (rank - 999999) answers.ops
   pub few : length answers.ops ≤ 64

@@ -66,7 +66,3 @@ same_line (byte ∷ line) rest (first ∷ other) behind none nothing same =
     (ap (drop 1) same) in
     let all : byte ∷ line ≡ first ∷ other = (let tail = p.0 in cc) in
     (all, p.1)
-
--- a text without a line end is its own first line
-pub first_lines-unended : (count : ℕ) (text : List ℕ) → line_ends text ≡ 0 → first_lines (suc count) text ≡ text
-first_lines-unended count text none = first_lines-past (suc count) text (omega (arith, none))

@@ -1,5 +1,4 @@
 -- Texts of lists of numbers and of groups.
-use mathlib.Core.Bool.{beq}
 use Rattle.std.proofs.Common.{inl, inr, ◌≡◌, ◌≢◌, ◌⊎◌, ◌≤◌, ◌<◌, ◌∙◌, ◌++◌, ◌+◌, ◌==◌, length, take, drop, get_or}
 use Rattle.std.proofs.Common.{take-append-drop, ℕ, zero, suc, Bool, true, false, List, [], ◌∷◌, Option, Some, None}
 use Rattle.std.proofs.Common.{refl, sym, ap, map, filter, append_assoc, append-nil, arith, if◌then◌else◌}
@@ -13,7 +12,7 @@ use Rattle.site_types.specs.declared.site.Site.{Site}
 use Rattle.face_text.specs.declared.face.Face.{Face}
 use Rattle.face_text.specs.declared.group.Group.{Group}
 use Rattle.face_text.specs.Changes.{change_of, changes_text, group_text, groups_text, numbers_text}
-use Rattle.face_text.specs.Slots.{Slot, Thing, Delays, Sounding, Count, is_named, last_of, line_of, line_of_thing, name_in, number_of_truth, numbers_in, page, shows, slots, slots_of, value_in}
+use Rattle.face_text.specs.Slots.{Slot, Thing, Delays, Sounding, Count, is_named, last_of, line_of_thing, name_in, number_of_truth, numbers_in, page, shows, slots, slots_of, value_in}
 
 -- the texts of one more number
 pub range_more : {A : Type 0} (f : ℕ → List A) (n : ℕ) → flat_map f (range_with_len 1 (n + 1)) ≡ flat_map f (range_with_len 1 n) ++ f (n + 1)

@@ -1,11 +1,9 @@
 -- How a text is parted at its first line end, and how bytes are told to be a line with its end.
-use Rattle.std.proofs.Common.{◌≡◌, ◌∙◌, ◌<◌, ◌≤◌, ◌+◌, ◌++◌, ◌↔◌, ℕ, suc, Bool, true, false, List, [], ◌∷◌, IsTrue, sym, ap, length, get_or, take, drop, take-append-drop, arith}
+use Rattle.std.proofs.Common.{◌≡◌, ◌∙◌, ◌<◌, ◌+◌, ◌++◌, ◌↔◌, ℕ, Bool, true, false, List, [], ◌∷◌, IsTrue, sym, ap, length, get_or, take, drop, take-append-drop, arith}
 use Rattle.std.specs.Prelude.{bytes_eq, if◌then◌else◌}
 use Rattle.std.proofs.lemmas.Bool.{ne_eqb}
 use Rattle.std.proofs.lemmas.List.{append_cancel_left, take-append-le, take_all, take_more}
 use Rattle.std.proofs.lemmas.Slice.Eq.{bytes_eq-Decides}
-use Rattle.std.proofs.Math.Seq.{drop-cons}
-use Rattle.face_text.specs.EntryLines.{IsParted}
 use Rattle.face_text.specs.Reading.{line_ends}
 use Rattle.face_text.proofs.LineEnds.{line_ends-append}
 
@@ -17,22 +15,6 @@ none_more text place within other none =
     let one : line_ends (byte ∷ []) ≡ 0 = ap (λ b. if b then 1 else 0) (ne_eqb byte 10 other) in
     let both = ap line_ends (take_more text place 0 within) ∙ line_ends-append (take place text) (byte ∷ []) in
     omega (arith, both, one, none)
-
--- the first line end is at a place
-pub parted_at : (text : List ℕ) (place : ℕ) → place < length text → get_or text place 0 ≡ 10 → line_ends (take place text) ≡ 0
-    → IsParted text (take place text) (drop (place + 1) text)
-parted_at text place within is none =
-    let next : place + 1 ≡ suc place = omega arith in
-    record {
-      no_end = none;
-      text_is =
-          sym (take-append-drop place text) ∙ ap (λ t. take place text ++ t) (drop-cons text place 0 within) ∙ ap (λ b. take place text ++ b
-          ∷ drop (suc place) text) is
-          ∙ ap (λ n. take place text ++ 10 ∷ drop n text) (sym next);
-    }
-
-pub none_in_all : (text : List ℕ) (place : ℕ) → length text ≤ place → line_ends (take place text) ≡ 0 → line_ends text ≡ 0
-none_in_all text place past none = ap line_ends (sym (take_all place text past)) ∙ none
 
 -- ---- a line with its end
 

@@ -28,6 +28,7 @@ use Rattle.face_text.specs.declared.group.Group.TheVariants.{Zones, Firsts, Miss
 use Rattle.face_text.specs.declared.group.Group.TheVariants.{Silent, Links, Unconfirmed, Outputs, Confirmed}
 use Rattle.face_text.specs.declared.group.Group.TheVariants.{PointsOff, ZonesOff, OutputsOff, Tests}
 use Rattle.face_text.specs.declared.reading.numbered.Numbered.{Numbered}
+use Rattle.face_text.specs.Slots.{kind_of}
 use Rattle.face_text.specs.declared.reply.Reply.{Reply}
 use Rattle.face_text.specs.declared.reply.Reply.TheVariants.{Done, Denied, Waiting, Already, Store}
 use Rattle.site_types.specs.Fields.{field}
@@ -129,24 +130,14 @@ thing_spelled site word first second =
     else (if bytes_eq word (codes "disabled") then disabled_spelled site first second
     else (if bytes_eq word (codes "test") then zone_spelled (λ zone. Tests) site first else None))))))
 
--- the place of the field that tells whether a thing is on: the fourth behind the panel's number where a kind
--- is in front of the name
+-- the place of the field that tells whether a thing is on: the third behind the panel's number, and the
+-- fourth where a kind stands in front of the name
+abbrev pub place_behind : List ℕ → ℕ
+place_behind [] = 3
+place_behind (byte ∷ kind) = 4
+
 abbrev pub truth_place : Group → ℕ
-truth_place (Zones panel) = 3
-truth_place (Firsts panel) = 3
-truth_place (Missing line) = 4
-truth_place Broken = 4
-truth_place Shorted = 4
-truth_place Supplies = 3
-truth_place Silent = 4
-truth_place Links = 4
-truth_place Unconfirmed = 4
-truth_place Outputs = 3
-truth_place Confirmed = 3
-truth_place (PointsOff line) = 4
-truth_place ZonesOff = 4
-truth_place OutputsOff = 4
-truth_place Tests = 3
+truth_place group = place_behind (kind_of group)
 
 -- ---- changes
 

@@ -65,31 +65,15 @@ nothing_behind (byte ∷ rest) past = nothing_is byte rest (byte == 32) (nothing
 pub one_fewer : (count passed : ℕ) → passed < count → count - passed ≡ suc (count - (passed + 1))
 one_fewer count passed below = omega arith
 
-pub none_left : (count passed : ℕ) → count ≤ passed → count - passed ≡ 0
-none_left count passed past = omega arith
-
 pub field_step : (place passed : ℕ) (rest whole : List ℕ) → passed < place → field (place - passed) rest ≡ whole
     → field (place - (passed + 1)) (after_space rest) ≡ whole
 field_step place passed rest whole below is = sym (ap (λ n. field n rest) (one_fewer place passed below)) ∙ is
-
-pub field_end : (place passed : ℕ) (rest whole : List ℕ) → place ≤ passed → field (place - passed) rest ≡ whole → before_space rest ≡ whole
-field_end place passed rest whole past is = sym (ap (λ n. field n rest) (none_left place passed past)) ∙ is
 
 pub each_step : (test : List ℕ → Bool) (count passed : ℕ) (rest : List ℕ) (whole : Bool) → passed < count → test (before_space rest) ≡ true →
     each_field test (count - passed) rest ≡ whole → each_field test (count - (passed + 1)) (after_space rest) ≡ whole
 each_step test count passed rest whole below passes is =
     sym (ap (λ b. b && each_field test (count - (passed + 1)) (after_space rest)) passes) ∙ sym
     (ap (λ n. each_field test n rest) (one_fewer count passed below)) ∙ is
-
-pub each_stop : (test : List ℕ → Bool) (count passed : ℕ) (rest : List ℕ) (whole : Bool) → passed < count → test (before_space rest) ≡ false →
-    each_field test (count - passed) rest ≡ whole → false ≡ whole
-each_stop test count passed rest whole below fails is =
-    sym (ap (λ b. b && each_field test (count - (passed + 1)) (after_space rest)) fails) ∙ sym
-    (ap (λ n. each_field test n rest) (one_fewer count passed below)) ∙ is
-
-pub each_end : (test : List ℕ → Bool) (count passed : ℕ) (rest : List ℕ) (whole : Bool) → count ≤ passed
-    → each_field test (count - passed) rest ≡ whole → true ≡ whole
-each_end test count passed rest whole past is = sym (ap (λ n. each_field test n rest) (none_left count passed past)) ∙ is
 
 -- ---- as the reader of fields finds them
 

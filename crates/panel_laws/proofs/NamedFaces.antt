@@ -4,7 +4,6 @@ use Rattle.std.specs.Prelude.{slice_index, slice_index_or}
 use Rattle.std.specs.List.{range_with_len}
 use Rattle.std.proofs.Math.Path.{fun_ext}
 use Rattle.std.proofs.lemmas.List.FromFn.{get_or-map-range_with_len}
-use Rattle.site_types.specs.declared.buzzer.Buzzer.{Buzzer}
 use Rattle.site_types.specs.declared.fault_set.FaultSet.{FaultSet}
 use Rattle.site_types.specs.declared.point_set.PointSet.{PointSet}
 use Rattle.site_types.specs.declared.site.Site.{Site}
@@ -14,6 +13,7 @@ use Rattle.face_text.specs.declared.face.Face.{Face}
 use Rattle.face_text.specs.declared.group.Group.{Group}
 use Rattle.face_text.specs.declared.group.Group.TheVariants.{Zones, Firsts, Missing, Broken, Shorted, Supplies, Silent, Links, Unconfirmed, Outputs, Confirmed, PointsOff, ZonesOff, OutputsOff, Tests}
 use Rattle.face_text.specs.Slots.{has_loop, is_named, name_in, number_if, output_name, point_name, shows, supply_name, zone_name}
+use Rattle.face_text.proofs.EqualFaces.{faces_from, faults_from}
 use Rattle.face_text.specs.Timelines.{kept_of, kept_points, of_site}
 use Rattle.panel_conditions.specs.Points.{addresses_where, points_where}
 use Rattle.panel_laws.proofs.NamedMasks.{HasNames, bit_is, kept_is, points_named}
@@ -147,36 +147,6 @@ pub record IsNamed (site : Site) (face : Face) : Type 0 where
   pub outputs_off : HasNames 32 (λ k. is_named (output_name site face.panel (1 + k))) face.outputs_off
   pub test : HasNames 32 (λ k. is_named (zone_name site face.panel (1 + k))) face.test
 
-same_faults : (a a' : PointSet) (b b' c c' d d' e e' f f' g g' : ℕ) → a ≡ a' → b ≡ b' → c ≡ c' → d ≡ d' → e ≡ e' → f ≡ f' → g ≡ g' →
-    ◌≡◌ {A = FaultSet}
-    (record { missing = a; broken = b; shorted = c; supply = d; silent = e; links = f; unconfirmed = g })
-    (record { missing = a'; broken = b'; shorted = c'; supply = d'; silent = e'; links = f'; unconfirmed = g' })
-same_faults a a' b b' c c' d d' e e' f f' g g' h1 h2 h3 h4 h5 h6 h7 = rw (h1, h2, h3, h4, h5, h6, h7) refl
-
-module _ (panel : ℕ) (delays_off : Bool) (buzzer : Buzzer) (counter : ℕ) where
-  abbrev face_from : List ℕ → List ℕ → FaultSet → ℕ → ℕ → PointSet → ℕ → ℕ → ℕ → Face
-  face_from zones firsts faults outputs confirmed points_off zones_off outputs_off test =
-      record {
-        panel = panel;
-        zones = zones;
-        firsts = firsts;
-        faults = faults;
-        outputs = outputs;
-        confirmed = confirmed;
-        points_off = points_off;
-        zones_off = zones_off;
-        outputs_off = outputs_off;
-        test = test;
-        delays_off = delays_off;
-        buzzer = buzzer;
-        counter = counter;
-      }
-
-  same_parts : (a a' b b' : List ℕ) (c c' : FaultSet) (d d' e e' : ℕ) (f f' : PointSet) (g g' h h' i i' : ℕ) → a ≡ a' → b ≡ b' → c ≡ c' → d ≡ d'
-      → e ≡ e' → f ≡ f' → g ≡ g' → h ≡ h' → i ≡ i' →
-      face_from a b c d e f g h i ≡ face_from a' b' c' d' e' f' g' h' i'
-  same_parts a a' b b' c c' d d' e e' f f' g g' h h' i i' h1 h2 h3 h4 h5 h6 h7 h8 h9 = rw (h1, h2, h3, h4, h5, h6, h7, h8, h9) refl
-
 module _ (site : Site) (face : Face) (h : IsNamed site face) where
   -- the numbers of a group that has one mask
   one_kept : (group : Group) (count mask : ℕ) (named : ℕ → Bool) → HasNames count named mask
@@ -189,7 +159,7 @@ module _ (site : Site) (face : Face) (h : IsNamed site face) where
   faults_kept : face.faults ≡ (of_site site face).faults
   faults_kept =
       let f = face.faults in
-      same_faults f.missing _ f.broken _ f.shorted _ f.supply _ f.silent _ f.links _ f.unconfirmed _
+      faults_from f (of_site site face).faults
       (points_kept site face Missing f.missing h.faults.missing (λ line number. refl) (λ line number. refl))
       (one_kept Broken 4 f.broken _ h.faults.broken (λ k. refl) (λ k. bit_is f.broken k))
       (one_kept Shorted 4 f.shorted _ h.faults.shorted (λ k. refl) (λ k. bit_is f.shorted k))
@@ -200,8 +170,7 @@ module _ (site : Site) (face : Face) (h : IsNamed site face) where
 
   pub named_is : face ≡ of_site site face
   named_is =
-      same_parts face.panel face.delays_off face.buzzer face.counter face.zones _ face.firsts _ face.faults _ face.outputs _ face.confirmed _
-      face.points_off _ face.zones_off _ face.outputs_off _ face.test _
+      faces_from face (of_site site face) refl
       (zones_kept site face h.zones)
       (firsts_kept site face h.firsts)
       faults_kept
@@ -211,3 +180,4 @@ module _ (site : Site) (face : Face) (h : IsNamed site face) where
       (one_kept ZonesOff 32 face.zones_off _ h.zones_off (λ k. refl) (λ k. bit_is face.zones_off k))
       (one_kept OutputsOff 32 face.outputs_off _ h.outputs_off (λ k. refl) (λ k. bit_is face.outputs_off k))
       (one_kept Tests 32 face.test _ h.test (λ k. refl) (λ k. bit_is face.test k))
+      refl refl refl

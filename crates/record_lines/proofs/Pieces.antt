@@ -6,7 +6,6 @@ use Rattle.site_types.specs.declared.site.Site.{Site}
 use Rattle.record_lines.specs.Judged.{line_view}
 use Rattle.record_lines.specs.Lines.{Reading, byte_refusal, cut, lines_read, reading_of}
 use Rattle.record_lines.specs.Stands.{Answers, EndsLine, Feeds, IsFirst, IsOpen, Keeps, StandsBy, StandsFor, TakesByte, Tells, Uses, over_step}
-use Rattle.record_lines.specs.ReadBack.{StepMayCome}
 use Rattle.record_lines.specs.declared.step.Step.{Step}
 use Rattle.record_lines.specs.declared.step.Step.TheVariants.{Need, Line as LineStep, Refused as RefusedStep}
 use Rattle.record_lines.specs.declared.over.Over.{Over}
@@ -26,14 +25,6 @@ waits_when site before reader over stands = subst (λ o. StandsBy site before re
 
 grow : (before piece : List ℕ) (k : ℕ) → k < length piece → (before ++ take k piece) ++ get_or piece k 0 ∷ [] ≡ before ++ take (k + 1) piece
 grow before piece k within = append_assoc before (take k piece) (get_or piece k 0 ∷ []) ∙ ap (λ t. before ++ t) (sym (take_more piece k 0 within))
-
--- the record stands where its reader does
-pub may_come_when : (site : Site) (before : List ℕ) (reader : LineReader) (step : Step) → reader.over ≡ None → StandsFor site before reader
-    → StepMayCome site reader.so_far step →
-    StepMayCome site (reading_of site before).so_far step
-may_come_when site before reader step over stands may =
-    let waiting = waits_when site before reader over stands in
-    subst (λ s. StepMayCome site s step) (waiting.stands ∙ sym (ap (λ r. r.so_far) (open_is site before reader waiting))) may
 
 no_ending : (site : Site) (bytes : List ℕ) (reader : LineReader) → IsOpen site bytes reader → (reading_of site bytes).ending ≡ None
 no_ending site bytes reader waiting = ap (λ r. r.ending) (open_is site bytes reader waiting) ∙ waiting.going

@@ -1,9 +1,8 @@
 -- Walks over the fields of an order line: so many of its seats are read, and whether all have numbers.
-use Rattle.std.proofs.Common.{◌≡◌, ◌<◌, ◌≤◌, ◌+◌, ◌-◌, ◌++◌, ◌&&◌, ◌∙◌, ℕ, Bool, true, false, List, [], ◌∷◌, refl, sym, ap, append_assoc}
-use Rattle.std.proofs.lemmas.List.{append-nil}
+use Rattle.std.proofs.Common.{◌≡◌, ◌<◌, ◌+◌, ◌-◌, ◌++◌, ◌&&◌, ◌∙◌, ℕ, Bool, true, false, List, [], ◌∷◌, refl, sym, ap, append_assoc}
 use Rattle.tick_units.specs.declared.seat.Seat.{Seat}
 use Rattle.site_types.specs.Fields.{after_space, before_space}
-use Rattle.line_fields.proofs.Spaces.{none_left, one_fewer}
+use Rattle.line_fields.proofs.Spaces.{one_fewer}
 use Rattle.line_fields.specs.Fields.{each_field}
 use Rattle.record_lines.specs.Seats.{is_numbered, seat_of, seats_of}
 
@@ -12,10 +11,6 @@ pub seats_step : (count passed : ℕ) (rest : List ℕ) (before whole : List Sea
 seats_step count passed rest before whole below is =
     append_assoc before (seat_of (before_space rest) ∷ []) (seats_of (count - (passed + 1)) (after_space rest)) ∙ sym
     (ap (λ n. before ++ seats_of n rest) (one_fewer count passed below)) ∙ is
-
-pub seats_end : (count passed : ℕ) (rest : List ℕ) (before whole : List Seat) → count ≤ passed → before ++ seats_of (count - passed) rest ≡ whole
-    → before ≡ whole
-seats_end count passed rest before whole past is = sym (append-nil before) ∙ sym (ap (λ n. before ++ seats_of n rest) (none_left count passed past)) ∙ is
 
 pub seats_on : (count passed : ℕ) (rest front next : List ℕ) (seat : Seat) (before after whole : List Seat) → passed < count → next ≡ after_space rest
     → front ≡ before_space rest →

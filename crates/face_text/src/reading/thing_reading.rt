@@ -8,6 +8,7 @@ ghost use Rattle.face_text.specs.Spelled.{thing_spelled, truth_place as place_of
 
 use crate::group::Group;
 use crate::reading::numbered::Numbered;
+use crate::words::kind_word;
 use line_fields::{is_word, read_octet};
 use site_types::{Output, Point, Site, Thing, Zone};
 
@@ -44,23 +45,7 @@ pub fn read_thing(site: &Site, word: &[u8], first: &[u8], second: &[u8]) -> Opti
 pub fn truth_place(group: Group) -> usize
     ensures { result ≡ place_of_truth group }
 {
-    match group {
-        Group::Zones(_)
-        | Group::Firsts(_)
-        | Group::Supplies
-        | Group::Outputs
-        | Group::Confirmed
-        | Group::Tests => 3,
-        Group::Missing(_)
-        | Group::Broken
-        | Group::Shorted
-        | Group::Silent
-        | Group::Links
-        | Group::Unconfirmed
-        | Group::PointsOff(_)
-        | Group::ZonesOff
-        | Group::OutputsOff => 4,
-    }
+    if kind_word(group).is_empty() { 3 } else { 4 }
 }
 
 // The thing of a fault. A supply stands in the kind's place.
