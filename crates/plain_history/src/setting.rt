@@ -1,11 +1,11 @@
-ghost use Rattle.std.specs.Prelude.{◌≡◌};
-ghost use Rattle.site_types.specs.Done.{in_force as value_at, is_blocked as is_blocked_at};
-ghost use Rattle.plain_history.specs.Histories.{all_done};
-ghost use Rattle.plain_history.specs.Settings.{setting_from};
+ghost use Rattle.std.specs.Prelude.{◌≡◌, option_copied};
+ghost use Rattle.site_types.specs.Done.{is_blocked as is_blocked_at, is_zone_blocked as is_zone_blocked_at};
+ghost use Rattle.plain_history.specs.Settings.{is_set, setting_from, settled};
 
 use crate::done::Done;
 use crate::retained::at_opening;
-use site_types::{Item, Operation, Point, Retained, Site};
+use crate::settings::Settings;
+use site_types::{Item, Operation, Point};
 use tick_units::Tick;
 
 /// What an operation may set until another sets it anew. Points, zones and outputs are places in the site's lists.
@@ -19,53 +19,47 @@ pub enum Setting {
     Counter(u8),
 }
 
-/// The value of a setting at a tick: by the latest operation on it that was done in a tick before, else the
-/// one that is kept.
-pub fn in_force(site: &Site, kept: &Retained, setting: Setting, tick: Tick, done: &[Done]) -> bool
-    ensures { result
-        ≡ value_at site.now kept.now (setting_from setting) tick.0 (all_done done.now) }
-{
-    let mut value = at_opening(site, kept, setting);
-    for one in done {
-        value = value_after(setting, tick, one, value);
+impl Settings<'_> {
+    /// The value of a setting at a tick: by the latest operation on it that was done in a tick before, else the
+    /// one that is kept.
+    pub fn in_force(&self, setting: Setting, tick: Tick) -> bool
+        ensures { result ≡ is_set self.now (setting_from setting) tick.0 }
+    {
+        let mut value = at_opening(self.site, self.kept, setting);
+        for one in self.done {
+            value = value_after(setting, tick, one, value);
+        }
+        value
     }
-    value
-}
 
-/// Whether at a tick a point is disabled, or its zone is disabled or in test.
-pub fn is_blocked(site: &Site, kept: &Retained, done: &[Done], point: usize, tick: Tick) -> bool
-    ensures { result ≡ is_blocked_at site.now kept.now (all_done done.now) point tick.0 }
-{
-    in_force(site, kept, Setting::PointOff(point), tick, done)
-        || is_zone_blocked(site, kept, done, site.points.get(point), tick)
-}
+    /// Whether at a tick a point is disabled, or its zone is disabled or in test.
+    pub fn is_blocked(&self, point: usize, tick: Tick) -> bool
+        ensures { result ≡ settled is_blocked_at self.now point tick.0 }
+    {
+        self.in_force(Setting::PointOff(point), tick)
+            || self.is_zone_blocked(self.site.points.get(point), tick)
+    }
 
-ghost use Rattle.std.specs.Prelude.{◌&&◌, if◌then◌else◌, nat_lt, option_copied, option_map};
-ghost use Rattle.site_types.specs.Done.{is_on as is_on_setting, is_setting, is_zone_blocked as is_zone_blocked_at};
-ghost use Rattle.site_types.specs.Done.{item_off as setting_of_item, operation_setting as setting_of_operation};
-ghost use Rattle.site_types.specs.Done.{same_setting as is_same_setting, value_set as value_given};
-ghost use Rattle.plain_history.specs.Histories.{done_of};
-
-// Whether the zone of a point is disabled or in test.
-fn is_zone_blocked(
-    site: &Site,
-    kept: &Retained,
-    done: &[Done],
-    point: Option<&Point>,
-    tick: Tick,
-) -> bool
-    ensures { result ≡ is_zone_blocked_at site.now kept.now (all_done done.now)
-        (option_copied point.entry) tick.0 }
-{
-    match point {
-        None => false,
-        Some(point) => {
-            let zone = point.zone as usize;
-            in_force(site, kept, Setting::ZoneOff(zone), tick, done)
-                || in_force(site, kept, Setting::InTest(zone), tick, done)
+    // Whether the zone of a point is disabled or in test.
+    fn is_zone_blocked(&self, point: Option<&Point>, tick: Tick) -> bool
+        ensures { result ≡ settled is_zone_blocked_at self.now (option_copied point.entry) tick.0 }
+    {
+        match point {
+            None => false,
+            Some(point) => {
+                let zone = point.zone as usize;
+                self.in_force(Setting::ZoneOff(zone), tick)
+                    || self.in_force(Setting::InTest(zone), tick)
+            }
         }
     }
 }
+
+ghost use Rattle.std.specs.Prelude.{◌&&◌, if◌then◌else◌, nat_lt, option_map};
+ghost use Rattle.site_types.specs.Done.{is_on as is_on_setting, is_setting};
+ghost use Rattle.site_types.specs.Done.{item_off as setting_of_item, operation_setting as setting_of_operation};
+ghost use Rattle.site_types.specs.Done.{same_setting as is_same_setting, value_set as value_given};
+ghost use Rattle.plain_history.specs.Histories.{done_of};
 
 // The value of a setting after one more operation, of those that were done before a tick.
 fn value_after(setting: Setting, tick: Tick, done: &Done, before: bool) -> bool

@@ -16,7 +16,7 @@ use crate::op_answered::OpAnswered;
 use crate::reply::Reply;
 use crate::request::Request;
 use access_levels::allowed;
-use plain_history::{Done, Setting, in_force, is_on, is_same, setting_of, value_set};
+use plain_history::{Done, Setting, Settings, is_on, is_same, setting_of, value_set};
 use site_types::{MOST_OPERATIONS, Retained, Site};
 use std::alloc::Global;
 use tick_units::{NoMemory, Tick};
@@ -123,7 +123,7 @@ impl Outcomes {
         }
     }
 
-    // The same of an operation on a setting, which its panel took and whose level is enough.
+    // What an operation on a setting is answered at once, where its panel took it and its level is enough.
     fn setting_reply(
         &self,
         site: &Site,
@@ -158,7 +158,12 @@ impl Outcomes {
         if let Setting::Counter(_) = setting {
             return false;
         }
-        in_force(site, kept, setting, request.tick, &self.done) == value_set(request.operation)
+        let settings = Settings {
+            site,
+            kept,
+            done: self.done.as_slice(),
+        };
+        settings.in_force(setting, request.tick) == value_set(request.operation)
     }
 
     // Gives an answer, or accepts the operation for Keep where there is none. Tells whether it was done.
