@@ -125,4 +125,5 @@ pub record HasAnswered (site : Site) (kept : Retained) (failed : Bool) (count : 
 abbrev pub AnswersWaiting : Bool → Desk → Desk → Type 0
 AnswersWaiting failed old new =
     (site : Site) (kept : Retained) (before : List Moment) → DesksFor site kept before old
-    → MayTakeKeepTurn site failed before → HasAnswered site kept failed (length (operations site kept before).waiting) before new
+    → MayTakeKeepTurn site failed before
+    → HasAnswered site kept failed (length (operations site kept before).waiting) before new

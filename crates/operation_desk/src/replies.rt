@@ -64,7 +64,9 @@ fn any_waits(waiting: &[Request], setting: Setting) -> bool
     ensures { result ≡ list_any (λ r. is_setting (setting_from setting)
         (operation_setting r.panel r.operation)) waiting.now }
 {
-    waiting.iter().any(|request| is_on(request.panel, request.operation, setting))
+    waiting
+        .iter()
+        .any(|request| is_on(request.panel, request.operation, setting))
 }
 
 fn any_was_done(done: &[DoneOperation], setting: Setting) -> bool

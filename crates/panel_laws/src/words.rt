@@ -25,12 +25,12 @@ pub fn kept_zone_is_caused()
     ensures { KeptZoneIsCaused }
 {}
 
-/// The same of a zone that is released in a word kept.
+/// A zone that is released in a word kept was released by an answer, and no floor before the word's stamp undid it.
 pub fn kept_release_is_caused()
     ensures { KeptReleaseIsCaused }
 {}
 
-/// The same of a zone that is by hand in a word kept.
+/// A zone that is by hand in a word kept was called by an answer, and no floor before the word's stamp undid it.
 pub fn kept_hand_is_caused()
     ensures { KeptHandIsCaused }
 {}

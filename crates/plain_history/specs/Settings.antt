@@ -2,9 +2,13 @@
 use Rattle.std.specs.Prelude.{◌≡◌, ◌<◌, ℕ, ◌==◌, ◌&&◌, Bool, false, List, length, nat_le, nat_lt, Option, if◌then◌else◌}
 use Rattle.std.specs.Prelude.{slice_index_or}
 use Rattle.site_types.specs.declared.site.Site.{Site}
-use Rattle.site_types.specs.Done.{Done as DoneOf, Setting as SettingOf, ZoneOff as ZoneOffOf, InTest as InTestOf}
+use Rattle.site_types.specs.declared.retained.Retained.{Retained}
+use Rattle.site_types.specs.Done.{Done as DoneOf, in_force}
+use Rattle.site_types.specs.Done.{Setting as SettingOf, ZoneOff as ZoneOffOf, InTest as InTestOf}
 use Rattle.site_types.specs.Done.{cancels, is_override, moves_floor, mutes, silence_then}
 use Rattle.plain_history.specs.declared.mark.Mark.{Mark}
+use Rattle.plain_history.specs.declared.settings.Settings.{Settings}
+use Rattle.plain_history.specs.Histories.{all_done}
 use Rattle.plain_history.specs.declared.mark.Mark.TheVariants.{Floor, Cancel, Mute}
 use Rattle.plain_history.specs.declared.settings_shown.ZoneSetting.{ZoneSetting}
 use Rattle.plain_history.specs.declared.settings_shown.ZoneSetting.TheVariants.{Off, Test}
@@ -32,3 +36,11 @@ silence_after panel x d before =
 -- a flag for each output of the site says whether it passes a test
 abbrev pub AreFlags : Site → List Bool → (ℕ → Bool) → Type 0
 AreFlags site flags test = (place : ℕ) → place < length site.outputs → slice_index_or flags place false ≡ test place
+
+-- what a rule makes of the site, of what was kept and of the operations done
+abbrev pub settled : {A : Type 0} → (Site → Retained → List DoneOf → A) → Settings → A
+settled rule settings = rule settings.site.now settings.kept.now (all_done settings.done.now)
+
+-- a setting is in force at a tick
+abbrev pub is_set : Settings → SettingOf → ℕ → Bool
+is_set settings setting tick = in_force settings.site.now settings.kept.now setting tick (all_done settings.done.now)

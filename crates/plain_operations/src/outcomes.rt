@@ -17,7 +17,7 @@ use crate::reply::Reply;
 use crate::request::Request;
 use access_levels::allowed;
 use panel_settings::{Setting, is_same, setting_of, value_set};
-use plain_history::{Done, in_force, is_on};
+use plain_history::{Done, Settings, is_on};
 use site_types::{MOST_OPERATIONS, Retained, Site};
 use std::alloc::Global;
 use tick_units::{NoMemory, Tick};
@@ -124,7 +124,7 @@ impl Outcomes {
         }
     }
 
-    // The same of an operation on a setting, which its panel took and whose level is enough.
+    // What an operation on a setting is answered at once, where its panel took it and its level is enough.
     fn setting_reply(
         &self,
         site: &Site,
@@ -159,7 +159,12 @@ impl Outcomes {
         if let Setting::Counter(_) = setting {
             return false;
         }
-        in_force(site, kept, setting, request.tick, &self.done) == value_set(request.operation)
+        let settings = Settings {
+            site,
+            kept,
+            done: self.done.as_slice(),
+        };
+        settings.in_force(setting, request.tick) == value_set(request.operation)
     }
 
     // Gives an answer, or accepts the operation for Keep where there is none. Tells whether it was done.

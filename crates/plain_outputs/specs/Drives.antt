@@ -95,7 +95,7 @@ module _ (site : Site) (facts : ℕ → List MomentOf → Facts) where
   AreSeenBack (seen ∷ earlier) [] = ⊥
   AreSeenBack (seen ∷ earlier) (moment ∷ before) = IsSeen moment before seen × AreSeenBack earlier before
 
-  -- the same, the oldest first
+  -- what is kept of each moment of a history, the oldest first
   abbrev pub AreSeen : List Seen → List MomentOf → Type 0
   AreSeen seen history = AreSeenBack (reverse seen) history
 

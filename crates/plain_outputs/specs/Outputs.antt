@@ -8,7 +8,9 @@ use Rattle.marker_table.specs.declared.facts.Facts.{Facts as Masks}
 use Rattle.panel_rules.specs.Markers.{Facts}
 use Rattle.panel_rules.specs.Moments.{Moment, Turned, tick_of}
 use Rattle.panel_rules.specs.Faults.{is_unconfirmed}
-use Rattle.panel_rules.specs.Outputs.{delay_of, is_confirmed_out, is_on, is_silenced, panel_of_output}
+use Rattle.panel_rules.specs.Outputs.{delay_of, is_confirmed_out, is_on, is_silenced, outputs_where, panel_of_output}
+use Rattle.plain_history.specs.declared.settings.Settings.{Settings}
+use Rattle.plain_history.specs.Histories.{all_done}
 use Rattle.plain_outputs.specs.declared.driving.Driving.{Driving}
 use Rattle.plain_outputs.specs.declared.output_state.OutputState.{OutputState}
 use Rattle.plain_outputs.specs.declared.output_state.OutputState.TheVariants.{On, Confirmed, Unconfirmed}
@@ -25,9 +27,19 @@ TellsOf site seen rule told =
     (facts : ℕ → List Moment → Facts) (history : List Moment) → AreSeen site facts seen history
     → told ≡ rule facts history
 
+-- a rule of an output, or of a panel, by the facts of each turn of Effect and by settings
+abbrev pub OutputRule : Type 0 → Type 0
+OutputRule A = Site → (ℕ → List Moment → Facts) → Retained → List Done → ℕ → List Moment → A
+
+-- what is told of an output, or of a panel, from the moments seen is what a rule makes of it by some settings
+abbrev pub TellsBy : {A : Type 0} → Settings → ℕ → List Seen → OutputRule A → A → Type 0
+TellsBy settings output seen rule told =
+    TellsOf settings.site.now seen
+    (λ facts. rule settings.site.now facts settings.kept.now (all_done settings.done.now) output) told
+
 module _ (site : Site) (output tick : ℕ) where
-  -- the same at a turn of Drive of an output's panel in a tick, from the moments seen before that turn and those with
-  -- it
+  -- what is told at a turn of Drive of an output's panel in a tick, from the moments seen before that turn and those
+  -- with it, is what a rule makes of its history
   abbrev pub TellsAtDrive : List Seen → List Seen → HistoryRule Bool → Bool → Type 0
   TellsAtDrive before with_turn rule told =
       (facts : ℕ → List Moment → Facts) (history : List Moment) → AreSeen site facts before history
@@ -46,11 +58,23 @@ module _ (site : Site) (output tick : ℕ) where
   ends_delay done first =
       nat_le (first + delay_of site output) tick || override_done_in (panel_of_output site output) first tick done
 
+-- what is told of an output at a turn of Drive in a tick, from the moments seen before that turn and those with it, is
+-- what a rule makes of it by some settings
+abbrev pub TellsByAtDrive : Settings → ℕ → ℕ → List Seen → List Seen → OutputRule Bool → Bool → Type 0
+TellsByAtDrive settings output tick before with_turn rule told =
+    TellsAtDrive settings.site.now output tick before with_turn
+    (λ facts. rule settings.site.now facts settings.kept.now (all_done settings.done.now) output) told
+
 -- an output is in a state after a history
 abbrev pub is_in_state : OutputState → Site → (ℕ → List Moment → Facts) → Retained → List Done → ℕ → List Moment → Bool
 is_in_state On site facts kept done output history = is_on site facts kept done output history
 is_in_state Confirmed site facts kept done output history = is_confirmed_out site facts kept done output history
 is_in_state Unconfirmed site facts kept done output history = is_unconfirmed site facts kept done output history
+
+-- the outputs of a panel that are in a state after a history
+abbrev pub outputs_in_state : OutputState → OutputRule ℕ
+outputs_in_state state site facts kept done panel history =
+    outputs_where site panel (λ output. is_in_state state site facts kept done output history)
 
 -- what is kept of a moment in a tick, where masks are the facts if it is a turn of Effect
 abbrev pub IsSeenAt : Site → Moment → ℕ → Masks → Seen → Type 0

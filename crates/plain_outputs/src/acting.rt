@@ -7,85 +7,81 @@ ghost use Rattle.panel_rules.specs.Outputs.{asked_run, delay_of as delay_in, goe
 ghost use Rattle.panel_rules.specs.Outputs.{is_sounder as is_sounder_in, may_act as may_act_in};
 ghost use Rattle.panel_rules.specs.Outputs.{panel_of_output as panel_in};
 ghost use Rattle.plain_history.specs.Histories.{all_done};
-ghost use Rattle.plain_outputs.specs.Outputs.{TellsAtDrive, TellsOf, TellsSilenced, ends_delay};
+ghost use Rattle.plain_outputs.specs.Outputs.{TellsByAtDrive, TellsOf, TellsSilenced, ends_delay};
 
 use crate::quiet::is_quiet;
 use crate::requests::{is_requested, is_requested_by_hand, panel_of_output};
 use crate::seen::Seen;
 use crate::turns::is_turn;
 use panel_settings::Setting;
-use plain_history::{Done, in_force, override_done_in};
-use site_types::{OutputKind, Retained, Site};
+use plain_history::{Settings, override_done_in};
+use site_types::{OutputKind, Site};
 use tick_units::{Task, Tick};
 
 /// Whether an output is on after a turn of Drive of its panel in a tick, from what was seen before that turn,
 /// and that turn too.
 pub(crate) fn goes_on(
-    site: &Site,
-    kept: &Retained,
-    done: &[Done],
+    settings: &Settings,
     output: u16,
     tick: Tick,
     before: &[Seen],
     turn: &[Seen],
 ) -> bool
-    requires { IsValid site.now }
-    ensures { TellsAtDrive site.now output tick.0 before.now turn.now
-        (λ facts. goes_on_in site.now facts kept.now (all_done done.now) output) result }
+    requires { IsValid settings.now.site.now }
+    ensures { TellsByAtDrive settings.now output tick.0 before.now turn.now goes_on_in result }
 {
-    let is_off = in_force(site, kept, Setting::OutputOff(output as usize), tick, done);
-    let is_silenced = is_silenced(site, done, output, tick, turn);
-    let may_act = may_act(site, kept, done, output, tick, before, turn);
-    (is_requested(site, output, before) && !is_off) && (!is_silenced && may_act)
+    let is_off = settings.in_force(Setting::OutputOff(output as usize), tick);
+    let is_silenced = is_silenced(settings, output, tick, turn);
+    let may_act = may_act(settings, output, tick, before, turn);
+    (is_requested(settings.site, output, before) && !is_off) && (!is_silenced && may_act)
 }
 
 // Whether a silence keeps an output quiet at a turn of Drive.
-fn is_silenced(site: &Site, done: &[Done], output: u16, tick: Tick, turn: &[Seen]) -> bool
-    requires { IsValid site.now }
-    ensures { TellsSilenced site.now output tick.0 (all_done done.now) turn.now result }
+fn is_silenced(settings: &Settings, output: u16, tick: Tick, turn: &[Seen]) -> bool
+    requires { IsValid settings.now.site.now }
+    ensures { TellsSilenced settings.now.site.now output tick.0 (all_done settings.now.done.now)
+        turn.now result }
 {
-    is_sounder(site, output) && is_quiet(site, done, panel_of_output(site, output), tick, turn)
+    is_sounder(settings.site, output)
+        && is_quiet(
+            settings.site,
+            settings.done,
+            panel_of_output(settings.site, output),
+            tick,
+            turn,
+        )
 }
 
 // Whether no delay holds an output back at a turn of Drive.
-fn may_act(
-    site: &Site,
-    kept: &Retained,
-    done: &[Done],
-    output: u16,
-    tick: Tick,
-    before: &[Seen],
-    turn: &[Seen],
-) -> bool
-    requires { IsValid site.now }
-    ensures { TellsAtDrive site.now output tick.0 before.now turn.now
-        (λ facts. may_act_in site.now facts kept.now (all_done done.now) output) result }
+fn may_act(settings: &Settings, output: u16, tick: Tick, before: &[Seen], turn: &[Seen]) -> bool
+    requires { IsValid settings.now.site.now }
+    ensures { TellsByAtDrive settings.now output tick.0 before.now turn.now may_act_in result }
 {
-    let panel = panel_of_output(site, output);
-    (is_requested_by_hand(site, output, before) || delay_of(site, output) == 0)
-        || (in_force(site, kept, Setting::DelaysOff(panel), tick, done)
-            || is_over(site, done, output, tick, turn))
+    let panel = panel_of_output(settings.site, output);
+    (is_requested_by_hand(settings.site, output, before) || delay_of(settings.site, output) == 0)
+        || (settings.in_force(Setting::DelaysOff(panel), tick)
+            || is_over(settings, output, tick, turn))
 }
 
 // Whether from some tick of the run of turns that asked for an output its delay has passed, or an override was done.
-fn is_over(site: &Site, done: &[Done], output: u16, tick: Tick, seen: &[Seen]) -> bool
-    requires { IsValid site.now }
-    ensures { TellsOf site.now seen.now (λ facts history.
-        list_any (ends_delay site.now output tick.0 (all_done done.now))
-        (asked_run site.now facts output history)) result }
+fn is_over(settings: &Settings, output: u16, tick: Tick, seen: &[Seen]) -> bool
+    requires { IsValid settings.now.site.now }
+    ensures { TellsOf settings.now.site.now seen.now (λ facts history.
+        list_any (ends_delay settings.now.site.now output tick.0 (all_done settings.now.done.now))
+        (asked_run settings.now.site.now facts output history)) result }
 {
     match seen {
         [] => false,
         [before @ .., last] => {
-            let panel = panel_of_output(site, output);
+            let panel = panel_of_output(settings.site, output);
             if is_turn(&last.moment, panel, Task::Drive) {
-                let delay = u64::from(delay_of(site, output));
+                let delay = u64::from(delay_of(settings.site, output));
                 let is_past = has_passed(last.tick, delay, tick)
-                    || override_done_in(panel, last.tick, tick, done);
-                is_requested(site, output, before)
-                    && (is_past || is_over(site, done, output, tick, before))
+                    || override_done_in(panel, last.tick, tick, settings.done);
+                is_requested(settings.site, output, before)
+                    && (is_past || is_over(settings, output, tick, before))
             } else {
-                is_over(site, done, output, tick, before)
+                is_over(settings, output, tick, before)
             }
         }
     }

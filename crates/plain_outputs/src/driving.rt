@@ -4,16 +4,16 @@ ghost use Rattle.site_types.specs.declared.site.Site.{Site as SiteOf};
 ghost use Rattle.panel_rules.specs.Markers.{Facts as FactsOf};
 ghost use Rattle.panel_rules.specs.Moments.{Moment as MomentOf};
 ghost use Rattle.plain_outputs.specs.Drives.{DrivesFor};
-ghost use Rattle.plain_history.specs.Histories.{all_done, moment_of};
-ghost use Rattle.plain_outputs.specs.Outputs.{SeesMoment, TellsOf, is_in_state};
+ghost use Rattle.plain_history.specs.Histories.{moment_of};
+ghost use Rattle.plain_outputs.specs.Outputs.{SeesMoment, TellsBy, is_in_state};
 
 use crate::on::is_on;
 use crate::output_state::OutputState;
 use crate::seen::{Seen, ticks};
 use crate::unconfirmed::{is_confirmed, is_unconfirmed};
 use marker_table::Facts;
-use plain_history::{Done, Moment};
-use site_types::{Retained, Site};
+use plain_history::{Moment, Settings};
+use site_types::Site;
 use std::alloc::Global;
 use tick_units::{NoMemory, Tick};
 
@@ -46,23 +46,15 @@ impl Driving {
     }
 
     /// Whether an output is in a state.
-    pub fn is_in(
-        &self,
-        state: OutputState,
-        site: &Site,
-        kept: &Retained,
-        done: &[Done],
-        output: u16,
-    ) -> bool
-        requires { IsValid site.now }
-        ensures { TellsOf site.now self.now.seen.items
-            (λ facts. is_in_state state site.now facts kept.now (all_done done.now) output) result }
+    pub fn is_in(&self, state: OutputState, settings: &Settings, output: u16) -> bool
+        requires { IsValid settings.now.site.now }
+        ensures { TellsBy settings.now output self.now.seen.items (is_in_state state) result }
     {
         let seen = self.seen.as_slice();
         match state {
-            OutputState::On => is_on(site, kept, done, output, seen),
-            OutputState::Confirmed => is_confirmed(site, kept, done, output, seen),
-            OutputState::Unconfirmed => is_unconfirmed(site, kept, done, output, seen),
+            OutputState::On => is_on(settings, output, seen),
+            OutputState::Confirmed => is_confirmed(settings, output, seen),
+            OutputState::Unconfirmed => is_unconfirmed(settings, output, seen),
         }
     }
 }

@@ -9,59 +9,60 @@ ghost use Rattle.panel_rules.specs.Markers.{Facts as FactsOf};
 ghost use Rattle.panel_rules.specs.Moments.{Moment as MomentOf};
 ghost use Rattle.panel_rules.specs.Outputs.{confirmations, is_on as is_on_in, on_run};
 ghost use Rattle.plain_outputs.specs.Drives.{AreSeen, greatest, is_confirmation, newest};
-ghost use Rattle.plain_history.specs.Histories.{all_done, moment_of};
-ghost use Rattle.plain_outputs.specs.Outputs.{TellsOf};
+ghost use Rattle.plain_history.specs.Histories.{moment_of};
+ghost use Rattle.plain_outputs.specs.Outputs.{TellsBy};
 
 use crate::acting::{goes_on, has_passed};
 use crate::requests::panel_of_output;
 use crate::seen::Seen;
 use crate::turns::is_turn;
-use plain_history::{Done, Moment};
-use site_types::{Event, Retained, Site};
+use plain_history::{Moment, Settings};
+use site_types::Event;
 use tick_units::{Task, Tick};
 
 /// Whether an output is on after the latest turn of Drive of its panel.
-pub(crate) fn is_on(site: &Site, kept: &Retained, done: &[Done], output: u16, seen: &[Seen]) -> bool
-    requires { IsValid site.now }
-    ensures { TellsOf site.now seen.now
-        (λ facts. is_on_in site.now facts kept.now (all_done done.now) output) result }
+pub(crate) fn is_on(settings: &Settings, output: u16, seen: &[Seen]) -> bool
+    requires { IsValid settings.now.site.now }
+    ensures { TellsBy settings.now output seen.now is_on_in result }
 {
     match seen {
         [] => false,
         [before @ .., last] => {
-            if is_turn(&last.moment, panel_of_output(site, output), Task::Drive) {
-                goes_on(site, kept, done, output, last.tick, before, seen)
+            if is_turn(
+                &last.moment,
+                panel_of_output(settings.site, output),
+                Task::Drive,
+            ) {
+                goes_on(settings, output, last.tick, before, seen)
             } else {
-                is_on(site, kept, done, output, before)
+                is_on(settings, output, before)
             }
         }
     }
 }
 
 /// The tick of the latest turn of Drive after which an output was on, if it has been on since.
-pub(crate) fn latest_on(
-    site: &Site,
-    kept: &Retained,
-    done: &[Done],
-    output: u16,
-    seen: &[Seen],
-) -> Option<Tick>
-    requires { IsValid site.now }
-    ensures { TellsOf site.now seen.now (λ facts history.
-        newest (on_run site.now facts kept.now (all_done done.now) output history))
+pub(crate) fn latest_on(settings: &Settings, output: u16, seen: &[Seen]) -> Option<Tick>
+    requires { IsValid settings.now.site.now }
+    ensures { TellsBy settings.now output seen.now
+        (λ site facts kept done output history. newest (on_run site facts kept done output history))
         (option_map (λ (tick : TickOf). tick.0) result) }
 {
     match seen {
         [] => None,
         [before @ .., last] => {
-            if is_turn(&last.moment, panel_of_output(site, output), Task::Drive) {
-                if goes_on(site, kept, done, output, last.tick, before, seen) {
+            if is_turn(
+                &last.moment,
+                panel_of_output(settings.site, output),
+                Task::Drive,
+            ) {
+                if goes_on(settings, output, last.tick, before, seen) {
                     Some(last.tick)
                 } else {
                     None
                 }
             } else {
-                latest_on(site, kept, done, output, before)
+                latest_on(settings, output, before)
             }
         }
     }
@@ -69,28 +70,30 @@ pub(crate) fn latest_on(
 
 /// Whether an output has been on since so many ticks before a tick.
 pub(crate) fn was_on_for(
-    site: &Site,
-    kept: &Retained,
-    done: &[Done],
+    settings: &Settings,
     output: u16,
     ticks: u64,
     tick: Tick,
     seen: &[Seen],
 ) -> bool
-    requires { IsValid site.now }
-    ensures { TellsOf site.now seen.now (λ facts history.
+    requires { IsValid settings.now.site.now }
+    ensures { TellsBy settings.now output seen.now (λ site facts kept done output history.
         list_any (λ first. nat_le (first + ticks) tick.0)
-        (on_run site.now facts kept.now (all_done done.now) output history)) result }
+        (on_run site facts kept done output history)) result }
 {
     match seen {
         [] => false,
         [before @ .., last] => {
-            if is_turn(&last.moment, panel_of_output(site, output), Task::Drive) {
-                goes_on(site, kept, done, output, last.tick, before, seen)
+            if is_turn(
+                &last.moment,
+                panel_of_output(settings.site, output),
+                Task::Drive,
+            ) {
+                goes_on(settings, output, last.tick, before, seen)
                     && (has_passed(last.tick, ticks, tick)
-                        || was_on_for(site, kept, done, output, ticks, tick, before))
+                        || was_on_for(settings, output, ticks, tick, before))
             } else {
-                was_on_for(site, kept, done, output, ticks, tick, before)
+                was_on_for(settings, output, ticks, tick, before)
             }
         }
     }

@@ -101,7 +101,7 @@ NetworkTakes tick moment earlier later =
     (site : Site) (kept : Retained) (done : List Done) (before : List MomentOf)
     → StandsFor site kept done before earlier → tick ≡ tick_of before → StandsFor site kept done (moment ∷ before) later
 
--- the same of an event, in any tick
+-- an event befalls the network, in any tick
 abbrev pub NetworkHears : Event → Network → Network → Type 0
 NetworkHears event earlier later =
     (site : Site) (kept : Retained) (done : List Done) (before : List MomentOf)

@@ -8,6 +8,9 @@ use Rattle.panel_rules.specs.Moments.{Moment, tick_of}
 use Rattle.panel_rules.specs.Faces.{face_with}
 use Rattle.panel_rules.specs.Operations.{operations}
 use Rattle.panel_rules.specs.Run.{facts_of}
+use Rattle.plain_history.specs.declared.settings.Settings.{Settings}
+use Rattle.plain_history.specs.Histories.{all_done}
+use Rattle.plain_words.specs.declared.entering.Entering.{Entering}
 use Rattle.plain_outputs.specs.declared.driving.Driving.{Driving}
 use Rattle.plain_panel.specs.declared.network.Network.{Network}
 use Rattle.plain_panel.specs.declared.site_state.SiteState.{SiteState}
@@ -27,9 +30,25 @@ abbrev pub StandsAfter : Site → Retained → List Moment → SiteState → Typ
 StandsAfter site kept history state =
     StandsForSite site kept (operations site kept history).done history state
 
+-- by some settings, what is kept stands for a history: all of it, the entries, what panels show and keep of one
+-- another, what drives outputs
+module _ (settings : Settings) (history : List Moment) where
+  abbrev pub SiteStandsBy : SiteState → Type 0
+  SiteStandsBy state = StandsForSite settings.site.now settings.kept.now (all_done settings.done.now) history state
+
+  abbrev pub AreEnteringBy : List Entering → Type 0
+  AreEnteringBy panels = AreEntering settings.site.now settings.kept.now (all_done settings.done.now) history panels
+
+  abbrev pub ShowsBy : Network → Type 0
+  ShowsBy network = StandsFor settings.site.now settings.kept.now (all_done settings.done.now) history network
+
+  abbrev pub DrivesBy : Driving → Type 0
+  DrivesBy driving =
+      DrivesFor settings.site.now (facts_of settings.site.now settings.kept.now (all_done settings.done.now)) history
+      driving
+
 -- the face that a panel shows in a tick by what the network and the outputs stand for, with what is stored by then
-abbrev pub TellsFace : Site → Retained → List Done → Network → Driving → ℕ → Retained → ℕ → Face → Type 0
-TellsFace site kept done network driving tick stored panel face =
-    (before : List Moment) → StandsFor site kept done before network
-    → DrivesFor site (facts_of site kept done) before driving
-    → tick_of before ≡ tick → face ≡ face_with site kept done stored panel before
+abbrev pub TellsFace : Settings → Network → Driving → ℕ → Retained → ℕ → Face → Type 0
+TellsFace settings network driving tick stored panel face =
+    (before : List Moment) → ShowsBy settings before network → DrivesBy settings before driving → tick_of before ≡ tick
+    → face ≡ face_with settings.site.now settings.kept.now (all_done settings.done.now) stored panel before

@@ -3,14 +3,13 @@
 ghost use Rattle.std.specs.Prelude.{◌≡◌, List};
 ghost use Rattle.site_types.specs.Valid.{IsPanel, IsValid};
 ghost use Rattle.panel_rules.specs.Moments.{Moment as MomentOf};
-ghost use Rattle.plain_history.specs.Histories.{all_done};
 ghost use Rattle.plain_panel.specs.Network.{StandsFor, TellsWords};
 ghost use Rattle.plain_panel.specs.SiteStates.{TellsFace};
 
 use crate::network::Network;
 use face_text::Face;
 use panel_settings::Setting;
-use plain_history::{Done, in_force, outputs_off, points_off, zones_in_test, zones_off};
+use plain_history::Settings;
 use plain_outputs::{Driving, OutputState, outputs_in};
 use site_types::{Retained, Site, Word};
 use tick_units::Tick;
@@ -19,32 +18,29 @@ use tick_units::Tick;
 pub fn face_of(
     network: &Network,
     driving: &Driving,
-    site: &Site,
-    kept: &Retained,
-    done: &[Done],
+    settings: &Settings,
     stored: &Retained,
     panel: u8,
     tick: Tick,
 ) -> Face
-    requires valid { IsValid site.now }
-    requires size { network.now.panels ≡ site.now.panels }
-    requires panel { IsPanel site.now panel }
-    ensures { TellsFace site.now kept.now (all_done done.now) network.now driving.now tick.0
-        stored.now panel result }
+    requires valid { IsValid settings.now.site.now }
+    requires size { network.now.panels ≡ settings.now.site.now.panels }
+    requires panel { IsPanel settings.now.site.now panel }
+    ensures { TellsFace settings.now network.now driving.now tick.0 stored.now panel result }
 {
     Face {
         panel,
-        zones: alarms_shown(network, site, panel),
-        firsts: firsts_shown(network, site, panel),
+        zones: alarms_shown(network, settings.site, panel),
+        firsts: firsts_shown(network, settings.site, panel),
         faults: network.faults(panel),
-        outputs: outputs_in(OutputState::On, driving, site, kept, done, panel),
-        confirmed: outputs_in(OutputState::Confirmed, driving, site, kept, done, panel),
-        points_off: points_off(site, kept, panel, done, tick),
-        zones_off: zones_off(site, kept, panel, done, tick),
-        outputs_off: outputs_off(site, kept, panel, done, tick),
-        test: zones_in_test(site, kept, panel, done, tick),
-        delays_off: in_force(site, kept, Setting::DelaysOff(panel), tick, done),
-        buzzer: network.buzzer(site, done, panel),
+        outputs: outputs_in(OutputState::On, driving, settings, panel),
+        confirmed: outputs_in(OutputState::Confirmed, driving, settings, panel),
+        points_off: settings.points_off(panel, tick),
+        zones_off: settings.zones_off(panel, tick),
+        outputs_off: settings.outputs_off(panel, tick),
+        test: settings.zones_in_test(panel, tick),
+        delays_off: settings.in_force(Setting::DelaysOff(panel), tick),
+        buzzer: network.buzzer(settings.site, settings.done, panel),
         counter: stored.counters[panel as usize - 1],
     }
 }

@@ -11,7 +11,7 @@ ghost use Rattle.plain_panel.specs.Keepings.{StandsForKeeping};
 use crate::face_shown::face_of;
 use crate::keeping::Keeping;
 use face_text::Face;
-use plain_history::Moment;
+use plain_history::{Moment, Settings};
 use site_types::{Retained, Site};
 use std::alloc::Global;
 use tick_units::{NoMemory, Tick};
@@ -55,12 +55,15 @@ fn face_now(
     requires panel { IsPanel site.now panel }
     ensures { result ≡ face_after site.now kept.now panel (history before.now) }
 {
+    let settings = Settings {
+        site,
+        kept,
+        done: keeping.desk.outcomes().done.as_slice(),
+    };
     face_of(
         &keeping.state.network,
         &keeping.state.driving,
-        site,
-        kept,
-        keeping.desk.outcomes().done.as_slice(),
+        &settings,
         &keeping.stored,
         panel,
         tick,

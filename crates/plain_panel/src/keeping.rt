@@ -7,7 +7,7 @@ ghost use Rattle.plain_history.specs.Histories.{history, moment_of};
 ghost use Rattle.plain_panel.specs.Keepings.{StandsForKeeping};
 
 use crate::site_state::SiteState;
-use plain_history::Moment;
+use plain_history::{Moment, Settings};
 use plain_operations::{Desk, make_change, make_changes};
 use plain_words::Entering;
 use site_types::{Change, Retained, Site};
@@ -58,7 +58,7 @@ impl Keeping {
         self.go_on(alloc, site, kept, tick, before, moment, with_it)
     }
 
-    // The same of the desk and of what stands, where what is kept has been stored.
+    // The desk and what stands take one moment more, once what is kept has been stored.
     fn go_on(
         &mut self,
         alloc: Global,
@@ -83,13 +83,16 @@ impl Keeping {
         ensures stored { self.new.stored ≡ self.old.stored }
     {
         let changed = self.desk.step(site, kept, tick, moment)?;
-        let done = self.desk.outcomes().done.as_slice();
+        let settings = Settings {
+            site,
+            kept,
+            done: self.desk.outcomes().done.as_slice(),
+        };
         if changed {
-            self.state = SiteState::over(alloc, site, kept, done, with_it)?;
+            self.state = SiteState::over(alloc, &settings, with_it)?;
             Ok(())
         } else {
-            self.state
-                .step(alloc, site, kept, done, tick, before, moment)
+            self.state.step(alloc, &settings, tick, before, moment)
         }
     }
 

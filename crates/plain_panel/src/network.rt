@@ -17,9 +17,11 @@ use crate::indications::Indications;
 use marker_table::Facts;
 use panel_conditions::{Outside, has_fault, sounds};
 use panel_links::Ring;
-use plain_history::{Done, Moment, broken_loops, muted_before, shorted_loops, shown_supplies};
+use plain_history::{
+    Done, Moment, Settings, broken_loops, muted_before, shorted_loops, shown_supplies,
+};
 use plain_words::Evidence;
-use site_types::{Answer, Buzzer, Event, FaultSet, Retained, Site, Word, mask_from_8};
+use site_types::{Answer, Buzzer, Event, FaultSet, Site, Word, mask_from_8};
 use tick_units::{Task, Tick};
 
 /// What each panel of a site shows of its own and keeps of the others.
@@ -55,25 +57,22 @@ impl Network {
     /// has taken after the turn are given, and its outputs without confirmation then, by bit `number - 1`.
     pub fn hold(
         &mut self,
-        site: &Site,
-        kept: &Retained,
-        done: &[Done],
+        settings: &Settings,
         before: &[Moment],
         now: Tick,
         panel: u8,
         answers: &[Answer],
         unconfirmed: u32,
     )
-        ensures stands { TakesHold site.now (history before.now) now.0 panel unconfirmed
-            kept.now (all_done done.now) answers.now self.old self.new }
+        ensures stands { TakesHold settings.now.site.now (history before.now) now.0 panel
+            unconfirmed settings.now.kept.now (all_done settings.now.done.now) answers.now self.old
+            self.new }
         ensures panels { self.new.panels ≡ self.old.panels }
     {
         if panel >= 1 && panel <= self.panels {
-            let outside = self.outside(site, before, now, panel, unconfirmed);
+            let outside = self.outside(settings.site, before, now, panel, unconfirmed);
             let evidence = Evidence {
-                site,
-                kept,
-                done,
+                settings: *settings,
                 answers,
             };
             let faults = evidence.answered_faults(panel, now, &outside);

@@ -3,15 +3,15 @@ ghost use Rattle.site_types.specs.declared.retained.Retained.{Retained as Retain
 ghost use Rattle.site_types.specs.Done.{Done as DoneOf};
 ghost use Rattle.site_types.specs.Valid.{IsValid};
 ghost use Rattle.panel_rules.specs.Moments.{tick_of};
-ghost use Rattle.plain_history.specs.Histories.{all_done, history, moment_of};
-ghost use Rattle.plain_panel.specs.SiteStates.{StandsForSite};
+ghost use Rattle.plain_history.specs.Histories.{history, moment_of};
+ghost use Rattle.plain_panel.specs.SiteStates.{AreEnteringBy, DrivesBy, ShowsBy, SiteStandsBy, StandsForSite};
 
 use crate::network::Network;
 use marker_table::Facts;
-use plain_history::{Done, Moment, tick_after};
+use plain_history::{Moment, Settings, tick_after};
 use plain_outputs::{Driving, OutputState, outputs_in};
 use plain_words::{Entering, all_new, held_at, step_all};
-use site_types::{Retained, Site};
+use site_types::Site;
 use std::alloc::Global;
 use tick_units::{NoMemory, Task, Tick};
 
@@ -41,81 +41,65 @@ impl SiteState {
     pub fn step(
         &mut self,
         alloc: Global,
-        site: &Site,
-        kept: &Retained,
-        done: &[Done],
+        settings: &Settings,
         tick: Tick,
         before: &[Moment],
         moment: &Moment,
     ) -> Result<(), NoMemory>
-        requires valid { IsValid site.now }
-        requires stands { StandsForSite site.now kept.now (all_done done.now)
-            (history before.now) self.old }
+        requires valid { IsValid settings.now.site.now }
+        requires stands { SiteStandsBy settings.now (history before.now) self.old }
         requires ticks { tick_of (history before.now) ≡ tick.0 }
         ensures { OnOk result
-            (StandsForSite site.now kept.now (all_done done.now) (moment_of moment.now
-            ∷ history before.now) self.new) }
+            (SiteStandsBy settings.now (moment_of moment.now ∷ history before.now) self.new) }
     {
-        step_all(&mut self.panels, alloc, site, kept, done, tick, moment)?;
-        let facts = facts_now(&self.network, site, moment);
-        self.driving.step(site, moment, &facts)?;
-        self.hear(site, kept, done, tick, before, moment);
+        step_all(&mut self.panels, alloc, settings, tick, moment)?;
+        let facts = facts_now(&self.network, settings.site, moment);
+        self.driving.step(settings.site, moment, &facts)?;
+        self.hear(settings, tick, before, moment);
         Ok(())
     }
 
     /// What stands after some moments.
     pub fn over(
         alloc: Global,
-        site: &Site,
-        kept: &Retained,
-        done: &[Done],
+        settings: &Settings,
         moments: &[Moment],
     ) -> Result<SiteState, NoMemory>
-        requires { IsValid site.now }
-        ensures { IfOk result (λ state. StandsForSite site.now kept.now (all_done done.now)
-            (history moments.now) state) }
+        requires { IsValid settings.now.site.now }
+        ensures { IfOk result (λ state. SiteStandsBy settings.now (history moments.now) state) }
     {
-        let mut state = SiteState::new(alloc, site)?;
+        let mut state = SiteState::new(alloc, settings.site)?;
         let mut tick = Tick(0);
         for place in 0..moments.len() {
             let moment = moments[place];
-            state.step(alloc, site, kept, done, tick, &moments[..place], &moment)?;
+            state.step(alloc, settings, tick, &moments[..place], &moment)?;
             tick = tick_after(tick, &moment)?;
         }
         Ok(state)
     }
 
     // The panel whose Hold has its turn shows what it took; the ring takes what else befalls.
-    fn hear(
-        &mut self,
-        site: &Site,
-        kept: &Retained,
-        done: &[Done],
-        tick: Tick,
-        before: &[Moment],
-        moment: &Moment,
-    )
-        requires valid { IsValid site.now }
-        requires panels { AreEntering site.now kept.now (all_done done.now) (moment_of moment.now
-            ∷ history before.now) self.old.panels.items }
-        requires network { StandsFor site.now kept.now (all_done done.now) (history before.now)
-            self.old.network }
-        requires driving { DrivesFor site.now (facts_of site.now kept.now (all_done done.now))
-            (moment_of moment.now ∷ history before.now) self.old.driving }
+    fn hear(&mut self, settings: &Settings, tick: Tick, before: &[Moment], moment: &Moment)
+        requires valid { IsValid settings.now.site.now }
+        requires panels { AreEnteringBy settings.now (moment_of moment.now ∷ history before.now)
+            self.old.panels.items }
+        requires network { ShowsBy settings.now (history before.now) self.old.network }
+        requires driving { DrivesBy settings.now (moment_of moment.now ∷ history before.now)
+            self.old.driving }
         requires ticks { tick_of (history before.now) ≡ tick.0 }
         ensures panels { self.new.panels ≡ self.old.panels }
-        ensures network { StandsFor site.now kept.now (all_done done.now) (moment_of moment.now
-            ∷ history before.now) self.new.network }
+        ensures network { ShowsBy settings.now (moment_of moment.now ∷ history before.now)
+            self.new.network }
         ensures driving { self.new.driving ≡ self.old.driving }
     {
         match holder(moment) {
             None => self.network.step(tick, moment),
             Some(panel) => {
                 let state = OutputState::Unconfirmed;
-                let unconfirmed = outputs_in(state, &self.driving, site, kept, done, panel);
+                let unconfirmed = outputs_in(state, &self.driving, settings, panel);
                 let held = held_at(&self.panels, panel);
                 self.network
-                    .hold(site, kept, done, before, tick, panel, held, unconfirmed);
+                    .hold(settings, before, tick, panel, held, unconfirmed);
             }
         }
     }
@@ -126,9 +110,8 @@ ghost use Rattle.std.specs.Prelude.{MatchOption};
 ghost use Rattle.tick_units.specs.declared.task.Task.TheVariants.{Hold as HoldTask};
 ghost use Rattle.panel_rules.specs.Moments.{Moment as MomentOf};
 ghost use Rattle.panel_rules.specs.Run.{facts_of};
-ghost use Rattle.plain_outputs.specs.Drives.{AreFactsOfTurn, DrivesFor};
+ghost use Rattle.plain_outputs.specs.Drives.{AreFactsOfTurn};
 ghost use Rattle.panel_bridges.specs.FactMasks.{AreFacts};
-ghost use Rattle.plain_words.specs.Enterings.{AreEntering};
 ghost use Rattle.plain_panel.specs.Network.{IsNotHold, StandsFor};
 
 // The panel whose Hold has its turn, where a moment is that.

@@ -9,6 +9,8 @@ use Rattle.coincidence_rules.specs.Alarm.{is_in_alarm}
 use Rattle.coincidence_rules.specs.Places.{zones_where}
 use Rattle.panel_rules.specs.Batches.{new_entries}
 use Rattle.panel_rules.specs.Moments.{Moment, Turned, latest_turn, tick_of}
+use Rattle.plain_history.specs.declared.settings.Settings.{Settings}
+use Rattle.plain_history.specs.Histories.{all_done}
 use Rattle.plain_words.specs.declared.entering.Entering.{Entering}
 use Rattle.plain_words.specs.Askings.{AsksSome, StandsForAsking}
 
@@ -68,3 +70,13 @@ module _ (site : Site) (kept : Retained) (done : List Done) (tick : ℕ) where
   abbrev pub holds_fire_alarm : List Answer → ℕ → Bool
   holds_fire_alarm answers panel =
       not (zones_where site panel (λ zone. is_in_alarm site kept done answers zone tick) == 0)
+
+-- a moment, or a turn of the panel's own Hold, or a moment for all panels, stands in entries by some settings
+abbrev pub EntersBy : Settings → ℕ → Moment → Entering → Entering → Type 0
+EntersBy settings = EntersWith settings.site.now settings.kept.now (all_done settings.done.now)
+
+abbrev pub EntersAtHoldBy : Settings → ℕ → Entering → Entering → Type 0
+EntersAtHoldBy settings = EntersAtHold settings.site.now settings.kept.now (all_done settings.done.now)
+
+abbrev pub AllEnterBy : Settings → ℕ → Moment → List Entering → List Entering → Type 0
+AllEnterBy settings = AllEnterWith settings.site.now settings.kept.now (all_done settings.done.now)

@@ -5,7 +5,7 @@ ghost use Rattle.std.specs.List.{list_any};
 ghost use Rattle.coincidence_rules.specs.Alarm.{is_by_hand as is_by_hand_by, is_in_alarm as is_in_alarm_by};
 ghost use Rattle.coincidence_rules.specs.Alarm.{is_released as is_released_by};
 ghost use Rattle.coincidence_rules.specs.First.{is_first as is_first_state_by, tells_first as tells_first_by};
-ghost use Rattle.plain_words.specs.Judging.{judged, settled};
+ghost use Rattle.plain_words.specs.Judging.{judged, weighed};
 
 use crate::counted::is_within;
 use crate::evidence::Evidence;
@@ -19,7 +19,7 @@ impl Evidence<'_> {
     pub(crate) fn is_in_alarm(&self, zone: usize, tick: Tick) -> bool
         ensures { result ≡ judged is_in_alarm_by self.now zone tick.0 }
     {
-        let floor = floor_before(self.site, zone, tick, self.done);
+        let floor = floor_before(self.settings.site, zone, tick, self.settings.done);
         self.answers.iter().any(|answer| floor.0 < answer.stamp.0 && self.confirms(zone, answer))
     }
 
@@ -27,7 +27,7 @@ impl Evidence<'_> {
     pub(crate) fn is_by_hand(&self, zone: usize, tick: Tick) -> bool
         ensures { result ≡ judged is_by_hand_by self.now zone tick.0 }
     {
-        let floor = floor_before(self.site, zone, tick, self.done);
+        let floor = floor_before(self.settings.site, zone, tick, self.settings.done);
         self.answers.iter().any(|answer| floor.0 < answer.stamp.0 && self.calls(zone, answer))
     }
 
@@ -35,7 +35,7 @@ impl Evidence<'_> {
     pub(crate) fn is_released(&self, zone: usize, tick: Tick) -> bool
         ensures { result ≡ judged is_released_by self.now zone tick.0 }
     {
-        let floor = floor_before(self.site, zone, tick, self.done);
+        let floor = floor_before(self.settings.site, zone, tick, self.settings.done);
         self.answers.iter().any(|answer| floor.0 < answer.stamp.0 && self.releases(zone, answer))
     }
 
@@ -43,7 +43,7 @@ impl Evidence<'_> {
     pub(crate) fn is_first(&self, zone: usize, tick: Tick) -> bool
         ensures { result ≡ judged is_first_state_by self.now zone tick.0 }
     {
-        match rule_at(self.site, zone) {
+        match rule_at(self.settings.site, zone) {
             Some(Rule::B { within }) => {
                 !self.is_in_alarm(zone, tick) && self.has_told(within, zone, tick)
             }
@@ -54,7 +54,7 @@ impl Evidence<'_> {
     // Whether a detector of a zone told at most so many ticks before a tick.
     fn has_told(&self, within: u16, zone: usize, tick: Tick) -> bool
         ensures { result
-            ≡ list_any (settled tells_first_by self.now within zone tick.0) self.now.answers.now }
+            ≡ list_any (weighed tells_first_by self.now within zone tick.0) self.now.answers.now }
     {
         self.answers
             .iter()
@@ -62,13 +62,14 @@ impl Evidence<'_> {
     }
 
     fn tells_first(&self, within: u16, zone: usize, tick: Tick, answer: &Answer) -> bool
-        ensures { result ≡ settled tells_first_by self.now within zone tick.0 answer.now }
+        ensures { result ≡ weighed tells_first_by self.now within zone tick.0 answer.now }
     {
-        is_of(self.site, zone, answer.point)
-            && is_detector(self.site, answer.point)
+        is_of(self.settings.site, zone, answer.point)
+            && is_detector(self.settings.site, answer.point)
             && self.is_counted(answer)
-            && floor_before(self.site, zone, tick, self.done).0 < answer.stamp.0
-            && cancelled_before(self.site, zone, tick, self.done).0 < answer.stamp.0
+            && floor_before(self.settings.site, zone, tick, self.settings.done).0 < answer.stamp.0
+            && cancelled_before(self.settings.site, zone, tick, self.settings.done).0
+                < answer.stamp.0
             && is_within(answer.stamp, tick, within)
     }
 }

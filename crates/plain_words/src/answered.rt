@@ -2,16 +2,13 @@
 
 ghost use Rattle.std.specs.Prelude.{◌≡◌, ◌≤◌, ℕ, option_copied};
 ghost use Rattle.std.specs.List.{list_any};
-ghost use Rattle.site_types.specs.Done.{in_force as value_at};
 ghost use Rattle.coincidence_rules.specs.Places.{on_zone, zones_where};
 ghost use Rattle.panel_conditions.specs.Answered.{answered_faults as answered_faults_by};
 ghost use Rattle.panel_conditions.specs.Answered.{answered_word as answered_word_by};
 ghost use Rattle.panel_conditions.specs.Missing.{is_off as is_off_at, zone_is_off as zone_is_off_at};
 ghost use Rattle.panel_conditions.specs.Points.{addresses_where, on_point, points_where};
-ghost use Rattle.plain_history.specs.Histories.{all_done};
-ghost use Rattle.panel_settings.specs.Settings.{setting_from};
 ghost use Rattle.plain_words.specs.MissingPoints.{is_shown_missing, lies_among};
-ghost use Rattle.plain_words.specs.Judging.{judged, settled};
+ghost use Rattle.plain_words.specs.Judging.{judged, weighed};
 ghost use Rattle.plain_words.specs.ZoneStates.{zone_in_state as zone_in_state_by};
 
 use crate::evidence::Evidence;
@@ -19,17 +16,16 @@ use crate::missing::is_missing;
 use crate::zone_state::ZoneState;
 use panel_conditions::Outside;
 use panel_settings::Setting;
-use plain_history::{
-    addresses_that, in_force, numbers_that, point_at, points_in_halves, zone_at,
-};
+use plain_history::{addresses_that, numbers_that, point_at, points_in_halves, zone_at};
 use site_types::{FaultSet, Point, PointSet, Site, Word};
 use tick_units::Tick;
 
 impl Evidence<'_> {
     /// The word of a panel at a tick, which tells a fault where it is so said.
     pub fn answered_word(&self, panel: u8, tick: Tick, fault: bool) -> Word
-        ensures { result ≡ answered_word_by self.now.site.now self.now.kept.now panel
-            (all_done self.now.done.now) self.now.answers.now tick.0 fault }
+        ensures { result
+            ≡ weighed (λ site kept done. answered_word_by site kept panel done) self.now
+            self.now.answers.now tick.0 fault }
     {
         let mask = |state| self.zones_in_state(state, panel, tick);
         Word {
@@ -44,8 +40,9 @@ impl Evidence<'_> {
 
     /// The faults of a panel at a tick, of which all but the missing points are told from outside.
     pub fn answered_faults(&self, panel: u8, tick: Tick, outside: &Outside) -> FaultSet
-        ensures { result ≡ answered_faults_by self.now.site.now self.now.kept.now panel
-            (all_done self.now.done.now) self.now.answers.now tick.0 outside.now }
+        ensures { result
+            ≡ weighed (λ site kept done. answered_faults_by site kept panel done) self.now
+            self.now.answers.now tick.0 outside.now }
     {
         FaultSet {
             missing: self.missing_points(panel, tick),
@@ -60,11 +57,11 @@ impl Evidence<'_> {
 
     /// The mask of the panel's zones that are in a state.
     pub(crate) fn zones_in_state(&self, state: ZoneState, panel: u8, tick: Tick) -> u32
-        ensures { result ≡ zones_where self.now.site.now panel
+        ensures { result ≡ zones_where self.now.settings.site.now panel
             (λ (zone : ℕ). judged (zone_in_state_by state) self.now zone tick.0) }
     {
         numbers_that(|number| {
-            let zone = zone_at(self.site, panel, number);
+            let zone = zone_at(self.settings.site, panel, number);
             self.found_in_state(state, zone, tick)
         })
     }
@@ -82,7 +79,7 @@ impl Evidence<'_> {
 
     // The points of the panel that are shown as missing.
     fn missing_points(&self, panel: u8, tick: Tick) -> PointSet
-        ensures { result ≡ points_where self.now.site.now panel
+        ensures { result ≡ points_where self.now.settings.site.now panel
             (judged is_shown_missing self.now tick.0) }
     {
         points_in_halves(|line, past| self.missing_on(panel, tick, line, past))
@@ -91,14 +88,14 @@ impl Evidence<'_> {
     // The missing points among 96 addresses of a line that come after so many.
     fn missing_on(&self, panel: u8, tick: Tick, line: u8, past: u8) -> u128
         requires { past ≤ 96 }
-        ensures { result ≡ addresses_where self.now.site.now panel
+        ensures { result ≡ addresses_where self.now.settings.site.now panel
             (judged is_shown_missing self.now tick.0) line past }
     {
-        if !has_points(self.site, panel, line, past) {
+        if !has_points(self.settings.site, panel, line, past) {
             return 0;
         }
         addresses_that(past, |address| {
-            let point = point_at(self.site, panel, line, address);
+            let point = point_at(self.settings.site, panel, line, address);
             self.point_is_missing(point, tick)
         })
     }
@@ -115,28 +112,21 @@ impl Evidence<'_> {
 
     // Whether a point or its zone is disabled at a tick.
     fn is_off(&self, place: usize, tick: Tick) -> bool
-        ensures { result ≡ settled is_off_at self.now place tick.0 }
+        ensures { result ≡ weighed is_off_at self.now place tick.0 }
     {
-        self.is_set(Setting::PointOff(place), tick)
-            || self.zone_is_off(self.site.points.get(place), tick)
+        self.settings.in_force(Setting::PointOff(place), tick)
+            || self.zone_is_off(self.settings.site.points.get(place), tick)
     }
 
     fn zone_is_off(&self, point: Option<&Point>, tick: Tick) -> bool
-        ensures { result ≡ settled zone_is_off_at self.now (option_copied point.entry) tick.0 }
+        ensures { result ≡ weighed zone_is_off_at self.now (option_copied point.entry) tick.0 }
     {
         match point {
             None => false,
-            Some(point) => self.is_set(Setting::ZoneOff(point.zone as usize), tick),
+            Some(point) => self
+                .settings
+                .in_force(Setting::ZoneOff(point.zone as usize), tick),
         }
-    }
-
-    // Whether a setting is in force at a tick.
-    fn is_set(&self, setting: Setting, tick: Tick) -> bool
-        ensures { result
-            ≡ value_at self.now.site.now self.now.kept.now (setting_from setting) tick.0
-            (all_done self.now.done.now) }
-    {
-        in_force(self.site, self.kept, setting, tick, self.done)
     }
 }
 

@@ -7,7 +7,7 @@ ghost use Rattle.coincidence_rules.specs.Confirmed.{coincides as coincides_by, c
 ghost use Rattle.coincidence_rules.specs.Confirmed.{counts_throughout as counts_throughout_by};
 ghost use Rattle.coincidence_rules.specs.Confirmed.{is_by_call_point as is_by_call_point_so, is_near as is_near_by};
 ghost use Rattle.coincidence_rules.specs.Confirmed.{is_verified as is_verified_by};
-ghost use Rattle.plain_words.specs.Judging.{judged, settled};
+ghost use Rattle.plain_words.specs.Judging.{judged, weighed};
 
 use crate::counted::is_between;
 use crate::evidence::Evidence;
@@ -20,23 +20,23 @@ impl Evidence<'_> {
         ensures { result ≡ judged confirms_by self.now zone answer.now }
     {
         self.is_counted(answer)
-            && (is_by_call_point(self.site, zone, answer.point)
-                || (is_detector(self.site, answer.point)
-                    && self.coincides(zone, rule_at(self.site, zone), answer)))
+            && (is_by_call_point(self.settings.site, zone, answer.point)
+                || (is_detector(self.settings.site, answer.point)
+                    && self.coincides(zone, rule_at(self.settings.site, zone), answer)))
     }
 
     /// Whether an answer counts and is of a manual call point of a zone.
     pub(crate) fn calls(&self, zone: usize, answer: &Answer) -> bool
-        ensures { result ≡ settled calls_by self.now zone answer.now }
+        ensures { result ≡ weighed calls_by self.now zone answer.now }
     {
-        self.is_counted(answer) && is_by_call_point(self.site, zone, answer.point)
+        self.is_counted(answer) && is_by_call_point(self.settings.site, zone, answer.point)
     }
 
     /// Whether an answer releases a zone.
     pub(crate) fn releases(&self, zone: usize, answer: &Answer) -> bool
         ensures { result ≡ judged releases_by_rule self.now zone answer.now }
     {
-        match rule_at(self.site, zone) {
+        match rule_at(self.settings.site, zone) {
             Some(Rule::C) => self.calls(zone, answer) || self.has_second(zone, answer),
             _ => self.confirms(zone, answer),
         }
@@ -48,9 +48,9 @@ impl Evidence<'_> {
     {
         match rule {
             None => false,
-            Some(Rule::Plain) | Some(Rule::C) => is_of(self.site, zone, answer.point),
+            Some(Rule::Plain) | Some(Rule::C) => is_of(self.settings.site, zone, answer.point),
             Some(Rule::A { verify, within }) => {
-                is_of(self.site, zone, answer.point)
+                is_of(self.settings.site, zone, answer.point)
                     && (self.is_verified(verify, zone, answer)
                         || self.has_near(within, zone, answer))
             }
@@ -82,7 +82,7 @@ impl Evidence<'_> {
     // Whether another detector of the zone told shortly before.
     fn has_near(&self, within: u16, zone: usize, answer: &Answer) -> bool
         ensures { result
-            ≡ list_any (settled is_near_by self.now within zone answer.now) self.now.answers.now }
+            ≡ list_any (weighed is_near_by self.now within zone answer.now) self.now.answers.now }
     {
         self.answers
             .iter()

@@ -5,30 +5,32 @@ ghost use Rattle.coincidence_rules.specs.Counted.{is_alarm as is_alarm_heard, is
 ghost use Rattle.coincidence_rules.specs.Confirmed.{is_between as is_between_stamps};
 ghost use Rattle.coincidence_rules.specs.Confirmed.{is_first_of_run as is_first_of_run_by, is_near as is_near_by};
 ghost use Rattle.coincidence_rules.specs.Confirmed.{is_second as is_second_by, is_uncancelled as is_uncancelled_by};
-ghost use Rattle.plain_words.specs.Judging.{settled};
+ghost use Rattle.plain_words.specs.Judging.{weighed};
 
 use crate::evidence::Evidence;
 use crate::places::{is_detector, is_of};
-use plain_history::{cancelled_before, floor_before, is_blocked};
+use plain_history::{cancelled_before, floor_before};
 use site_types::{Answer, Heard};
 use tick_units::Tick;
 
 impl Evidence<'_> {
     /// Whether an answer counts.
     pub(crate) fn is_counted(&self, answer: &Answer) -> bool
-        ensures { result ≡ settled is_counted_by self.now answer.now }
+        ensures { result ≡ weighed is_counted_by self.now answer.now }
     {
-        let point = answer.point as usize;
-        is_alarm(answer.heard) && !is_blocked(self.site, self.kept, self.done, point, answer.stamp)
+        is_alarm(answer.heard)
+            && !self
+                .settings
+                .is_blocked(answer.point as usize, answer.stamp)
     }
 
     /// Whether the other answer is of another point of the zone, counts, was not given later and lies after each
     /// floor that came before the answer.
     pub(crate) fn is_second(&self, zone: usize, answer: &Answer, other: &Answer) -> bool
-        ensures { result ≡ settled is_second_by self.now zone answer.now other.now }
+        ensures { result ≡ weighed is_second_by self.now zone answer.now other.now }
     {
-        let floor = floor_before(self.site, zone, answer.stamp, self.done);
-        is_of(self.site, zone, other.point)
+        let floor = floor_before(self.settings.site, zone, answer.stamp, self.settings.done);
+        is_of(self.settings.site, zone, other.point)
             && self.is_counted(other)
             && other.point != answer.point
             && floor.0 < other.stamp.0
@@ -37,10 +39,10 @@ impl Evidence<'_> {
 
     /// Whether it is so of a detector, at most so many ticks before the answer.
     pub(crate) fn is_near(&self, within: u16, zone: usize, answer: &Answer, other: &Answer) -> bool
-        ensures { result ≡ settled is_near_by self.now within zone answer.now other.now }
+        ensures { result ≡ weighed is_near_by self.now within zone answer.now other.now }
     {
         self.is_second(zone, answer, other)
-            && is_detector(self.site, other.point)
+            && is_detector(self.settings.site, other.point)
             && is_within(other.stamp, answer.stamp, within)
     }
 
@@ -52,10 +54,11 @@ impl Evidence<'_> {
         answer: &Answer,
         other: &Answer,
     ) -> bool
-        ensures { result ≡ settled is_uncancelled_by self.now within zone answer.now other.now }
+        ensures { result ≡ weighed is_uncancelled_by self.now within zone answer.now other.now }
     {
         self.is_near(within, zone, answer, other)
-            && cancelled_before(self.site, zone, answer.stamp, self.done).0 < other.stamp.0
+            && cancelled_before(self.settings.site, zone, answer.stamp, self.settings.done).0
+                < other.stamp.0
     }
 
     /// Whether a first answer counts, is of the same point, after the zone's floor before the answer and at least
@@ -67,9 +70,9 @@ impl Evidence<'_> {
         answer: &Answer,
         first: &Answer,
     ) -> bool
-        ensures { result ≡ settled is_first_of_run_by self.now verify zone answer.now first.now }
+        ensures { result ≡ weighed is_first_of_run_by self.now verify zone answer.now first.now }
     {
-        let floor = floor_before(self.site, zone, answer.stamp, self.done);
+        let floor = floor_before(self.settings.site, zone, answer.stamp, self.settings.done);
         first.point == answer.point
             && self.is_counted(first)
             && floor.0 < first.stamp.0

@@ -5,13 +5,13 @@ ghost use Rattle.site_types.specs.declared.retained.Retained.{Retained as Retain
 ghost use Rattle.site_types.specs.Done.{Done as DoneOf};
 ghost use Rattle.site_types.specs.Valid.{IsValid};
 ghost use Rattle.panel_rules.specs.Moments.{Moment as MomentOf, tick_of};
-ghost use Rattle.plain_history.specs.Histories.{all_done, moment_of};
+ghost use Rattle.plain_history.specs.Histories.{moment_of};
 
 use crate::asking::Asking;
 use crate::evidence::Evidence;
 use crate::zone_state::ZoneState;
-use plain_history::{Done, Moment};
-use site_types::{Answer, Retained, Site};
+use plain_history::{Moment, Settings};
+use site_types::{Answer, Site};
 use std::alloc::Global;
 use tick_units::{NoMemory, Task, Tick};
 
@@ -27,7 +27,7 @@ pub struct Entering {
 }
 
 impl Entering {
-    ghost use Rattle.plain_words.specs.Enterings.{EntersAtHold, EntersSome, EntersWith, StandsForEntering};
+    ghost use Rattle.plain_words.specs.Enterings.{EntersAtHoldBy, EntersBy, EntersSome, StandsForEntering};
 
     /// A panel of a site, 1 to its panels, of which nothing befell.
     pub fn new(alloc: Global, site: &Site, panel: u8) -> Result<Entering, NoMemory>
@@ -47,23 +47,21 @@ impl Entering {
     pub fn step(
         &mut self,
         alloc: Global,
-        site: &Site,
-        kept: &Retained,
-        done: &[Done],
+        settings: &Settings,
         tick: Tick,
         moment: &Moment,
     ) -> Result<(), NoMemory>
-        requires { EntersSome site.now self.old }
+        requires { EntersSome settings.now.site.now self.old }
         ensures { OnOk result
-            (EntersWith site.now kept.now (all_done done.now) tick.0 (moment_of moment.now) self.old
+            (EntersBy settings.now tick.0 (moment_of moment.now) self.old
             self.new) }
     {
         match *moment {
-            Moment::Began => self.asking.step(alloc, site, moment, tick),
-            Moment::Happened(_) => self.asking.step(alloc, site, moment, tick),
-            Moment::Turned { panel, task } => self.turn(alloc, site, kept, done, tick, panel, task),
+            Moment::Began => self.asking.step(alloc, settings.site, moment, tick),
+            Moment::Happened(_) => self.asking.step(alloc, settings.site, moment, tick),
+            Moment::Turned { panel, task } => self.turn(alloc, settings, tick, panel, task),
             Moment::Kept { failed } => {
-                self.asking.step(alloc, site, moment, tick)?;
+                self.asking.step(alloc, settings.site, moment, tick)?;
                 self.entries = entries_kept(self.entries, failed);
                 Ok(())
             }
@@ -97,52 +95,41 @@ impl Entering {
     fn turn(
         &mut self,
         alloc: Global,
-        site: &Site,
-        kept: &Retained,
-        done: &[Done],
+        settings: &Settings,
         tick: Tick,
         panel: u8,
         task: Task,
     ) -> Result<(), NoMemory>
-        requires { EntersSome site.now self.old }
+        requires { EntersSome settings.now.site.now self.old }
         ensures { OnOk result
-            (EntersWith site.now kept.now (all_done done.now) tick.0 (TurnedOf panel task) self.old
+            (EntersBy settings.now tick.0 (TurnedOf panel task) self.old
             self.new) }
     {
         if let Task::Hold = task {
             if panel == self.panel {
-                self.hold(alloc, site, kept, done, tick)
+                self.hold(alloc, settings, tick)
             } else {
-                self.asking
-                    .step(alloc, site, &Moment::Turned { panel, task }, tick)
+                self.asking.step(alloc, settings.site, &Moment::Turned { panel, task }, tick)
             }
         } else {
-            self.asking
-                .step(alloc, site, &Moment::Turned { panel, task }, tick)
+            self.asking.step(alloc, settings.site, &Moment::Turned { panel, task }, tick)
         }
     }
 
     // The panel's Hold has its turn.
-    fn hold(
-        &mut self,
-        alloc: Global,
-        site: &Site,
-        kept: &Retained,
-        done: &[Done],
-        tick: Tick,
-    ) -> Result<(), NoMemory>
-        requires { EntersSome site.now self.old }
-        ensures { OnOk result (EntersAtHold site.now kept.now (all_done done.now) tick.0 self.old
+    fn hold(&mut self, alloc: Global, settings: &Settings, tick: Tick) -> Result<(), NoMemory>
+        requires { EntersSome settings.now.site.now self.old }
+        ensures { OnOk result (EntersAtHoldBy settings.now tick.0 self.old
             self.new) }
     {
         let panel = self.panel;
-        let was = is_in_fire(site, kept, done, panel, self.asking.held(), self.held_at);
+        let was = is_in_fire(settings, panel, self.asking.held(), self.held_at);
         let moment = Moment::Turned {
             panel,
             task: Task::Hold,
         };
-        self.asking.step(alloc, site, &moment, tick)?;
-        let is = is_in_fire(site, kept, done, panel, self.asking.held(), tick);
+        self.asking.step(alloc, settings.site, &moment, tick)?;
+        let is = is_in_fire(settings, panel, self.asking.held(), tick);
         self.held_at = tick;
         self.entries = entries_then(self.entries, enters(was, is))?;
         Ok(())
@@ -153,25 +140,16 @@ ghost use Rattle.tick_units.specs.declared.task.Task.TheVariants.{Hold as HoldTa
 ghost use Rattle.site_types.specs.declared.site.Site.{Site as SiteOf};
 ghost use Rattle.panel_rules.specs.Moments.{Turned as TurnedOf};
 ghost use Rattle.panel_rules.specs.Zones.{held_answers};
+ghost use Rattle.plain_history.specs.Settings.{settled};
 ghost use Rattle.plain_words.specs.Enterings.{holds_fire_alarm};
 ghost use Rattle.std.specs.Prelude.{◌+◌, ◌&&◌, if◌then◌else◌};
 
 // Whether a panel is in the fire alarm condition by some answers at a tick.
-fn is_in_fire(
-    site: &Site,
-    kept: &Retained,
-    done: &[Done],
-    panel: u8,
-    answers: &[Answer],
-    tick: Tick,
-) -> bool
-    ensures { result ≡ holds_fire_alarm site.now kept.now (all_done done.now) tick.0 answers.now
-        panel }
+fn is_in_fire(settings: &Settings, panel: u8, answers: &[Answer], tick: Tick) -> bool
+    ensures { result ≡ settled holds_fire_alarm settings.now tick.0 answers.now panel }
 {
     let evidence = Evidence {
-        site,
-        kept,
-        done,
+        settings: *settings,
         answers,
     };
     evidence.zones_in_state(ZoneState::Alarm, panel, tick) != 0

@@ -3,12 +3,12 @@ ghost use Rattle.site_types.specs.declared.retained.Retained.{Retained as Retain
 ghost use Rattle.site_types.specs.Done.{Done as DoneOf};
 ghost use Rattle.site_types.specs.Valid.{IsValid};
 ghost use Rattle.panel_rules.specs.Moments.{Moment as MomentOf, tick_of};
-ghost use Rattle.plain_words.specs.Enterings.{AllAsk, AllEnter, AllEnterWith};
-ghost use Rattle.plain_history.specs.Histories.{all_done, moment_of};
+ghost use Rattle.plain_words.specs.Enterings.{AllAsk, AllEnter, AllEnterBy};
+ghost use Rattle.plain_history.specs.Histories.{moment_of};
 
 use crate::entering::Entering;
-use plain_history::{Done, Moment};
-use site_types::{Answer, Retained, Site};
+use plain_history::{Moment, Settings};
+use site_types::{Answer, Site};
 use std::alloc::Global;
 use tick_units::{NoMemory, Tick};
 
@@ -16,19 +16,17 @@ use tick_units::{NoMemory, Tick};
 pub fn step_all(
     panels: &mut [Entering],
     alloc: Global,
-    site: &Site,
-    kept: &Retained,
-    done: &[Done],
+    settings: &Settings,
     tick: Tick,
     moment: &Moment,
 ) -> Result<(), NoMemory>
-    requires { AllAsk site.now panels.old }
+    requires { AllAsk settings.now.site.now panels.old }
     ensures { OnOk result
-        (AllEnterWith site.now kept.now (all_done done.now) tick.0 (moment_of moment.now) panels.old
+        (AllEnterBy settings.now tick.0 (moment_of moment.now) panels.old
         panels.new) }
 {
     for entering in panels.iter_mut() {
-        entering.step(alloc, site, kept, done, tick, moment)?;
+        entering.step(alloc, settings, tick, moment)?;
     }
     Ok(())
 }

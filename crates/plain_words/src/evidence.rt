@@ -1,12 +1,9 @@
-use plain_history::Done;
-use site_types::{Answer, Retained, Site};
+use plain_history::Settings;
+use site_types::Answer;
 
-/// Answers of a site's points, the oldest first, with what they are judged by: the site, what was kept at opening
-/// and the operations that were done.
+/// Answers of a site's points, the oldest first, with the settings of the site by which they are judged.
 #[derive(Clone, Copy)]
 pub struct Evidence<'a> {
-    pub site: &'a Site,
-    pub kept: &'a Retained,
-    pub done: &'a [Done],
+    pub settings: Settings<'a>,
     pub answers: &'a [Answer],
 }

@@ -10,13 +10,13 @@ use Rattle.plain_outputs.proofs.acting.is_silenced.Goals as goal
 
 pub returns-then-is_sounder : goal.returns-then-is_sounder
 returns-then-is_sounder c facts kept history are at =
-    let turn = Turned (panel_of_output c.args.site.now c.args.output) Drive ∷ history in
+    let turn = Turned (panel_of_output c.args.settings.now.site.now c.args.output) Drive ∷ history in
     where_true _ _ _ (sym c.is_sounder.ensures ∙ c.if-is_sounder.true)
-    (c.is_quiet.ensures facts kept turn are at ∙ ap (λ (panel : ℕ). is_quiet c.args.site.now facts kept (all_done c.args.done.now) panel turn)
+    (c.is_quiet.ensures facts kept turn are at ∙ ap (λ (panel : ℕ). is_quiet c.args.settings.now.site.now facts kept (all_done c.args.settings.now.done.now) panel turn)
     c.panel_of_output.ensures)
 
 pub is_quiet-requires : goal.is_quiet-requires
 is_quiet-requires c =
-    let there = panel_where c.args.site.now c.requires c.args.output (λ o. is_sounder_kind o.kind) (sym c.is_sounder.ensures ∙ c.if-is_sounder.true)
+    let there = panel_where c.args.settings.now.site.now c.requires c.args.output (λ o. is_sounder_kind o.kind) (sym c.is_sounder.ensures ∙ c.if-is_sounder.true)
     in
-    record { valid = c.requires; panel = subst (λ (panel : ℕ). IsPanel c.args.site.now panel) (sym c.panel_of_output.ensures) there }
+    record { valid = c.requires; panel = subst (λ (panel : ℕ). IsPanel c.args.settings.now.site.now panel) (sym c.panel_of_output.ensures) there }

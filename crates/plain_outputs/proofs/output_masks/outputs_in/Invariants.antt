@@ -9,6 +9,6 @@ use Rattle.plain_outputs.proofs.output_masks.outputs_in.Given as goal
 abbrev pub invariant-loop-place : goal.invariant-loop-place
 invariant-loop-place l = record {
   wide : length l.flags ≡ 256;
-  told : (facts : ℕ → List Moment → Facts) (history : List Moment) → DrivesFor l.site facts history l.driving → (k : ℕ) → k < l.place
-      → slice_index_or l.flags k false ≡ is_in_state l.state l.site facts l.kept (all_done l.done) k history;
+  told : (facts : ℕ → List Moment → Facts) (history : List Moment) → DrivesFor l.settings.site.now facts history l.driving → (k : ℕ) → k < l.place
+      → slice_index_or l.flags k false ≡ is_in_state l.state l.settings.site.now facts l.settings.kept.now (all_done l.settings.done.now) k history;
 }

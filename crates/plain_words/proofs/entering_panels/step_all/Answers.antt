@@ -8,7 +8,7 @@ loop-entering-init c =
     record {
       rest = c.requires;
       stepped =
-          λ first history all ticks. (tt, stepped_none c.args.site.now c.args.kept.now (all_done c.args.done.now) history first c.args.panels.now all);
+          λ first history all ticks. (tt, stepped_none c.args.settings.now.site.now c.args.settings.now.kept.now (all_done c.args.settings.now.done.now) history first c.args.panels.now all);
     }
 
 pub loop-entering-preserved : goal.loop-entering-preserved
@@ -17,9 +17,9 @@ loop-entering-preserved c =
     let k = c.loop-entering.entering-index in
     let small : k < length xs = omega (arith, c.loop-entering.auto.panels, c.loop-entering-test.true) in
     record {
-      rest = ask_past c.args.site.now xs k c.entering-item.result c.step.new.self small c.loop-entering.invariant.rest;
+      rest = ask_past c.args.settings.now.site.now xs k c.entering-item.result c.step.new.self small c.loop-entering.invariant.rest;
       stepped = λ first history all ticks.
-          stepped_more c.args.site.now c.args.kept.now (all_done c.args.done.now) (moment_of c.args.moment.now) history first k xs c.step.new.self
+          stepped_more c.args.settings.now.site.now c.args.settings.now.kept.now (all_done c.args.settings.now.done.now) (moment_of c.args.moment.now) history first k xs c.step.new.self
           c.entering-item.result small
           ((c.loop-entering.invariant.stepped first history all ticks).0) ((c.loop-entering.invariant.stepped first history all ticks).1)
           (λ stands. c.in_ok-step.ensures (first + k) history stands ticks);
@@ -29,12 +29,12 @@ pub step-requires : goal.step-requires
 step-requires c =
     let small : c.loop-entering.entering-index < length c.loop-entering.panels =
     omega (arith, c.loop-entering.auto.panels, c.loop-entering-test.true) in
-    (ask_at c.args.site.now c.loop-entering.panels c.loop-entering.entering-index c.entering-item.result small c.loop-entering.invariant.rest).0
+    (ask_at c.args.settings.now.site.now c.loop-entering.panels c.loop-entering.entering-index c.entering-item.result small c.loop-entering.invariant.rest).0
 
 pub returns : goal.returns
 returns c =
     λ first history all ticks.
     let past : length c.loop-entering.panels ≤ c.loop-entering.entering-index =
     omega (arith, c.loop-entering.auto.panels, c.loop-entering-test.false) in
-    stepped_all c.args.site.now c.args.kept.now (all_done c.args.done.now) _ first c.loop-entering.entering-index c.loop-entering.panels past
+    stepped_all c.args.settings.now.site.now c.args.settings.now.kept.now (all_done c.args.settings.now.done.now) _ first c.loop-entering.entering-index c.loop-entering.panels past
     ((c.loop-entering.invariant.stepped first history all ticks).0)

@@ -6,8 +6,8 @@ use Rattle.plain_words.proofs.entering_panels.step_all.Given as goal
 
 abbrev pub invariant-loop-entering : goal.invariant-loop-entering
 invariant-loop-entering l = record {
-  rest : AllAsk l.site (drop l.entering-index l.panels);
-  stepped : (first : ℕ) (history : List Moment) → AllEnter l.site l.kept (all_done l.done) history first l.initial.panels → tick_of history ≡ l.tick.0
-      → AllEnter l.site l.kept (all_done l.done) (moment_of l.moment ∷ history) first (take l.entering-index l.panels)
-      × AllEnter l.site l.kept (all_done l.done) history (first + l.entering-index) (drop l.entering-index l.panels);
+  rest : AllAsk l.settings.site.now (drop l.entering-index l.panels);
+  stepped : (first : ℕ) (history : List Moment) → AllEnter l.settings.site.now l.settings.kept.now (all_done l.settings.done.now) history first l.initial.panels → tick_of history ≡ l.tick.0
+      → AllEnter l.settings.site.now l.settings.kept.now (all_done l.settings.done.now) (moment_of l.moment ∷ history) first (take l.entering-index l.panels)
+      × AllEnter l.settings.site.now l.settings.kept.now (all_done l.settings.done.now) history (first + l.entering-index) (drop l.entering-index l.panels);
 }

@@ -15,8 +15,8 @@ returns-in_ok-self-clause-state c =
     let before = history c.args.before.now in
     let moment = moment_of c.args.moment.now in
     let desk = c.in_ok-changed.ensures.stands before c.requires.ticks c.requires.desk in
-    let done : all_done c.as_slice-done.result.now ≡ (operations site kept (moment ∷ before)).done =
-    ap all_done (c.as_slice-done.ensures.value ∙ ap (λ (o : Outcomes). o.done.items) c.outcomes.ensures) ∙ ap (λ (o : Operations). o.done) desk.became
+    let done : all_done c.as_slice.result.now ≡ (operations site kept (moment ∷ before)).done =
+    ap all_done (c.as_slice.ensures.value ∙ ap (λ (o : Outcomes). o.done.items) c.outcomes.ensures) ∙ ap (λ (o : Operations). o.done) desk.became
     in
     let with_it : history c.args.with_it.now ≡ moment ∷ before = ap history c.requires.all ∙ history_more c.args.before.now c.args.moment.now in
     subst (λ (h : List MomentOf). StandsForSite site kept (operations site kept (moment ∷ before)).done h c.in_ok-self.field-0) with_it

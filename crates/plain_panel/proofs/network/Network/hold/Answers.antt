@@ -13,9 +13,9 @@ use Rattle.plain_panel.proofs.network.Network.hold.Goals as goal
 
 pub returns-then-panel-self-clause-stands : goal.returns-then-panel-self-clause-stands
 returns-then-panel-self-clause-stands c stands tick answers_there unconfirmed_there =
-    let site = c.args.site.now in
-    let kept = c.args.kept.now in
-    let done = all_done c.args.done.now in
+    let site = c.args.settings.now.site.now in
+    let kept = c.args.settings.now.kept.now in
+    let done = all_done c.args.settings.now.done.now in
     let before = history c.args.before.now in
     let panel = c.args.panel in
     let first : 1 ≤ panel = omega arith in

@@ -11,9 +11,9 @@ use Rattle.plain_panel.proofs.site_state.SiteState.hear.Goals as goal
 
 pub returns-in-Some : goal.returns-in-Some
 returns-in-Some c =
-    let site = c.args.site.now in
-    let kept = c.args.kept.now in
-    let done = all_done c.args.done.now in
+    let site = c.args.settings.now.site.now in
+    let kept = c.args.settings.now.kept.now in
+    let done = all_done c.args.settings.now.done.now in
     let before = history c.args.before.now in
     let panel = c.in-Some.panel in
     let turned : moment_of c.args.moment.now ≡ Turned panel Hold = ap moment_of c.in-Some.ensures in
@@ -38,6 +38,8 @@ pub returns-in-None : goal.returns-in-None
 returns-in-None c =
     record {
       panels = refl;
-      network = c.step.ensures.stands c.in-None.ensures c.args.site.now c.args.kept.now (all_done c.args.done.now) (history c.args.before.now) c.requires.network (sym c.requires.ticks);
+      network =
+          c.step.ensures.stands c.in-None.ensures c.args.settings.now.site.now c.args.settings.now.kept.now (all_done c.args.settings.now.done.now)
+          (history c.args.before.now) c.requires.network (sym c.requires.ticks);
       driving = refl;
     }

@@ -15,7 +15,7 @@ loop-place-preserved c =
     history_at moments k moment c.loop-place-test.true ∙ ap (λ m. moment_of m ∷ before) (sym c.index-moments-place.is) in
     record {
       stands =
-          subst (λ (h : List MomentOf). StandsForSite c.args.site.now c.args.kept.now (all_done c.args.done.now) h c.step.new.self) (sym same)
+          subst (λ (h : List MomentOf). StandsForSite c.args.settings.now.site.now c.args.settings.now.kept.now (all_done c.args.settings.now.done.now) h c.step.new.self) (sym same)
           c.in_ok-step.ensures;
       ticks = ap tick_of same ∙ c.in_ok-tick.ensures before c.loop-place.invariant.ticks;
     }

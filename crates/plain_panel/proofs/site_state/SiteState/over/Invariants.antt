@@ -6,6 +6,6 @@ use Rattle.plain_panel.proofs.site_state.SiteState.over.Given as goal
 
 abbrev pub invariant-loop-place : goal.invariant-loop-place
 invariant-loop-place l = record {
-  stands : StandsForSite l.site l.kept (all_done l.done) (history (take l.place l.moments)) l.state;
+  stands : StandsForSite l.settings.site.now l.settings.kept.now (all_done l.settings.done.now) (history (take l.place l.moments)) l.state;
   ticks : tick_of (history (take l.place l.moments)) ≡ l.tick.0;
 }

@@ -11,8 +11,8 @@ use Rattle.plain_panel.proofs.site_state.SiteState.step.Goals as goal
 
 pub step_all-requires : goal.step_all-requires
 step_all-requires c =
-    subst (λ (xs : List Entering). AllAsk c.args.site.now xs) (sym c.deref_mut.ensures.value)
-    (all_ask c.args.site.now c.args.kept.now (all_done c.args.done.now) (history c.args.before.now) 1 c.args.self.now.panels.items
+    subst (λ (xs : List Entering). AllAsk c.args.settings.now.site.now xs) (sym c.deref_mut.ensures.value)
+    (all_ask c.args.settings.now.site.now c.args.settings.now.kept.now (all_done c.args.settings.now.done.now) (history c.args.before.now) 1 c.args.self.now.panels.items
     c.requires.stands.panels.all)
 
 pub facts_now-facts-requires : goal.facts_now-facts-requires
@@ -20,9 +20,9 @@ facts_now-facts-requires c = c.requires.stands.network.size
 
 pub hear-requires : goal.hear-requires
 hear-requires c =
-    let site = c.args.site.now in
-    let kept = c.args.kept.now in
-    let done = all_done c.args.done.now in
+    let site = c.args.settings.now.site.now in
+    let kept = c.args.settings.now.kept.now in
+    let done = all_done c.args.settings.now.done.now in
     let before = history c.args.before.now in
     let s = c.requires.stands in
     record {
@@ -36,9 +36,9 @@ hear-requires c =
 
 pub returns : goal.returns
 returns c =
-    let site = c.args.site.now in
-    let kept = c.args.kept.now in
-    let done = all_done c.args.done.now in
+    let site = c.args.settings.now.site.now in
+    let kept = c.args.settings.now.kept.now in
+    let done = all_done c.args.settings.now.done.now in
     let before = history c.args.before.now in
     let moment = moment_of c.args.moment.now in
     let s = c.requires.stands in

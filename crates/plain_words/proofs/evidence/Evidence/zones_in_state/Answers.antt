@@ -9,4 +9,4 @@ unfolding zones_where
 returns c =
     c.numbers_that.ensures
     (λ number. on_zone (λ zone. judged (zone_in_state c.args.state) c.args.self.now zone c.args.tick.0)
-    (numbered c.args.self.now.site.now c.args.panel number)) (λ number told low high post. search rules)
+    (numbered c.args.self.now.settings.site.now c.args.panel number)) (λ number told low high post. search rules)
