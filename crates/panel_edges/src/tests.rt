@@ -12,6 +12,47 @@ fn some_bytes(alloc: Global, count: u32) -> Result<Vec<u8>, AllocError> {
     Ok(bytes)
 }
 
+// Where there is memory enough, each stream in memory is made, and a shelf hands out its file.
+#[test]
+fn streams_in_memory_are_made(rt: HostRuntime) {
+    let alloc = rt.alloc();
+    assert!(rt; MemorySource::new(alloc, Vec::new(alloc), Vec::new(alloc)).is_ok());
+    assert!(rt; SoundMemorySource::new(alloc, Vec::new(alloc)).is_ok());
+    assert!(rt; MemorySink::new(alloc, 9_000, Vec::new(alloc)).is_ok());
+    assert!(rt; SoundMemorySink::new(alloc, 9_000).is_ok());
+}
+
+fn one_file(alloc: Global) -> Result<Vec<ShelfFile>, AllocError> {
+    let name = String::from_str(alloc, "site")?;
+    let bytes = some_bytes(alloc, 9)?;
+    let mut files = Vec::new(alloc);
+    files.push(ShelfFile { name, bytes })?;
+    Ok(files)
+}
+
+fn hands_out<S: Shelf>(alloc: Global, shelf: &mut S) -> bool {
+    let mut bytes = Vec::new(alloc);
+    shelf.fetch("site", &mut bytes) == Ok(Found::Here) && bytes.len() == 9
+}
+
+#[test]
+fn a_shelf_in_memory_hands_out_its_file(rt: HostRuntime) -> Result<(), Fail> {
+    let alloc = rt.alloc();
+    let shelf = MemoryShelf::new(alloc, one_file(alloc)?, Vec::new(alloc));
+    let mut shelf = shelf.expect(&rt, "memory");
+    assert!(rt; hands_out(alloc, &mut shelf));
+    Ok(())
+}
+
+#[test]
+fn a_sound_shelf_in_memory_hands_out_its_file(rt: HostRuntime) -> Result<(), Fail> {
+    let alloc = rt.alloc();
+    let shelf = SoundMemoryShelf::new(alloc, one_file(alloc)?);
+    let mut shelf = shelf.expect(&rt, "memory");
+    assert!(rt; hands_out(alloc, &mut shelf));
+    Ok(())
+}
+
 #[test]
 fn a_shelf_over_the_system_hands_out_real_files(rt: HostRuntime) -> Result<(), Fail> {
     let alloc = rt.alloc();

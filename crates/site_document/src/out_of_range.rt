@@ -1,7 +1,7 @@
 ghost use Rattle.std.specs.Prelude.{◌≡◌, pos};
 ghost use Rattle.toml.specs.View.{items_view, table_view};
 ghost use Rattle.site_document.specs.Ranges.{first_fall, is_between as is_between_in, length_out, number_out, out_at};
-ghost use Rattle.site_document.specs.Ranges.{range_of as range_in, length_range as length_range_of};
+ghost use Rattle.site_document.specs.Ranges.{length_range as length_range_of};
 ghost use Rattle.site_document.specs.Refusals.{Tells};
 ghost use Rattle.site_document.specs.Tables.{count_of, integer_at as integer_in, items_at as items_in};
 ghost use Rattle.site_document.specs.Texts.{key_text, key_word};
@@ -9,7 +9,7 @@ ghost use Rattle.site_document.specs.Texts.{key_text, key_word};
 use crate::form::Form;
 use crate::key::Key;
 use crate::place::Place;
-use crate::ranges::{length_range, range_of};
+use crate::ranges::{Range, length_range, range_of};
 use crate::refusal::SiteRefusal;
 use crate::refusals::{item_out_of_range, out_of_range};
 use crate::rules::form_of;
@@ -29,7 +29,7 @@ pub fn check_range(
     ensures { Tells result (out_at place.now (table_view top.now) (table_view table.now) key) }
 {
     match form_of(key) {
-        Form::Number => check_number(alloc, place, top, table, key),
+        Form::Number => check_number(alloc, place, &range_of(key, top, table), table, key),
         Form::Numbers => check_isolators(
             alloc,
             place,
@@ -50,18 +50,17 @@ pub fn check_range(
 fn check_number(
     alloc: Global,
     place: &Place,
-    top: &Table,
+    range: &Range,
     table: &Table,
     key: Key,
 ) -> Result<(), SiteRefusal>
-    ensures { Tells result (number_out (range_in key (table_view top.now) (table_view table.now))
-        (key_text place.now (key_word key))
+    ensures { Tells result (number_out range.now (key_text place.now (key_word key))
         (integer_in key (table_view table.now))) }
 {
     match integer_at(table, key) {
         None => Ok(()),
         Some(number) => {
-            if range_of(key, top, table).contains(number) {
+            if range.contains(number) {
                 Ok(())
             } else {
                 Err(out_of_range(alloc, place, key, number))

@@ -15,7 +15,7 @@ use Rattle.site_types.specs.declared.retained.Retained.{Retained}
 use Rattle.site_types.specs.declared.change.Change.{Change}
 use Rattle.site_types.specs.declared.change.Change.TheVariants.{Point, Zone, Output, Test}
 use Rattle.site_types.specs.Bits.{has_bit, has_point}
-use Rattle.site_types.specs.Carry.{point_was_off, zone_was_off, output_was_off, zone_was_tested, point_changes, zone_changes, output_changes, test_changes, carried, carried_counters, carried_delays}
+use Rattle.site_types.specs.Carry.{point_was_off, zone_was_off, output_was_off, zone_was_tested, point_changes, zone_changes, output_changes, test_changes, carried}
 use Rattle.site_types.specs.Changes.{CanApply, changed, changed_by, nothing_retained, IsSized, HasOwnPlaces}
 use Rattle.site_types.specs.Done.{Setting, PointOff, ZoneOff, OutputOff, InTest, DelaysOff, Counter, same_setting, IsSetting, at_opening, kept_point, kept_zone, kept_output, kept_test, no_points}
 use Rattle.site_types.proofs.ChangedBits.{half_small}
@@ -217,15 +217,27 @@ nothing_set site own (InTest i) = by (slice_get site.zones i) refl
 nothing_set site own (DelaysOff panel) = has_bit-zero (panel - 1)
 nothing_set site own (Counter panel) = refl
 
--- the four lists together
+-- whether one of the four lists of changes sets a setting
+abbrev tests_on : Site → Site → Retained → Setting → Bool
+tests_on old new state setting = is_among InTest (λ (x : ZonePlan). zone_was_tested old state x.name.bytes) setting new.zones 0
+
+abbrev outputs_on : Site → Site → Retained → Setting → Bool
+outputs_on old new state setting = is_among OutputOff (λ (x : OutputPlan). output_was_off old state x.name.bytes) setting new.outputs 0
+
+abbrev zones_on : Site → Site → Retained → Setting → Bool
+zones_on old new state setting = is_among ZoneOff (λ (x : ZonePlan). zone_was_off old state x.name.bytes) setting new.zones 0
+
+abbrev points_on : Site → Site → Retained → Setting → Bool
+points_on old new state setting = is_among PointOff (λ (x : PointPlan). point_was_off old state x.name.bytes) setting new.points 0
+
+-- the four lists of changes together
+abbrev all_changes : Site → Site → Retained → List Change
+all_changes old new state = point_changes old new state ++ zone_changes old new state ++ output_changes old new state ++ test_changes old new state
+
 all_sets : (old new : Site) (state : Retained) → HasOwnPlaces new → (setting : Setting)
-    → at_opening new
-    (changed_by (point_changes old new state ++ zone_changes old new state ++ output_changes old new state ++ test_changes old new state)
-    nothing_retained) setting
-    ≡ (is_among InTest (λ (z : ZonePlan). zone_was_tested old state z.name.bytes) setting new.zones 0
-    || (is_among OutputOff (λ (o : OutputPlan). output_was_off old state o.name.bytes) setting new.outputs 0
-    || (is_among ZoneOff (λ (z : ZonePlan). zone_was_off old state z.name.bytes) setting new.zones 0
-    || (is_among PointOff (λ (p : PointPlan). point_was_off old state p.name.bytes) setting new.points 0 || false))))
+    → at_opening new (changed_by (all_changes old new state) nothing_retained) setting
+    ≡ (tests_on old new state setting || (outputs_on old new state setting || (zones_on old new state setting || (points_on old new state setting
+    || false))))
 all_sets old new state own setting =
     let points = point_changes old new state in
     let zones = zone_changes old new state in
@@ -234,143 +246,108 @@ all_sets old new state own setting =
     let one = changed_by points nothing_retained in
     let two = changed_by zones one in
     let three = changed_by outputs two in
+    let point_off = λ (p : PointPlan). point_was_off old state p.name.bytes in
+    let zone_off = λ (z : ZonePlan). zone_was_off old state z.name.bytes in
+    let output_off = λ (o : OutputPlan). output_was_off old state o.name.bytes in
+    let zone_tested = λ (z : ZonePlan). zone_was_tested old state z.name.bytes in
     let sized_one =
-    sized_list new (λ (p : PointPlan). Point p.panel p.line p.address true) PointOff (λ (p : PointPlan). point_was_off old state p.name.bytes)
-    new.points (point_sets new own) new.points 0 (from_first new.points) nothing_retained sized_nothing in
+    sized_list new (λ (p : PointPlan). Point p.panel p.line p.address true) PointOff point_off new.points (point_sets new own) new.points 0
+    (from_first new.points) nothing_retained sized_nothing in
     let sized_two =
-    sized_list new (λ (z : ZonePlan). Zone z.panel z.number true) ZoneOff (λ (z : ZonePlan). zone_was_off old state z.name.bytes) new.zones
-    (zone_sets new own) new.zones 0 (from_first new.zones) one sized_one in
+    sized_list new (λ (z : ZonePlan). Zone z.panel z.number true) ZoneOff zone_off new.zones (zone_sets new own) new.zones 0 (from_first new.zones) one
+    sized_one in
     let sized_three =
-    sized_list new (λ (o : OutputPlan). Output o.panel o.number true) OutputOff (λ (o : OutputPlan). output_was_off old state o.name.bytes)
-    new.outputs (output_sets new own) new.outputs 0 (from_first new.outputs) two sized_two in
+    sized_list new (λ (o : OutputPlan). Output o.panel o.number true) OutputOff output_off new.outputs (output_sets new own) new.outputs 0
+    (from_first new.outputs) two sized_two in
     ap (λ k. at_opening new k setting) (changed_by-append (points ++ zones ++ outputs) tests nothing_retained ∙ ap (changed_by tests)
     (changed_by-append (points ++ zones) outputs nothing_retained ∙ ap (changed_by outputs) (changed_by-append points zones nothing_retained)))
-    ∙ sets_all new (λ (z : ZonePlan). Test z.panel z.number true) InTest (λ (z : ZonePlan). zone_was_tested old state z.name.bytes) new.zones
-    (test_sets new own) new.zones 0 (from_first new.zones) three sized_three setting
-    ∙ ap (λ b. is_among InTest (λ (z : ZonePlan). zone_was_tested old state z.name.bytes) setting new.zones 0 || b)
-    (sets_all new (λ (o : OutputPlan). Output o.panel o.number true) OutputOff (λ (o : OutputPlan). output_was_off old state o.name.bytes) new.outputs
-    (output_sets new own) new.outputs 0 (from_first new.outputs) two sized_two setting
-    ∙ ap (λ b. is_among OutputOff (λ (o : OutputPlan). output_was_off old state o.name.bytes) setting new.outputs 0 || b)
-    (sets_all new (λ (z : ZonePlan). Zone z.panel z.number true) ZoneOff (λ (z : ZonePlan). zone_was_off old state z.name.bytes) new.zones
-    (zone_sets new own) new.zones 0 (from_first new.zones) one sized_one setting
-    ∙ ap (λ b. is_among ZoneOff (λ (z : ZonePlan). zone_was_off old state z.name.bytes) setting new.zones 0 || b)
-    (sets_all new (λ (p : PointPlan). Point p.panel p.line p.address true) PointOff (λ (p : PointPlan). point_was_off old state p.name.bytes)
-    new.points (point_sets new own) new.points 0 (from_first new.points) nothing_retained sized_nothing setting
-    ∙ ap (λ b. is_among PointOff (λ (p : PointPlan). point_was_off old state p.name.bytes) setting new.points 0 || b) (nothing_set new own setting))))
+    ∙ sets_all new (λ (z : ZonePlan). Test z.panel z.number true) InTest zone_tested new.zones (test_sets new own) new.zones 0 (from_first new.zones)
+    three sized_three setting
+    ∙ ap (λ b. tests_on old new state setting || b)
+    (sets_all new (λ (o : OutputPlan). Output o.panel o.number true) OutputOff output_off new.outputs (output_sets new own) new.outputs 0
+    (from_first new.outputs) two sized_two setting
+    ∙ ap (λ b. outputs_on old new state setting || b)
+    (sets_all new (λ (z : ZonePlan). Zone z.panel z.number true) ZoneOff zone_off new.zones (zone_sets new own) new.zones 0 (from_first new.zones) one
+    sized_one setting
+    ∙ ap (λ b. zones_on old new state setting || b)
+    (sets_all new (λ (p : PointPlan). Point p.panel p.line p.address true) PointOff point_off new.points (point_sets new own) new.points 0
+    (from_first new.points) nothing_retained sized_nothing setting
+    ∙ ap (λ b. points_on old new state setting || b) (nothing_set new own setting))))
 
 -- of four tests one may hold
+or_false : (b : Bool) → (b || false) ≡ b
+or_false true = refl
+or_false false = refl
+
 only_test : (a b c d : Bool) → b ≡ false → c ≡ false → d ≡ false → (a || (b || (c || (d || false)))) ≡ a
-only_test true false false false e f g = refl
-only_test false false false false e f g = refl
-only_test a true c d e f g = absurd (cc)
-only_test a false true d e f g = absurd (cc)
-only_test a false false true e f g = absurd (cc)
+only_test a b c d e f g = rw (e, f, g) (or_false a)
 
 only_output : (a b c d : Bool) → a ≡ false → c ≡ false → d ≡ false → (a || (b || (c || (d || false)))) ≡ b
-only_output false true false false e f g = refl
-only_output false false false false e f g = refl
-only_output true b c d e f g = absurd (cc)
-only_output false b true d e f g = absurd (cc)
-only_output false b false true e f g = absurd (cc)
+only_output a b c d e f g = rw (e, f, g) (or_false b)
 
 only_zone : (a b c d : Bool) → a ≡ false → b ≡ false → d ≡ false → (a || (b || (c || (d || false)))) ≡ c
-only_zone false false true false e f g = refl
-only_zone false false false false e f g = refl
-only_zone true b c d e f g = absurd (cc)
-only_zone false true c d e f g = absurd (cc)
-only_zone false false c true e f g = absurd (cc)
+only_zone a b c d e f g = rw (e, f, g) (or_false c)
 
 only_point : (a b c d : Bool) → a ≡ false → b ≡ false → c ≡ false → (a || (b || (c || (d || false)))) ≡ d
-only_point false false false true e f g = refl
-only_point false false false false e f g = refl
-only_point true b c d e f g = absurd (cc)
-only_point false true c d e f g = absurd (cc)
-only_point false false true d e f g = absurd (cc)
+only_point a b c d e f g = rw (e, f, g) (or_false d)
 
-kept_point-rest : (kept : Retained) (delays : ℕ) (counters : List ℕ) (o : Option PointPlan)
-    → kept_point (record kept { delays_off = delays; counters = counters }) o ≡ kept_point kept o
-kept_point-rest kept delays counters None = refl
-kept_point-rest kept delays counters (Some x) = refl
+-- tests that agree on nothing and on each thing agree on what may be there
+same_tests : {X : Type 0} (f g : Option X → Bool) → f None ≡ g None → ((x : X) → f (Some x) ≡ g (Some x)) → (o : Option X) → f o ≡ g o
+same_tests f g none some None = none
+same_tests f g none some (Some x) = some x
 
 -- A point, a zone or an output of the new site begins disabled exactly where one of its kind and name was
 -- disabled in the old one, and a zone begins in test exactly where a zone of its name was in test.
 pub carried-point : (old new : Site) (state : Retained) → HasOwnPlaces new → (i : ℕ) (x : PointPlan) → slice_get new.points i ≡ Some x
     → at_opening new (carried old new state) (PointOff i) ≡ point_was_off old state x.name.bytes
 carried-point old new state own i x is =
-    kept_point-rest
-    (changed_by (point_changes old new state ++ zone_changes old new state ++ output_changes old new state ++ test_changes old new state)
-    nothing_retained) (carried_delays new.panels state.delays_off) (carried_counters new.panels state.counters) (slice_get new.points i)
-    ∙ all_sets old new state own (PointOff i)
-    ∙ only_point (is_among InTest (λ (x : ZonePlan). zone_was_tested old state x.name.bytes) (PointOff i) new.zones 0)
-    (is_among OutputOff (λ (x : OutputPlan). output_was_off old state x.name.bytes) (PointOff i) new.outputs 0)
-    (is_among ZoneOff (λ (x : ZonePlan). zone_was_off old state x.name.bytes) (PointOff i) new.zones 0)
-    (is_among PointOff (λ (x : PointPlan). point_was_off old state x.name.bytes) (PointOff i) new.points 0)
-    (among_none InTest (λ (x : ZonePlan). zone_was_tested old state x.name.bytes) (PointOff i) (λ j. refl) new.zones 0)
-    (among_none OutputOff (λ (x : OutputPlan). output_was_off old state x.name.bytes) (PointOff i) (λ j. refl) new.outputs 0)
-    (among_none ZoneOff (λ (x : ZonePlan). zone_was_off old state x.name.bytes) (PointOff i) (λ j. refl) new.zones 0)
+    let this = PointOff i in
+    same_tests (kept_point (carried old new state)) (kept_point (changed_by (all_changes old new state) nothing_retained)) refl (λ y. refl)
+    (slice_get new.points i)
+    ∙ all_sets old new state own this
+    ∙ only_point (tests_on old new state this) (outputs_on old new state this) (zones_on old new state this) (points_on old new state this)
+    (among_none InTest (λ (y : ZonePlan). zone_was_tested old state y.name.bytes) this (λ j. refl) new.zones 0)
+    (among_none OutputOff (λ (y : OutputPlan). output_was_off old state y.name.bytes) this (λ j. refl) new.outputs 0)
+    (among_none ZoneOff (λ (y : ZonePlan). zone_was_off old state y.name.bytes) this (λ j. refl) new.zones 0)
     ∙ among_at PointOff (λ (y : PointPlan). point_was_off old state y.name.bytes) i (λ j k. refl) new.points 0 i x is (omega arith)
-
-kept_zone-rest : (kept : Retained) (delays : ℕ) (counters : List ℕ) (o : Option ZonePlan)
-    → kept_zone (record kept { delays_off = delays; counters = counters }) o ≡ kept_zone kept o
-kept_zone-rest kept delays counters None = refl
-kept_zone-rest kept delays counters (Some x) = refl
 
 pub carried-zone : (old new : Site) (state : Retained) → HasOwnPlaces new → (i : ℕ) (x : ZonePlan) → slice_get new.zones i ≡ Some x
     → at_opening new (carried old new state) (ZoneOff i) ≡ zone_was_off old state x.name.bytes
 carried-zone old new state own i x is =
-    kept_zone-rest
-    (changed_by (point_changes old new state ++ zone_changes old new state ++ output_changes old new state ++ test_changes old new state)
-    nothing_retained) (carried_delays new.panels state.delays_off) (carried_counters new.panels state.counters) (slice_get new.zones i)
-    ∙ all_sets old new state own (ZoneOff i)
-    ∙ only_zone (is_among InTest (λ (x : ZonePlan). zone_was_tested old state x.name.bytes) (ZoneOff i) new.zones 0)
-    (is_among OutputOff (λ (x : OutputPlan). output_was_off old state x.name.bytes) (ZoneOff i) new.outputs 0)
-    (is_among ZoneOff (λ (x : ZonePlan). zone_was_off old state x.name.bytes) (ZoneOff i) new.zones 0)
-    (is_among PointOff (λ (x : PointPlan). point_was_off old state x.name.bytes) (ZoneOff i) new.points 0)
-    (among_none InTest (λ (x : ZonePlan). zone_was_tested old state x.name.bytes) (ZoneOff i) (λ j. refl) new.zones 0)
-    (among_none OutputOff (λ (x : OutputPlan). output_was_off old state x.name.bytes) (ZoneOff i) (λ j. refl) new.outputs 0)
-    (among_none PointOff (λ (x : PointPlan). point_was_off old state x.name.bytes) (ZoneOff i) (λ j. refl) new.points 0)
+    let this = ZoneOff i in
+    same_tests (kept_zone (carried old new state)) (kept_zone (changed_by (all_changes old new state) nothing_retained)) refl (λ y. refl)
+    (slice_get new.zones i)
+    ∙ all_sets old new state own this
+    ∙ only_zone (tests_on old new state this) (outputs_on old new state this) (zones_on old new state this) (points_on old new state this)
+    (among_none InTest (λ (y : ZonePlan). zone_was_tested old state y.name.bytes) this (λ j. refl) new.zones 0)
+    (among_none OutputOff (λ (y : OutputPlan). output_was_off old state y.name.bytes) this (λ j. refl) new.outputs 0)
+    (among_none PointOff (λ (y : PointPlan). point_was_off old state y.name.bytes) this (λ j. refl) new.points 0)
     ∙ among_at ZoneOff (λ (y : ZonePlan). zone_was_off old state y.name.bytes) i (λ j k. refl) new.zones 0 i x is (omega arith)
-
-kept_output-rest : (kept : Retained) (delays : ℕ) (counters : List ℕ) (o : Option OutputPlan)
-    → kept_output (record kept { delays_off = delays; counters = counters }) o ≡ kept_output kept o
-kept_output-rest kept delays counters None = refl
-kept_output-rest kept delays counters (Some x) = refl
 
 pub carried-output : (old new : Site) (state : Retained) → HasOwnPlaces new → (i : ℕ) (x : OutputPlan) → slice_get new.outputs i ≡ Some x
     → at_opening new (carried old new state) (OutputOff i) ≡ output_was_off old state x.name.bytes
 carried-output old new state own i x is =
-    kept_output-rest
-    (changed_by (point_changes old new state ++ zone_changes old new state ++ output_changes old new state ++ test_changes old new state)
-    nothing_retained) (carried_delays new.panels state.delays_off) (carried_counters new.panels state.counters) (slice_get new.outputs i)
-    ∙ all_sets old new state own (OutputOff i)
-    ∙ only_output (is_among InTest (λ (x : ZonePlan). zone_was_tested old state x.name.bytes) (OutputOff i) new.zones 0)
-    (is_among OutputOff (λ (x : OutputPlan). output_was_off old state x.name.bytes) (OutputOff i) new.outputs 0)
-    (is_among ZoneOff (λ (x : ZonePlan). zone_was_off old state x.name.bytes) (OutputOff i) new.zones 0)
-    (is_among PointOff (λ (x : PointPlan). point_was_off old state x.name.bytes) (OutputOff i) new.points 0)
-    (among_none InTest (λ (x : ZonePlan). zone_was_tested old state x.name.bytes) (OutputOff i) (λ j. refl) new.zones 0)
-    (among_none ZoneOff (λ (x : ZonePlan). zone_was_off old state x.name.bytes) (OutputOff i) (λ j. refl) new.zones 0)
-    (among_none PointOff (λ (x : PointPlan). point_was_off old state x.name.bytes) (OutputOff i) (λ j. refl) new.points 0)
+    let this = OutputOff i in
+    same_tests (kept_output (carried old new state)) (kept_output (changed_by (all_changes old new state) nothing_retained)) refl (λ y. refl)
+    (slice_get new.outputs i)
+    ∙ all_sets old new state own this
+    ∙ only_output (tests_on old new state this) (outputs_on old new state this) (zones_on old new state this) (points_on old new state this)
+    (among_none InTest (λ (y : ZonePlan). zone_was_tested old state y.name.bytes) this (λ j. refl) new.zones 0)
+    (among_none ZoneOff (λ (y : ZonePlan). zone_was_off old state y.name.bytes) this (λ j. refl) new.zones 0)
+    (among_none PointOff (λ (y : PointPlan). point_was_off old state y.name.bytes) this (λ j. refl) new.points 0)
     ∙ among_at OutputOff (λ (y : OutputPlan). output_was_off old state y.name.bytes) i (λ j k. refl) new.outputs 0 i x is (omega arith)
-
-kept_test-rest : (kept : Retained) (delays : ℕ) (counters : List ℕ) (o : Option ZonePlan)
-    → kept_test (record kept { delays_off = delays; counters = counters }) o ≡ kept_test kept o
-kept_test-rest kept delays counters None = refl
-kept_test-rest kept delays counters (Some x) = refl
 
 pub carried-test : (old new : Site) (state : Retained) → HasOwnPlaces new → (i : ℕ) (x : ZonePlan) → slice_get new.zones i ≡ Some x
     → at_opening new (carried old new state) (InTest i) ≡ zone_was_tested old state x.name.bytes
 carried-test old new state own i x is =
-    kept_test-rest
-    (changed_by (point_changes old new state ++ zone_changes old new state ++ output_changes old new state ++ test_changes old new state)
-    nothing_retained) (carried_delays new.panels state.delays_off) (carried_counters new.panels state.counters) (slice_get new.zones i)
-    ∙ all_sets old new state own (InTest i)
-    ∙ only_test (is_among InTest (λ (x : ZonePlan). zone_was_tested old state x.name.bytes) (InTest i) new.zones 0)
-    (is_among OutputOff (λ (x : OutputPlan). output_was_off old state x.name.bytes) (InTest i) new.outputs 0)
-    (is_among ZoneOff (λ (x : ZonePlan). zone_was_off old state x.name.bytes) (InTest i) new.zones 0)
-    (is_among PointOff (λ (x : PointPlan). point_was_off old state x.name.bytes) (InTest i) new.points 0)
-    (among_none OutputOff (λ (x : OutputPlan). output_was_off old state x.name.bytes) (InTest i) (λ j. refl) new.outputs 0)
-    (among_none ZoneOff (λ (x : ZonePlan). zone_was_off old state x.name.bytes) (InTest i) (λ j. refl) new.zones 0)
-    (among_none PointOff (λ (x : PointPlan). point_was_off old state x.name.bytes) (InTest i) (λ j. refl) new.points 0)
+    let this = InTest i in
+    same_tests (kept_test (carried old new state)) (kept_test (changed_by (all_changes old new state) nothing_retained)) refl (λ y. refl)
+    (slice_get new.zones i)
+    ∙ all_sets old new state own this
+    ∙ only_test (tests_on old new state this) (outputs_on old new state this) (zones_on old new state this) (points_on old new state this)
+    (among_none OutputOff (λ (y : OutputPlan). output_was_off old state y.name.bytes) this (λ j. refl) new.outputs 0)
+    (among_none ZoneOff (λ (y : ZonePlan). zone_was_off old state y.name.bytes) this (λ j. refl) new.zones 0)
+    (among_none PointOff (λ (y : PointPlan). point_was_off old state y.name.bytes) this (λ j. refl) new.points 0)
     ∙ among_at InTest (λ (y : ZonePlan). zone_was_tested old state y.name.bytes) i (λ j k. refl) new.zones 0 i x is (omega arith)
 
 -- delays begin off exactly where they were off and the new site has the panel
