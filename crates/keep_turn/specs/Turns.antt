@@ -15,10 +15,10 @@ pub record MayCommit (wide : Bool) (batch : List Change) : Type 0 where
 
 -- Idle where there was nothing to commit, Kept where the batch is kept, and Failed where neither the batch is kept
 -- nor the journal whole
-abbrev pub Answers : List Change → Journal → Store → Journal → Type 0
-Answers batch old Idle new = (batch ≡ []) × (new.kept ≡ old.kept) × (new.torn ≡ false)
-Answers batch old Kept new = (batch ≢ []) × (new.kept ≡ changed_by batch old.kept) × (new.torn ≡ false)
-Answers batch old Failed new = (new.kept ≡ old.kept) × (new.torn ≡ true)
+abbrev pub AnswersTurn : List Change → Journal → Store → Journal → Type 0
+AnswersTurn batch old Idle new = (batch ≡ []) × (new.kept ≡ old.kept) × (new.torn ≡ false)
+AnswersTurn batch old Kept new = (batch ≢ []) × (new.kept ≡ changed_by batch old.kept) × (new.torn ≡ false)
+AnswersTurn batch old Failed new = (new.kept ≡ old.kept) × (new.torn ≡ true)
 
 -- at most one commit more was tried, on the journal of the same site
 pub record TriesAtMostOnce (old new : Journal) : Type 0 where

@@ -3,7 +3,7 @@ ghost use Rattle.panel_edges.specs.Crashes.{LeavesOnly};
 ghost use Rattle.tick_units.specs.Ticks.{last_tick};
 ghost use Rattle.retained_journal.specs.Images.{HasRoom, HasRoomForTwo, IsEarly, MayLeaveOr, Stands};
 ghost use Rattle.retained_journal.specs.Outcomes.{EachMayBeLeft, EachOpens};
-ghost use Rattle.keep_turn.specs.Turns.{Answers, FailsByItsDisk, MayCommit, TriesAtMostOnce};
+ghost use Rattle.keep_turn.specs.Turns.{AnswersTurn, FailsByItsDisk, MayCommit, TriesAtMostOnce};
 
 use crate::store::Store;
 use panel_edges::Disk;
@@ -15,7 +15,7 @@ pub fn keep_turn<D: Disk>(journal: &mut Journal, disk: &mut D, batch: &Batch) ->
     requires batch { MayCommit journal.old.wide batch.now.items }
     requires few { journal.old.tried ≤ last_tick }
     ensures stands { Stands D.honest D.images disk.new journal.new }
-    ensures answers { Answers batch.now.items journal.old result journal.new }
+    ensures answers { AnswersTurn batch.now.items journal.old result journal.new }
     ensures same { TriesAtMostOnce journal.old journal.new }
     ensures early { IsEarly journal.old → IsEarly journal.new }
     // After any answer but a failure each file that a crash may leave opens to what is kept.
