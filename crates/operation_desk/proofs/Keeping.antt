@@ -28,6 +28,7 @@ use Rattle.operation_desk.specs.Stands.{DesksFor, MayTakeKeepTurn, TellsOutcomes
 use Rattle.operation_desk.proofs.Begun.{none_failed}
 use Rattle.operation_desk.proofs.Bounds.{CanGoOn, IsInTime, IsWaiting, can_go_on, few_answers, few_of_run, none_among}
 use Rattle.operation_desk.proofs.Given.{busy_more}
+use Rattle.operation_desk.proofs.Places.{taken_next}
 use Rattle.operation_desk.proofs.Taking.{answered_with, done_more, given, outcomes_then, room_then}
 
 -- some operation
@@ -84,13 +85,6 @@ module _ (site : Site) (kept : Retained) (failed : Bool) (before : List Moment) 
 
   on : CanGoOn all tick start
   on = can_go_on site kept before m.valid m.run.0 m.of
-
-  taken_next : {X : Type 0} (xs : List X) (k : ℕ) (x : X) → slice_get xs k ≡ Some x → take (k + 1) xs ≡ take k xs ++ x ∷ []
-  taken_next [] k x e = cc
-  taken_next (y ∷ xs) zero x e = let s : y ≡ x = cc in ap (λ z. z ∷ []) s
-  taken_next (y ∷ xs) (suc k) x e =
-      let further : suc k + 1 ≡ suc (k + 1) = omega arith in
-      ap (λ i. take i (y ∷ xs)) further ∙ ap (λ ys. y ∷ ys) (taken_next xs k x e)
 
   count_place : (test : RequestOf → Bool) (xs : List RequestOf) (k : ℕ) (x : RequestOf) → slice_get xs k ≡ Some x → test x ≡ true
       → count test (take k xs) + 1 ≤ count test xs

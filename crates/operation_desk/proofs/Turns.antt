@@ -27,19 +27,13 @@ use Rattle.operation_desk.specs.Changes.{HasSameRest, TakesRequest, firsts_of}
 use Rattle.operation_desk.specs.Requests.{is_early, request_from, requests_from}
 use Rattle.operation_desk.specs.Stands.{DesksFor, MayRule, MayTakeTurn, TellsOutcomes}
 use Rattle.operation_desk.proofs.Bounds.{can_go_on, few_of_run, few_told, few_waiting}
+use Rattle.operation_desk.proofs.Places.{taken_next}
 use Rattle.operation_desk.proofs.Mine.{counted, early_mine, firsts_first, is_first}
 use Rattle.operation_desk.proofs.Turning.{AreTaken, IsNext, in_force_desk, next}
 
 -- ---- one place further
 
 module _ (panel : ℕ) (asked : List Request) (n : ℕ) (request : Request) (is : slice_get asked n ≡ Some request) where
-  taken_next : {X : Type 0} (xs : List X) (k : ℕ) (x : X) → slice_get xs k ≡ Some x → take (k + 1) xs ≡ take k xs ++ x ∷ []
-  taken_next [] k x e = cc
-  taken_next (y ∷ xs) zero x e = let s : y ≡ x = cc in ap (λ z. z ∷ []) s
-  taken_next (y ∷ xs) (suc k) x e =
-      let further : suc k + 1 ≡ suc (k + 1) = omega arith in
-      ap (λ i. take i (y ∷ xs)) further ∙ ap (λ ys. y ∷ ys) (taken_next xs k x e)
-
   firsts_next : firsts_of panel (take (n + 1) asked)
       ≡ firsts_of panel (take n asked) ++ (if request.panel == panel then request_from request ∷ [] else [])
   firsts_next =
