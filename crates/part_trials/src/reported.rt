@@ -32,7 +32,7 @@ impl Reported {
         let mut done = Vec::new(alloc);
         for step in &history.steps {
             let tick = step.tick;
-            match event_of(alloc, site, step.words)? {
+            match event_of(site, step.words)? {
                 Event::Point { point, state } => reports.push(Report { tick, point, state })?,
                 Event::Op { operation, .. } => done.push(DoneAt { tick, operation })?,
                 _ => bail!("nothing that befalls Decide: {}", step.words),
