@@ -106,16 +106,15 @@ fn say_asked(lines: &mut Lines, site: &Site, plan: &Plan, panel: u8, known: &Kno
 pub(crate) fn cycle(alloc: Global, site: &Site) -> Result<String>
     requires { IsValid site.now }
 {
-    let mut lines = Lines::new(alloc);
     match compile(alloc, site) {
-        Ok(_) => lines.say("    no cycle\n"),
+        Ok(_) => Ok("    no cycle\n".to_string(alloc)?),
         Err(PlanRefusal::NoMemory) => bail!("no memory"),
-        Err(PlanRefusal::Cycle { markers }) => say_cycle(&mut lines, site, markers.as_slice()),
+        Err(PlanRefusal::Cycle { markers }) => tell_cycle(alloc, site, markers.as_slice()),
     }
-    lines.done()
 }
 
-fn say_cycle(lines: &mut Lines, site: &Site, markers: &[u16]) {
+fn tell_cycle(alloc: Global, site: &Site, markers: &[u16]) -> Result<String> {
+    let mut lines = Lines::new(alloc);
     lines.say("    cycle");
     for place in markers {
         lines.say(" ");
@@ -125,4 +124,5 @@ fn say_cycle(lines: &mut Lines, site: &Site, markers: &[u16]) {
         }
     }
     lines.say("\n");
+    lines.done()
 }

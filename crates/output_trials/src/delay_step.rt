@@ -25,7 +25,10 @@ impl DelayStep {
     {
         match words.split_once(' ') {
             Some(("ask", names)) => Ok(DelayStep::Asked(outputs_of(site, names)?)),
-            Some(("by", names)) => Ok(DelayStep::ByHand(outputs_of(site, names.trim_start_matches("hand "))?)),
+            Some(("by", names)) => Ok(DelayStep::ByHand(outputs_of(
+                site,
+                names.trim_start_matches("hand "),
+            )?)),
             Some(("early", line)) => Ok(DelayStep::Early(operation_of(site, line)?)),
             _ => Ok(DelayStep::Done(operation_of(site, words)?)),
         }

@@ -61,12 +61,7 @@ fn take_steps(
 }
 
 // What is done behind the turn of a tick.
-fn do_operations(
-    site: &Site,
-    history: &History,
-    tick: u64,
-    delays: &mut Delays,
-) -> Result<()>
+fn do_operations(site: &Site, history: &History, tick: u64, delays: &mut Delays) -> Result<()>
     requires { IsValid site.now }
 {
     for step in &history.steps {

@@ -1,6 +1,8 @@
 //! Drawn histories of delays, against a plain program over the whole lists.
 
-use crate::drawn_outputs::{OUTPUTS, STREAM, TURNS, few_outputs, has, is_one_in, most_outputs, run_of};
+use crate::drawn_outputs::{
+    OUTPUTS, STREAM, TURNS, few_outputs, has, is_one_in, most_outputs, run_of,
+};
 use anyhow::Result;
 use output_delays::Delays;
 use rand_pcg::Pcg32;

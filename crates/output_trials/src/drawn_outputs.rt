@@ -10,7 +10,12 @@ pub(crate) const TURNS: u64 = 60;
 pub(crate) const STREAM: u64 = 54;
 
 /// The outputs of panel 1 of the site of two panels, with their delays and whether they confirm.
-pub(crate) const OUTPUTS: [(u8, u64, bool); 4] = [(1, 0, false), (2, 1, true), (3, 3, true), (32, 6, false)];
+pub(crate) const OUTPUTS: [(u8, u64, bool); 4] = [
+    (1, 0, false),
+    (2, 1, true),
+    (3, 3, true),
+    (32, 6, false),
+];
 
 /// One time in so many.
 pub(crate) fn is_one_in(draws: &mut Pcg32, many: u32) -> bool {

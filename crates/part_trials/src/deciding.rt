@@ -12,7 +12,7 @@ use coincidence::Finding;
 use site_types::{Answer, Site};
 use std::alloc::Global;
 use tick_units::Tick;
-use trial_base::DoneAt;
+use trial_base::{DoneAt, answers_at};
 use trial_cases::{History, Lines, say_point, say_zones};
 
 /// What each answer that counts confirms and releases. In a tick the answers of its points are taken in one
@@ -27,7 +27,7 @@ pub(crate) fn decide(alloc: Global, site: Site, line: &str) -> Result<String>
     let mut findings: Vec<Finding> = Vec::new(alloc);
     let mut lines = Lines::new(alloc);
     for tick in 1..=history.last {
-        let given = reported.answers_at(alloc, bench.site(), tick)?;
+        let given = answers_at(alloc, bench.site(), &reported.reports, tick)?;
         let found = drive_tick(&mut bench, &given, &reported.done, tick)?;
         answers.extend_from_slice(&given)?;
         findings.extend_from_slice(found.as_slice())?;

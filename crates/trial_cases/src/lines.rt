@@ -28,6 +28,22 @@ impl Lines {
         }
     }
 
+    /// A number that may be below 0.
+    pub fn signed(&mut self, number: i64) {
+        if write!(self.text, "{number}").is_err() {
+            self.is_cut = true;
+        }
+    }
+
+    /// Bytes, two hexadecimal digits each.
+    pub fn hex(&mut self, bytes: &[u8]) {
+        for byte in bytes {
+            if write!(self.text, "{byte:02x}").is_err() {
+                self.is_cut = true;
+            }
+        }
+    }
+
     /// Words, and a number behind them.
     pub fn count(&mut self, words: &str, number: u64) {
         self.say(words);
