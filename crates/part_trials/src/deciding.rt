@@ -23,12 +23,19 @@ pub(crate) fn decide(alloc: Global, site: Site, line: &str) -> Result<String>
     let history = History::read(alloc, line)?;
     let reported = Reported::read(alloc, &site, &history)?;
     let mut bench = DecideBench::open(alloc, site, 1)?;
+    drive(alloc, &mut bench, &reported, history.last)
+}
+
+// Drives the bench up to a tick.
+fn drive(alloc: Global, bench: &mut DecideBench, reported: &Reported, last: u64) -> Result<String>
+    requires { MayGoOn bench.old }
+{
     let mut answers: Vec<Answer> = Vec::new(alloc);
     let mut findings: Vec<Finding> = Vec::new(alloc);
     let mut lines = Lines::new(alloc);
-    for tick in 1..=history.last {
+    for tick in 1..=last {
         let given = answers_at(alloc, bench.site(), &reported.reports, tick)?;
-        let found = drive_tick(&mut bench, &given, &reported.done, tick)?;
+        let found = drive_tick(bench, &given, &reported.done, tick)?;
         answers.extend_from_slice(&given)?;
         findings.extend_from_slice(found.as_slice())?;
         say_findings(&mut lines, bench.site(), found.as_slice());

@@ -212,10 +212,16 @@ pub(crate) fn try_histories(alloc: Global, site: Site, line: &str) -> Result<Str
     requires { IsValid site }
 {
     let sample = Sample::read(line)?;
-    let mut tally = Tally::default();
     let mut bench = DecideBench::open(alloc, site, 1)?;
+    try_sample(alloc, &mut bench, &sample)
+}
+
+fn try_sample(alloc: Global, bench: &mut DecideBench, sample: &Sample) -> Result<String>
+    requires { MayGoOn bench.old }
+{
+    let mut tally = Tally::default();
     for seed in sample.seeds() {
-        if !try_history(alloc, &mut bench, seed, &mut tally)? {
+        if !try_history(alloc, bench, seed, &mut tally)? {
             return otherwise(alloc, "plain rules", seed);
         }
     }

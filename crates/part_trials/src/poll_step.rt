@@ -26,12 +26,17 @@ impl PollStep {
         match event_of(site, words)? {
             Event::Point { point, state } => Ok(PollStep::Point { point, state }),
             Event::Cable {
-                panel: 1,
+                panel,
                 line,
                 piece,
                 state,
-            } => Ok(PollStep::Cable { line, piece, state }),
-            _ => bail!("nothing that befalls a point or a cable of panel 1: {words}"),
+            } => {
+                if panel != 1 {
+                    bail!("a cable of another panel: {words}");
+                }
+                Ok(PollStep::Cable { line, piece, state })
+            }
+            _ => bail!("nothing that befalls a point or a cable: {words}"),
         }
     }
 }
