@@ -2,7 +2,6 @@ ghost use Rattle.site_types.specs.Valid.{IsValid};
 
 use anyhow::{Result, bail};
 use site_types::{Event, Operation, Site};
-use std::alloc::Global;
 use trial_cases::{event_of, outputs_of};
 
 /// What comes to the delays of a panel.
@@ -21,26 +20,25 @@ pub(crate) enum DelayStep {
 impl DelayStep {
     /// The step that words spell: `ask bells fans`, `by hand fans`, or the line of a record for an operation,
     /// with `early ` in front of one that is done before the turn.
-    pub(crate) fn read(alloc: Global, site: &Site, words: &str) -> Result<DelayStep>
+    pub(crate) fn read(site: &Site, words: &str) -> Result<DelayStep>
         requires { IsValid site.now }
     {
-        if let Some(names) = words.strip_prefix("ask ") {
-            return Ok(DelayStep::Asked(outputs_of(site, names)?));
-        }
-        if let Some(names) = words.strip_prefix("by hand ") {
-            return Ok(DelayStep::ByHand(outputs_of(site, names)?));
-        }
-        match words.strip_prefix("early ") {
-            Some(line) => Ok(DelayStep::Early(operation_of(alloc, site, line)?)),
-            None => Ok(DelayStep::Done(operation_of(alloc, site, words)?)),
+        match words.split_once(' ') {
+            Some(("ask", names)) => Ok(DelayStep::Asked(outputs_of(site, names)?)),
+            Some(("by", names)) => Ok(DelayStep::ByHand(outputs_of(
+                site,
+                names.trim_start_matches("hand "),
+            )?)),
+            Some(("early", line)) => Ok(DelayStep::Early(operation_of(site, line)?)),
+            _ => Ok(DelayStep::Done(operation_of(site, words)?)),
         }
     }
 }
 
-fn operation_of(alloc: Global, site: &Site, line: &str) -> Result<Operation>
+fn operation_of(site: &Site, line: &str) -> Result<Operation>
     requires { IsValid site.now }
 {
-    match event_of(alloc, site, line)? {
+    match event_of(site, line)? {
         Event::Op { operation, .. } => Ok(operation),
         _ => bail!("no operation: {line}"),
     }

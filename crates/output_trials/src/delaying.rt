@@ -8,7 +8,7 @@ use output_delays::Delays;
 use site_types::{Operation, Requests, Site};
 use std::alloc::Global;
 use tick_units::Tick;
-use trial_cases::{History, named, output_names};
+use trial_cases::{History, Lines, say_outputs};
 
 /// Each tick in which other outputs are let through than before, with all that are.
 pub(crate) fn delay(alloc: Global, site: &Site, line: &str) -> Result<String>
@@ -21,23 +21,24 @@ pub(crate) fn delay(alloc: Global, site: &Site, line: &str) -> Result<String>
         manual: 0,
     };
     let mut before = 0;
-    let mut told = String::new(alloc);
+    let mut lines = Lines::new(alloc);
     for tick in 1..=history.last {
-        take_steps(alloc, site, &history, tick, &mut delays, &mut requests)?;
+        take_steps(site, &history, tick, &mut delays, &mut requests)?;
         let through = delays.turn(Tick(tick), &requests);
-        do_operations(alloc, site, &history, tick, &mut delays)?;
+        do_operations(site, &history, tick, &mut delays)?;
         if through != before {
-            let outputs = output_names(alloc, site, 1, through)?;
-            told.push_str(&format!(in alloc; "    tick {tick}: {}\n", named(&outputs))?)?;
+            lines.count("    tick ", tick);
+            lines.say(": ");
+            say_outputs(&mut lines, site, 1, through);
+            lines.say("\n");
         }
         before = through;
     }
-    Ok(told)
+    lines.done()
 }
 
 // What comes before the turn of a tick.
 fn take_steps(
-    alloc: Global,
     site: &Site,
     history: &History,
     tick: u64,
@@ -48,7 +49,7 @@ fn take_steps(
 {
     for step in &history.steps {
         if step.tick == tick {
-            match DelayStep::read(alloc, site, step.words)? {
+            match DelayStep::read(site, step.words)? {
                 DelayStep::Asked(outputs) => requests.asked = outputs,
                 DelayStep::ByHand(outputs) => requests.manual = outputs,
                 DelayStep::Early(operation) => apply(delays, operation, tick),
@@ -60,18 +61,12 @@ fn take_steps(
 }
 
 // What is done behind the turn of a tick.
-fn do_operations(
-    alloc: Global,
-    site: &Site,
-    history: &History,
-    tick: u64,
-    delays: &mut Delays,
-) -> Result<()>
+fn do_operations(site: &Site, history: &History, tick: u64, delays: &mut Delays) -> Result<()>
     requires { IsValid site.now }
 {
     for step in &history.steps {
         if step.tick == tick {
-            if let DelayStep::Done(operation) = DelayStep::read(alloc, site, step.words)? {
+            if let DelayStep::Done(operation) = DelayStep::read(site, step.words)? {
                 apply(delays, operation, tick);
             }
         }

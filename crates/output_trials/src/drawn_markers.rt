@@ -4,6 +4,7 @@
 
 ghost use Rattle.std.specs.Prelude.{◌≡◌, ◌<◌};
 
+use crate::marker_texts::drawn_site;
 use anyhow::{Result, bail};
 use cause_effect::{Facts, Plan, Steps, Values, compile};
 use rand_pcg::Pcg32;
@@ -12,28 +13,13 @@ use site_types::{Combine, Marker, Site, Term};
 use std::alloc::{AllocError, Global};
 use std::marker::Brand;
 use std::sync::ledger::{Blank, Ledger};
-use trial_cases::{Sample, below};
+use trial_cases::{Sample, below, otherwise};
 
 const CHANGES: u64 = 40;
 /// How often a marker of each kind is to be true, and one to become true or false.
 const OFTEN: u32 = 1000;
 /// The stream of numbers that is drawn from.
 const STREAM: u64 = 54;
-
-/// A prime, so that each multiple of the places below it is an order of them.
-const MARKERS: u64 = 13;
-
-const ZONES: &str = r#"
-format = 1
-site = "drawn"
-panels = 3
-zone = [
-  { name = "a", panel = 1, number = 1 },
-  { name = "b", panel = 1, number = 32 },
-  { name = "c", panel = 2, number = 7 },
-  { name = "d", panel = 3, number = 1 },
-]
-marker = ["#;
 
 /// How often a marker of each kind was true, and how often one became true or false.
 #[derive(Clone, Copy, Default)]
@@ -64,84 +50,6 @@ impl Tally {
             .min(self.rose)
             .min(self.fell)
     }
-}
-
-// ---- a drawn table
-
-/// The order in which a table's markers may depend on each other: each on those of lower rank.
-#[derive(Clone, Copy)]
-struct Ranks {
-    factor: u64,
-    first: u64,
-}
-
-impl Ranks {
-    fn drawn(draws: &mut Pcg32) -> Ranks {
-        Ranks {
-            factor: 1 + below(draws, MARKERS - 1),
-            first: below(draws, MARKERS),
-        }
-    }
-
-    fn rank_of(self, marker: u64) -> u64 {
-        self.factor.wrapping_mul(marker).wrapping_add(self.first) % MARKERS
-    }
-
-    // A marker of lower rank, where there is one.
-    fn lower(self, marker: u64, draws: &mut Pcg32) -> Option<u64> {
-        let rank = below(draws, self.rank_of(marker));
-        (0..MARKERS).find(|other| self.rank_of(*other) == rank && self.rank_of(marker) > rank)
-    }
-}
-
-fn drawn_term(
-    alloc: Global,
-    marker: u64,
-    ranks: Ranks,
-    draws: &mut Pcg32,
-) -> Result<String, AllocError> {
-    let zone = match below(draws, 4) {
-        0 => "a",
-        1 => "b",
-        2 => "c",
-        _ => "d",
-    };
-    match (below(draws, 7), ranks.lower(marker, draws)) {
-        (0, _) => format!(in alloc; "fault:{}", 1 + below(draws, 3)),
-        (1, _) => format!(in alloc; "manual:{zone}"),
-        (2..=4, Some(other)) => format!(in alloc; "marker:m{other}"),
-        _ => format!(in alloc; "zone:{zone}"),
-    }
-}
-
-fn drawn_marker(
-    alloc: Global,
-    marker: u64,
-    ranks: Ranks,
-    draws: &mut Pcg32,
-) -> Result<String, AllocError> {
-    let count = 1 + below(draws, 5);
-    let mut terms = drawn_term(alloc, marker, ranks, draws)?;
-    for _term in 1..count {
-        let term = drawn_term(alloc, marker, ranks, draws)?;
-        terms = format!(in alloc; "{terms}\", \"{term}")?;
-    }
-    let kind = match below(draws, 3) {
-        0 => format!(in alloc; "\"all\"")?,
-        1 => format!(in alloc; "\"any\"")?,
-        _ => format!(in alloc; "\"atleast\", count = {}", 1 + below(draws, count))?,
-    };
-    format!(in alloc; "  {{ name = \"m{marker}\", kind = {kind}, terms = [\"{terms}\"] }},\n")
-}
-
-fn drawn_text(alloc: Global, draws: &mut Pcg32) -> Result<String, AllocError> {
-    let ranks = Ranks::drawn(draws);
-    let mut text = format!(in alloc; "{ZONES}\n")?;
-    for marker in 0..MARKERS {
-        let line = drawn_marker(alloc, marker, ranks, draws)?;
-        text = format!(in alloc; "{text}{line}")?;
-    }
-    format!(in alloc; "{text}]\n")
 }
 
 // ---- drawn facts
@@ -248,10 +156,12 @@ fn is_true(values: &Values, place: usize) -> bool {
 }
 
 fn is_same(values: &Values, plain: &[bool]) -> bool {
-    plain
-        .iter()
-        .enumerate()
-        .all(|(place, value)| is_true(values, place) == *value)
+    for (place, value) in plain.iter().enumerate() {
+        if is_true(values, place) != *value {
+            return false;
+        }
+    }
+    true
 }
 
 fn tell(site: &Site, before: &Values, after: &Values, tally: &mut Tally) {
@@ -267,7 +177,7 @@ fn tell(site: &Site, before: &Values, after: &Values, tally: &mut Tally) {
 // Whether a drawn table is solved as by the plain program, from scratch and from change to change.
 fn try_table(alloc: Global, seed: u64, tally: &mut Tally) -> Result<bool> {
     let mut draws = Pcg32::new(seed, STREAM);
-    let text = drawn_text(alloc, &mut draws)?;
+    let text = drawn_site(alloc, &mut draws)?;
     let Ok(site) = read_site(alloc, text.as_bytes()) else {
         bail!("a refused site");
     };
@@ -299,12 +209,13 @@ pub(crate) fn try_markers(alloc: Global, line: &str) -> Result<String> {
     let mut tally = Tally::default();
     for seed in sample.seeds() {
         if !try_table(alloc, seed, &mut tally)? {
-            return Ok(format!(in alloc; "    otherwise by the plain program: seed {seed}\n")?);
+            return otherwise(alloc, "plain program", seed);
         }
     }
-    let often = if tally.least() >= OFTEN { "" } else { "not " };
-    Ok(format!(in alloc;
-        "    {} tables: all alike, and {often}each kind of marker was true, and markers rose and fell, 1000 times or more\n",
-        sample.count
-    )?)
+    let words = if tally.least() >= OFTEN {
+        " tables: all alike, and each kind of marker was true, and markers rose and fell, 1000 times or more"
+    } else {
+        " tables: all alike, and not each kind of marker was true, and markers rose and fell, 1000 times or more"
+    };
+    sample.all_alike(alloc, words)
 }

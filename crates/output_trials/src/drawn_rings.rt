@@ -8,7 +8,7 @@ use rand_pcg::Pcg32;
 use site_types::Word;
 use std::alloc::Global;
 use tick_units::Tick;
-use trial_cases::{Sample, below};
+use trial_cases::{Sample, below, otherwise};
 
 /// The stream of numbers that is drawn from.
 const STREAM: u64 = 54;
@@ -214,8 +214,8 @@ pub(crate) fn try_rings(alloc: Global, panels: &str, line: &str) -> Result<Strin
     }
     for seed in sample.seeds() {
         if !try_ring(alloc, panels, ticks, seed)? {
-            return Ok(format!(in alloc; "    otherwise by the chains: seed {seed}\n")?);
+            return otherwise(alloc, "chains", seed);
         }
     }
-    Ok(format!(in alloc; "    {} histories: all alike\n", sample.count)?)
+    sample.all_alike(alloc, " histories: all alike")
 }

@@ -25,22 +25,17 @@ pub(crate) enum Kind {
     DrawnRing,
 }
 
-impl Kind {
-    /// The kind of this name.
-    pub(crate) fn named(word: &str) -> Option<Kind> {
-        match word {
-            "delay" => Some(Kind::Delay),
-            "route" => Some(Kind::Route),
-            "confirm-all" => Some(Kind::ConfirmAll),
-            "ask" => Some(Kind::Ask),
-            "cycle" => Some(Kind::Cycle),
-            "level" => Some(Kind::Level),
-            "drawn-silences" => Some(Kind::DrawnSilences),
-            "drawn-delays" => Some(Kind::DrawnDelays),
-            "drawn-confirmations" => Some(Kind::DrawnConfirmations),
-            "drawn-markers" => Some(Kind::DrawnMarkers),
-            "drawn-ring" => Some(Kind::DrawnRing),
-            _ => None,
-        }
-    }
-}
+/// The kinds by name.
+pub(crate) const KINDS: [(&str, Kind); 11] = [
+    ("delay", Kind::Delay),
+    ("route", Kind::Route),
+    ("confirm-all", Kind::ConfirmAll),
+    ("ask", Kind::Ask),
+    ("cycle", Kind::Cycle),
+    ("level", Kind::Level),
+    ("drawn-silences", Kind::DrawnSilences),
+    ("drawn-delays", Kind::DrawnDelays),
+    ("drawn-confirmations", Kind::DrawnConfirmations),
+    ("drawn-markers", Kind::DrawnMarkers),
+    ("drawn-ring", Kind::DrawnRing),
+];

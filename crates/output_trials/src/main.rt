@@ -1,61 +1,68 @@
 //! Trials of the parts that drive a panel's outputs, of markers, of words between panels and of access levels.
 //!
-//! The program reads a list of cases and prints each with what the part answers. Any line that is no heading is a
-//! case, `KIND SUBJECT: REST`: `Kind` of src/kind has the kinds, and the head of trial_cases how a history is
-//! written. What the program must print stands in the file stdout. It was worked out by hand, or, where histories
-//! are drawn, is what plain slow programs of the rules make. What a clause of another crate says for all inputs
-//! isn't tried again here, but for the examples that show that the clause says what was meant.
+//! `Kind` of src/kind has the kinds of cases, and the head of trial_cases how a list of cases and a history are
+//! written.
 #![tactic(auto)]
 
 mod asking;
 mod delay_step;
 mod delaying;
+mod drawn_confirmations;
+mod drawn_delays;
 mod drawn_markers;
 mod drawn_outputs;
 mod drawn_rings;
+mod drawn_silences;
 mod kind;
+mod marker_texts;
 mod routing;
+
+ghost use Rattle.site_types.specs.Valid.{IsValid};
 
 use access_levels::level_of;
 use anyhow::Result;
 use asking::{ask, cycle};
 use delaying::delay;
+use drawn_confirmations::try_confirmations;
+use drawn_delays::try_delays;
 use drawn_markers::try_markers;
-use drawn_outputs::{try_confirmations, try_delays, try_silences};
 use drawn_rings::try_rings;
-use kind::Kind;
+use drawn_silences::try_silences;
+use kind::{KINDS, Kind};
 use routing::{confirm_all, route};
 use site_types::Site;
 use std::alloc::Global;
 use std::process::ExitCode;
-use trial_cases::{Case, answer_cases, site_at};
+use trial_cases::{Case, Lines, answer_cases, site_at};
 
 fn main(rt: HostRuntime) -> Result<ExitCode> {
-    answer_cases(&rt, |case| answer(&rt, case))
+    answer_cases(&rt, &KINDS, |kind, case| answer(&rt, kind, case))
 }
 
-// What the part that a case tries answers, if the case is of a kind that there is.
-fn answer(rt: &HostRuntime, case: &Case) -> Result<Option<String>> {
-    let Some(kind) = Kind::named(case.kind) else {
-        return Ok(None);
-    };
+// What the part that a case tries answers. Some need no site.
+fn answer(rt: &HostRuntime, kind: Kind, case: &Case) -> Result<String> {
     let alloc = rt.alloc();
-    let told = match kind {
-        Kind::Delay => delay(alloc, &site_at(rt, case.subject)?, case.rest),
-        Kind::Route => route(alloc, &site_at(rt, case.subject)?, case.rest),
-        Kind::ConfirmAll => confirm_all(alloc, &site_at(rt, case.subject)?, case.rest),
-        Kind::Ask => ask(alloc, &site_at(rt, case.subject)?, case.rest),
-        Kind::Cycle => cycle(alloc, &site_at(rt, case.subject)?),
-        Kind::Level => level(alloc, &site_at(rt, case.subject)?, case.rest),
+    match kind {
         Kind::DrawnSilences => try_silences(alloc, case.rest),
-        Kind::DrawnDelays => try_delays(alloc, &site_at(rt, case.subject)?, case.rest),
-        Kind::DrawnConfirmations => {
-            try_confirmations(alloc, &site_at(rt, case.subject)?, case.rest)
-        }
         Kind::DrawnMarkers => try_markers(alloc, case.rest),
         Kind::DrawnRing => try_rings(alloc, case.subject, case.rest),
-    };
-    Ok(Some(told?))
+        _ => answer_at(alloc, kind, &site_at(rt, case.subject)?, case.rest),
+    }
+}
+
+fn answer_at(alloc: Global, kind: Kind, site: &Site, line: &str) -> Result<String>
+    requires { IsValid site.now }
+{
+    match kind {
+        Kind::Delay => delay(alloc, site, line),
+        Kind::Route => route(alloc, site, line),
+        Kind::ConfirmAll => confirm_all(alloc, site, line),
+        Kind::Ask => ask(alloc, site, line),
+        Kind::Cycle => cycle(alloc, site),
+        Kind::Level => level(alloc, site, line),
+        Kind::DrawnDelays => try_delays(alloc, site, line),
+        _ => try_confirmations(alloc, site, line),
+    }
 }
 
 // The level that a code opens, `-` being none.
@@ -64,5 +71,8 @@ fn level(alloc: Global, site: &Site, code: &str) -> Result<String> {
         "-" => level_of(None, site),
         _ => level_of(Some(code), site),
     };
-    Ok(format!(in alloc; "    level {level}\n")?)
+    let mut lines = Lines::new(alloc);
+    lines.count("    level ", level as u64);
+    lines.say("\n");
+    lines.done()
 }

@@ -5,9 +5,9 @@ ghost use Rattle.site_types.specs.Valid.{IsValid};
 use anyhow::{Result, bail};
 use routing_outputs::{Routing, RoutingState};
 use site_types::{Event, Site, has_bit_32};
-use std::alloc::{AllocError, Global};
+use std::alloc::Global;
 use tick_units::Tick;
-use trial_cases::{History, event_of, named, output_names, outputs_of};
+use trial_cases::{History, Lines, event_of, outputs_of, say_output};
 
 /// Each tick in which an output of panel 1 comes to be at something else, with all that aren't idle.
 /// Confirmations come before the turn of their tick.
@@ -18,40 +18,38 @@ pub(crate) fn route(alloc: Global, site: &Site, line: &str) -> Result<String>
     let mut routing = Routing::new(site, 1, site.profile().routing());
     let mut on = 0;
     let mut before = states_of(alloc, site, 1, &routing)?;
-    let mut told = String::new(alloc);
+    let mut lines = Lines::new(alloc);
     for tick in 1..=history.last {
         for step in &history.steps {
             if step.tick == tick {
                 match step.words.strip_prefix("on ") {
                     Some(names) => on = outputs_of(site, names)?,
-                    None => confirm(alloc, site, step.words, &mut routing)?,
+                    None => confirm(site, step.words, &mut routing)?,
                 }
             }
         }
         routing.turn(Tick(tick), on);
         let after = states_of(alloc, site, 1, &routing)?;
         if after.as_str() != before.as_str() {
-            told.push_str(&format!(in alloc; "    tick {tick}: {}\n", named(&after))?)?;
+            lines.tick(tick, &after);
         }
         before = after;
     }
-    Ok(told)
+    lines.done()
 }
 
 // A confirmation comes.
-fn confirm(alloc: Global, site: &Site, words: &str, routing: &mut Routing) -> Result<()>
+fn confirm(site: &Site, words: &str, routing: &mut Routing) -> Result<()>
     requires { IsValid site.now }
 {
-    let place = match event_of(alloc, site, words)? {
-        Event::Confirmed { output } => output,
-        Event::Op { operation, .. } => bail!("{operation:?} confirms nothing"),
-        _ => bail!("no confirmation: {words}"),
+    let Event::Confirmed { output } = event_of(site, words)? else {
+        bail!("no confirmation: {words}");
     };
-    let Some(output) = site.outputs.get(place as usize) else {
-        bail!("no output of the site");
-    };
-    if output.number >= 1 && output.number <= 32 {
-        routing.confirm(output.number);
+    match site.outputs.get(output as usize) {
+        Some(output) if output.number >= 1 && output.number <= 32 => {
+            routing.confirm(output.number);
+        }
+        _ => bail!("no output of the site: {words}"),
     }
     Ok(())
 }
@@ -71,39 +69,42 @@ pub(crate) fn confirm_all(alloc: Global, site: &Site, panel: &str) -> Result<Str
         routing.confirm(number);
     }
     let after = states_of(alloc, site, panel, &routing)?;
-    Ok(format!(in alloc;
-        "    {}; once confirmed {}\n",
-        named(&before),
-        named(&after)
-    )?)
+    let mut lines = Lines::new(alloc);
+    lines.say("    ");
+    lines.say(&before);
+    lines.say("; once confirmed ");
+    lines.say(&after);
+    lines.say("\n");
+    lines.done()
 }
 
-// The outputs that aren't idle, each with what it is at.
-fn states_of(
-    alloc: Global,
-    site: &Site,
-    panel: u8,
-    routing: &Routing,
-) -> Result<String, AllocError> {
-    let mut told = String::new(alloc);
+// The outputs that aren't idle, each with what it is at, or `nothing`.
+fn states_of(alloc: Global, site: &Site, panel: u8, routing: &Routing) -> Result<String> {
+    let mut lines = Lines::new(alloc);
     for number in 1..33 {
         let state = routing.state(number);
-        let word = match state {
-            RoutingState::Idle => "",
-            RoutingState::Waiting => " waiting",
-            RoutingState::Confirmed => " confirmed",
-            RoutingState::Unconfirmed => " unconfirmed",
-        };
         if state != RoutingState::Idle {
-            let comma = if told.is_empty() { "" } else { ", " };
-            let name = output_names(alloc, site, panel, 1 << (number - 1))?;
-            told.push_str(&format!(in alloc; "{comma}{name}{word}")?)?;
+            lines.item(", ", "");
+            say_output(&mut lines, site, panel, number);
+            lines.say(state_word(state));
         }
         if !is_in_masks(routing, number, state) {
-            told.push_str(" (otherwise by the masks)")?;
+            lines.say(" (otherwise by the masks)");
         }
     }
-    Ok(told)
+    if lines.is_empty() {
+        lines.say("nothing");
+    }
+    lines.done()
+}
+
+fn state_word(state: RoutingState) -> &'static str {
+    match state {
+        RoutingState::Idle => " idle",
+        RoutingState::Waiting => " waiting",
+        RoutingState::Confirmed => " confirmed",
+        RoutingState::Unconfirmed => " unconfirmed",
+    }
 }
 
 // Whether the masks of confirmed and unconfirmed outputs say the same of an output as its state.

@@ -3,14 +3,12 @@
 
 ghost use Rattle.site_types.specs.Valid.{IsValid};
 
-use crate::report::Report;
 use crate::system_ticks::{opened, order_of, run_tick, shown};
 use anyhow::Result;
 use rand_pcg::Pcg32;
-use site_types::{Answer, Heard, PointState, Rule, Site, Zone, has_bit_32};
+use site_types::{Answer, PointState, Rule, Site, Zone, has_bit_32};
 use std::alloc::{AllocError, Global};
-use tick_units::Tick;
-use trial_base::{Judged, PlainRules};
+use trial_base::{Judged, PlainRules, Report, answers_at, state_at};
 use trial_cases::below;
 
 const LAST: u64 = 150;
@@ -62,17 +60,6 @@ fn drawn_reports(alloc: Global, draws: &mut Pcg32) -> Result<Vec<Report>, AllocE
     Ok(reports)
 }
 
-// The state of a point in a tick: the last one that was reported, at first quiet.
-fn state_at(reports: &[Report], point: u16, tick: u64) -> PointState {
-    let mut state = PointState::Quiet;
-    for report in reports {
-        if report.point == point && report.tick <= tick {
-            state = report.state;
-        }
-    }
-    state
-}
-
 // Whether a point is in alarm for so many ticks from the first on.
 fn is_held(reports: &[Report], point: u16, first: u64, count: u64) -> bool {
     for after in 0..count {
@@ -113,22 +100,7 @@ fn all_held(alloc: Global, site: &Site, reports: &[Report]) -> Result<Vec<Held>,
 fn all_answers(alloc: Global, site: &Site, reports: &[Report]) -> Result<Vec<Answer>, AllocError> {
     let mut answers = Vec::new(alloc);
     for tick in 1..=LAST {
-        let mut place: u16 = 0;
-        for point in site.points.as_slice() {
-            if tick % ROUND == (point.address as u64).saturating_sub(1) / 8 {
-                let heard = match state_at(reports, place, tick) {
-                    PointState::Quiet => Heard::Quiet,
-                    PointState::Alarm => Heard::Alarm,
-                    PointState::Gone => Heard::Silent,
-                };
-                answers.push(Answer {
-                    stamp: Tick(tick),
-                    point: place,
-                    heard,
-                })?;
-            }
-            place = place.saturating_add(1);
-        }
+        answers.extend_from_slice(&answers_at(alloc, site, reports, tick)?)?;
     }
     Ok(answers)
 }

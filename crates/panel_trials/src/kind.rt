@@ -11,15 +11,10 @@ pub(crate) enum Kind {
     Lane,
 }
 
-impl Kind {
-    /// The kind of this name.
-    pub(crate) fn named(word: &str) -> Option<Kind> {
-        match word {
-            "zones" => Some(Kind::Zones),
-            "drawn-zones" => Some(Kind::DrawnZones),
-            "full-loops" => Some(Kind::FullLoops),
-            "lane" => Some(Kind::Lane),
-            _ => None,
-        }
-    }
-}
+/// The kinds by name.
+pub(crate) const KINDS: [(&str, Kind); 4] = [
+    ("zones", Kind::Zones),
+    ("drawn-zones", Kind::DrawnZones),
+    ("full-loops", Kind::FullLoops),
+    ("lane", Kind::Lane),
+];

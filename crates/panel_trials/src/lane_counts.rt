@@ -1,6 +1,6 @@
 //! How much lies between the tasks of a panel whose every address is asked: four loops with 96 detectors each.
 
-ghost use Rattle.std.specs.Prelude.{◌≡◌};
+ghost use Rattle.std.specs.Prelude.{◌≡◌, ◌<◌};
 
 use crate::system_ticks::{opened, order_of, run_tick, taken};
 use anyhow::{Result, bail};
@@ -8,35 +8,38 @@ use arrayvec::ArrayVec;
 use site_config::read_site;
 use std::alloc::Global;
 use tick_units::Lane;
+use trial_cases::Lines;
 
 // One panel with four full loops, a section of twelve addresses for each zone.
 fn full_panel(alloc: Global) -> Result<String> {
-    let mut text = "format = 1\nsite = \"full\"\npanels = 1\nloop = [\n".to_string(alloc)?;
+    let mut lines = Lines::new(alloc);
+    lines.say("format = 1\nsite = \"full\"\npanels = 1\n");
     for line in 1..5 {
-        let row = format!(in alloc;
-            "  {{ panel = 1, loop = {line}, last = 96, isolators = [12, 24, 36, 48, 60, 72, 84] }},\n"
-        )?;
-        text.push_str(row.as_str())?;
+        lines.count("[[loop]]\npanel = 1\nlast = 96\nloop = ", line);
+        lines.say("\nisolators = [12, 24, 36, 48, 60, 72, 84]\n");
     }
-    text.push_str("]\nzone = [\n")?;
     for number in 1..33 {
-        let row = format!(in alloc;
-            "  {{ name = \"z{number}\", panel = 1, number = {number} }},\n"
-        )?;
-        text.push_str(row.as_str())?;
+        lines.count("[[zone]]\npanel = 1\nname = \"z", number);
+        lines.count("\"\nnumber = ", number);
+        lines.say("\n");
     }
-    text.push_str("]\npoint = [\n")?;
     for place in 0..384 {
-        let line = place / 96 + 1;
-        let address = place % 96 + 1;
-        let zone = place / 12 + 1;
-        let row = format!(in alloc;
-            "  {{ name = \"p{line}-{address}\", panel = 1, loop = {line}, address = {address}, zone = \"z{zone}\" }},\n"
-        )?;
-        text.push_str(row.as_str())?;
+        say_point(&mut lines, place);
     }
-    text.push_str("]\n")?;
-    Ok(text)
+    lines.done()
+}
+
+fn say_point(lines: &mut Lines, place: u64)
+    requires { place < 384 }
+{
+    let line = place / 96 + 1;
+    let address = place % 96 + 1;
+    lines.count("[[point]]\npanel = 1\nname = \"p", line);
+    lines.count("-", address);
+    lines.count("\"\nloop = ", line);
+    lines.count("\naddress = ", address);
+    lines.count("\nzone = \"z", place / 12 + 1);
+    lines.say("\"\n");
 }
 
 /// What Decide and Hold have taken after each tick, its turns being in the canonical or in the reversed order.
@@ -47,14 +50,18 @@ pub(crate) fn taken_of_full_loops(alloc: Global, orders: &str) -> Result<String>
     };
     let panels = site.panels;
     let mut system = opened(alloc, site)?;
-    let mut told = String::new(alloc);
+    let mut lines = Lines::new(alloc);
     for word in orders.split(", ") {
         let order = order_of(alloc, panels, word == "reversed")?;
         run_tick(&mut system, panels, &[], &order)?;
         let (decided, held) = taken(&system, panels);
-        told.push_str(&format!(in alloc; "    {word}: Decide {decided}, Hold {held}\n")?)?;
+        lines.say("    ");
+        lines.say(word);
+        lines.count(": Decide ", decided);
+        lines.count(", Hold ", held);
+        lines.say("\n");
     }
-    Ok(told)
+    lines.done()
 }
 
 /// How much lies in a lane after each step: a `batch` of 32 that is put, or a `turn` of its taker.
@@ -62,18 +69,22 @@ pub(crate) fn lane_lengths(alloc: Global, steps: &str) -> Result<String> {
     let Ok(mut lane) = Lane::new(alloc, 32, 64) else {
         bail!("no memory");
     };
-    let mut told = String::new(alloc);
+    let mut lines = Lines::new(alloc);
     for word in steps.split(", ") {
         match word {
             "batch" => put_batch(&mut lane)?,
             "turn" => take_batch(&mut lane),
             _ => bail!("no step of a lane: {word}"),
         }
-        told.push_str(&format!(in alloc; "    {word}: {} lie in it\n", lane.len())?)?;
+        lines.say("    ");
+        lines.say(word);
+        lines.count(": ", lane.len() as u64);
+        lines.say(" lie in it\n");
     }
-    let (put, taken) = (lane.put_count(), lane.taken_count());
-    told.push_str(&format!(in alloc; "    {put} put, {taken} taken\n")?)?;
-    Ok(told)
+    lines.count("    ", lane.put_count());
+    lines.count(" put, ", lane.taken_count());
+    lines.say(" taken\n");
+    lines.done()
 }
 
 // Puts a batch of 32 items.

@@ -1,56 +1,61 @@
 //! Trials of a whole panel.
 //!
-//! The program reads a list of cases and prints each with what the panel answers. Any line that is no heading is a
-//! case, `KIND SUBJECT: REST`: `Kind` of src/kind has the kinds, and the head of trial_cases how a history is
-//! written. What the program must print stands in the file stdout. It was worked out by hand, or, where records are
-//! drawn, is what plain slow programs of the rules make. src/system_ticks drives a system tick by tick: it tests
-//! what each call asks for, so that a case needs no proof.
+//! `Kind` of src/kind has the kinds of cases, and the head of trial_cases how a list of cases and a history are
+//! written. src/system_ticks drives a system tick by tick: it tests what each call asks for, so that a case needs
+//! no proof.
 #![tactic(auto)]
 
 mod due_zones;
 mod kind;
 mod lane_counts;
-mod report;
 mod shown_zones;
 mod system_ticks;
 
 use anyhow::Result;
 use due_zones::due_at_end;
-use kind::Kind;
+use kind::{KINDS, Kind};
 use lane_counts::{lane_lengths, taken_of_full_loops};
 use rand_pcg::Pcg32;
-use shown_zones::zones_shown;
+use shown_zones::say_zones_shown;
 use std::process::ExitCode;
-use trial_cases::{Case, Sample, answer_cases, site_at};
+use trial_cases::{Case, Lines, Sample, answer_cases, otherwise, site_at};
 
 /// The stream of numbers that is drawn from.
 const STREAM: u64 = 54;
 
 fn main(rt: HostRuntime) -> Result<ExitCode> {
-    answer_cases(&rt, |case| answer(&rt, case))
+    answer_cases(&rt, &KINDS, |kind, case| answer(&rt, kind, case))
 }
 
-// What the panel that a case tries answers, if the case is of a kind that there is.
-fn answer(rt: &HostRuntime, case: &Case) -> Result<Option<String>> {
-    let Some(kind) = Kind::named(case.kind) else {
-        return Ok(None);
-    };
-    let alloc = rt.alloc();
-    let told = match kind {
+// What the panel that a case tries answers.
+fn answer(rt: &HostRuntime, kind: Kind, case: &Case) -> Result<String> {
+    match kind {
         Kind::Zones => both_orders(rt, case),
         Kind::DrawnZones => try_records(rt, case),
-        Kind::FullLoops => taken_of_full_loops(alloc, case.rest),
-        Kind::Lane => lane_lengths(alloc, case.rest),
-    };
-    Ok(Some(told?))
+        Kind::FullLoops => taken_of_full_loops(rt.alloc(), case.rest),
+        Kind::Lane => lane_lengths(rt.alloc(), case.rest),
+    }
 }
 
 // What is shown in the canonical and in the reversed order.
 fn both_orders(rt: &HostRuntime, case: &Case) -> Result<String> {
     let alloc = rt.alloc();
-    let canonical = zones_shown(alloc, site_at(rt, case.subject)?, case.rest, false)?;
-    let reversed = zones_shown(alloc, site_at(rt, case.subject)?, case.rest, true)?;
-    Ok(format!(in alloc; "{canonical}{reversed}")?)
+    let mut lines = Lines::new(alloc);
+    say_zones_shown(
+        alloc,
+        &mut lines,
+        site_at(rt, case.subject)?,
+        case.rest,
+        false,
+    )?;
+    say_zones_shown(
+        alloc,
+        &mut lines,
+        site_at(rt, case.subject)?,
+        case.rest,
+        true,
+    )?;
+    lines.done()
 }
 
 // Drawn records: whether each zone that is due is shown, and none without a cause.
@@ -62,18 +67,13 @@ fn try_records(rt: &HostRuntime, case: &Case) -> Result<String> {
         let mut draws = Pcg32::new(seed, STREAM);
         match due_at_end(alloc, site_at(rt, case.subject)?, &mut draws)? {
             Some(zones) => due = due.saturating_add(zones),
-            None => return Ok(format!(in alloc;
-                "    otherwise by the plain program: seed {seed}\n"
-            )?),
+            None => return otherwise(alloc, "plain program", seed),
         }
     }
-    let often = if due >= 50 {
-        "50 or more"
+    let words = if due >= 50 {
+        " records: what is due is shown, nothing without a cause; 50 or more zones were due"
     } else {
-        "fewer than 50"
+        " records: what is due is shown, nothing without a cause; fewer than 50 zones were due"
     };
-    Ok(format!(in alloc;
-        "    {} records: what is due is shown, nothing without a cause; {often} zones were due\n",
-        sample.count
-    )?)
+    sample.all_alike(alloc, words)
 }

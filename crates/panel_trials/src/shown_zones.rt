@@ -2,40 +2,61 @@
 
 ghost use Rattle.site_types.specs.Valid.{IsValid};
 
-use crate::report::Report;
 use crate::system_ticks::{opened, order_of, run_tick, shown};
 use anyhow::{Result, bail};
 use face_text::Face;
 use site_types::{Event, Site};
 use std::alloc::Global;
-use trial_cases::{History, changes_of, event_of};
+use timeline_text::changes_of;
+use trial_base::Report;
+use trial_cases::{History, Lines, event_of};
 
 /// Each tick in which panel 1 shows its zones otherwise than before, each tick having its turns in the
 /// canonical or in the reversed order.
-pub(crate) fn zones_shown(alloc: Global, site: Site, line: &str, reversed: bool) -> Result<String>
+pub(crate) fn say_zones_shown(
+    alloc: Global,
+    lines: &mut Lines,
+    site: Site,
+    line: &str,
+    reversed: bool,
+) -> Result<()>
     requires { IsValid site }
 {
     let history = History::read(alloc, line)?;
     let reports = all_reports(alloc, &site, &history)?;
     let panels = site.panels;
     let order = order_of(alloc, panels, reversed)?;
-    let word = if reversed { "reversed" } else { "canonical" };
+    let word = if reversed {
+        "    reversed"
+    } else {
+        "    canonical"
+    };
     let mut system = opened(alloc, site)?;
     let mut before = Face::empty(1);
-    let mut told = String::new(alloc);
+    let mut is_same = true;
     for tick in 1..=history.last {
         run_tick(&mut system, panels, &reports, &order)?;
         let after = face_of(shown(&system, panels));
         if after != before {
             let changes = changes_of(alloc, system.site(), &before, &after)?;
-            told.push_str(&format!(in alloc; "    {word}, tick {tick}: {changes}\n")?)?;
+            lines.say(word);
+            lines.count(", tick ", tick);
+            say_end(lines, &changes);
+            is_same = false;
         }
         before = after;
     }
-    if told.is_empty() {
-        told.push_str(&format!(in alloc; "    {word}: no change\n")?)?;
+    if is_same {
+        lines.say(word);
+        say_end(lines, "no change");
     }
-    Ok(told)
+    Ok(())
+}
+
+fn say_end(lines: &mut Lines, words: &str) {
+    lines.say(": ");
+    lines.say(words);
+    lines.say("\n");
 }
 
 // The reports on points in a history.
@@ -44,15 +65,14 @@ fn all_reports(alloc: Global, site: &Site, history: &History) -> Result<Vec<Repo
 {
     let mut reports = Vec::new(alloc);
     for step in &history.steps {
-        match event_of(alloc, site, step.words)? {
-            Event::Point { point, state } => reports.push(Report {
-                tick: step.tick,
-                point,
-                state,
-            })?,
-            Event::Op { operation, .. } => bail!("{operation:?} is no report on a point"),
-            _ => bail!("no report on a point: {}", step.words),
-        }
+        let Event::Point { point, state } = event_of(site, step.words)? else {
+            bail!("no report on a point: {}", step.words);
+        };
+        reports.push(Report {
+            tick: step.tick,
+            point,
+            state,
+        })?;
     }
     Ok(reports)
 }

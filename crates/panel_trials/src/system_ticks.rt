@@ -5,12 +5,12 @@ ghost use Rattle.tick_units.specs.Orders.{IsOrder, IsPanelCount};
 ghost use Rattle.site_types.specs.Valid.{IsValid};
 ghost use Rattle.panel_trials.specs.SystemTicks.{IsBetween, HasBegun};
 
-use crate::report::Report;
 use anyhow::{Result, bail};
 use panel_core::System;
 use site_types::{Event, Retained, Site};
 use std::alloc::Global;
 use tick_units::{Order, Seat, Task, Tick};
+use trial_base::Report;
 
 /// A system before its first tick, with nothing retained.
 pub(crate) fn opened(alloc: Global, site: Site) -> Result<System>

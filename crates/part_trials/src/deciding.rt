@@ -4,15 +4,16 @@ ghost use Rattle.part_trials.specs.Bench.{MayGoOn};
 ghost use Rattle.site_types.specs.Valid.{IsValid};
 
 use crate::decide_bench::DecideBench;
+use crate::plain_judging::judge_plainly;
 use crate::reported::Reported;
-use anyhow::{Result, bail};
+use anyhow::Result;
 use arrayvec::ArrayVec;
 use coincidence::Finding;
 use site_types::{Answer, Site};
-use std::alloc::{AllocError, Global};
+use std::alloc::Global;
 use tick_units::Tick;
-use trial_base::{DoneAt, PlainRules};
-use trial_cases::{History, zone_names};
+use trial_base::{DoneAt, answers_at};
+use trial_cases::{History, Lines, say_point, say_zones};
 
 /// What each answer that counts confirms and releases. In a tick the answers of its points are taken in one
 /// turn, then its operations are done.
@@ -22,23 +23,31 @@ pub(crate) fn decide(alloc: Global, site: Site, line: &str) -> Result<String>
     let history = History::read(alloc, line)?;
     let reported = Reported::read(alloc, &site, &history)?;
     let mut bench = DecideBench::open(alloc, site, 1)?;
+    drive(alloc, &mut bench, &reported, history.last)
+}
+
+// Drives the bench up to a tick.
+fn drive(alloc: Global, bench: &mut DecideBench, reported: &Reported, last: u64) -> Result<String>
+    requires { MayGoOn bench.old }
+{
     let mut answers: Vec<Answer> = Vec::new(alloc);
     let mut findings: Vec<Finding> = Vec::new(alloc);
-    let mut told = String::new(alloc);
-    for tick in 1..=history.last {
-        let given = reported.answers_at(alloc, bench.site(), tick)?;
-        let found = drive_tick(&mut bench, &given, &reported.done, tick)?;
+    let mut lines = Lines::new(alloc);
+    for tick in 1..=last {
+        let given = answers_at(alloc, bench.site(), &reported.reports, tick)?;
+        let found = drive_tick(bench, &given, &reported.done, tick)?;
         answers.extend_from_slice(&given)?;
         findings.extend_from_slice(found.as_slice())?;
-        tell_findings(alloc, bench.site(), found.as_slice(), &mut told)?;
+        say_findings(&mut lines, bench.site(), found.as_slice());
     }
-    if told.is_empty() {
-        told.push_str("    nothing counts\n")?;
+    if lines.is_empty() {
+        lines.say("    nothing counts\n");
     }
-    if !is_plain(alloc, bench.site(), &reported.done, &answers, &findings)? {
-        told.push_str("    otherwise by the plain rules\n")?;
+    let (_, alike) = judge_plainly(alloc, bench.site(), &reported.done, &answers, &findings)?;
+    if !alike {
+        lines.say("    otherwise by the plain rules\n");
     }
-    Ok(told)
+    lines.done()
 }
 
 // A tick: its answers are taken in one turn, then its operations are done.
@@ -64,61 +73,29 @@ fn drive_tick(
 }
 
 // A line for each finding that counts for a zone.
-fn tell_findings(
-    alloc: Global,
-    site: &Site,
-    findings: &[Finding],
-    told: &mut String,
-) -> Result<()> {
+fn say_findings(lines: &mut Lines, site: &Site, findings: &[Finding]) {
     for finding in findings {
         if finding.counted != 0 {
-            let Some(point) = site.points.get(finding.point as usize) else {
-                bail!("no point of the site");
-            };
-            let tick = finding.stamp.0;
-            let name = &point.name;
-            let means = meaning(alloc, site, finding)?;
-            told.push_str(&format!(in alloc; "    tick {tick}: {name} {means}\n")?)?;
+            lines.count("    tick ", finding.stamp.0);
+            lines.say(": ");
+            say_point(lines, site, finding.point);
+            say_finding(lines, site, finding);
+            lines.say("\n");
         }
     }
-    Ok(())
 }
 
-fn meaning(alloc: Global, site: &Site, finding: &Finding) -> Result<String, AllocError> {
-    let mut told = String::new(alloc);
-    for (word, zones) in [
-        ("counts for ", finding.counted),
-        (", confirms ", finding.confirmed),
-        (", by hand ", finding.manual),
-        (", releases ", finding.released),
-    ] {
-        if zones != 0 {
-            told.push_str(word)?;
-            told.push_str(&zone_names(alloc, site, 1, zones)?)?;
-        }
+fn say_finding(lines: &mut Lines, site: &Site, finding: &Finding) {
+    say_mask(lines, site, " counts for ", finding.counted);
+    say_mask(lines, site, ", confirms ", finding.confirmed);
+    say_mask(lines, site, ", by hand ", finding.manual);
+    say_mask(lines, site, ", releases ", finding.released);
+}
+
+// The zones of a mask behind words, if it has any.
+fn say_mask(lines: &mut Lines, site: &Site, words: &str, zones: u32) {
+    if zones != 0 {
+        lines.say(words);
+        say_zones(lines, site, 1, zones);
     }
-    Ok(told)
-}
-
-/// Whether each finding is what the plain rules make of the whole lists.
-pub(crate) fn is_plain(
-    alloc: Global,
-    site: &Site,
-    done: &[DoneAt],
-    answers: &[Answer],
-    findings: &[Finding],
-) -> Result<bool, AllocError> {
-    let plain = PlainRules {
-        site,
-        panel: 1,
-        done,
-    };
-    let judged = plain.judge_all(alloc, answers)?;
-    Ok(
-        judged.len() == findings.len()
-            && judged
-                .iter()
-                .zip(findings.iter())
-                .all(|(plain, finding)| plain.finding == *finding),
-    )
 }

@@ -4,14 +4,15 @@ ghost use Rattle.part_trials.specs.Bench.{MayGoOn};
 ghost use Rattle.site_types.specs.Valid.{IsValid};
 
 use crate::decide_bench::DecideBench;
+use crate::plain_judging::judge_plainly;
 use anyhow::Result;
 use coincidence::Finding;
 use rand_pcg::Pcg32;
 use site_types::{Answer, Heard, Item, Operation, Site};
 use std::alloc::{AllocError, Global};
 use tick_units::Tick;
-use trial_base::{Cases, DoneAt, PlainRules};
-use trial_cases::{Sample, below};
+use trial_base::{Cases, DoneAt};
+use trial_cases::{Sample, below, otherwise};
 
 const OPERATIONS: usize = 20;
 /// The answers between two operations.
@@ -54,9 +55,9 @@ impl Tally {
             .min(self.two)
             .min(self.b);
         if least >= OFTEN {
-            "all alike, and each way to confirm a zone came 50 times or more"
+            " histories: all alike, and each way to confirm a zone came 50 times or more"
         } else {
-            "all alike, but some way to confirm a zone came less than 50 times"
+            " histories: all alike, but some way to confirm a zone came less than 50 times"
         }
     }
 }
@@ -179,15 +180,14 @@ fn is_alike(
     history: &History,
     tally: &mut Tally,
 ) -> Result<bool, AllocError> {
-    let plain = PlainRules {
-        site: bench.site(),
-        panel: 1,
-        done: &history.done,
-    };
-    let judged = plain.judge_all(alloc, &history.answers)?;
-    let mut alike = judged.len() == history.findings.len();
-    for (plain, finding) in judged.iter().zip(history.findings.iter()) {
-        alike = alike && plain.finding == *finding;
+    let (judged, alike) = judge_plainly(
+        alloc,
+        bench.site(),
+        &history.done,
+        &history.answers,
+        &history.findings,
+    )?;
+    for plain in &judged {
         tally.add(&plain.cases);
     }
     Ok(alike)
@@ -212,12 +212,18 @@ pub(crate) fn try_histories(alloc: Global, site: Site, line: &str) -> Result<Str
     requires { IsValid site }
 {
     let sample = Sample::read(line)?;
-    let mut tally = Tally::default();
     let mut bench = DecideBench::open(alloc, site, 1)?;
+    try_sample(alloc, &mut bench, &sample)
+}
+
+fn try_sample(alloc: Global, bench: &mut DecideBench, sample: &Sample) -> Result<String>
+    requires { MayGoOn bench.old }
+{
+    let mut tally = Tally::default();
     for seed in sample.seeds() {
-        if !try_history(alloc, &mut bench, seed, &mut tally)? {
-            return Ok(format!(in alloc; "    otherwise by the plain rules: seed {seed}\n")?);
+        if !try_history(alloc, bench, seed, &mut tally)? {
+            return otherwise(alloc, "plain rules", seed);
         }
     }
-    Ok(format!(in alloc; "    {} histories: {}\n", sample.count, tally.words())?)
+    sample.all_alike(alloc, tally.words())
 }

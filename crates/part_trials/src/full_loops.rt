@@ -6,6 +6,7 @@ use crate::polling::{answers_at, poller_of};
 use anyhow::{Result, bail};
 use site_config::read_site;
 use std::alloc::Global;
+use trial_cases::Lines;
 
 /// In each tick of two rounds those points answer of whose address less 1 the eighth part is the tick within
 /// its round, in order of loop, then address.
@@ -25,44 +26,58 @@ fn ask_rounds(alloc: Global, format: u8, last: u8, round: u64) -> Result<String>
         bail!("a refused site");
     };
     let poller = poller_of(alloc, &site)?;
+    let mut lines = Lines::new(alloc);
     for tick in 1..=2 * round {
         let answers = answers_at(alloc, &site, &poller, tick)?;
         let wanted = wanted_at(alloc, last, tick % round)?;
         if answers.as_str() != wanted.as_str() {
-            return Ok(format!(in alloc; "    tick {tick}: {answers}\n")?);
+            lines.tick(tick, &answers);
         }
     }
-    Ok(format!(in alloc; "    each address once in a round of {round} ticks\n")?)
+    if lines.is_empty() {
+        lines.count("    each address once in a round of ", round);
+        lines.say(" ticks\n");
+    }
+    lines.done()
 }
 
 fn wanted_at(alloc: Global, last: u8, within: u64) -> Result<String> {
-    let mut wanted = String::new(alloc);
+    let mut lines = Lines::new(alloc);
     for line in 1..5 {
         for address in 1..=last {
             if within == (address as u64 - 1) / 8 {
-                let comma = if wanted.is_empty() { "" } else { ", " };
-                wanted.push_str(&format!(in alloc; "{comma}p{line}-{address}")?)?;
+                lines.item(", ", "p");
+                lines.number(line);
+                lines.count("-", address as u64);
             }
         }
     }
-    Ok(wanted)
+    lines.done()
 }
 
 // A site with a point at each address of four loops of a panel, the last address of the last loop first.
 fn full_site(alloc: Global, format: u8, last: u8) -> Result<String> {
-    let mut text = format!(in alloc; "format = {format}\nsite = \"full\"\npanels = 1\n")?;
-    text.push_str("zone = [{ name = \"all\", panel = 1, number = 1 }]\n")?;
+    let mut lines = Lines::new(alloc);
+    lines.count("format = ", format as u64);
+    lines.say("\nsite = \"full\"\npanels = 1\n");
+    lines.say("zone = [{ name = \"all\", panel = 1, number = 1 }]\n");
     for line in 1..5 {
-        let plan = format!(in alloc; "[[loop]]\npanel = 1\nloop = {line}\nlast = {last}\n")?;
-        text.push_str(&plan)?;
+        lines.count("[[loop]]\npanel = 1\nloop = ", line);
+        lines.count("\nlast = ", last as u64);
+        lines.say("\n");
     }
     for line in (1..5).rev() {
         for address in (1..=last).rev() {
-            let point = format!(in alloc;
-                "[[point]]\nname = \"p{line}-{address}\"\npanel = 1\nloop = {line}\naddress = {address}\nzone = \"all\"\n"
-            )?;
-            text.push_str(&point)?;
+            say_point(&mut lines, line, address as u64);
         }
     }
-    Ok(text)
+    lines.done()
+}
+
+fn say_point(lines: &mut Lines, line: u64, address: u64) {
+    lines.count("[[point]]\nname = \"p", line);
+    lines.count("-", address);
+    lines.count("\"\npanel = 1\nloop = ", line);
+    lines.count("\naddress = ", address);
+    lines.say("\nzone = \"all\"\n");
 }

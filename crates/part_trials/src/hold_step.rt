@@ -3,7 +3,6 @@ ghost use Rattle.site_types.specs.Valid.{IsValid};
 use anyhow::{Result, bail};
 use panel_conditions::{Finding, Outside};
 use site_types::{Event, Operation, Site, SupplyKind, Thing, with_bit_8};
-use std::alloc::Global;
 use tick_units::Tick;
 use trial_cases::{Step, event_of, with_number, zone_of};
 
@@ -19,39 +18,37 @@ pub(crate) enum HoldStep {
 impl HoldStep {
     /// The step that words spell: `found d9 confirms hall`, `loop 1 shorted`, or the line of a record for a
     /// supply or an operation.
-    pub(crate) fn read(
-        alloc: Global,
-        site: &Site,
-        outside: &Outside,
-        step: &Step,
-    ) -> Result<HoldStep>
+    pub(crate) fn read(site: &Site, outside: &Outside, step: &Step) -> Result<HoldStep>
         requires { IsValid site.now }
     {
-        if let Some(words) = step.words.strip_prefix("found ") {
-            return match finding_of(site, step.tick, words) {
-                Some(finding) => Ok(HoldStep::Found(finding)),
-                None => bail!("no such finding: {words}"),
-            };
+        let own = match step.words.split_once(' ') {
+            Some(("found", words)) => found(site, step.tick, words),
+            Some(("loop", words)) => looped(outside, words),
+            _ => befallen(site, outside, step.words),
+        };
+        match own {
+            Some(step) => Ok(step),
+            None => bail!("nothing that comes to Hold: {}", step.words),
         }
-        if let Some(words) = step.words.strip_prefix("loop ") {
-            return match with_loop(outside, words) {
-                Some(told) => Ok(HoldStep::Outside(told)),
-                None => bail!("no such loop: {words}"),
-            };
+    }
+}
+
+// The step of an event.
+fn befallen(site: &Site, outside: &Outside, words: &str) -> Option<HoldStep>
+    requires { IsValid site.now }
+{
+    match event_of(site, words) {
+        Ok(Event::Supply { kind, bad, .. }) => {
+            Some(HoldStep::Outside(with_supply(outside, kind, bad)))
         }
-        match event_of(alloc, site, step.words)? {
-            Event::Supply { kind, bad, .. } => {
-                Ok(HoldStep::Outside(with_supply(outside, kind, bad)))
-            }
-            Event::Op { operation, .. } => Ok(HoldStep::Done(operation)),
-            _ => bail!("nothing that comes to Hold: {}", step.words),
-        }
+        Ok(Event::Op { operation, .. }) => Some(HoldStep::Done(operation)),
+        _ => None,
     }
 }
 
 // What an answer of a point in a tick means: that it counts for its zone, that it confirms zones, that it is
 // one by hand, or that the point is missing.
-fn finding_of(site: &Site, tick: u64, words: &str) -> Option<Finding>
+fn found(site: &Site, tick: u64, words: &str) -> Option<HoldStep>
     requires { IsValid site.now }
 {
     let (name, means) = words.split_once(' ')?;
@@ -60,28 +57,34 @@ fn finding_of(site: &Site, tick: u64, words: &str) -> Option<Finding>
     };
     let point = site.points.get(place as usize)?;
     let zone = site.zones.get(point.zone as usize)?;
-    let own = with_number(0, zone.number);
     let mut finding = Finding {
         stamp: Tick(tick),
         point: place,
         ..Finding::default()
     };
-    match means {
-        "missing" => finding.missing = true,
-        "counts" => finding.counted = own,
-        "by hand" => {
-            finding.counted = own;
-            finding.confirmed = own;
-            finding.manual = own;
-            finding.released = own;
-        }
-        _ => {
-            finding.counted = own;
-            finding.confirmed = zones_of(site, means.strip_prefix("confirms ")?)?;
-            finding.released = finding.confirmed;
-        }
+    add_meaning(site, means, with_number(0, zone.number), &mut finding)?;
+    Some(HoldStep::Found(finding))
+}
+
+// What is so of the point's own zone and of others.
+fn add_meaning(site: &Site, means: &str, own: u32, finding: &mut Finding) -> Option<()>
+    requires { IsValid site.now }
+{
+    if means == "missing" {
+        finding.missing = true;
+        return Some(());
     }
-    Some(finding)
+    finding.counted = own;
+    if means == "by hand" {
+        finding.confirmed = own;
+        finding.manual = own;
+        finding.released = own;
+    } else if means != "counts" {
+        let confirmed = zones_of(site, means.strip_prefix("confirms ")?)?;
+        finding.confirmed = confirmed;
+        finding.released = confirmed;
+    }
+    Some(())
 }
 
 // The zones of these names.
@@ -96,22 +99,20 @@ fn zones_of(site: &Site, names: &str) -> Option<u32>
 }
 
 // What is told once a loop is in this state too.
-fn with_loop(outside: &Outside, words: &str) -> Option<Outside> {
+fn looped(outside: &Outside, words: &str) -> Option<HoldStep> {
     let (number, state) = words.split_once(' ')?;
-    let bit = match number {
-        "1" => 0,
-        "2" => 1,
-        "3" => 2,
-        "4" => 3,
+    let number: u8 = number.parse().ok()?;
+    if number < 1 || number > 4 {
+        return None;
+    }
+    let mut told = *outside;
+    let mask = match state {
+        "broken" => &mut told.broken,
+        "shorted" => &mut told.shorted,
         _ => return None,
     };
-    let mut told = *outside;
-    match state {
-        "broken" => told.broken = with_bit_8(outside.broken, bit, true),
-        "shorted" => told.shorted = with_bit_8(outside.shorted, bit, true),
-        _ => return None,
-    }
-    Some(told)
+    *mask = with_bit_8(*mask, number - 1, true);
+    Some(HoldStep::Outside(told))
 }
 
 // What is told once a supply is in this state.

@@ -10,7 +10,8 @@ use panel_conditions::{Finding, Hold, Outside};
 use site_types::{Operation, Retained, Site};
 use std::alloc::Global;
 use tick_units::{Lane, Tick};
-use trial_cases::{History, changes_of, zone_names};
+use timeline_text::changes_of;
+use trial_cases::{History, Lines, say_zones};
 
 /// What is shown otherwise in each tick that is named. Such a tick has a turn, and no other; its operations
 /// are done behind the turn. What is told from outside stays so until told otherwise.
@@ -23,15 +24,16 @@ pub(crate) fn hold(alloc: Global, site: &Site, line: &str) -> Result<String>
     };
     let mut outside = Outside::default();
     let mut before = Face::empty(1);
-    let mut told = String::new(alloc);
+    let mut lines = Lines::new(alloc);
     for tick in &history.ticks {
         take_tick(alloc, site, &history, *tick, &mut hold, &mut outside)?;
         let after = face_of(&hold);
-        let shown = tell(alloc, site, &before, &after, hold.word().manual)?;
-        told.push_str(&format!(in alloc; "    tick {tick}: {shown}\n")?)?;
+        let changes = changes_of(alloc, site, &before, &after)?;
+        lines.count("    tick ", *tick);
+        say_shown(&mut lines, site, &changes, hold.word().manual);
         before = after;
     }
-    Ok(told)
+    lines.done()
 }
 
 // What comes in a tick, the turn, and what is done.
@@ -51,7 +53,7 @@ fn take_tick(
     let mut done: Vec<Operation> = Vec::new(alloc);
     for step in &history.steps {
         if step.tick == tick {
-            match HoldStep::read(alloc, site, outside, step)? {
+            match HoldStep::read(site, outside, step)? {
                 HoldStep::Found(finding) => put(&mut findings, finding)?,
                 HoldStep::Outside(told) => *outside = told,
                 HoldStep::Done(operation) => done.push(operation)?,
@@ -89,14 +91,16 @@ fn face_of(hold: &Hold) -> Face {
 }
 
 // What is shown otherwise, and the zones in alarm by hand.
-fn tell(alloc: Global, site: &Site, before: &Face, after: &Face, manual: u32) -> Result<String> {
-    let mut told = changes_of(alloc, site, before, after)?;
-    if told.is_empty() {
-        told.push_str("no change")?;
-    }
+fn say_shown(lines: &mut Lines, site: &Site, changes: &str, manual: u32) {
+    lines.say(": ");
+    lines.say(if changes.is_empty() {
+        "no change"
+    } else {
+        changes
+    });
     if manual != 0 {
-        let zones = zone_names(alloc, site, 1, manual)?;
-        told.push_str(&format!(in alloc; "; by hand {zones}")?)?;
+        lines.say("; by hand ");
+        say_zones(lines, site, 1, manual);
     }
-    Ok(told)
+    lines.say("\n");
 }

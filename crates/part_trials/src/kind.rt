@@ -13,16 +13,11 @@ pub(crate) enum Kind {
     Hold,
 }
 
-impl Kind {
-    /// The kind of this name.
-    pub(crate) fn named(word: &str) -> Option<Kind> {
-        match word {
-            "poll" => Some(Kind::Poll),
-            "full-loops" => Some(Kind::FullLoops),
-            "decide" => Some(Kind::Decide),
-            "drawn-decide" => Some(Kind::DrawnDecide),
-            "hold" => Some(Kind::Hold),
-            _ => None,
-        }
-    }
-}
+/// The kinds by name.
+pub(crate) const KINDS: [(&str, Kind); 5] = [
+    ("poll", Kind::Poll),
+    ("full-loops", Kind::FullLoops),
+    ("decide", Kind::Decide),
+    ("drawn-decide", Kind::DrawnDecide),
+    ("hold", Kind::Hold),
+];

@@ -2,7 +2,6 @@ ghost use Rattle.site_types.specs.Valid.{IsValid};
 
 use anyhow::{Result, bail};
 use site_types::{Event, PieceState, PointState, Site};
-use std::alloc::Global;
 use trial_cases::event_of;
 
 /// What befalls a point or a piece of cable of panel 1.
@@ -21,10 +20,10 @@ pub(crate) enum PollStep {
 
 impl PollStep {
     /// The step that a record's line spells.
-    pub(crate) fn read(alloc: Global, site: &Site, words: &str) -> Result<PollStep>
+    pub(crate) fn read(site: &Site, words: &str) -> Result<PollStep>
         requires { IsValid site.now }
     {
-        match event_of(alloc, site, words)? {
+        match event_of(site, words)? {
             Event::Point { point, state } => Ok(PollStep::Point { point, state }),
             Event::Cable {
                 panel,
@@ -37,7 +36,6 @@ impl PollStep {
                 }
                 Ok(PollStep::Cable { line, piece, state })
             }
-            Event::Op { operation, .. } => bail!("{operation:?} befalls no point"),
             _ => bail!("nothing that befalls a point or a cable: {words}"),
         }
     }

@@ -13,7 +13,7 @@ use loop_poller::Poller;
 use site_types::{Answer, Heard, PieceState, PointState, Site};
 use std::alloc::Global;
 use tick_units::{Lane, Tick};
-use trial_cases::History;
+use trial_cases::{History, Lines, say_point};
 
 /// The answers of each tick in which some point answers. What befalls points and cables in a tick comes
 /// before its answers.
@@ -22,20 +22,20 @@ pub(crate) fn poll(alloc: Global, site: &Site, line: &str) -> Result<String>
 {
     let history = History::read(alloc, line)?;
     let mut poller = poller_of(alloc, site)?;
-    let mut told = String::new(alloc);
+    let mut lines = Lines::new(alloc);
     for tick in 1..=history.last {
         for step in &history.steps {
             if step.tick == tick {
-                let next = PollStep::read(alloc, site, step.words)?;
+                let next = PollStep::read(site, step.words)?;
                 take_step(site, &mut poller, next);
             }
         }
         let answers = answers_at(alloc, site, &poller, tick)?;
         if !answers.is_empty() {
-            told.push_str(&format!(in alloc; "    tick {tick}: {answers}\n")?)?;
+            lines.tick(tick, &answers);
         }
     }
-    Ok(told)
+    lines.done()
 }
 
 /// The poller of panel 1 of a site.
@@ -104,22 +104,18 @@ fn ask(_site: &Site, poller: &Poller, tick: u64, lane: &mut Lane<Answer>)
 }
 
 fn tell_answers(alloc: Global, site: &Site, tick: u64, answers: &[Answer]) -> Result<String> {
-    let mut told = String::new(alloc);
+    let mut lines = Lines::new(alloc);
     for answer in answers {
-        let Some(point) = site.points.get(answer.point as usize) else {
-            bail!("no point of the site");
-        };
-        if answer.stamp != Tick(tick) {
-            bail!("a stamp of another tick");
-        }
-        let comma = if told.is_empty() { "" } else { ", " };
-        let heard = match answer.heard {
+        lines.item(", ", "");
+        say_point(&mut lines, site, answer.point);
+        lines.say(match answer.heard {
             Heard::Quiet => "",
             Heard::Alarm => " alarm",
             Heard::Silent => " silent",
-        };
-        let name = &point.name;
-        told.push_str(&format!(in alloc; "{comma}{name}{heard}")?)?;
+        });
+        if answer.stamp != Tick(tick) {
+            lines.say(" in another tick");
+        }
     }
-    Ok(told)
+    lines.done()
 }

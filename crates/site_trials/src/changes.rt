@@ -2,6 +2,7 @@
 
 use anyhow::{Result, bail};
 use std::alloc::{AllocError, Global};
+use trial_cases::Lines;
 
 /// A text after changes, with bars between them. `OLD -> NEW` puts NEW in the place of OLD, which stands
 /// once; `then NEW` puts a line behind the text; `fill N` puts a comment behind it, so that it has N
@@ -54,22 +55,24 @@ fn repeated(alloc: Global, text: &str) -> Result<String> {
     let Some((count, item)) = text.split_once(" times ") else {
         return Ok(String::from_str(alloc, text)?);
     };
-    let count: usize = count.parse()?;
     if item.contains('%') {
-        Ok(numbered(alloc, item, count)?)
+        numbered(alloc, item, count.parse()?)
     } else {
-        Ok(item.repeat(alloc, count)?)
+        Ok(item.repeat(alloc, count.parse()?)?)
     }
 }
 
-fn numbered(alloc: Global, item: &str, count: usize) -> Result<String, AllocError> {
-    let mut text = String::new(alloc);
+fn numbered(alloc: Global, item: &str, count: u64) -> Result<String> {
+    let mut lines = Lines::new(alloc);
     for number in 0..count {
-        let number = number.to_string(alloc)?;
-        let item = item.replace(alloc, '%', &number)?;
-        text.push_str(&item)?;
+        let mut parts = item.split('%');
+        lines.say(parts.next().unwrap_or(""));
+        for part in parts {
+            lines.number(number);
+            lines.say(part);
+        }
     }
-    Ok(text)
+    lines.done()
 }
 
 /// The bytes that a text on one line spells: `;` is a line end, and `\x` the byte that the two

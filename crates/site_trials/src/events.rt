@@ -3,73 +3,87 @@
 
 use anyhow::{Result, bail};
 use site_types::{Event, Item, Operation, PieceState, PointState, SupplyKind};
-use std::alloc::Global;
+use trial_cases::Words;
 
 /// The event that words name: `point PLACE`, `cable PANEL LOOP PIECE`, `supply PANEL`, `link LINK`,
 /// `confirmed PLACE` or an operation.
-pub fn read_event(alloc: Global, text: &str) -> Result<Option<Event>> {
-    let words: Vec<&str> = text.split_whitespace().collect(alloc)?;
-    let event = match *words.as_slice() {
-        ["point", point] => Event::Point {
-            point: point.parse()?,
+pub fn event_in(mut words: Words) -> Result<Event> {
+    let all = words;
+    match words.next() {
+        "point" => Ok(Event::Point {
+            point: words.place()?,
             state: PointState::Alarm,
-        },
-        ["cable", panel, line, piece] => Event::Cable {
-            panel: panel.parse()?,
-            line: line.parse()?,
-            piece: piece.parse()?,
-            state: PieceState::Open,
-        },
-        ["supply", panel] => Event::Supply {
-            panel: panel.parse()?,
+        }),
+        "cable" => cable_in(words),
+        "supply" => Ok(Event::Supply {
+            panel: words.byte()?,
             kind: SupplyKind::Mains,
             bad: true,
-        },
-        ["link", link] => Event::Link {
-            link: link.parse()?,
+        }),
+        "link" => Ok(Event::Link {
+            link: words.byte()?,
             up: false,
-        },
-        ["confirmed", output] => Event::Confirmed {
-            output: output.parse()?,
-        },
-        ["op", panel, ref what @ ..] => Event::Op {
-            panel: panel.parse()?,
-            code: None,
-            operation: operation_of(what)?,
-        },
-        _ => return Ok(None),
-    };
-    Ok(Some(event))
-}
-
-/// The panel and the operation of words such as `op 2 disable point 11`.
-pub fn read_operation(alloc: Global, text: &str) -> Result<(u8, Operation)> {
-    let words: Vec<&str> = text.split_whitespace().collect(alloc)?;
-    let ["op", panel, ref what @ ..] = *words.as_slice() else {
-        bail!("no event: {text}");
-    };
-    Ok((panel.parse()?, operation_of(what)?))
-}
-
-fn operation_of(words: &[&str]) -> Result<Operation> {
-    match *words {
-        ["mute"] => Ok(Operation::Mute),
-        ["silence"] => Ok(Operation::Silence),
-        ["reset"] => Ok(Operation::Reset),
-        ["clear"] => Ok(Operation::Clear),
-        ["delays", "on"] => Ok(Operation::Delays(true)),
-        ["delays", "off"] => Ok(Operation::Delays(false)),
-        ["cancel", zone] => Ok(Operation::Cancel(zone.parse()?)),
-        ["test", zone] => Ok(Operation::Test(zone.parse()?)),
-        ["untest", zone] => Ok(Operation::Untest(zone.parse()?)),
-        ["disable", kind, place] => Ok(Operation::Disable(item_of(kind, place)?)),
-        ["enable", kind, place] => Ok(Operation::Enable(item_of(kind, place)?)),
-        _ => bail!("no such operation"),
+        }),
+        "confirmed" => Ok(Event::Confirmed {
+            output: words.place()?,
+        }),
+        _ => given_in(all),
     }
 }
 
-fn item_of(kind: &str, place: &str) -> Result<Item> {
-    let place: u16 = place.parse()?;
+fn cable_in(mut words: Words) -> Result<Event> {
+    let panel = words.byte()?;
+    let line = words.byte()?;
+    let piece = words.byte()?;
+    Ok(Event::Cable {
+        panel,
+        line,
+        piece,
+        state: PieceState::Open,
+    })
+}
+
+fn given_in(words: Words) -> Result<Event> {
+    let (panel, operation) = operation_in(words)?;
+    Ok(Event::Op {
+        panel,
+        code: None,
+        operation,
+    })
+}
+
+/// The panel and the operation of words such as `op 2 disable point 11`.
+pub fn operation_in(mut words: Words) -> Result<(u8, Operation)> {
+    if words.next() != "op" {
+        bail!("no event");
+    }
+    let panel = words.byte()?;
+    let operation = match words.rest() {
+        "mute" => Operation::Mute,
+        "silence" => Operation::Silence,
+        "reset" => Operation::Reset,
+        "clear" => Operation::Clear,
+        "delays on" => Operation::Delays(true),
+        "delays off" => Operation::Delays(false),
+        _ => place_operation_in(words)?,
+    };
+    Ok((panel, operation))
+}
+
+fn place_operation_in(mut words: Words) -> Result<Operation> {
+    match words.next() {
+        "cancel" => Ok(Operation::Cancel(words.place()?)),
+        "test" => Ok(Operation::Test(words.place()?)),
+        "untest" => Ok(Operation::Untest(words.place()?)),
+        "disable" => Ok(Operation::Disable(item_in(words)?)),
+        "enable" => Ok(Operation::Enable(item_in(words)?)),
+        other => bail!("no such operation: {other}"),
+    }
+}
+
+fn item_in(mut words: Words) -> Result<Item> {
+    let kind = words.next();
+    let place = words.place()?;
     match kind {
         "point" => Ok(Item::Point(place)),
         "zone" => Ok(Item::Zone(place)),

@@ -5,16 +5,16 @@ ghost use Rattle.site_types.specs.Changes.{CanApply};
 
 use anyhow::{Result, bail};
 use site_types::{Change, PointSet, Retained, has_bit_8, has_bit_32};
-use std::alloc::{AllocError, Global};
+use std::alloc::Global;
+use trial_cases::{Lines, Words};
 
 /// What is retained where each line of a text tells one change: `panel 1 loop 1 address 9 disabled`,
 /// `panel 1 zone 2 disabled`, `panel 1 output 32 disabled`, `panel 1 delays off`, `panel 1 counter 5`,
 /// `panel 1 zone 2 in test`.
-pub fn read_state(alloc: Global, text: &str) -> Result<Retained> {
+pub fn read_state(text: &str) -> Result<Retained> {
     let mut state = Retained::empty();
     for line in text.lines() {
-        let words: Vec<&str> = line.split_whitespace().collect(alloc)?;
-        let change = change_of(&words)?;
+        let change = change_in(Words::of(line))?;
         if !can_apply(&change) {
             bail!("out of range: {line}");
         }
@@ -23,39 +23,52 @@ pub fn read_state(alloc: Global, text: &str) -> Result<Retained> {
     Ok(state)
 }
 
-fn change_of(words: &[&str]) -> Result<Change> {
-    let ["panel", panel, ref what @ ..] = *words else {
-        bail!("no panel");
-    };
-    let panel: u8 = panel.parse()?;
-    match *what {
-        ["loop", line, "address", address, "disabled"] => Ok(Change::Point {
+fn change_in(mut words: Words) -> Result<Change> {
+    words.next();
+    let panel = words.byte()?;
+    match words.next() {
+        "loop" => point_in(panel, words),
+        "zone" => zone_in(panel, words),
+        "output" => Ok(Change::Output {
             panel,
-            line: line.parse()?,
-            address: address.parse()?,
+            number: words.byte()?,
             off: true,
         }),
-        ["zone", number, "disabled"] => Ok(Change::Zone {
+        "delays" => Ok(Change::Delays { panel, off: true }),
+        "counter" => Ok(Change::Count {
             panel,
-            number: number.parse()?,
+            entries: words.next().parse::<u32>()?,
+        }),
+        other => bail!("nothing that is retained: {other}"),
+    }
+}
+
+fn point_in(panel: u8, mut words: Words) -> Result<Change> {
+    let line = words.byte()?;
+    words.next();
+    let address = words.byte()?;
+    Ok(Change::Point {
+        panel,
+        line,
+        address,
+        off: true,
+    })
+}
+
+fn zone_in(panel: u8, mut words: Words) -> Result<Change> {
+    let number = words.byte()?;
+    match words.rest() {
+        "disabled" => Ok(Change::Zone {
+            panel,
+            number,
             off: true,
         }),
-        ["output", number, "disabled"] => Ok(Change::Output {
+        "in test" => Ok(Change::Test {
             panel,
-            number: number.parse()?,
-            off: true,
-        }),
-        ["zone", number, "in", "test"] => Ok(Change::Test {
-            panel,
-            number: number.parse()?,
+            number,
             on: true,
         }),
-        ["delays", "off"] => Ok(Change::Delays { panel, off: true }),
-        ["counter", entries] => Ok(Change::Count {
-            panel,
-            entries: entries.parse()?,
-        }),
-        _ => bail!("nothing that is retained"),
+        other => bail!("no state of a zone: {other}"),
     }
 }
 
@@ -86,7 +99,7 @@ fn is_panel(panel: u8) -> bool
 }
 
 /// A change in words.
-pub fn tell_change(alloc: Global, change: &Change) -> Result<String, AllocError> {
+pub fn say_change(lines: &mut Lines, change: &Change) {
     match *change {
         Change::Point {
             panel,
@@ -94,70 +107,118 @@ pub fn tell_change(alloc: Global, change: &Change) -> Result<String, AllocError>
             address,
             off,
         } => {
-            let word = off_word(off);
-            format!(in alloc; "panel {panel} loop {line} address {address} {word}")
+            lines.count("panel ", panel as u64);
+            lines.count(" loop ", line as u64);
+            lines.count(" address ", address as u64);
+            lines.say(off_word(off));
         }
-        Change::Zone { panel, number, off } => {
-            let word = off_word(off);
-            format!(in alloc; "panel {panel} zone {number} {word}")
-        }
-        Change::Output { panel, number, off } => {
-            let word = off_word(off);
-            format!(in alloc; "panel {panel} output {number} {word}")
-        }
+        Change::Zone { panel, number, off } => say_number(
+            lines,
+            panel,
+            " zone ",
+            number,
+            off_word(off),
+        ),
+        Change::Output { panel, number, off } => say_number(
+            lines,
+            panel,
+            " output ",
+            number,
+            off_word(off),
+        ),
+        Change::Test { panel, number, on } => say_number(
+            lines,
+            panel,
+            " zone ",
+            number,
+            test_word(on),
+        ),
         Change::Delays { panel, off } => {
-            let word = if off { "off" } else { "on" };
-            format!(in alloc; "panel {panel} delays {word}")
+            lines.count("panel ", panel as u64);
+            lines.say(if off { " delays off" } else { " delays on" });
         }
-        Change::Count { panel, entries } => format!(in alloc; "panel {panel} counter {entries}"),
-        Change::Clear { panel } => format!(in alloc; "panel {panel} counter 0"),
-        Change::Test { panel, number, on } => {
-            let word = if on { "in test" } else { "out of test" };
-            format!(in alloc; "panel {panel} zone {number} {word}")
-        }
+        Change::Count { panel, entries } => say_counter(lines, panel, entries as u64),
+        Change::Clear { panel } => say_counter(lines, panel, 0),
     }
 }
 
 fn off_word(off: bool) -> &'static str {
-    if off { "disabled" } else { "enabled" }
+    if off { " disabled" } else { " enabled" }
+}
+
+fn test_word(on: bool) -> &'static str {
+    if on { " in test" } else { " out of test" }
+}
+
+// What is so of what has a number on a panel.
+fn say_number(lines: &mut Lines, panel: u8, kind: &str, number: u8, word: &str) {
+    lines.count("panel ", panel as u64);
+    lines.count(kind, number as u64);
+    lines.say(word);
+}
+
+fn say_counter(lines: &mut Lines, panel: u8, entries: u64) {
+    lines.count("panel ", panel as u64);
+    lines.count(" counter ", entries);
 }
 
 /// The changes that make what is retained out of nothing, one a line.
 pub fn tell_state(alloc: Global, state: &Retained) -> Result<String> {
-    let mut told = String::new(alloc);
+    let mut lines = Lines::new(alloc);
     for panel in 1..=8 {
         let place = panel as usize - 1;
-        tell_points(&mut told, panel, &state.points[place])?;
-        tell_numbers(&mut told, panel, "zone", state.zones[place], "disabled")?;
-        tell_numbers(&mut told, panel, "output", state.outputs[place], "disabled")?;
-        tell_numbers(&mut told, panel, "zone", state.tests[place], "in test")?;
+        say_points(&mut lines, panel, &state.points[place]);
+        say_numbers(
+            &mut lines,
+            panel,
+            " zone ",
+            state.zones[place],
+            " disabled\n",
+        );
+        say_numbers(
+            &mut lines,
+            panel,
+            " output ",
+            state.outputs[place],
+            " disabled\n",
+        );
+        say_numbers(
+            &mut lines,
+            panel,
+            " zone ",
+            state.tests[place],
+            " in test\n",
+        );
         if has_bit_8(state.delays_off, panel - 1) {
-            writeln!(told, "panel {panel} delays off")?;
+            lines.count("panel ", panel as u64);
+            lines.say(" delays off\n");
         }
         let counter = state.counters[place];
         if counter > 0 {
-            writeln!(told, "panel {panel} counter {counter}")?;
+            say_counter(&mut lines, panel, counter as u64);
+            lines.say("\n");
         }
     }
-    Ok(told)
+    lines.done()
 }
 
-fn tell_points(told: &mut String, panel: u8, points: &PointSet) -> Result<()> {
+fn say_points(lines: &mut Lines, panel: u8, points: &PointSet) {
     for line in 1..=4 {
         for address in 1..=192 {
             if points.contains(line, address) {
-                writeln!(told, "panel {panel} loop {line} address {address} disabled")?;
+                lines.count("panel ", panel as u64);
+                lines.count(" loop ", line as u64);
+                lines.count(" address ", address as u64);
+                lines.say(" disabled\n");
             }
         }
     }
-    Ok(())
 }
 
-fn tell_numbers(told: &mut String, panel: u8, kind: &str, mask: u32, what: &str) -> Result<()> {
+fn say_numbers(lines: &mut Lines, panel: u8, kind: &str, mask: u32, word: &str) {
     for number in 1..=32 {
         if has_bit_32(mask, number - 1) {
-            writeln!(told, "panel {panel} {kind} {number} {what}")?;
+            say_number(lines, panel, kind, number, word);
         }
     }
-    Ok(())
 }

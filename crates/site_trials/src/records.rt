@@ -3,11 +3,12 @@
 ghost use Rattle.site_types.specs.Valid.{IsValid};
 
 use crate::changes::bytes_of;
-use crate::told::{printed, tell_line, tell_refusal};
+use crate::told::{printed, say_line, say_refusal};
 use anyhow::{Result, bail};
 use record_lines::{Fed, Line, LineReader, Step};
 use site_types::Site;
 use std::alloc::Global;
+use trial_cases::Lines;
 
 // The sizes of pieces in which each record is read, besides whole.
 const SIZES: [usize; 8] = [1, 2, 3, 5, 7, 511, 512, 513];
@@ -29,15 +30,15 @@ pub fn told_record(alloc: Global, site: &Site, record: &[u8]) -> Result<String>
 fn read_in_pieces(alloc: Global, site: &Site, record: &[u8], size: usize) -> Result<String>
     requires { IsValid site.now }
 {
-    let mut told = String::new(alloc);
+    let mut lines = Lines::new(alloc);
     let mut reader = LineReader::new();
     for piece in record.chunks(size.max(1)) {
-        if read_piece(alloc, site, &mut reader, piece, &mut told)? {
-            return Ok(told);
+        if read_piece(alloc, site, &mut reader, piece, &mut lines)? {
+            return lines.done();
         }
     }
-    told.push_str(&tell_refusal(alloc, &reader.finish())?)?;
-    Ok(told)
+    say_refusal(&mut lines, &reader.finish());
+    lines.done()
 }
 
 // Reads a piece to its end. Says whether the record ended in it.
@@ -46,7 +47,7 @@ fn read_piece(
     site: &Site,
     reader: &mut LineReader,
     piece: &[u8],
-    told: &mut String,
+    lines: &mut Lines,
 ) -> Result<bool>
     requires { IsValid site.now }
 {
@@ -56,15 +57,15 @@ fn read_piece(
         match step {
             Step::Need => return Ok(false),
             Step::Line(Line::End) => {
-                told.push_str("end")?;
+                lines.say("end");
                 return Ok(true);
             }
             Step::Line(line) => {
-                told.push_str(&printed(alloc, site, &line)?)?;
-                told.push_str("\n")?;
+                lines.say(&printed(alloc, site, &line)?);
+                lines.say("\n");
             }
             Step::Refused(refusal) => {
-                told.push_str(&tell_refusal(alloc, &refusal)?)?;
+                say_refusal(lines, &refusal);
                 return Ok(true);
             }
         }
@@ -81,43 +82,52 @@ fn read_piece(
 pub fn told_line(alloc: Global, site: &Site, text: &str) -> Result<String>
     requires { IsValid site.now }
 {
-    let record = bytes_of(alloc, &format!(in alloc; "tick 1;{text};end;")?)?;
-    let told = told_record(alloc, site, &record)?;
-    let again = told.lines().nth(1).unwrap_or("");
-    match line_of(alloc, site, text)? {
-        None => Ok(String::from_str(alloc, again)?),
-        Some(_) if again != text => bail!("{text} is printed as {again}"),
-        Some(line) => Ok(tell_line(alloc, &line)?),
-    }
-}
-
-fn line_of(alloc: Global, site: &Site, text: &str) -> Result<Option<Line>>
-    requires { IsValid site.now }
-{
+    let bytes = bytes_of(alloc, text)?;
     let mut reader = LineReader::new();
     reader.feed(site, b"tick 1\n");
-    let line = bytes_of(alloc, &format!(in alloc; "{text};")?)?;
-    match reader.feed(site, &line).step {
-        Step::Line(line) => Ok(Some(line)),
-        _ => Ok(None),
+    reader.feed(site, &bytes);
+    let read = reader.feed(site, b"\n").step;
+    let again = told_behind_tick(alloc, site, &bytes)?;
+    let mut lines = Lines::new(alloc);
+    match read {
+        Step::Line(_) if again.as_str() != text => bail!("{text} is printed as {again}"),
+        Step::Line(line) => say_line(alloc, &mut lines, &line)?,
+        _ => lines.say(&again),
     }
+    lines.done()
+}
+
+// What the record whose second line this is has for it, however it is cut.
+fn told_behind_tick(alloc: Global, site: &Site, line: &[u8]) -> Result<String>
+    requires { IsValid site.now }
+{
+    let mut record = Vec::new(alloc);
+    record.extend_from_slice(b"tick 1\n")?;
+    record.extend_from_slice(line)?;
+    record.extend_from_slice(b"\nend\n")?;
+    let told = told_record(alloc, site, &record)?;
+    let (_, told) = told.split_once('\n').unwrap_or(("", ""));
+    let (told, _) = told.split_once('\n').unwrap_or((told, ""));
+    Ok(String::from_str(alloc, told)?)
 }
 
 /// The answer to each piece of a record, with how many of its bytes were used.
 pub fn told_pieces(alloc: Global, site: &Site, pieces: &str) -> Result<String>
     requires { IsValid site.now }
 {
-    let mut told = String::new(alloc);
+    let mut lines = Lines::new(alloc);
     let mut reader = LineReader::new();
     for piece in pieces.split('|') {
         let piece = bytes_of(alloc, piece.trim())?;
         let Fed { used, step } = reader.feed(site, &piece);
-        let answer = match step {
-            Step::Need => String::from_str(alloc, "more is needed")?,
-            Step::Line(line) => tell_line(alloc, &line)?,
-            Step::Refused(refusal) => tell_refusal(alloc, &refusal)?,
-        };
-        writeln!(told, "{used} used, {answer}")?;
+        lines.number(used as u64);
+        lines.say(" used, ");
+        match step {
+            Step::Need => lines.say("more is needed"),
+            Step::Line(line) => say_line(alloc, &mut lines, &line)?,
+            Step::Refused(refusal) => say_refusal(&mut lines, &refusal),
+        }
+        lines.say("\n");
     }
-    Ok(told)
+    lines.done()
 }

@@ -5,157 +5,149 @@ use site_types::{
     Combine, LoopPlan, Marker, Named, Output, OutputKind, Point, Rule, Site, Term, Thing, Zone,
 };
 use std::alloc::Global;
+use trial_cases::Lines;
 
 /// The site key by key, a line for each thing.
 pub fn shown(alloc: Global, site: &Site) -> Result<String> {
-    let mut text = String::new(alloc);
-    show_top(&mut text, site)?;
+    let mut lines = Lines::new(alloc);
+    say_top(&mut lines, site);
     for plan in site.loops.as_slice() {
-        show_loop(&mut text, plan)?;
+        say_loop(&mut lines, plan);
     }
     for zone in site.zones.as_slice() {
-        show_zone(&mut text, site, zone)?;
+        say_zone(&mut lines, site, zone);
     }
     for point in site.points.as_slice() {
-        show_point(&mut text, site, point)?;
+        say_point(&mut lines, site, point);
     }
     for output in site.outputs.as_slice() {
-        show_output(&mut text, site, output)?;
+        say_output(&mut lines, site, output);
     }
     for marker in site.markers.as_slice() {
-        show_marker(&mut text, site, marker)?;
+        say_marker(&mut lines, site, marker);
     }
     for named in site.names.as_slice() {
-        show_name(&mut text, named)?;
+        say_name(&mut lines, named);
     }
-    Ok(text)
+    lines.done()
 }
 
-fn show_top(text: &mut String, site: &Site) -> Result<()> {
-    let name = site.name;
-    writeln!(
-        text,
-        "format {} site {name} panels {}",
-        site.format, site.panels
-    )?;
-    let waits = site.waits;
-    write!(
-        text,
-        "waits mains {} standby {}",
-        waits.mains, waits.standby
-    )?;
-    writeln!(text, " voltage {} charger {}", waits.voltage, waits.charger)?;
-    for (level, codes) in (2u8..).zip(site.codes.iter()) {
+// Words, and behind them a name.
+fn say_named(lines: &mut Lines, words: &str, name: &str) {
+    lines.say(words);
+    lines.say(name);
+}
+
+fn say_top(lines: &mut Lines, site: &Site) {
+    lines.count("format ", site.format as u64);
+    say_named(lines, " site ", site.name.as_str());
+    lines.count(" panels ", site.panels as u64);
+    lines.count("\nwaits mains ", site.waits.mains as u64);
+    lines.count(" standby ", site.waits.standby as u64);
+    lines.count(" voltage ", site.waits.voltage as u64);
+    lines.count(" charger ", site.waits.charger as u64);
+    lines.say("\n");
+    for (level, codes) in (2u64..).zip(site.codes.iter()) {
         for digest in codes.as_slice() {
-            show_digest(text, level, digest)?;
+            lines.count("level", level);
+            lines.say(" ");
+            lines.hex(digest.as_slice());
+            lines.say("\n");
         }
     }
-    Ok(())
 }
 
-fn show_digest(text: &mut String, level: u8, digest: &[u8; 32]) -> Result<()> {
-    write!(text, "level{level} ")?;
-    for byte in digest {
-        write!(text, "{byte:02x}")?;
+fn say_loop(lines: &mut Lines, plan: &LoopPlan) {
+    lines.count("loop panel ", plan.panel as u64);
+    lines.count(" loop ", plan.line as u64);
+    lines.count(" last ", plan.last as u64);
+    lines.say(" isolators [");
+    let mut comma = "";
+    for isolator in plan.isolators.as_slice() {
+        lines.count(comma, *isolator as u64);
+        comma = ", ";
     }
-    writeln!(text, "")?;
-    Ok(())
+    lines.say("]\n");
 }
 
-fn show_loop(text: &mut String, plan: &LoopPlan) -> Result<()> {
-    let isolators = plan.isolators.as_slice();
-    writeln!(
-        text,
-        "loop panel {} loop {} last {} isolators {isolators:?}",
-        plan.panel, plan.line, plan.last
-    )?;
-    Ok(())
-}
-
-fn show_zone(text: &mut String, site: &Site, zone: &Zone) -> Result<()> {
-    write!(
-        text,
-        "zone {} panel {} number {}",
-        zone.name, zone.panel, zone.number
-    )?;
-    match zone.rule {
-        Rule::Plain => write!(text, " type none")?,
-        Rule::A { verify, within } => write!(text, " type a verify {verify} within {within}")?,
-        Rule::B { within } => write!(text, " type b within {within}")?,
-        Rule::C => write!(text, " type c")?,
-    }
+fn say_zone(lines: &mut Lines, site: &Site, zone: &Zone) {
+    say_named(lines, "zone ", zone.name.as_str());
+    lines.count(" panel ", zone.panel as u64);
+    lines.count(" number ", zone.number as u64);
+    say_rule(lines, zone.rule);
     if let Some(partner) = zone.partner {
-        write!(text, " partner {}", zone_name(site, partner))?;
+        say_named(lines, " partner ", zone_name(site, partner));
     }
-    writeln!(text, "")?;
-    Ok(())
+    lines.say("\n");
 }
 
-fn show_point(text: &mut String, site: &Site, point: &Point) -> Result<()> {
-    let kind = if point.manual { "manual" } else { "detector" };
-    write!(
-        text,
-        "point {} panel {} loop {}",
-        point.name, point.panel, point.line
-    )?;
-    writeln!(
-        text,
-        " address {} zone {} {kind}",
-        point.address,
-        zone_name(site, point.zone)
-    )?;
-    Ok(())
+fn say_rule(lines: &mut Lines, rule: Rule) {
+    match rule {
+        Rule::Plain => lines.say(" type none"),
+        Rule::A { verify, within } => {
+            lines.count(" type a verify ", verify as u64);
+            lines.count(" within ", within as u64);
+        }
+        Rule::B { within } => lines.count(" type b within ", within as u64),
+        Rule::C => lines.say(" type c"),
+    }
 }
 
-fn show_output(text: &mut String, site: &Site, output: &Output) -> Result<()> {
-    let kind = match output.kind {
-        OutputKind::Sounder => "sounder",
-        OutputKind::Routing => "routing",
-        OutputKind::Protection => "protection",
-        OutputKind::Relay => "relay",
-    };
-    write!(
-        text,
-        "output {} panel {} number {}",
-        output.name, output.panel, output.number
-    )?;
-    writeln!(
-        text,
-        " {kind} when {} delay {}",
-        marker_name(site, output.marker),
-        output.delay
-    )?;
-    Ok(())
+fn say_point(lines: &mut Lines, site: &Site, point: &Point) {
+    say_named(lines, "point ", point.name.as_str());
+    lines.count(" panel ", point.panel as u64);
+    lines.count(" loop ", point.line as u64);
+    lines.count(" address ", point.address as u64);
+    say_named(lines, " zone ", zone_name(site, point.zone));
+    lines.say(if point.manual {
+        " manual\n"
+    } else {
+        " detector\n"
+    });
 }
 
-fn show_marker(text: &mut String, site: &Site, marker: &Marker) -> Result<()> {
-    write!(text, "marker {}", marker.name)?;
+fn say_output(lines: &mut Lines, site: &Site, output: &Output) {
+    say_named(lines, "output ", output.name.as_str());
+    lines.count(" panel ", output.panel as u64);
+    lines.count(" number ", output.number as u64);
+    lines.say(match output.kind {
+        OutputKind::Sounder => " sounder",
+        OutputKind::Routing => " routing",
+        OutputKind::Protection => " protection",
+        OutputKind::Relay => " relay",
+    });
+    say_named(lines, " when ", marker_name(site, output.marker));
+    lines.count(" delay ", output.delay as u64);
+    lines.say("\n");
+}
+
+fn say_marker(lines: &mut Lines, site: &Site, marker: &Marker) {
+    say_named(lines, "marker ", marker.name.as_str());
     match marker.combine {
-        Combine::All => write!(text, " all")?,
-        Combine::Any => write!(text, " any")?,
-        Combine::AtLeast(count) => write!(text, " atleast {count}")?,
+        Combine::All => lines.say(" all"),
+        Combine::Any => lines.say(" any"),
+        Combine::AtLeast(count) => lines.count(" atleast ", count as u64),
     }
     for term in marker.terms.as_slice() {
         match *term {
-            Term::Zone(zone) => write!(text, " zone:{}", zone_name(site, zone))?,
-            Term::Manual(zone) => write!(text, " manual:{}", zone_name(site, zone))?,
-            Term::Fault(panel) => write!(text, " fault:{panel}")?,
-            Term::Marker(marker) => write!(text, " marker:{}", marker_name(site, marker))?,
+            Term::Zone(zone) => say_named(lines, " zone:", zone_name(site, zone)),
+            Term::Manual(zone) => say_named(lines, " manual:", zone_name(site, zone)),
+            Term::Fault(panel) => lines.count(" fault:", panel as u64),
+            Term::Marker(marker) => say_named(lines, " marker:", marker_name(site, marker)),
         }
     }
-    writeln!(text, "")?;
-    Ok(())
+    lines.say("\n");
 }
 
-fn show_name(text: &mut String, named: &Named) -> Result<()> {
-    let name = named.name;
+fn say_name(lines: &mut Lines, named: &Named) {
+    say_named(lines, "name ", named.name.as_str());
     match named.thing {
-        Thing::Point(place) => writeln!(text, "name {name} point {place}")?,
-        Thing::Zone(place) => writeln!(text, "name {name} zone {place}")?,
-        Thing::Output(place) => writeln!(text, "name {name} output {place}")?,
-        Thing::Marker(place) => writeln!(text, "name {name} marker {place}")?,
+        Thing::Point(place) => lines.count(" point ", place as u64),
+        Thing::Zone(place) => lines.count(" zone ", place as u64),
+        Thing::Output(place) => lines.count(" output ", place as u64),
+        Thing::Marker(place) => lines.count(" marker ", place as u64),
     }
-    Ok(())
+    lines.say("\n");
 }
 
 fn zone_name(site: &Site, place: u16) -> &str {

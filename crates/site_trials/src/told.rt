@@ -1,51 +1,52 @@
 //! Lines of a record, and its refusals, in words.
 
-use anyhow::{Result, bail};
+use anyhow::Result;
 use arrayvec::ArrayVec;
 use record_lines::{Line, Refusal, Why, print_line};
 use site_types::{Event, Site};
 use std::alloc::{AllocError, Global};
+use trial_cases::Lines;
 
 /// A refusal in the words of the panel.
-pub fn tell_refusal(alloc: Global, refusal: &Refusal) -> Result<String, AllocError> {
-    let line = refusal.line;
-    let number = match refusal.why {
-        Why::BadWord => 1,
-        Why::BadNumber => 2,
-        Why::NoSuch => 3,
+pub fn say_refusal(lines: &mut Lines, refusal: &Refusal) {
+    if refusal.why == Why::TickLimit {
+        lines.say("limit ticks");
+        return;
+    }
+    lines.count("refused line ", refusal.line);
+    match refusal.why {
+        Why::BadWord => lines.say(" 1"),
+        Why::BadNumber => lines.say(" 2"),
+        Why::NoSuch => lines.say(" 3"),
         Why::BadTick { expected, found } => {
-            return format!(in alloc; "refused line {line} 4 expected {expected} found {found}");
+            lines.count(" 4 expected ", expected);
+            lines.count(" found ", found);
         }
-        Why::BadOrder { place } => return format!(in alloc; "refused line {line} 5 {place}"),
-        Why::LineTooLong => 6,
-        Why::NotAscii => 7,
-        Why::BeforeFirstTick => 8,
-        Why::Truncated => 9,
-        Why::TickLimit => return String::from_str(alloc, "limit ticks"),
-    };
-    format!(in alloc; "refused line {line} {number}")
+        Why::BadOrder { place } => lines.count(" 5 ", place as u64),
+        Why::LineTooLong => lines.say(" 6"),
+        Why::NotAscii => lines.say(" 7"),
+        Why::BeforeFirstTick => lines.say(" 8"),
+        Why::Truncated => lines.say(" 9"),
+        Why::TickLimit => {}
+    }
 }
 
 /// What a line says, with places in place of names.
-pub fn tell_line(alloc: Global, line: &Line) -> Result<String, AllocError> {
+pub fn say_line(alloc: Global, lines: &mut Lines, line: &Line) -> Result<(), AllocError> {
     match line {
-        Line::Tick(tick) => {
-            let tick = tick.0;
-            format!(in alloc; "tick {tick}")
-        }
-        Line::Event(event) => tell_event(alloc, event),
+        Line::Tick(tick) => lines.count("tick ", tick.0),
+        Line::Event(event) => lines.say(&tell_event(alloc, event)?),
         Line::Order(order) => {
-            let mut told = String::from_str(alloc, "order")?;
+            lines.say("order");
             for place in 0..order.len() {
                 let seat = order.seat(place);
-                let panel = seat.panel;
-                let task = seat.task;
-                write!(told, " {task:?}{panel}")?;
+                lines.say(&format!(in alloc; " {:?}", seat.task)?);
+                lines.number(seat.panel as u64);
             }
-            Ok(told)
         }
-        Line::End => String::from_str(alloc, "end"),
+        Line::End => lines.say("end"),
     }
+    Ok(())
 }
 
 fn tell_event(alloc: Global, event: &Event) -> Result<String, AllocError> {
@@ -75,8 +76,6 @@ fn tell_event(alloc: Global, event: &Event) -> Result<String, AllocError> {
 pub fn printed(alloc: Global, site: &Site, line: &Line) -> Result<String> {
     let mut out = ArrayVec::new();
     print_line(site, line, &mut out);
-    match str::from_utf8(out.as_slice()) {
-        Ok(text) => Ok(String::from_str(alloc, text)?),
-        Err(_) => bail!("a line that is printed is no text"),
-    }
+    let text = str::from_utf8(out.as_slice())?;
+    Ok(String::from_str(alloc, text)?)
 }

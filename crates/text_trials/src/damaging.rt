@@ -3,30 +3,33 @@
 ghost use Rattle.site_types.specs.Valid.{IsValid};
 
 use crate::plain_reader::bad_line;
-use crate::reading_back::site_in;
 use anyhow::{Result, bail};
 use face_text::{TextRefusal, read_faces};
 use site_types::Site;
 use std::alloc::{AllocError, Global};
 use std::fs;
 use timeline_text::text_of;
+use trial_cases::{Lines, Words, site_at};
 
-/// Tells of how many texts the plain program said the same, and ends with an error at the first of which it didn't.
-pub(crate) fn damage(rt: &HostRuntime, site: &str, page: &str, text: &str) -> Result<()> {
+/// Tells of how many texts the plain program said the same, and ends with an error at the first of which it
+/// didn't. The words name a site, its page and a text.
+pub(crate) fn damage(rt: &HostRuntime, mut words: Words) -> Result<String> {
     let alloc = rt.alloc();
-    let site = site_in(rt, site)?;
-    let page = fs::read_to_string(rt, page)?;
-    let page = page.as_str();
-    let text = fs::read_to_string(rt, text)?;
-    let text = text.as_str();
-    if bad_line(alloc, page, text)?.is_some() {
+    let site = site_at(rt, words.next())?;
+    let page = fs::read_to_string(rt, words.next())?;
+    let text = fs::read_to_string(rt, words.next())?;
+    if bad_line(alloc, &page, &text)?.is_some() {
         bail!("the plain program refuses the text itself");
     }
-    compare(alloc, &site, page, text)?;
-    let lines = turn_lines(alloc, &site, page, text)?;
-    let bytes = turn_bytes(alloc, &site, page, text)?;
-    println!(rt; "alike: lines {lines}, bytes {bytes}")?;
-    Ok(())
+    compare(alloc, &site, &page, &text)?;
+    let mut lines = Lines::new(alloc);
+    lines.count(
+        "alike: lines ",
+        turn_lines(alloc, &site, &page, &text)? as u64,
+    );
+    lines.count(", bytes ", turn_bytes(alloc, &site, &page, &text)? as u64);
+    lines.say("\n");
+    lines.done()
 }
 
 // The text is read as the plain program says: to a timeline with this text, or to the same bad line.

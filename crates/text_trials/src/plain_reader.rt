@@ -109,30 +109,46 @@ impl<'a> PlainReader<'a> {
 
     // A panel that the site has has a counter.
     fn busy(&mut self, panel: &str, count: &str) -> bool {
-        let has_panel = self.slots.iter().any(|slot| {
-            slot.words.strip_suffix(" counter") == Some(panel)
-        });
         match (number(panel), number(count)) {
-            (Some(panel), Some(count)) if has_panel && 0 < count => self.follows(3, panel),
+            (Some(number), Some(count)) if self.has_panel(panel) && 0 < count => {
+                self.follows(3, number)
+            }
             _ => false,
         }
     }
 
+    fn has_panel(&self, panel: &str) -> bool {
+        for slot in &self.slots {
+            if slot.words.strip_suffix(" counter") == Some(panel) {
+                return true;
+            }
+        }
+        false
+    }
+
     fn change(&mut self, words: &str, state: &'a str) -> bool {
-        let Some(place) = self.slots.iter().position(|slot| slot.words == words) else {
-            return false;
-        };
-        let stands = match self.slots.get(place) {
-            Some(slot) => slot.state == state,
-            None => true,
-        };
-        if stands || !is_state(words, state) || !self.follows(1, (place as u64).saturating_add(1)) {
+        let place = self.place_of(words);
+        match self.slots.get(place) {
+            Some(slot) if slot.state != state && is_state(words, state) => {}
+            _ => return false,
+        }
+        if !self.follows(1, (place as u64).saturating_add(1)) {
             return false;
         }
         if let Some(slot) = self.slots.get_mut(place) {
             slot.state = state;
         }
         true
+    }
+
+    // The place of what has these words, behind the last one where nothing has.
+    fn place_of(&self, words: &str) -> usize {
+        for (place, slot) in self.slots.iter().enumerate() {
+            if slot.words == words {
+                return place;
+            }
+        }
+        self.slots.len()
     }
 }
 
@@ -174,16 +190,14 @@ fn number(text: &str) -> Option<u64> {
 }
 
 fn is_reply(reply: &str) -> bool {
-    if ["done", "waiting", "already", "store"]
-        .iter()
-        .any(|word| *word == reply)
-    {
-        return true;
+    match reply.strip_prefix("denied needs ") {
+        Some(levels) => are_levels(levels),
+        None => matches!(reply, "done" | "waiting" | "already" | "store"),
     }
-    let levels = reply
-        .strip_prefix("denied needs ")
-        .and_then(|levels| levels.split_once(" has "));
-    let Some((needs, has)) = levels else {
+}
+
+fn are_levels(levels: &str) -> bool {
+    let Some((needs, has)) = levels.split_once(" has ") else {
         return false;
     };
     match (number(needs), number(has)) {

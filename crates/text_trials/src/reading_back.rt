@@ -1,55 +1,48 @@
 //! Texts read back.
 
-ghost use Rattle.std.specs.Prelude.{IfOk};
 ghost use Rattle.site_types.specs.Valid.{IsValid};
 
 use anyhow::{Result, bail};
 use face_text::{TextRefusal, read_faces};
-use site_config::read_site;
 use site_types::Site;
+use std::alloc::Global;
 use std::fs;
 use timeline_text::text_of;
+use trial_cases::{Lines, Words, site_at};
 
-/// The site of a file.
-pub(crate) fn site_in(rt: &HostRuntime, file: &str) -> Result<Site>
-    ensures { IfOk result IsValid }
-{
-    match read_site(
-        rt.alloc(),
-        fs::read_to_string(rt, file)?.as_str().as_bytes(),
-    ) {
-        Ok(site) => Ok(site),
-        Err(_) => bail!("a refused site: {file}"),
-    }
+/// The words name a site and a text.
+pub(crate) fn read_file(rt: &HostRuntime, mut words: Words) -> Result<String> {
+    let site = site_at(rt, words.next())?;
+    let text = fs::read_to_string(rt, words.next())?;
+    read_back(rt.alloc(), &site, text.as_str())
 }
 
-pub(crate) fn read_file(rt: &HostRuntime, site: &str, file: &str) -> Result<()> {
-    let site = site_in(rt, site)?;
-    let text = fs::read_to_string(rt, file)?;
-    read_back(rt, &site, text.as_str())
-}
-
-pub(crate) fn read_bars(rt: &HostRuntime, site: &str, bars: &str) -> Result<()> {
-    let site = site_in(rt, site)?;
+/// The words name a site, and then are a text in quotation marks, with bars for line ends.
+pub(crate) fn read_bars(rt: &HostRuntime, mut words: Words) -> Result<String> {
+    let site = site_at(rt, words.next())?;
+    let bars = words.rest().trim_matches('"');
     let text = bars.replace(rt.alloc(), "|", "\n")?;
-    read_back(rt, &site, text.as_str())
+    read_back(rt.alloc(), &site, text.as_str())
 }
 
 // Reads a text, and tells whether it is written again as it stands, or the number of its first bad line.
-fn read_back(rt: &HostRuntime, site: &Site, text: &str) -> Result<()>
+fn read_back(alloc: Global, site: &Site, text: &str) -> Result<String>
     requires { IsValid site.now }
 {
-    match read_faces(rt.alloc(), site, text.as_bytes()) {
+    let mut lines = Lines::new(alloc);
+    match read_faces(alloc, site, text.as_bytes()) {
         Ok(timeline) => {
-            let written = text_of(rt.alloc(), site, &timeline)?;
+            let written = text_of(alloc, site, &timeline)?;
             if written.as_str() == text {
-                println!(rt; "written again as it stands")?;
+                lines.say("written again as it stands");
             } else {
-                println!(rt; "written otherwise\n{written}")?;
+                lines.say("written otherwise\n");
+                lines.say(&written);
             }
         }
-        Err(TextRefusal::BadLine(line)) => println!(rt; "bad line {line}")?,
+        Err(TextRefusal::BadLine(line)) => lines.count("bad line ", line),
         Err(TextRefusal::NoMemory) => bail!("no memory"),
     }
-    Ok(())
+    lines.say("\n");
+    lines.done()
 }

@@ -1,14 +1,13 @@
 //! What the lines and lists of faces and answers are.
 
 use crate::answer_words::answers_of;
-use crate::case::Faces;
 use crate::face_words::face_of;
-use crate::reading_back::site_in;
 use anyhow::{Result, bail};
 use face_text::{Conditions, Face, FaceList, Held, push_list, write_answers, write_changes};
 use panel_edges::{Failed, MemorySink};
 use site_types::Site;
 use std::alloc::Global;
+use trial_cases::{Lines, Words, site_at};
 
 const LISTS: [(&str, FaceList); 6] = [
     ("zones", FaceList::Zones),
@@ -19,56 +18,84 @@ const LISTS: [(&str, FaceList); 6] = [
     ("tests", FaceList::Tests),
 ];
 
-pub(crate) fn tell_change(rt: &HostRuntime, site: &str, faces: &Faces) -> Result<()> {
-    let site = site_in(rt, site)?;
+/// The words name a site and a panel.
+pub(crate) fn tell_change(rt: &HostRuntime, mut words: Words, faces: &str) -> Result<String> {
+    let site = site_at(rt, words.next())?;
     let mut out = sink(rt.alloc(), 0)?;
-    write_faces(&site, faces, &mut out)?;
-    print_written(rt, out)
+    write_faces(&site, words.byte()?, faces, &mut out)?;
+    tell_written(rt.alloc(), out)
 }
 
-/// The write with this number fails. What was written by then is a front of the whole text.
-pub(crate) fn tell_failing(rt: &HostRuntime, write: u64, site: &str, faces: &Faces) -> Result<()> {
-    let site = site_in(rt, site)?;
+/// The words name a write, that which fails, and then what the words of a change do. What was written by then
+/// is a front of the whole text.
+pub(crate) fn tell_failing(rt: &HostRuntime, mut words: Words, faces: &str) -> Result<String> {
+    let write = words.number()?;
+    words.next();
+    let site = site_at(rt, words.next())?;
+    let panel = words.byte()?;
     let mut whole = sink(rt.alloc(), 0)?;
-    write_faces(&site, faces, &mut whole)?;
+    write_faces(&site, panel, faces, &mut whole)?;
     let mut out = sink(rt.alloc(), write)?;
-    let is_front = write_faces(&site, faces, &mut out).is_err()
+    let is_front = write_faces(&site, panel, faces, &mut out).is_err()
         && whole.bytes.as_slice().starts_with(out.bytes.as_slice());
-    let (bytes, faults) = (out.bytes.len(), out.faults);
-    println!(rt; "a front: {is_front}, bytes {bytes}, faults {faults}")?;
-    Ok(())
+    let mut lines = Lines::new(rt.alloc());
+    lines.say("a front: ");
+    lines.say(word_of(is_front));
+    lines.count(", bytes ", out.bytes.len() as u64);
+    lines.count(", faults ", out.faults as u64);
+    lines.say("\n");
+    lines.done()
 }
 
-pub(crate) fn tell_lists(rt: &HostRuntime, site: &str, panel: u8, face: &str) -> Result<()> {
-    let site = site_in(rt, site)?;
-    let face = face_in(panel, face)?;
+fn word_of(holds: bool) -> &'static str {
+    if holds { "true" } else { "false" }
+}
+
+/// The words name a site and a panel.
+pub(crate) fn tell_lists(rt: &HostRuntime, mut words: Words, face: &str) -> Result<String> {
+    let site = site_at(rt, words.next())?;
+    let face = face_in(words.byte()?, face)?;
+    let mut lines = Lines::new(rt.alloc());
     for (name, list) in LISTS {
         let mut out = sink(rt.alloc(), 0)?;
         write_list(&site, &face, list, &mut out)?;
         let text = String::from_utf8(out.bytes)?;
-        println!(rt; "{name} {text}")?;
+        lines.say(name);
+        lines.say(" ");
+        lines.say(&text);
+        lines.say("\n");
     }
-    Ok(())
+    lines.done()
 }
 
-pub(crate) fn tell_conditions(rt: &HostRuntime, panel: u8, face: &str) -> Result<()> {
+/// The words name a panel.
+pub(crate) fn tell_conditions(rt: &HostRuntime, mut words: Words, face: &str) -> Result<String> {
     let Conditions {
         fire,
         fault,
         disabled,
         test,
-    } = face_in(panel, face)?.conditions();
-    println!(rt; "fire {fire}, fault {fault}, disabled {disabled}, test {test}")?;
-    Ok(())
+    } = face_in(words.byte()?, face)?.conditions();
+    let mut lines = Lines::new(rt.alloc());
+    lines.say("fire ");
+    lines.say(word_of(fire));
+    lines.say(", fault ");
+    lines.say(word_of(fault));
+    lines.say(", disabled ");
+    lines.say(word_of(disabled));
+    lines.say(", test ");
+    lines.say(word_of(test));
+    lines.say("\n");
+    lines.done()
 }
 
-pub(crate) fn tell_answers(rt: &HostRuntime, answers: &str) -> Result<()> {
+pub(crate) fn tell_answers(rt: &HostRuntime, answers: &str) -> Result<String> {
     let Some(answers) = answers_of(answers) else {
         bail!("no such answers");
     };
     let mut out = sink(rt.alloc(), 0)?;
     written(write_answers(&answers, &mut out))?;
-    print_written(rt, out)
+    tell_written(rt.alloc(), out)
 }
 
 fn face_in(panel: u8, text: &str) -> Result<Face> {
@@ -86,9 +113,11 @@ fn sink(alloc: Global, failing: u64) -> Result<MemorySink> {
     }
 }
 
-fn write_faces(site: &Site, faces: &Faces, out: &mut MemorySink) -> Result<()> {
-    let before = face_in(faces.panel, faces.before)?;
-    let after = face_in(faces.panel, faces.after)?;
+// The change from one face to another, `FACE -> FACE`.
+fn write_faces(site: &Site, panel: u8, faces: &str, out: &mut MemorySink) -> Result<()> {
+    let (before, after) = faces.split_once(" -> ").unwrap_or((faces, ""));
+    let before = face_in(panel, before)?;
+    let after = face_in(panel, after)?;
     written(write_changes(site, &before, &after, out))
 }
 
@@ -105,9 +134,11 @@ fn written(answer: Result<(), Failed>) -> Result<()> {
     }
 }
 
-fn print_written(rt: &HostRuntime, out: MemorySink) -> Result<()> {
-    let MemorySink { bytes, calls, .. } = out;
-    let text = String::from_utf8(bytes)?;
-    println!(rt; "{text}writes {calls}")?;
-    Ok(())
+fn tell_written(alloc: Global, out: MemorySink) -> Result<String> {
+    let text = String::from_utf8(out.bytes)?;
+    let mut lines = Lines::new(alloc);
+    lines.say(&text);
+    lines.count("writes ", out.calls as u64);
+    lines.say("\n");
+    lines.done()
 }

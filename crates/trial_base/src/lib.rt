@@ -1,15 +1,10 @@
-//! What trials share: sites as texts, numbers drawn from a seed, and the rules of coincidence as a plain slow program.
+//! What points answer, and what the rules of coincidence make of it, as plain slow programs, for trials.
 //!
-//! Only the crates of trials stand on this one, and it promises little: [`site_of`] gives a valid site, and
-//! [`Draws::below`] a number below its bound.
+//! Only the programs of trials stand on this crate, and it promises nothing.
 #![tactic(auto)]
 
-mod coincidence_sites;
-mod draws;
 mod plain_rules;
-mod sites;
+mod report;
 
-pub use coincidence_sites::{ALL_TYPES, PARTNERS, RELEASING, TYPE_A};
-pub use draws::Draws;
 pub use plain_rules::{Cases, DoneAt, Judged, PlainRules};
-pub use sites::{ONE, SCHOOL, site_of, with_text};
+pub use report::{Report, answers_at, state_at};

@@ -1,13 +1,16 @@
 //! The list of cases that comes in, each with what is answered.
 
 use crate::case::Case;
+use crate::words::look_up;
 use anyhow::Result;
 use std::process::ExitCode;
 
-/// Prints each line that comes in, and behind a case what is answered. A line that is empty or begins with
-/// `#` is a heading. At a line that is neither, which is said, the program ends with status 1.
-pub fn answer_cases<F: FnMut(&Case) -> Result<Option<String>>>(
+/// Prints each line that comes in, and behind a case what is answered to one of its kind. A line that is empty
+/// or begins with `#` is a heading. At a case of no kind that there is, which is said, the program ends with
+/// status 1.
+pub fn answer_cases<K: Copy, F: FnMut(K, &Case) -> Result<String>>(
     rt: &HostRuntime,
+    kinds: &[(&str, K)],
     mut answer: F,
 ) -> Result<ExitCode>
     requires { F.IsAlwaysCallable answer }
@@ -15,20 +18,20 @@ pub fn answer_cases<F: FnMut(&Case) -> Result<Option<String>>>(
     for line in rt.lines(rt.alloc()) {
         let line = line?;
         println!(rt; "{line}")?;
-        if line.is_empty() || line.starts_with('#') {
+        if is_heading(&line) {
             continue;
         }
-        let told = match Case::read(&line) {
-            Some(case) => answer(&case)?,
-            None => None,
+        let case = Case::read(&line);
+        let Some(kind) = look_up(kinds, case.kind) else {
+            println!(rt; "no such case: {line}")?;
+            return Ok(ExitCode::FAILURE);
         };
-        match told {
-            Some(told) => rt.print(told)?,
-            None => {
-                println!(rt; "no such case: {line}")?;
-                return Ok(ExitCode::FAILURE);
-            }
-        }
+        rt.print(answer(kind, &case)?)?;
     }
     Ok(ExitCode::SUCCESS)
+}
+
+/// Whether a line is no case.
+pub fn is_heading(line: &str) -> bool {
+    line.is_empty() || line.starts_with('#')
 }

@@ -1,4 +1,4 @@
-/// A line `KIND SUBJECT: REST` of a list of cases.
+/// A line `KIND SUBJECT: REST` of a list of cases. A line may end before its subject or its rest.
 #[derive(Clone, Copy)]
 pub struct Case<'a> {
     pub kind: &'a str,
@@ -8,14 +8,13 @@ pub struct Case<'a> {
 }
 
 impl<'a> Case<'a> {
-    /// The case that a line spells, if it has the form of one.
-    pub fn read(line: &'a str) -> Option<Case<'a>> {
-        let (head, rest) = line.split_once(": ")?;
-        let (kind, subject) = head.split_once(' ')?;
-        Some(Case {
+    pub fn read(line: &'a str) -> Case<'a> {
+        let (head, rest) = line.split_once(": ").unwrap_or((line, ""));
+        let (kind, subject) = head.split_once(' ').unwrap_or((head, ""));
+        Case {
             kind,
             subject,
             rest,
-        })
+        }
     }
 }

@@ -36,9 +36,8 @@ impl<'a> History<'a> {
 
 // The tick of this number, later than the last one.
 fn later_tick(last: u64, number: &str) -> Result<u64> {
-    let tick = number.parse::<u64>()?;
-    if tick <= last || tick > MOST_TICKS {
-        bail!("tick {tick} after tick {last}");
+    match number.parse::<u64>() {
+        Ok(tick) if tick > last && tick <= MOST_TICKS => Ok(tick),
+        _ => bail!("no tick after tick {last}: {number}"),
     }
-    Ok(tick)
 }

@@ -1,8 +1,14 @@
 //! What the programs of trials share: the list of cases, sites from their files, histories on a line, what
-//! befalls a site, and names for masks.
+//! befalls a site, names for masks, words that are read, and lines that are told.
 //!
 //! Only the programs of trials stand on this crate. It promises what they need to call the parts of a panel:
 //! [`site_at`] gives a valid site, and [`event_of`] an event of which the site has all that it names.
+//!
+//! A program reads a list of cases from its standard input and prints each with what is answered. Any line that
+//! is no heading is a case, `KIND SUBJECT: REST`; the program has a table of its kinds. What it must print stands
+//! in its file stdout, worked out by hand, or, where histories are drawn, as plain slow programs of the rules make
+//! it. What a clause of another crate says for all inputs isn't tried again, but for the examples that show that
+//! the clause says what was meant.
 //!
 //! A history is a line of steps with `, ` between them. A step `tick 13` goes on to that tick, and the ticks
 //! between two that are named pass too; any other step comes in the tick that was named last. A step that
@@ -11,22 +17,24 @@
 
 mod answering;
 mod case;
-mod changes;
 mod draws;
 mod events;
 mod history;
-mod mask_names;
+mod lines;
+mod names;
 mod sample;
 mod site_files;
 mod step;
+mod words;
 
-pub use answering::answer_cases;
+pub use answering::{answer_cases, is_heading};
 pub use case::Case;
-pub use changes::changes_of;
 pub use draws::below;
 pub use events::event_of;
 pub use history::History;
-pub use mask_names::{named, output_names, outputs_of, with_number, zone_names, zone_of};
-pub use sample::Sample;
+pub use lines::Lines;
+pub use names::{outputs_of, say_output, say_outputs, say_point, say_zones, with_number, zone_of};
+pub use sample::{Sample, otherwise};
 pub use site_files::site_at;
 pub use step::Step;
+pub use words::{Words, look_up};

@@ -2,68 +2,70 @@
 
 ghost use Rattle.site_types.specs.Valid.{IsValid};
 
+use crate::lines::Lines;
 use anyhow::{Result, bail};
-use site_types::{Label, Output, Site, Thing, Zone, has_bit_32, with_bit_32};
-use std::alloc::{AllocError, Global};
+use site_types::{Output, Site, Thing, Zone, has_bit_32, with_bit_32};
 
-/// The zones of a panel in a mask, by number; of one that the site hasn't the number.
-pub fn zone_names(alloc: Global, site: &Site, panel: u8, zones: u32) -> Result<String, AllocError> {
-    let mut told = String::new(alloc);
+/// Says the zones of a panel in a mask, by number, or `nothing`.
+pub fn say_zones(lines: &mut Lines, site: &Site, panel: u8, zones: u32) {
+    let mut space = "";
     for number in 1..33 {
         if has_bit_32(zones, number - 1) {
-            push_name(alloc, &mut told, zone_name(site, panel, number), number)?;
+            lines.say(space);
+            say_zone(lines, site, panel, number);
+            space = " ";
         }
     }
-    Ok(told)
+    say_if_none(lines, zones);
 }
 
-/// The outputs of a panel in a mask, by number; of one that the site hasn't the number.
-pub fn output_names(
-    alloc: Global,
-    site: &Site,
-    panel: u8,
-    outputs: u32,
-) -> Result<String, AllocError> {
-    let mut told = String::new(alloc);
+/// Says the outputs of a panel in a mask, by number, or `nothing`.
+pub fn say_outputs(lines: &mut Lines, site: &Site, panel: u8, outputs: u32) {
+    let mut space = "";
     for number in 1..33 {
         if has_bit_32(outputs, number - 1) {
-            push_name(alloc, &mut told, output_name(site, panel, number), number)?;
+            lines.say(space);
+            say_output(lines, site, panel, number);
+            space = " ";
         }
     }
-    Ok(told)
+    say_if_none(lines, outputs);
 }
 
-fn zone_name(site: &Site, panel: u8, number: u8) -> Option<Label> {
+fn say_if_none(lines: &mut Lines, mask: u32) {
+    if mask == 0 {
+        lines.say("nothing");
+    }
+}
+
+// The name of a zone, or the number where the site hasn't it.
+fn say_zone(lines: &mut Lines, site: &Site, panel: u8, number: u8) {
     for zone in site.zones.as_slice() {
         if zone.panel == panel && zone.number == number {
-            return Some(zone.name);
+            lines.say(zone.name.as_str());
+            return;
         }
     }
-    None
+    lines.number(number as u64);
 }
 
-fn output_name(site: &Site, panel: u8, number: u8) -> Option<Label> {
+/// Says the name of an output of a panel, or its number where the site hasn't it.
+pub fn say_output(lines: &mut Lines, site: &Site, panel: u8, number: u8) {
     for output in site.outputs.as_slice() {
         if output.panel == panel && output.number == number {
-            return Some(output.name);
+            lines.say(output.name.as_str());
+            return;
         }
     }
-    None
+    lines.number(number as u64);
 }
 
-// Puts a name behind those before it, or a number where there is no name.
-fn push_name(
-    alloc: Global,
-    told: &mut String,
-    name: Option<Label>,
-    number: u8,
-) -> Result<(), AllocError> {
-    let space = if told.is_empty() { "" } else { " " };
-    let text = match name {
-        Some(name) => format!(in alloc; "{space}{name}")?,
-        None => format!(in alloc; "{space}{number}")?,
-    };
-    told.push_str(&text)
+/// Says the name of a point by its place, or that place where the site hasn't it.
+pub fn say_point(lines: &mut Lines, site: &Site, place: u16) {
+    match site.points.get(place as usize) {
+        Some(point) => lines.say(point.name.as_str()),
+        None => lines.number(place as u64),
+    }
 }
 
 /// The zone of a name.
@@ -78,7 +80,7 @@ pub fn zone_of<'a>(site: &'a Site, name: &str) -> Option<&'a Zone>
 
 /// A mask with the bit of a number, 1 to 32, in it.
 pub fn with_number(mask: u32, number: u8) -> u32 {
-    if (1..=32).contains(&number) {
+    if number >= 1 && number <= 32 {
         with_bit_32(mask, number - 1, true)
     } else {
         mask
@@ -110,9 +112,4 @@ fn output_of<'a>(site: &'a Site, name: &str) -> Option<&'a Output>
         Some(Thing::Output(place)) => site.outputs.get(place as usize),
         _ => None,
     }
-}
-
-/// Names, or `nothing` where there are none.
-pub fn named(names: &str) -> &str {
-    if names.is_empty() { "nothing" } else { names }
 }
