@@ -93,10 +93,15 @@ fn record_on_a_line(alloc: Global, site: &Site, record: &str) -> Result<String>
     Ok(told.replace(alloc, '\n', "; ")?)
 }
 
-fn has(alloc: Global, site: &Site, event: &str) -> Result<String> {
-    let event = event_in(Words::of(event))?;
-    let word = if site.has_event(&event) { "yes" } else { "no" };
-    Ok(String::from_str(alloc, word)?)
+fn has(alloc: Global, site: &Site, words: &str) -> Result<String> {
+    match event_in(Words::of(words))? {
+        Some(event) => Ok(String::from_str(alloc, yes_or_no(site.has_event(&event)))?),
+        None => bail!("no such event: {words}"),
+    }
+}
+
+fn yes_or_no(holds: bool) -> &'static str {
+    if holds { "yes" } else { "no" }
 }
 
 fn change(alloc: Global, site: &Site, operation: &str) -> Result<String> {

@@ -5,30 +5,32 @@ use anyhow::{Result, bail};
 use site_types::{Event, Item, Operation, PieceState, PointState, SupplyKind};
 use trial_cases::Words;
 
-/// The event that words name: `point PLACE`, `cable PANEL LOOP PIECE`, `supply PANEL`, `link LINK`,
-/// `confirmed PLACE` or an operation.
-pub fn event_in(mut words: Words) -> Result<Event> {
+/// The event that words name, if they name one: `point PLACE`, `cable PANEL LOOP PIECE`, `supply PANEL`,
+/// `link LINK`, `confirmed PLACE` or an operation.
+pub fn event_in(mut words: Words) -> Result<Option<Event>> {
     let all = words;
-    match words.next() {
-        "point" => Ok(Event::Point {
+    let event = match words.next() {
+        "point" => Event::Point {
             point: words.place()?,
             state: PointState::Alarm,
-        }),
-        "cable" => cable_in(words),
-        "supply" => Ok(Event::Supply {
+        },
+        "cable" => cable_in(words)?,
+        "supply" => Event::Supply {
             panel: words.byte()?,
             kind: SupplyKind::Mains,
             bad: true,
-        }),
-        "link" => Ok(Event::Link {
+        },
+        "link" => Event::Link {
             link: words.byte()?,
             up: false,
-        }),
-        "confirmed" => Ok(Event::Confirmed {
+        },
+        "confirmed" => Event::Confirmed {
             output: words.place()?,
-        }),
-        _ => given_in(all),
-    }
+        },
+        "op" => given_in(all)?,
+        _ => return Ok(None),
+    };
+    Ok(Some(event))
 }
 
 fn cable_in(mut words: Words) -> Result<Event> {
