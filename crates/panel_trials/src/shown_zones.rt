@@ -65,14 +65,15 @@ fn all_reports(alloc: Global, site: &Site, history: &History) -> Result<Vec<Repo
 {
     let mut reports = Vec::new(alloc);
     for step in &history.steps {
-        let Event::Point { point, state } = event_of(site, step.words)? else {
-            bail!("no report on a point: {}", step.words);
-        };
-        reports.push(Report {
-            tick: step.tick,
-            point,
-            state,
-        })?;
+        match event_of(site, step.words)? {
+            Event::Point { point, state } => reports.push(Report {
+                tick: step.tick,
+                point,
+                state,
+            })?,
+            Event::Op { operation, .. } => bail!("{operation:?} is no report on a point"),
+            _ => bail!("no report on a point: {}", step.words),
+        }
     }
     Ok(reports)
 }

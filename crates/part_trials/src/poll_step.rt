@@ -36,6 +36,7 @@ impl PollStep {
                 }
                 Ok(PollStep::Cable { line, piece, state })
             }
+            Event::Op { operation, .. } => bail!("{operation:?} befalls no point"),
             _ => bail!("nothing that befalls a point or a cable: {words}"),
         }
     }

@@ -22,6 +22,7 @@ pub fn answer(rt: &HostRuntime, kind: Kind, mut words: Words, rest: &str) -> Res
         Kind::Check => check(rt, words, rest),
         Kind::Largest => checked(rt.alloc(), &largest_site(rt.alloc())?),
         Kind::Carry => carried(rt, words),
+        Kind::Has => has(rt, words, rest),
         _ => {
             let site = site_at(rt, words.next())?;
             answer_at(rt, kind, &site, words.rest(), rest)
@@ -38,7 +39,6 @@ fn answer_at(rt: &HostRuntime, kind: Kind, site: &Site, file: &str, rest: &str) 
         Kind::Show => shown(alloc, site),
         Kind::Line => told_line(alloc, site, rest),
         Kind::Pieces => told_pieces(alloc, site, rest),
-        Kind::Has => has(alloc, site, rest),
         Kind::Change => change(alloc, site, rest),
         _ => {
             if file.is_empty() {
@@ -93,10 +93,11 @@ fn record_on_a_line(alloc: Global, site: &Site, record: &str) -> Result<String>
     Ok(told.replace(alloc, '\n', "; ")?)
 }
 
-fn has(alloc: Global, site: &Site, words: &str) -> Result<String> {
-    match event_in(Words::of(words))? {
-        Some(event) => Ok(String::from_str(alloc, yes_or_no(site.has_event(&event)))?),
-        None => bail!("no such event: {words}"),
+fn has(rt: &HostRuntime, mut words: Words, event: &str) -> Result<String> {
+    let site = site_at(rt, words.next())?;
+    match event_in(Words::of(event))? {
+        Some(event) => Ok(String::from_str(rt.alloc(), yes_or_no(site.has_event(&event)))?),
+        None => bail!("no such event: {event}"),
     }
 }
 
