@@ -1,0 +1,3 @@
+mod ZoneMasks
+mod Printing
+pub mod Beyond
