@@ -1,8 +1,8 @@
 -- The first byte of some with a bit that the one of its place in others hasn't.
-use Rattle.std.proofs.Common.{◌≡◌, ◌≢◌, ◌<◌, ◌≤◌, ◌∙◌, ℕ, true, false, List, length, slice_index, get_or, refl, ap, arith, nat_lt}
+use Rattle.std.proofs.Common.{◌≡◌, ◌≢◌, ◌<◌, ◌≤◌, ◌∙◌, ℕ, true, false, List, length, slice_index, get_or, refl, ap, arith, nat_lt, Bool, sym, if◌then◌else◌}
 use Rattle.std.specs.Prelude.{Some, None, bit_and, zip}
 use Rattle.std.specs.List.{position_or_len}
-use Rattle.std.proofs.lemmas.List.Sums.{position_or_len_is}
+use Rattle.std.proofs.lemmas.List.Sums.{position_or_len_is, fails_before_first}
 use Rattle.std.proofs.lemmas.Slice.Zip.{get_or-zip, length-zip}
 use Rattle.std.proofs.lemmas.Bool.{lt-ltb, le-ltb}
 use Rattle.std.proofs.lemmas.Bool.Decides.{nat_tests}
@@ -44,3 +44,25 @@ none_found bytes most i same past before =
     let at = first_place bytes most (length bytes) same (omega arith) (λ k less. before k (omega (arith, less, past))) (λ less. absurd (omega (arith, less))) in
     let no : nat_lt (length bytes) (length (zip bytes most)) ≡ false = le-ltb (length bytes) (length (zip bytes most)) (omega (arith, size)) in
     rw (at, no) refl
+
+pub fits_there : (byte most : ℕ) → bit_and byte most ≡ byte → goes_beyond (byte, most) ≡ false
+fits_there byte most same = grind (arith, nat_tests)
+
+pub stays_there : (byte most : ℕ) → goes_beyond (byte, most) ≡ false → bit_and byte most ≡ byte
+stays_there byte most within = grind (arith, nat_tests)
+
+none_here : (b : Bool) (x : ℕ) → (if b then Some x else None) ≡ None → b ≡ false
+none_here true x e = absurd (cc)
+none_here false x e = refl
+
+not_less : (a b : ℕ) → nat_lt a b ≡ false → b ≤ a
+not_less a b e = grind (arith, nat_tests)
+
+-- where nothing goes beyond at any place
+pub none_beyond : (bytes most : List ℕ) → length bytes ≡ length most → first_beyond bytes most ≡ None → FitsBelow (length bytes) bytes most
+none_beyond bytes most same none k less =
+    let pairs = zip bytes most in
+    let size = zip_size bytes most same in
+    let past : length pairs ≤ position_or_len goes_beyond pairs =
+    not_less (position_or_len goes_beyond pairs) (length pairs) (none_here (nat_lt (position_or_len goes_beyond pairs) (length pairs)) (position_or_len goes_beyond pairs) none) in
+    sym (pair_at bytes most k same less) ∙ fails_before_first goes_beyond pairs k (0, 0) (omega (arith, past, size, less))

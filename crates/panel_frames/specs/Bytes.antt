@@ -23,8 +23,8 @@ abbrev pub frame_bytes : List ℕ → Frame → List ℕ
 frame_bytes digest frame = frame_mark ++ digest ++ frame.from ∷ frame.group ∷ words_bytes frame.words
 
 -- the word that the first 25 bytes spell
-unfoldable pub word_in : List ℕ → Word
-word_in bytes = record {
+unfoldable pub word_spelled : List ℕ → Word
+word_spelled bytes = record {
   stamp = record { 0 = from_be_bytes w64 (take 8 bytes) };
   alarm = from_be_bytes w32 (take 4 (drop 8 bytes));
   manual = from_be_bytes w32 (take 4 (drop 12 bytes));
@@ -38,5 +38,5 @@ abbrev pub frame_in : List ℕ → Frame
 frame_in bytes = record {
   from = slice_index bytes 34;
   group = slice_index bytes 35;
-  words = word_in (drop 36 bytes) ∷ word_in (drop 61 bytes) ∷ word_in (drop 86 bytes) ∷ word_in (drop 111 bytes) ∷ [];
+  words = word_spelled (drop 36 bytes) ∷ word_spelled (drop 61 bytes) ∷ word_spelled (drop 86 bytes) ∷ word_spelled (drop 111 bytes) ∷ [];
 }

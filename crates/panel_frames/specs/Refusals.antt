@@ -1,24 +1,15 @@
 -- Why bytes aren't read as a frame: the first cause that applies.
-use Rattle.std.specs.Prelude.{ℕ, ◌+◌, ◌==◌, ◌&&◌, ◌||◌, nat_le, nat_lt, not, Bool, List, length, take, drop, zip}
+use Rattle.std.specs.Prelude.{ℕ, ◌+◌, ◌==◌, nat_lt, not, Bool, List, length, take, drop, zip}
 use Rattle.std.specs.Prelude.{bit_and, bytes_eq, Option, Some, None, option_map, Result, Ok, Err}
 use Rattle.std.specs.Prelude.{if◌then◌else◌}
 use Rattle.std.specs.List.{position}
 use Rattle.site_types.specs.declared.site.Site.{Site}
 use Rattle.panel_links.specs.declared.frame.Frame.{Frame}
-use Rattle.panel_links.specs.Words.{left_of, right_of}
 use Rattle.panel_frames.specs.declared.frame_refusal.FrameRefusal.{FrameRefusal}
 use Rattle.panel_frames.specs.declared.frame_refusal.FrameRefusal.TheVariants.{BadLength, BadMagic, OtherSite}
 use Rattle.panel_frames.specs.declared.frame_refusal.FrameRefusal.TheVariants.{NotNeighbour, BadGroup, BadWord}
 use Rattle.panel_frames.specs.Bytes.{frame_in, frame_mark, words_bytes}
-use Rattle.panel_frames.specs.Grammar.{fullest_words}
-
--- a panel is next to another in the ring of a site's panels; a panel alone has no neighbours
-abbrev pub is_neighbour : ℕ → ℕ → ℕ → Bool
-is_neighbour panels at from = nat_lt 1 panels && ((from == left_of panels at) || (from == right_of panels at))
-
--- the greatest group of so many panels
-abbrev pub last_group : ℕ → ℕ
-last_group panels = if nat_le panels 4 then 0 else 1
+use Rattle.panel_frames.specs.Grammar.{fullest_words, is_neighbour, last_group}
 
 -- a byte has a bit that another hasn't
 abbrev pub goes_beyond : ℕ × ℕ → Bool
@@ -29,8 +20,8 @@ abbrev pub first_beyond : List ℕ → List ℕ → Option ℕ
 first_beyond bytes most = position goes_beyond (zip bytes most)
 
 -- the refusal of the words' bytes, which begin at byte 36
-abbrev pub bad_word : Site → Frame → List ℕ → Option FrameRefusal
-bad_word site frame bytes =
+abbrev pub refused_word : Site → Frame → List ℕ → Option FrameRefusal
+refused_word site frame bytes =
     option_map (λ place. BadWord (place + 36)) (first_beyond bytes (words_bytes (fullest_words site frame)))
 
 -- the refusal of what names the sender and the group, and of the words
@@ -38,11 +29,11 @@ abbrev pub refusal_in : Site → ℕ → Frame → List ℕ → Option FrameRefu
 refusal_in site at frame words =
     if not (is_neighbour site.panels at frame.from) then Some (NotNeighbour frame.from)
     else if nat_lt (last_group site.panels) frame.group then Some (BadGroup frame.group)
-    else bad_word site frame words
+    else refused_word site frame words
 
 -- the refusal of bytes at a panel
-abbrev pub refusal_of : Site → List ℕ → ℕ → List ℕ → Option FrameRefusal
-refusal_of site digest at bytes =
+abbrev pub refusal_at : Site → List ℕ → ℕ → List ℕ → Option FrameRefusal
+refusal_at site digest at bytes =
     if not (length bytes == 136) then Some BadLength
     else if not (bytes_eq (take 2 bytes) frame_mark) then Some BadMagic
     else if not (bytes_eq (take 32 (drop 2 bytes)) digest) then Some OtherSite
@@ -55,4 +46,4 @@ frame_or (Some refusal) frame = Err refusal
 
 -- what bytes are read as at a panel
 abbrev pub frame_read : Site → List ℕ → ℕ → List ℕ → Result Frame FrameRefusal
-frame_read site digest at bytes = frame_or (refusal_of site digest at bytes) (frame_in bytes)
+frame_read site digest at bytes = frame_or (refusal_at site digest at bytes) (frame_in bytes)

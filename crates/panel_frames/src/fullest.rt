@@ -3,7 +3,7 @@
 ghost use Rattle.std.specs.Prelude.{◌≡◌, ◌≤◌, ◌<◌, ℕ, false, length, slice_index_or};
 ghost use Rattle.std.specs.List.{list_any};
 ghost use Rattle.panel_frames.specs.Grammar.{fullest_word as fullest_of, fullest_words as fullest_words_of};
-ghost use Rattle.panel_frames.specs.Grammar.{is_zone_of, zones_of};
+ghost use Rattle.panel_frames.specs.Grammar.{is_panel_zone, zones_of};
 
 use panel_links::Frame;
 use site_types::{Site, Word, Zone, mask_from_32};
@@ -58,7 +58,7 @@ fn zone_mask(zones: &[Zone], panel: u8) -> u32
 fn zone_numbers(zones: &[Zone], panel: u8) -> [bool; 256]
     ensures size { length result ≡ 256 }
     ensures known { (number : ℕ) → number < 256
-        → slice_index_or result number false ≡ list_any (is_zone_of panel number) zones.now }
+        → slice_index_or result number false ≡ list_any (is_panel_zone panel number) zones.now }
 {
     let mut numbers = [false; 256];
     for zone in zones {

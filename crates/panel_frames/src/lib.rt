@@ -8,7 +8,7 @@
 //!
 //! [`print_frame`] writes those bytes, and [`read_frame`] reads them at a panel, or says by a [`FrameRefusal`] why
 //! not: the first cause that applies, in the order of its variants. Both are pinned by `specs/`: `frame_bytes` and
-//! `frame_in` say which bytes and which frame, `refusal_of` which refusal, and `IsFrame` which frames are in the
+//! `frame_in` say which bytes and which frame, `refusal_at` which refusal, and `IsFrame` which frames are in the
 //! grammar. [`printed_frames_are_read`], [`read_bytes_are_printed`] and [`read_frames_are_in_the_grammar`] are laws:
 //! no two frames have the same bytes, and no two texts of bytes are read as one frame.
 //!
@@ -18,9 +18,11 @@
 
 mod frame_refusal;
 mod fullest;
+mod laws;
 mod print;
 mod read;
 
 pub use frame_refusal::FrameRefusal;
+pub use laws::{printed_frames_are_read, read_bytes_are_printed, read_frames_are_in_the_grammar};
 pub use print::{FRAME_BYTES, print_frame};
 pub use read::read_frame;

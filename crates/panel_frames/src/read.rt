@@ -2,9 +2,9 @@
 
 ghost use Rattle.std.specs.Prelude.{◌≡◌, ◌<◌, ◌≤◌, IfSome, length, take, drop};
 ghost use Rattle.site_types.specs.Valid.{IsPanel, IsValid};
-ghost use Rattle.panel_frames.specs.Bytes.{frame_in as frame_of_bytes, word_in as word_of_bytes};
-ghost use Rattle.panel_frames.specs.Refusals.{bad_word as bad_word_of, first_beyond as first_beyond_of, frame_read};
-ghost use Rattle.panel_frames.specs.Refusals.{is_neighbour as neighbours, last_group as greatest_group};
+ghost use Rattle.panel_frames.specs.Bytes.{frame_in as frame_of_bytes, word_spelled};
+ghost use Rattle.panel_frames.specs.Refusals.{refused_word, first_beyond as first_beyond_of, frame_read};
+ghost use Rattle.panel_frames.specs.Grammar.{is_neighbour as neighbours, last_group as greatest_group};
 
 use crate::frame_refusal::FrameRefusal;
 use crate::fullest::fullest_words;
@@ -68,7 +68,7 @@ fn last_group(panels: u8) -> u8
 fn bad_word(site: &Site, frame: &Frame, bytes: &[u8]) -> Option<FrameRefusal>
     requires size { length bytes.now ≡ 136 }
     requires group { frame.now.group ≤ 1 }
-    ensures { result ≡ bad_word_of site.now frame.now (drop 36 bytes.now) }
+    ensures { result ≡ refused_word site.now frame.now (drop 36 bytes.now) }
 {
     let mut most = ArrayVec::new();
     push_words(&mut most, &fullest_words(site, frame));
@@ -112,10 +112,10 @@ fn frame_in(bytes: &[u8]) -> Frame
 }
 
 // The word that the first 25 bytes spell.
-#[tactic(auto, unfolding(crate::specs::Bytes::word_in))]
+#[tactic(auto, unfolding(crate::specs::Bytes::word_spelled))]
 fn word_in(bytes: &[u8]) -> Word
     requires { 25 ≤ length bytes.now }
-    ensures { result ≡ word_of_bytes bytes.now }
+    ensures { result ≡ word_spelled bytes.now }
 {
     Word {
         stamp: Tick(u64::from_be_bytes(eight(bytes))),
