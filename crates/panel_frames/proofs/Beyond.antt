@@ -4,7 +4,7 @@ use Rattle.std.specs.Prelude.{Some, None, bit_and, zip}
 use Rattle.std.specs.List.{position_or_len}
 use Rattle.std.proofs.lemmas.List.Sums.{position_or_len_is, fails_before_first}
 use Rattle.std.proofs.lemmas.Slice.Zip.{get_or-zip, length-zip}
-use Rattle.std.proofs.lemmas.Bool.{lt-ltb, le-ltb}
+use Rattle.std.proofs.lemmas.Bool.{lt-ltb, le-ltb, ltb-false}
 use Rattle.std.proofs.lemmas.Bool.Decides.{nat_tests}
 use Rattle.panel_frames.specs.Refusals.{first_beyond, goes_beyond}
 
@@ -55,14 +55,11 @@ none_here : (b : Bool) (x : ℕ) → (if b then Some x else None) ≡ None → b
 none_here true x e = absurd (cc)
 none_here false x e = refl
 
-not_less : (a b : ℕ) → nat_lt a b ≡ false → b ≤ a
-not_less a b e = grind (arith, nat_tests)
-
 -- where nothing goes beyond at any place
 pub none_beyond : (bytes most : List ℕ) → length bytes ≡ length most → first_beyond bytes most ≡ None → FitsBelow (length bytes) bytes most
 none_beyond bytes most same none k less =
     let pairs = zip bytes most in
     let size = zip_size bytes most same in
     let past : length pairs ≤ position_or_len goes_beyond pairs =
-    not_less (position_or_len goes_beyond pairs) (length pairs) (none_here (nat_lt (position_or_len goes_beyond pairs) (length pairs)) (position_or_len goes_beyond pairs) none) in
+    ltb-false (position_or_len goes_beyond pairs) (length pairs) (none_here (nat_lt (position_or_len goes_beyond pairs) (length pairs)) (position_or_len goes_beyond pairs) none) in
     sym (pair_at bytes most k same less) ∙ fails_before_first goes_beyond pairs k (0, 0) (omega (arith, past, size, less))

@@ -1,10 +1,10 @@
 -- The words that a frame may have are those that fit the fullest ones.
-use Rattle.std.proofs.Common.{◌≡◌, ◌≢◌, ◌+◌, ◌<◌, ◌≤◌, ◌^◌, ◌∙◌, ℕ, Bool, true, false, List, refl, sym, ap, subst, arith, mod-eq_of_lt, if◌then◌else◌}
+use Rattle.std.proofs.Common.{◌≡◌, ◌+◌, ◌<◌, ◌^◌, ◌∙◌, ℕ, Bool, true, false, List, refl, sym, ap, subst, arith, mod-eq_of_lt, if◌then◌else◌}
 use Rattle.std.specs.Prelude.{◌==◌, ◌&&◌, nat_lt, bit_and}
 use Rattle.std.specs.List.{list_any}
+use Rattle.std.proofs.lemmas.Bool.{eqb-true, eqb-false, ltb-true, ltb-false}
 use Rattle.std.proofs.lemmas.Nat.{and_mask, and_le_l, and_le_r}
 use Rattle.std.proofs.lemmas.Nat.Bits.{bit_at-zero}
-use Rattle.std.proofs.lemmas.Bool.Decides.{nat_tests}
 use Rattle.site_types.specs.declared.site.Site.{Site}
 use Rattle.site_types.specs.declared.word.Word.{Word}
 use Rattle.site_types.specs.declared.zone.Zone.{Zone}
@@ -14,12 +14,6 @@ use Rattle.site_types.proofs.Masks.{has_bit-and, has_bit-mask, same_mask}
 use Rattle.panel_frames.specs.Grammar.{IsWord, NamesZones, fullest_word, is_panel_zone, stamped_word, zones_of}
 use Rattle.panel_frames.proofs.Fitting.{IsWithin}
 use Rattle.panel_frames.proofs.WordBytes.{FitsWidths}
-
-number_is : (a b : ℕ) → (a == b) ≡ true → a ≡ b
-number_is a b e = grind (arith, nat_tests)
-
-above : (a b : ℕ) → nat_lt a b ≡ true → a < b
-above a b e = grind (arith, nat_tests)
 
 zone_bit : (panel : ℕ) (zones : List Zone) (k : ℕ) → k < 32 → has_bit (zones_of panel zones) k ≡ list_any (is_panel_zone panel (k + 1)) zones
 unfolding zones_of
@@ -59,9 +53,9 @@ within_fullest site panel w is = go (nat_lt site.panels panel) (w.stamp.0 == 0) 
   where
     go : (absent unstamped : Bool) → nat_lt site.panels panel ≡ absent → (w.stamp.0 == 0) ≡ unstamped
         → IsWithin w (if absent then empty_word else if unstamped then stamped_word 0 false else stamped_word (zones_of panel site.zones) true)
-    go true b e f = subst (λ (x : Word). IsWithin x empty_word) (sym (is.absent (above site.panels panel e)))
+    go true b e f = subst (λ (x : Word). IsWithin x empty_word) (sym (is.absent (ltb-true site.panels panel e)))
         (record { stamp = refl; alarm = refl; manual = refl; released = refl; first = refl; fault = refl })
-    go false true e f = subst (λ (x : Word). IsWithin x (stamped_word 0 false)) (sym (is.unstamped (number_is w.stamp.0 0 f)))
+    go false true e f = subst (λ (x : Word). IsWithin x (stamped_word 0 false)) (sym (is.unstamped (eqb-true w.stamp.0 0 f)))
         (record { stamp = refl; alarm = refl; manual = refl; released = refl; first = refl; fault = refl })
     go false false e f = record {
       stamp = and_mask w.stamp.0 64 ∙ mod-eq_of_lt is.stamp;
@@ -90,12 +84,6 @@ none_named site panel mask e =
 all_zero : (w : Word) → w.stamp.0 ≡ 0 → w.alarm ≡ 0 → w.manual ≡ 0 → w.released ≡ 0 → w.first ≡ 0 → w.fault ≡ false → w ≡ empty_word
 all_zero w s a m r f b = rw (s, a, m, r, f, b) refl
 
-not_above : (a b : ℕ) → nat_lt a b ≡ false → b ≤ a
-not_above a b e = grind (arith, nat_tests)
-
-number_apart : (a b : ℕ) → (a == b) ≡ false → a ≢ b
-number_apart a b e = grind (arith, nat_tests)
-
 zero_word : (site : Site) (panel : ℕ) (w : Word) → FitsWidths w → w ≡ empty_word → IsWord site panel w
 zero_word site panel w fits e = record {
   absent = λ less. e;
@@ -123,10 +111,10 @@ is_word site panel w fits within = go (nat_lt site.panels panel) (w.stamp.0 == 0
         → IsWithin w (if absent then empty_word else if unstamped then stamped_word 0 false else stamped_word (zones_of panel site.zones) true)
         → IsWord site panel w
     go true b e f in_most = zero_word site panel w fits (masks_zero empty_word refl refl refl refl refl in_most (nothing w.stamp.0 in_most.stamp))
-    go false true e f in_most = zero_word site panel w fits (masks_zero (stamped_word 0 false) refl refl refl refl refl in_most (number_is w.stamp.0 0 f))
+    go false true e f in_most = zero_word site panel w fits (masks_zero (stamped_word 0 false) refl refl refl refl refl in_most (eqb-true w.stamp.0 0 f))
     go false false e f in_most = record {
-      absent = λ less. absurd (let le = not_above site.panels panel e in omega (arith, le, less));
-      unstamped = λ none. absurd (number_apart w.stamp.0 0 f none);
+      absent = λ less. absurd (let le = ltb-false site.panels panel e in omega (arith, le, less));
+      unstamped = λ none. absurd (eqb-false w.stamp.0 0 f none);
       stamp = fits.stamp;
       alarm = fit_names site panel w.alarm fits.alarm in_most.alarm;
       manual = fit_names site panel w.manual fits.manual in_most.manual;

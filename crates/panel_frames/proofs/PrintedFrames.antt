@@ -1,8 +1,8 @@
 -- A frame in the grammar, printed, is read as itself.
-use Rattle.std.proofs.Common.{◌≡◌, ◌+◌, ◌*◌, ◌<◌, ◌≤◌, ◌++◌, ◌∙◌, ℕ, Bool, true, false, List, [], ◌∷◌, length, slice_index, take, drop, refl, sym, ap, subst, arith, if◌then◌else◌, zero, suc}
+use Rattle.std.proofs.Common.{◌≡◌, ◌+◌, ◌*◌, ◌<◌, ◌++◌, ◌∙◌, ℕ, Bool, true, false, List, [], ◌∷◌, length, slice_index, take, drop, refl, sym, ap, subst, arith, if◌then◌else◌, zero, suc}
 use Rattle.std.specs.Prelude.{◌==◌, nat_lt, not, bytes_eq, Option, Some, None, option_map, Ok, slice_index_or}
+use Rattle.std.proofs.lemmas.Bool.{eq-eqb, le-ltb}
 use Rattle.std.proofs.lemmas.List.{length-append, get_or-drop, drop-drop, drop_at, take-append-le, take_all}
-use Rattle.std.proofs.lemmas.Bool.Decides.{nat_tests}
 use Rattle.std.proofs.lemmas.Slice.Eq.{bytes_eq-Decides}
 use Rattle.site_types.specs.declared.site.Site.{Site}
 use Rattle.site_types.specs.declared.word.Word.{Word}
@@ -22,12 +22,6 @@ pass b r rest e none = rw (e, none) refl
 
 fail : (b : Bool) (r : FrameRefusal) (rest : Option FrameRefusal) → b ≡ false → rest ≡ None → (if b then Some r else rest) ≡ None
 fail b r rest e none = rw (e, none) refl
-
-equal : (a b : ℕ) → a ≡ b → (a == b) ≡ true
-equal a b e = grind (arith, nat_tests)
-
-not_past : (a b : ℕ) → b ≤ a → nat_lt a b ≡ false
-not_past a b le = grind (arith, nat_tests)
 
 equal_list : (xs ys : List ℕ) → xs ≡ ys → bytes_eq xs ys ≡ true
 equal_list xs ys e = (bytes_eq-Decides xs ys).1 e
@@ -117,13 +111,13 @@ accepted site digest at from group a b c d size is =
     let none' : first_beyond (drop 36 bytes) (words_bytes (fullest_words site (frame_in bytes))) ≡ None =
     ap (λ (xs : List ℕ). first_beyond xs (words_bytes (fullest_words site (frame_in bytes)))) at_0
     ∙ ap (λ (f : Frame). first_beyond (words_bytes words) (words_bytes (fullest_words site f))) same ∙ none in
-    pass (length bytes == 136) BadLength _ (equal (length bytes) 136 long)
+    pass (length bytes == 136) BadLength _ (eq-eqb (length bytes) 136 long)
     (pass (bytes_eq (take 2 bytes) frame_mark) BadMagic _ refl
     (pass (bytes_eq (take 32 (drop 2 bytes)) digest) OtherSite _ (equal_list (take 32 (drop 2 bytes)) digest told)
     (pass (is_neighbour site.panels at (slice_index bytes 34)) (NotNeighbour (slice_index bytes 34)) _
     (ap (λ (f : Frame). is_neighbour site.panels at f.from) same ∙ is.neighbour)
     (fail (nat_lt (last_group site.panels) (slice_index bytes 35)) (BadGroup (slice_index bytes 35)) _
-    (ap (λ (f : Frame). nat_lt (last_group site.panels) f.group) same ∙ not_past (last_group site.panels) group is.group)
+    (ap (λ (f : Frame). nat_lt (last_group site.panels) f.group) same ∙ le-ltb (last_group site.panels) group is.group)
     (ap (option_map (λ place. BadWord (place + 36))) none')))))
   where
     each : (site : Site) (at : ℕ) (frame : Frame) → IsFrame site at frame

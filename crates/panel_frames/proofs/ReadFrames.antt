@@ -1,9 +1,9 @@
 -- A frame that is read is in the grammar.
-use Rattle.std.proofs.Common.{◌≡◌, ◌+◌, ◌*◌, ◌<◌, ◌≤◌, ◌/◌, ◌%◌, ◌^◌, ◌++◌, ◌∙◌, ℕ, zero, suc, false, List, [], ◌∷◌, length, slice_index, take, drop, refl, sym, ap, subst, arith}
-use Rattle.std.specs.Prelude.{nat_lt, bit_and, Ok, slice_index_or}
+use Rattle.std.proofs.Common.{◌≡◌, ◌+◌, ◌*◌, ◌<◌, ◌≤◌, ◌/◌, ◌%◌, ◌^◌, ◌++◌, ◌∙◌, ℕ, zero, suc, List, [], ◌∷◌, length, slice_index, take, drop, refl, sym, ap, subst, arith}
+use Rattle.std.specs.Prelude.{bit_and, Ok, slice_index_or}
 use Rattle.std.specs.Int.{w32, w64, to_be_bytes, from_be_bytes}
+use Rattle.std.proofs.lemmas.Bool.{ltb-false}
 use Rattle.std.proofs.lemmas.Nat.{and_shr, and_mod, and_le_l, from_be_bytes-to_be_bytes_4, from_be_bytes-to_be_bytes_8}
-use Rattle.std.proofs.lemmas.Bool.Decides.{nat_tests}
 use Rattle.site_types.specs.declared.site.Site.{Site}
 use Rattle.site_types.specs.declared.word.Word.{Word}
 use Rattle.site_types.specs.Words.{empty_word}
@@ -99,13 +99,10 @@ word_is site bytes at place are long same fit =
     is_word site (4 * (frame_in bytes).group + 1 + place) (slice_index_or (frame_in bytes).words place empty_word)
     (subst (λ (w : Word). FitsWidths w) same fits) (subst (λ (w : Word). IsWithin w most) same within)
 
-not_above : (a b : ℕ) → nat_lt a b ≡ false → b ≤ a
-not_above a b e = grind (arith, nat_tests)
-
 frame_is : (site : Site) (digest : List ℕ) (at : ℕ) (bytes : List ℕ) → AreOctets bytes → IsTaken site digest at bytes → IsFrame site at (frame_in bytes)
 frame_is site digest at bytes are is = record {
   neighbour = is.neighbour;
-  group = not_above (last_group site.panels) (slice_index bytes 35) is.group;
+  group = ltb-false (last_group site.panels) (slice_index bytes 35) is.group;
   four = refl;
   words = λ place less. each place less;
 }

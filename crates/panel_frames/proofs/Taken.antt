@@ -1,9 +1,9 @@
 -- What holds of bytes that are read as a frame.
 use Rattle.std.proofs.Common.{◌≡◌, ◌+◌, ◌<◌, ◌≤◌, ◌++◌, ◌∙◌, ℕ, Bool, true, false, List, [], ◌∷◌, length, slice_index, take, drop, refl, sym, ap, subst, arith, if◌then◌else◌}
 use Rattle.std.specs.Prelude.{◌==◌, nat_lt, not, bytes_eq, Option, Some, None, option_map, Ok}
+use Rattle.std.proofs.lemmas.Bool.{eqb-true}
 use Rattle.std.proofs.lemmas.List.{length-drop, length-take-le, get_or-take, drop-drop, drop_more, drop_all, take-append-drop}
 use Rattle.std.proofs.lemmas.Nat.{and_le_r}
-use Rattle.std.proofs.lemmas.Bool.Decides.{nat_tests}
 use Rattle.std.proofs.lemmas.Slice.Eq.{bytes_eq-Decides}
 use Rattle.site_types.specs.declared.site.Site.{Site}
 use Rattle.site_types.specs.declared.word.Word.{Word}
@@ -41,9 +41,6 @@ pub record IsTaken (site : Site) (digest : List ℕ) (at : ℕ) (bytes : List �
   pub group : nat_lt (last_group site.panels) (slice_index bytes 35) ≡ false
   pub words : first_beyond (drop 36 bytes) (words_bytes (fullest_words site (frame_in bytes))) ≡ None
 
-same_number : (a b : ℕ) → (a == b) ≡ true → a ≡ b
-same_number a b e = grind (arith, nat_tests)
-
 same_list : (xs ys : List ℕ) → bytes_eq xs ys ≡ true → xs ≡ ys
 same_list xs ys e = (bytes_eq-Decides xs ys).0 e
 
@@ -57,7 +54,7 @@ taken site digest at bytes frame ok =
     let four = passed (is_neighbour site.panels at (slice_index bytes 34)) (NotNeighbour (slice_index bytes 34)) _ three.1 in
     let five = failed (nat_lt (last_group site.panels) (slice_index bytes 35)) (BadGroup (slice_index bytes 35)) _ four.1 in (
       record {
-        size = same_number (length bytes) 136 one.0;
+        size = eqb-true (length bytes) 136 one.0;
         mark = same_list (take 2 bytes) frame_mark two.0;
         site_digest = same_list (take 32 (drop 2 bytes)) digest three.0;
         neighbour = four.0;

@@ -38,5 +38,7 @@ abbrev pub frame_in : List ℕ → Frame
 frame_in bytes = record {
   from = slice_index bytes 34;
   group = slice_index bytes 35;
-  words = word_spelled (drop 36 bytes) ∷ word_spelled (drop 61 bytes) ∷ word_spelled (drop 86 bytes) ∷ word_spelled (drop 111 bytes) ∷ [];
+  words =
+      word_spelled (drop 36 bytes) ∷ word_spelled (drop 61 bytes) ∷ word_spelled (drop 86 bytes)
+      ∷ word_spelled (drop 111 bytes) ∷ [];
 }

@@ -19,10 +19,12 @@
 mod frame_refusal;
 mod fullest;
 mod laws;
+mod layout;
 mod print;
 mod read;
 
 pub use frame_refusal::FrameRefusal;
 pub use laws::{printed_frames_are_read, read_bytes_are_printed, read_frames_are_in_the_grammar};
-pub use print::{FRAME_BYTES, print_frame};
+pub use layout::FRAME_BYTES;
+pub use print::print_frame;
 pub use read::read_frame;

@@ -5,9 +5,6 @@ use arrayvec::ArrayVec;
 use panel_links::Frame;
 use site_types::Word;
 
-/// The bytes of a frame.
-pub const FRAME_BYTES: usize = 136;
-
 /// Writes the bytes of a frame.
 pub fn print_frame(digest: &[u8; 32], frame: &Frame, out: &mut ArrayVec<u8, 136>)
     requires { out.old.items ≡ [] }

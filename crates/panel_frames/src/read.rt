@@ -8,7 +8,8 @@ ghost use Rattle.panel_frames.specs.Grammar.{is_neighbour as neighbours, last_gr
 
 use crate::frame_refusal::FrameRefusal;
 use crate::fullest::fullest_words;
-use crate::print::{FRAME_BYTES, push_words};
+use crate::layout::{FRAME_BYTES, FROM_PLACE, GROUP_PLACE, WORD_BYTES, WORDS_PLACE};
+use crate::print::push_words;
 use arrayvec::ArrayVec;
 use panel_links::Frame;
 use site_types::{Site, Word};
@@ -31,7 +32,7 @@ pub fn read_frame(
     if bytes[..2] != b"FW"[..] {
         return Err(FrameRefusal::BadMagic);
     }
-    if bytes[2..34] != digest[..] {
+    if bytes[2..FROM_PLACE] != digest[..] {
         return Err(FrameRefusal::OtherSite);
     }
     let frame = frame_in(bytes);
@@ -72,9 +73,9 @@ fn bad_word(site: &Site, frame: &Frame, bytes: &[u8]) -> Option<FrameRefusal>
 {
     let mut most = ArrayVec::new();
     push_words(&mut most, &fullest_words(site, frame));
-    match first_beyond(bytes.split_at(36).1, most.as_slice()) {
+    match first_beyond(bytes.split_at(WORDS_PLACE).1, most.as_slice()) {
         Some(place) => Some(FrameRefusal::BadWord {
-            offset: place as u8 + 36,
+            offset: (WORDS_PLACE + place) as u8,
         }),
         None => None,
     }
@@ -100,13 +101,13 @@ fn frame_in(bytes: &[u8]) -> Frame
     ensures { result ≡ frame_of_bytes bytes.now }
 {
     Frame {
-        from: bytes[34],
-        group: bytes[35],
+        from: bytes[FROM_PLACE],
+        group: bytes[GROUP_PLACE],
         words: [
-            word_in(bytes.split_at(36).1),
-            word_in(bytes.split_at(61).1),
-            word_in(bytes.split_at(86).1),
-            word_in(bytes.split_at(111).1),
+            word_in(bytes.split_at(WORDS_PLACE).1),
+            word_in(bytes.split_at(WORDS_PLACE + WORD_BYTES).1),
+            word_in(bytes.split_at(WORDS_PLACE + 2 * WORD_BYTES).1),
+            word_in(bytes.split_at(WORDS_PLACE + 3 * WORD_BYTES).1),
         ],
     }
 }
@@ -118,29 +119,21 @@ fn word_in(bytes: &[u8]) -> Word
     ensures { result ≡ word_spelled bytes.now }
 {
     Word {
-        stamp: Tick(u64::from_be_bytes(eight(bytes))),
-        alarm: u32::from_be_bytes(four(bytes.split_at(8).1)),
-        manual: u32::from_be_bytes(four(bytes.split_at(12).1)),
-        released: u32::from_be_bytes(four(bytes.split_at(16).1)),
-        first: u32::from_be_bytes(four(bytes.split_at(20).1)),
+        stamp: Tick(u64::from_be_bytes(front(bytes))),
+        alarm: u32::from_be_bytes(front(bytes.split_at(8).1)),
+        manual: u32::from_be_bytes(front(bytes.split_at(12).1)),
+        released: u32::from_be_bytes(front(bytes.split_at(16).1)),
+        first: u32::from_be_bytes(front(bytes.split_at(20).1)),
         fault: bytes[24] == 1,
     }
 }
 
-fn eight(bytes: &[u8]) -> [u8; 8]
-    requires { 8 ≤ length bytes.now }
-    ensures { result ≡ take 8 bytes.now }
+// The first bytes.
+fn front<const N: usize>(bytes: &[u8]) -> [u8; N]
+    requires { N ≤ length bytes.now }
+    ensures { result ≡ take N bytes.now }
 {
-    let mut first = [0; 8];
-    first.copy_from_slice(bytes.split_at(8).0);
-    first
-}
-
-fn four(bytes: &[u8]) -> [u8; 4]
-    requires { 4 ≤ length bytes.now }
-    ensures { result ≡ take 4 bytes.now }
-{
-    let mut first = [0; 4];
-    first.copy_from_slice(bytes.split_at(4).0);
-    first
+    let mut front = [0; N];
+    front.copy_from_slice(bytes.split_at(N).0);
+    front
 }
