@@ -20,11 +20,13 @@ fn knows_the_rows_of_events_by_their_words(rt: HostRuntime) {
         (b"op 1 1234 cancel hall", true),
         (b"op 1 1234 disable point d9", true),
         (b"", false),
+        (b"tick", false),
         (b"tick 1 ", false),
         (b"point d9 loud", false),
         (b"cable 1 1 10", false),
         (b"op 1 A mute", false),
         (b"op 1 1234 disable marker east", false),
+        (b"order", false),
         (b"order k1", false),
         (b"End", false),
     ];
