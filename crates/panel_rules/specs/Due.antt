@@ -82,8 +82,7 @@ module _ (site : Site) (kept : Retained) (done : List Done) (moments : List Mome
     pub floor : NoFloor site done zone first last
     pub settles : settled ≡ first + verify + verify_of site.format
 
-  -- two points are held, the second not before the first, so close that the end of its round lies within a
-  -- time of the first's beginning
+  -- two different points are each held for a whole round, the second not before the first
   pub record TwoHeld (first_point second_point first second : ℕ) : Type 0 where
     pub begins : 1 ≤ first
     pub follows : first ≤ second
@@ -91,7 +90,8 @@ module _ (site : Site) (kept : Retained) (done : List Done) (moments : List Mome
     pub first_held : IsHeld first_point first
     pub second_held : IsHeld second_point second
 
-  -- two detectors of a zone of type A
+  -- two detectors of a zone of type A are held, so close that the end of the second's round lies within the
+  -- zone's time of the first's beginning
   pub record DetectorsSignal (zone last second : ℕ) : Type 0 where
     pub first_point : ℕ
     pub second_point : ℕ
@@ -107,8 +107,8 @@ module _ (site : Site) (kept : Retained) (done : List Done) (moments : List Mome
     pub second_detects : is_detector site second_point ≡ true
     pub floor : NoFloor site done zone first last
 
-  -- two detectors for a zone of type B, both of it or one of it and one of its partner, whose zones have
-  -- neither floor nor cancelling until the second has been held
+  -- two detectors for a zone of type B, held as close as that, both of it or one of it and one of its
+  -- partner, whose zones have neither floor nor cancelling until the second has been held
   pub record PairSignals (zone last second : ℕ) : Type 0 where
     pub first_point : ℕ
     pub second_point : ℕ
