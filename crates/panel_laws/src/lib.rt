@@ -4,7 +4,8 @@
 //! [`due_zone_is_shown`] and [`due_output_is_shown`], the deadlines of zones and outputs,
 //! [`shown_zone_is_caused`] and [`shown_output_is_caused`], which say that nothing is shown or on without a
 //! cause, and [`answered_by_the_next_tick`], the one answer of each operation. Whether code does what the
-//! definitions say is the business of the crates above; a change of a law's proof proves none of them anew.
+//! definitions say is the business of the crates above; of them a change of a law's proof proves anew only
+//! `operation_desk` and the system, with what stands above these.
 #![tactic(auto)]
 
 mod batches;
