@@ -3,7 +3,7 @@
 //! Begin with [`keep_turn`]. Its answer, [`Store`], says whether there was nothing to commit, whether the batch is
 //! kept, or whether a call of the disk failed. One failure makes no later one: the next turn mends first.
 //!
-//! It takes no memory, and calls the disk only where something is to be mended or kept.
+//! It takes no memory.
 #![tactic(auto)]
 
 mod store;
