@@ -16,6 +16,7 @@ use Rattle.coincidence_rules.specs.Places.{is_of, is_detector, rule_of, partner_
 use Rattle.coincidence_rules.specs.Counted.{is_alarm, is_counted}
 use Rattle.coincidence_rules.specs.Confirmed.{is_second, is_near, is_uncancelled, is_between, is_first_of_run, counts_throughout, is_verified, coincides, is_by_call_point, confirms}
 use Rattle.coincidence_rules.specs.Alarm.{calls, has_second, releases_by, releases, is_in_alarm, is_by_hand, is_released}
+use Rattle.coincidence_rules.specs.First.{tells_first, is_first_by, is_first}
 use Rattle.coincidence_rules.specs.Missing.{is_missing}
 use Rattle.coincidence_rules.specs.Findings.{finding_among, finding_of, findings_after}
 use Rattle.coincidence_rules.proofs.Lists.{any_same, all_same, get_either}
@@ -197,3 +198,29 @@ module _ (site : Site) (kept : Retained) (new old : List Done) (tick : ℕ) (fro
   released-later answers late zone x le =
       since-later answers late zone x le (releases site kept (new ++ old) answers zone) (releases site kept old answers zone)
       (λ o lo. releases-later answers late zone o lo)
+
+  tells_first-later : (within zone x : ℕ) → x ≤ tick → (a : Answer) → a.stamp.0 ≤ tick
+      → tells_first site kept (new ++ old) within zone x a ≡ tells_first site kept old within zone x a
+  tells_first-later within zone x le a la =
+      ap (λ b. ((is_of site zone a.point && is_detector site a.point) && b)
+      && ((nat_lt (floor_before site zone x (new ++ old)) a.stamp.0 && nat_lt (cancelled_before zone x (new ++ old)) a.stamp.0)
+      && nat_le x (a.stamp.0 + within))) (counted-later a la)
+      ∙ ap (λ n. ((is_of site zone a.point && is_detector site a.point) && is_counted site kept old a)
+      && ((nat_lt n a.stamp.0 && nat_lt (cancelled_before zone x (new ++ old)) a.stamp.0) && nat_le x (a.stamp.0 + within))) (floor_is zone x le)
+      ∙ ap (λ n. ((is_of site zone a.point && is_detector site a.point) && is_counted site kept old a)
+      && ((nat_lt (floor_before site zone x old) a.stamp.0 && nat_lt n a.stamp.0) && nat_le x (a.stamp.0 + within)))
+      (cancelled-later zone x new old (from_earlier x tick new le from))
+
+  module _ (answers : List Answer) (late : AreUpTo tick answers) (zone x : ℕ) (le : x ≤ tick) where
+    first_by-later : (rule : Option Rule) → is_first_by site kept (new ++ old) answers zone x rule ≡ is_first_by site kept old answers zone x rule
+    first_by-later None = refl
+    first_by-later (Some Plain) = refl
+    first_by-later (Some (A verify within)) = refl
+    first_by-later (Some (B within)) =
+        ap (λ b. not b && list_any (tells_first site kept (new ++ old) within zone x) answers) (in_alarm-later answers late zone x le)
+        ∙ ap (λ b. not (is_in_alarm site kept old answers zone x) && b)
+        (any-later answers late _ _ (λ o lo. tells_first-later within zone x le o lo))
+    first_by-later (Some C) = refl
+
+    pub first-later : is_first site kept (new ++ old) answers zone x ≡ is_first site kept old answers zone x
+    first-later = first_by-later (rule_of (slice_get site.zones zone))

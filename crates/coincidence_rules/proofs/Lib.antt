@@ -12,6 +12,7 @@ pub mod Found
 pub mod FoundZones
 pub mod FoundFindings
 pub mod ConfirmedStamps
--- operations: what is remembered of a kind of them, and that later ones change nothing
+-- operations: what is remembered of a kind of them, and that later ones and those of other panels change nothing
 pub mod LastDone
 pub mod Later
+pub mod Elsewhere

@@ -17,6 +17,7 @@ pub mod Unchanged
 -- the whole part: at first, and after a turn or an operation
 pub mod Firsts
 pub mod Turned
+pub mod Elsewhere
 -- what it shows is what the answers themselves tell
 pub mod Tells
 pub mod ByAnswers

@@ -8,7 +8,6 @@ use Rattle.site_types.specs.declared.site.Site.{Site}
 use Rattle.site_types.specs.declared.retained.Retained.{Retained}
 use Rattle.site_types.specs.declared.fault_set.FaultSet.{FaultSet}
 use Rattle.site_types.specs.declared.word.Word.{Word}
-use Rattle.site_types.specs.declared.operation.Operation.{Operation}
 use Rattle.site_types.specs.Done.{Done, muted_before}
 use Rattle.coincidence_rules.specs.declared.finding.Finding.{Finding}
 use Rattle.panel_conditions.specs.declared.shown.Shown.{Shown}
@@ -16,7 +15,7 @@ use Rattle.panel_conditions.specs.declared.hold.Hold.{Hold}
 use Rattle.panel_conditions.specs.Turns.{HoldTurn, findings_taken, latest_tick}
 use Rattle.panel_conditions.specs.Words.{faults_after, word_after}
 use Rattle.panel_conditions.specs.Shown.{is_news, is_in_fire_alarm, last_news, sounds, entries_after}
-use Rattle.panel_conditions.specs.Stands.{HoldsFor, Settled, Shows, ShowsThen, MayTurn, MayApply, shown_at, shown_then, newly_then}
+use Rattle.panel_conditions.specs.Stands.{HoldsFor, Settled, Shows, ShowsThen, MayTurn, shown_at, shown_then, newly_then}
 use Rattle.panel_conditions.proofs.BeforeOperation.{faults-yet, word-yet, news-yet, entries-yet, buzzer-yet}
 
 tick_if : (b : Bool) (s t : Tick) → (if b then s else t).0 ≡ (if b then s.0 else t.0)
@@ -87,28 +86,20 @@ holds_turn site kept panel done turn before was amid after fits h may same settl
 }
 
 -- one more operation: what is shown stays
-pub shows_after : (site : Site) (kept : Retained) (panel : ℕ) (done : List Done) (turns : List HoldTurn) (operation : Operation) (at : Tick) (was :
-    Hold) → HoldsFor site kept panel done turns was →
-    MayApply panel done turns operation at.0
-    → Shows site kept panel (record { tick = at.0; panel = panel; operation = operation } ∷ done) turns was.shown
-shows_after site kept panel done turns operation at was h may = record {
-  word = h.shows.word ∙ sym (word-yet site kept panel d done turns may.turned);
-  faults = h.shows.faults ∙ sym (faults-yet site kept panel d done turns may.turned);
-  newly = h.shows.newly ∙ sym (news-yet site kept panel d done turns h.rising may.turned);
-  entries = h.shows.entries ∙ sym (entries-yet site kept panel d done turns h.rising may.turned);
-  buzzer = h.shows.buzzer ∙ sym (buzzer-yet site kept panel d done turns h.rising may.turned);
+pub shows_after : (site : Site) (kept : Retained) (panel : ℕ) (done : List Done) (turns : List HoldTurn) (d : Done) (was : Hold)
+    → HoldsFor site kept panel done turns was → latest_tick turns ≤ d.tick → Shows site kept panel (d ∷ done) turns was.shown
+shows_after site kept panel done turns d was h turned = record {
+  word = h.shows.word ∙ sym (word-yet site kept panel d done turns turned);
+  faults = h.shows.faults ∙ sym (faults-yet site kept panel d done turns turned);
+  newly = h.shows.newly ∙ sym (news-yet site kept panel d done turns h.rising turned);
+  entries = h.shows.entries ∙ sym (entries-yet site kept panel d done turns h.rising turned);
+  buzzer = h.shows.buzzer ∙ sym (buzzer-yet site kept panel d done turns h.rising turned);
 }
-  where
-    d : Done
-    d = record { tick = at.0; panel = panel; operation = operation }
 
-pub few_after : (site : Site) (kept : Retained) (panel : ℕ) (done : List Done) (turns : List HoldTurn) (operation : Operation) (at : Tick) (was :
-    Hold) → HoldsFor site kept panel done turns was →
-    MayApply panel done turns operation at.0
-    → entries_after site kept panel (record { tick = at.0; panel = panel; operation = operation } ∷ done) turns ≤ latest_tick turns
-few_after site kept panel done turns operation at was h may =
-    subst (λ n. n ≤ latest_tick turns)
-    (sym (entries-yet site kept panel (record { tick = at.0; panel = panel; operation = operation }) done turns h.rising may.turned)) h.few
+pub few_after : (site : Site) (kept : Retained) (panel : ℕ) (done : List Done) (turns : List HoldTurn) (d : Done) (was : Hold)
+    → HoldsFor site kept panel done turns was → latest_tick turns ≤ d.tick → entries_after site kept panel (d ∷ done) turns ≤ latest_tick turns
+few_after site kept panel done turns d was h turned =
+    subst (λ n. n ≤ latest_tick turns) (sym (entries-yet site kept panel d done turns h.rising turned)) h.few
 
 -- what is shown goes by the word, the faults and the last mute
 pub shown_same : (shown : Shown) (word other_word : Word) (faults other_faults : FaultSet) (muted : Tick) (tick : ℕ) → word ≡ other_word

@@ -9,7 +9,7 @@ use Rattle.coincidence_rules.specs.declared.finding.Finding.{Finding}
 use Rattle.panel_conditions.specs.declared.hold.Hold.{Hold}
 use Rattle.panel_conditions.specs.declared.outside.Outside.{Outside}
 use Rattle.panel_conditions.specs.declared.points.Points.{Points}
-use Rattle.panel_conditions.specs.Stands.{HoldsFor, MayApply, MayTurn, Settled}
+use Rattle.panel_conditions.specs.Stands.{HoldsFor, MayApply, MayNote, MayTurn, Settled}
 use Rattle.panel_conditions.specs.Stands.{ShownStays, ShowsThen, Watches, WatchesPoints}
 use Rattle.panel_conditions.specs.Turns.{HoldTurn}
 
@@ -35,6 +35,13 @@ AppliesOperation old operation tick hold =
     → HoldsFor site kept panel done turns old → MayApply panel done turns operation tick
     → HoldsFor site kept panel (record { tick = tick; panel = panel; operation = operation } ∷ done) turns
     hold
+
+-- an operation of another panel is done in a tick, after those before
+abbrev pub NotesOperation : Hold → ℕ → Hold → Type 0
+NotesOperation old tick hold =
+    (site : Site) (kept : Retained) (panel : ℕ) (done : List Done) (turns : List HoldTurn) (d : Done)
+    → HoldsFor site kept panel done turns old → MayNote site panel turns d → d.tick ≡ tick
+    → HoldsFor site kept panel (d ∷ done) turns hold
 
 -- these findings are taken after those before
 abbrev pub WatchesMore : Hold → List Finding → Hold → Type 0

@@ -1,6 +1,6 @@
 -- The part that holds stands for the operations done and the turns made.
-use Rattle.std.specs.Prelude.{◌≡◌, ◌<◌, ◌≤◌, ◌+◌, ◌-◌, ◌^◌, min, max, ℕ, zero, suc, Bool, false, not, List, [], ◌∷◌}
-use Rattle.std.specs.Prelude.{◌++◌, Option, Some, None, length, map, slice_get, ◌&&◌, nat_lt, if◌then◌else◌}
+use Rattle.std.specs.Prelude.{◌≡◌, ◌≢◌, ◌<◌, ◌≤◌, ◌+◌, ◌-◌, ◌^◌, min, max, ℕ, zero, suc, Bool, true, false, not, List}
+use Rattle.std.specs.Prelude.{[], ◌∷◌, ◌++◌, Option, Some, None, length, map, slice_get, ◌&&◌, nat_lt, if◌then◌else◌}
 use Rattle.tick_units.specs.declared.tick.Tick.{Tick}
 use Rattle.site_types.specs.declared.site.Site.{Site}
 use Rattle.site_types.specs.declared.point.Point.{Point as PointPlan}
@@ -16,9 +16,11 @@ use Rattle.site_types.specs.declared.operation.Operation.{Operation}
 use Rattle.site_types.specs.Bits.{IsPlace, has_bit, no_set}
 use Rattle.site_types.specs.Changes.{IsPanelNumber, IsNumber, HasOwnPlaces}
 use Rattle.site_types.specs.Done.{Done, PointOff, in_force, moves_floor, cancels, mutes, muted_before, AreBy}
+use Rattle.site_types.specs.Events.{has_operands}
 use Rattle.coincidence_rules.specs.declared.finding.Finding.{Finding}
 use Rattle.coincidence_rules.specs.Applied.{MayBeDone, TellsLast}
 use Rattle.coincidence_rules.specs.Places.{numbered}
+use Rattle.coincidence_rules.specs.Wired.{IsWired}
 use Rattle.panel_conditions.specs.declared.zone_watch.ZoneWatch.{ZoneWatch}
 use Rattle.panel_conditions.specs.declared.sign.Sign.{Sign}
 use Rattle.panel_conditions.specs.declared.zones.Zones.{Zones}
@@ -297,6 +299,13 @@ pub record MayApply (panel : ℕ) (done : List Done) (turns : List HoldTurn) (op
     ℕ) : Type 0 where
   pub next : MayBeDone panel done operation tick
   pub turned : latest_tick turns ≤ tick
+
+-- an operation of another panel, of which this one may take note: it is not earlier than the turns made
+pub record MayNote (site : Site) (panel : ℕ) (turns : List HoldTurn) (d : Done) : Type 0 where
+  pub wired : IsWired site
+  pub apart : d.panel ≢ panel
+  pub has : has_operands site d.panel d.operation ≡ true
+  pub turned : latest_tick turns ≤ d.tick
 
 -- what is shown at a tick, with these findings taken, after what was shown before
 abbrev pub shown_at : Site → Retained → ℕ → List Done → List Finding → ℕ → Outside → Shown → Shown

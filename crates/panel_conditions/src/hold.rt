@@ -28,7 +28,8 @@ pub struct Hold {
 impl Hold {
     ghost use Rattle.panel_conditions.specs.Words.{alarms_after, faults_after, word_after};
     ghost use Rattle.panel_conditions.specs.Shown.{buzzer_after, entries_after};
-    ghost use Rattle.panel_conditions.specs.Changes.{AppliesOperation, MakesTurn, ShowsWhatFollows, StaysSettled};
+    ghost use Rattle.panel_conditions.specs.Changes.{AppliesOperation, MakesTurn, NotesOperation, ShowsWhatFollows};
+    ghost use Rattle.panel_conditions.specs.Changes.{StaysSettled};
     ghost use Rattle.panel_conditions.specs.Changes.{ShowsAs, WatchesMore, moved_from, turn_from};
     ghost use Rattle.panel_conditions.specs.Stands.{HoldsFor, IsUnchanged, Settled, TakesFindings, shown_now};
 
@@ -59,7 +60,7 @@ impl Hold {
         self.show(now, outside);
     }
 
-    /// Takes an operation that was done in a tick. It is in force from the next tick on, so what is shown
+    /// Takes an operation of the panel that was done in a tick. It is in force from the next tick on, so what is shown
     /// stays until then.
     pub fn apply(&mut self, operation: &Operation, at: Tick)
         ensures { AppliesOperation self.old operation.now at.0 self.new }
@@ -67,6 +68,13 @@ impl Hold {
         self.zones.apply(operation, at);
         self.points.apply(operation, at);
         self.muted.raise_if(is_mute(operation), at);
+    }
+
+    /// Takes note that an operation was done at another panel in a tick. It changes nothing of this one.
+    pub fn apply_elsewhere(&mut self, at: Tick)
+        ensures { NotesOperation self.old at.0 self.new }
+    {
+        self.zones.note(at);
     }
 
     /// The panel's word, made in its latest turn.

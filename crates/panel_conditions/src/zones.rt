@@ -95,6 +95,16 @@ impl Zones {
             watch.apply(operation, at);
         }
         self.changed = u32::MAX;
+        self.note(at);
+    }
+
+    /// Takes note of the tick of an operation, of whatever panel.
+    pub fn note(&mut self, at: Tick)
+        ensures moved { self.new.moved ≡ later_tick self.old.moved at }
+        ensures watches { self.new.watches ≡ self.old.watches }
+        ensures changed { self.new.changed ≡ self.old.changed }
+        ensures signs { self.new.signs ≡ self.old.signs }
+    {
         if self.moved.0 < at.0 {
             self.moved = at;
         }

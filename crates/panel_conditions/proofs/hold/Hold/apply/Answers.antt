@@ -24,7 +24,8 @@ returns c site kept panel done turns h may = record {
         (muted_after panel done c.args.operation.now c.args.at c.is_mute.result c.args.self.now.muted c.is_mute.ensures may.next.since
         h.watches.muted);
   };
-  shows = shows_after site kept panel done turns c.args.operation.now c.args.at c.args.self.now h may;
+  shows = shows_after site kept panel done turns (record { tick = c.args.at.0; panel = panel; operation = c.args.operation.now }) c.args.self.now h
+      may.turned;
   settled = settled_after (latest_tick turns) c.args.operation.now c.args.at c.args.self.now.zones c.apply.new.self c.apply.ensures.watches
       c.apply.ensures.changed c.apply.ensures.moved h.settled;
   stays =
@@ -32,5 +33,5 @@ returns c site kept panel done turns h may = record {
       c.apply.ensures.moved refl
       (let stamp = shown_in site kept panel done turns c.args.self.now h in omega (arith, stamp, may.turned)) h.stays;
   rising = h.rising;
-  few = few_after site kept panel done turns c.args.operation.now c.args.at c.args.self.now h may;
+  few = few_after site kept panel done turns (record { tick = c.args.at.0; panel = panel; operation = c.args.operation.now }) c.args.self.now h may.turned;
 }
