@@ -1,5 +1,5 @@
 -- What an event makes of a panel.
-use Rattle.std.proofs.Common.{◌≡◌, ◌≢◌, ℕ, ◌+◌, ◌-◌, ◌≤◌, ◌<◌, ◌==◌, ◌&&◌, List, ◌∷◌, length, Some, slice_get, get_or, inl, inr, true, false, if◌then◌else◌, refl, sym, ◌∙◌, ap, subst, arith}
+use Rattle.std.proofs.Common.{◌≡◌, ◌≢◌, ℕ, ◌-◌, ◌^◌, ◌≤◌, ◌<◌, ◌==◌, ◌&&◌, List, ◌∷◌, length, Some, slice_get, get_or, inl, inr, true, false, if◌then◌else◌, refl, sym, ◌∙◌, ap, subst, arith}
 use Rattle.std.specs.Prelude.{nat_le}
 use Rattle.std.specs.Vec.{with_item}
 use Rattle.std.proofs.lemmas.Bool.{eqb-true}
@@ -13,6 +13,7 @@ use Rattle.site_types.specs.declared.point_state.PointState.{PointState}
 use Rattle.site_types.specs.declared.piece_state.PieceState.{PieceState}
 use Rattle.site_types.specs.declared.retained.Retained.{Retained}
 use Rattle.site_types.specs.declared.site.Site.{Site}
+use Rattle.site_types.specs.Done.{Done}
 use Rattle.site_types.specs.Events.{has_event, has_piece}
 use Rattle.site_types.specs.Valid.{IsValid}
 use Rattle.site_types.proofs.ValidSites.{loop_at, point_at}
@@ -20,21 +21,27 @@ use Rattle.loop_poller.specs.declared.poller.Poller.{Poller}
 use Rattle.loop_poller.specs.Calls.{Call, Reported, Cabled}
 use Rattle.loop_poller.specs.Stands.{StandsFor as PollsFor}
 use Rattle.panel_rules.specs.Moments.{Moment, Happened, IsPanel}
+use Rattle.panel_rules.specs.Operations.{requests}
 use Rattle.panel_rules.proofs.Bools.{parts as both_parts, at_any}
 use Rattle.panel_rules.proofs.Reports.{is_line}
 use Rattle.panel_rules.proofs.AnswersTell.{eq_true}
 use Rattle.panel_rules.proofs.Floors.{lt_from}
+use Rattle.operation_desk.specs.declared.desk.Desk.{Desk}
+use Rattle.operation_desk.specs.Stands.{CanTakeEvent, DesksFor}
+use Rattle.panel_laws.specs.OperationLaws.{AreOfSite}
+use Rattle.panel_laws.proofs.EventsOfSite.{of_site}
 use Rattle.panel_core.specs.declared.parts.Parts.{Parts}
 use Rattle.panel_core.specs.declared.system.System.{System}
 use Rattle.panel_rules.specs.Reports.{and_report, is_on_panel, reports}
 use Rattle.panel_core.specs.Stands.{PanelStands, StandsFor}
-use Rattle.panel_core.proofs.Panels.{panel_at, stands_changed, stands_unchanged}
+use Rattle.panel_core.specs.Applied.{applied}
+use Rattle.panel_core.proofs.Whole.{panel_at, stands_changed, stands_unchanged}
 
 -- a panel after an event of which its poller was told
-told : (site : Site) (kept : Retained) (panel : ℕ) (before : List Moment) (parts : Parts) (poller : Poller) (event : Event)
-    → PanelStands site kept panel before parts → PollsFor site panel (and_report site panel event (reports site panel before)) poller
-    → PanelStands site kept panel (Happened event ∷ before) (record parts { poller = poller })
-told site kept panel before parts poller event h p = record {
+told : (site : Site) (kept : Retained) (done : List Done) (panel : ℕ) (before : List Moment) (parts : Parts) (poller : Poller) (event : Event)
+    → PanelStands site kept done panel before parts → PollsFor site panel (and_report site panel event (reports site panel before)) poller
+    → PanelStands site kept done panel (Happened event ∷ before) (record parts { poller = poller })
+told site kept done panel before parts poller event h p = record {
   member = h.member;
   polls = p;
   answers = h.answers;
@@ -44,50 +51,61 @@ told site kept panel before parts poller event h p = record {
   holds = h.holds;
 }
 
-pub after_point : (site : Site) (kept : Retained) (panel : ℕ) (before : List Moment) (parts : Parts) (poller : Poller) (point : ℕ) (state :
-    PointState) → PanelStands site kept panel before parts → is_on_panel panel (slice_get site.points point) ≡ true
+pub after_point : (site : Site) (kept : Retained) (done : List Done) (panel : ℕ) (before : List Moment) (parts : Parts) (poller : Poller) (point : ℕ) (state :
+    PointState) → PanelStands site kept done panel before parts → is_on_panel panel (slice_get site.points point) ≡ true
     → PollsFor site panel (Reported point state ∷ reports site panel before) poller
-    → PanelStands site kept panel (Happened (Point point state) ∷ before) (record parts { poller = poller })
-after_point site kept panel before parts poller point state h at p =
-    told site kept panel before parts poller (Point point state) h
+    → PanelStands site kept done panel (Happened (Point point state) ∷ before) (record parts { poller = poller })
+after_point site kept done panel before parts poller point state h at p =
+    told site kept done panel before parts poller (Point point state) h
     (subst (λ b. PollsFor site panel (if b then Reported point state ∷ reports site panel before else reports site panel before) poller) (sym at)
     p)
 
-pub after_piece : (site : Site) (kept : Retained) (panel : ℕ) (before : List Moment) (parts : Parts) (poller : Poller) (line piece : ℕ) (state :
-    PieceState) → 1 ≤ line → line ≤ 4 → PanelStands site kept panel before parts
+pub after_piece : (site : Site) (kept : Retained) (done : List Done) (panel : ℕ) (before : List Moment) (parts : Parts) (poller : Poller) (line piece : ℕ) (state :
+    PieceState) → 1 ≤ line → line ≤ 4 → PanelStands site kept done panel before parts
     → PollsFor site panel (Cabled line piece state ∷ reports site panel before) poller
-    → PanelStands site kept panel (Happened (Cable panel line piece state) ∷ before) (record parts { poller = poller })
-after_piece site kept panel before parts poller line piece state low high h p =
-    told site kept panel before parts poller (Cable panel line piece state) h
+    → PanelStands site kept done panel (Happened (Cable panel line piece state) ∷ before) (record parts { poller = poller })
+after_piece site kept done panel before parts poller line piece state low high h p =
+    told site kept done panel before parts poller (Cable panel line piece state) h
     (subst (λ b. PollsFor site panel (if b then Cabled line piece state ∷ reports site panel before else reports site panel before) poller)
     (sym (ap (λ b. b && (nat_le 1 line && nat_le line 4)) (eq_true panel panel refl) ∙ is_line line low high)) p)
 
 -- a panel that an event doesn't concern
-untold : (site : Site) (kept : Retained) (panel : ℕ) (before : List Moment) (parts : Parts) (event : Event) → PanelStands site kept panel before parts
+untold : (site : Site) (kept : Retained) (done : List Done) (panel : ℕ) (before : List Moment) (parts : Parts) (event : Event) → PanelStands site kept done panel before parts
     → and_report site panel event (reports site panel before) ≡ reports site panel before
-    → PanelStands site kept panel (Happened event ∷ before) parts
-untold site kept panel before parts event h e =
-    told site kept panel before parts parts.poller event h (subst (λ calls. PollsFor site panel calls parts.poller) (sym e) h.polls)
+    → PanelStands site kept done panel (Happened event ∷ before) parts
+untold site kept done panel before parts event h e =
+    told site kept done panel before parts parts.poller event h (subst (λ calls. PollsFor site panel calls parts.poller) (sym e) h.polls)
 
 not_there : (a b : ℕ) → a ≢ b → (a == b) ≡ false
 not_there a b n = elim (eqb_tells a b) [ inl t ↦ absurd (n t.1) | inr t ↦ t.0 ]
 
-pub stands_after_point : (site : Site) (kept : Retained) (before : List Moment) (system : System) (plan : PointPlan) (point : ℕ) (state : PointState)
-    (parts : Parts) → StandsFor site kept before system → 1 ≤ plan.panel → slice_get site.points point ≡ Some plan
-    → PanelStands site kept plan.panel (Happened (Point point state) ∷ before) parts
-    → StandsFor site kept (Happened (Point point state) ∷ before) (record system { panels = with_item system.panels (plan.panel - 1) parts })
-stands_after_point site kept before system plan point state parts h one is p =
-    stands_changed site kept before system plan.panel parts (Happened (Point point state)) refl h one p (λ other q n stood.
+-- the desk after an event of the site
+pub record DeskAfter (site : Site) (kept : Retained) (before : List Moment) (event : Event) (desk : Desk) : Type 0 where
+  pub has : has_event site event ≡ true
+  pub desks : DesksFor site kept (Happened event ∷ before) desk
+
+pub stands_after_point : (site : Site) (kept : Retained) (before : List Moment) (system : System) (desk : Desk) (plan : PointPlan) (point : ℕ)
+    (state : PointState) (parts : Parts) → StandsFor site kept before system → DeskAfter site kept before (Point point state) desk
+    → 1 ≤ plan.panel → slice_get site.points point ≡ Some plan
+    → PanelStands site kept (applied site kept before) plan.panel (Happened (Point point state) ∷ before) parts
+    → StandsFor site kept (Happened (Point point state) ∷ before)
+    (record system { panels = with_item system.panels (plan.panel - 1) parts; desk = desk })
+stands_after_point site kept before system desk plan point state parts h after one is p =
+    stands_changed site kept before system (Happened (Point point state)) desk refl (h.events, after.has) after.desks h plan.panel parts one p
+    (λ other q n stood.
     let away : is_on_panel other (slice_get site.points point) ≡ false = ap (is_on_panel other) is ∙ not_there plan.panel other n in
-    untold site kept other before q (Point point state) stood
+    untold site kept (applied site kept before) other before q (Point point state) stood
     (ap (λ b. if b then Reported point state ∷ reports site other before else reports site other before) away))
 
-pub stands_after_piece : (site : Site) (kept : Retained) (before : List Moment) (system : System) (panel line piece : ℕ) (state : PieceState) (parts :
-    Parts) → StandsFor site kept before system → 1 ≤ panel → PanelStands site kept panel (Happened (Cable panel line piece state) ∷ before) parts
-    → StandsFor site kept (Happened (Cable panel line piece state) ∷ before) (record system { panels = with_item system.panels (panel - 1) parts })
-stands_after_piece site kept before system panel line piece state parts h one p =
-    stands_changed site kept before system panel parts (Happened (Cable panel line piece state)) refl h one p (λ other q n stood.
-    untold site kept other before q (Cable panel line piece state) stood
+pub stands_after_piece : (site : Site) (kept : Retained) (before : List Moment) (system : System) (desk : Desk) (panel line piece : ℕ)
+    (state : PieceState) (parts : Parts) → StandsFor site kept before system → DeskAfter site kept before (Cable panel line piece state) desk
+    → 1 ≤ panel → PanelStands site kept (applied site kept before) panel (Happened (Cable panel line piece state) ∷ before) parts
+    → StandsFor site kept (Happened (Cable panel line piece state) ∷ before)
+    (record system { panels = with_item system.panels (panel - 1) parts; desk = desk })
+stands_after_piece site kept before system desk panel line piece state parts h after one p =
+    stands_changed site kept before system (Happened (Cable panel line piece state)) desk refl (h.events, after.has) after.desks h panel parts one p
+    (λ other q n stood.
+    untold site kept (applied site kept before) other before q (Cable panel line piece state) stood
     (ap (λ b. if b && (nat_le 1 line && nat_le line 4) then Cabled line piece state ∷ reports site other before else reports site other before)
     (not_there panel other n)))
 
@@ -102,11 +120,13 @@ not_reported site panel (Point point state) calls o = absurd o
 not_reported site panel (Cable other line piece state) calls o = absurd o
 not_reported site panel event calls o = refl
 
-pub stands_after_other : (site : Site) (kept : Retained) (before : List Moment) (system : System) (event : Event) → StandsFor site kept before system
-    → IsOther event → StandsFor site kept (Happened event ∷ before) system
-stands_after_other site kept before system event h o =
-    stands_unchanged site kept before system (Happened event) refl h (λ panel q stood.
-    untold site kept panel before q event stood (not_reported site panel event (reports site panel before) o))
+pub stands_after_other : (site : Site) (kept : Retained) (before : List Moment) (system : System) (desk : Desk) (event : Event)
+    → StandsFor site kept before system → DeskAfter site kept before event desk → IsOther event
+    → StandsFor site kept (Happened event ∷ before) (record system { desk = desk })
+stands_after_other site kept before system desk event h after o =
+    stands_unchanged site kept before system (Happened event) desk refl (h.events, after.has) after.desks h
+    (λ panel q stood. untold site kept (applied site kept before) panel before q event stood
+    (not_reported site panel event (reports site panel before) o))
 
 -- a piece that the site has is of a panel and a loop
 pub record HasLine (site : Site) (panel line : ℕ) : Type 0 where
@@ -152,7 +172,7 @@ point_read site kept before system point state points plan h has same read =
 -- the panel at a place of the system
 pub panel_read : (site : Site) (kept : Retained) (before : List Moment) (system : System) (panel : ℕ) (parts : Parts)
     → StandsFor site kept before system → IsPanel site.panels panel → parts ≡ get_or system.panels.items (panel - 1) parts
-    → PanelStands site kept panel before parts
+    → PanelStands site kept (applied site kept before) panel before parts
 panel_read site kept before system panel parts h p read =
     panel_at site kept before system panel parts h p.0
     (slice_get_read system.panels.items site.panels (panel - 1) parts (sym h.count) (omega (arith, p.0, p.1)) read)
@@ -160,7 +180,7 @@ panel_read site kept before system panel parts h p read =
 -- the panel of a point that an event names, as the system finds it
 pub record PointPanel (site : Site) (kept : Retained) (before : List Moment) (point : ℕ) (plan : PointPlan) (parts : Parts) : Type 0 where
   pub read : PointRead site point plan
-  pub stands : PanelStands site kept plan.panel before parts
+  pub stands : PanelStands site kept (applied site kept before) plan.panel before parts
   pub within : point < length parts.poller.states.items
 
 pub point_panel : (site : Site) (kept : Retained) (before : List Moment) (system : System) (event : Event) (point : ℕ) (state : PointState) (points :
@@ -178,32 +198,66 @@ point_panel site kept before system event point state points plan parts h has is
     record { read = r; stands = stands; within = omega (arith, size, inside) }
 
 -- the system after a report on a point
-pub point_done : (site : Site) (kept : Retained) (before : List Moment) (system : System) (event : Event) (point : ℕ) (state : PointState) (points :
-    List PointPlan) (plan : PointPlan) (old new : Parts) → StandsFor site kept before system → event ≡ Point point state
-    → plan ≡ get_or points point plan → PointPanel site kept before point plan old
-    → PanelStands site kept plan.panel (Happened (Point point state) ∷ before) new
-    → StandsFor site kept (Happened event ∷ before) (record system { panels = with_item system.panels ((get_or points point plan).panel - 1) new })
-point_done site kept before system event point state points plan old new h is read p stands =
-    subst (λ e. StandsFor site kept (Happened e ∷ before) (record system { panels = with_item system.panels ((get_or points point plan).panel - 1) new })) (sym is)
+pub point_done : (site : Site) (kept : Retained) (before : List Moment) (system : System) (desk : Desk) (event : Event) (point : ℕ) (state :
+    PointState) (points : List PointPlan) (plan : PointPlan) (old new : Parts) → StandsFor site kept before system
+    → DeskAfter site kept before event desk → event ≡ Point point state → plan ≡ get_or points point plan → PointPanel site kept before point plan old
+    → PanelStands site kept (applied site kept before) plan.panel (Happened (Point point state) ∷ before) new
+    → StandsFor site kept (Happened event ∷ before)
+    (record system { panels = with_item system.panels ((get_or points point plan).panel - 1) new; desk = desk })
+point_done site kept before system desk event point state points plan old new h after is read p stands =
+    subst (λ e. StandsFor site kept (Happened e ∷ before)
+    (record system { panels = with_item system.panels ((get_or points point plan).panel - 1) new; desk = desk })) (sym is)
     (subst
     (λ (q : PointPlan). StandsFor site kept (Happened (Point point state) ∷ before)
-    (record system { panels = with_item system.panels (q.panel - 1) new })) read
-    (stands_after_point site kept before system plan point state new h p.read.member.0 p.read.is stands))
+    (record system { panels = with_item system.panels (q.panel - 1) new; desk = desk })) read
+    (stands_after_point site kept before system desk plan point state new h (subst (λ e. DeskAfter site kept before e desk) is after)
+    p.read.member.0 p.read.is stands))
 
 -- the panel of a piece of cable
 pub piece_read : (site : Site) (event : Event) (panel line piece : ℕ) (state : PieceState) → IsValid site → has_event site event ≡ true
     → event ≡ Cable panel line piece state → HasLine site panel line
 piece_read site event panel line piece state valid has is = piece_line site panel line piece valid (ap (has_event site) (sym is) ∙ has)
 
-pub piece_done : (site : Site) (kept : Retained) (before : List Moment) (system : System) (event : Event) (panel line piece : ℕ) (state : PieceState)
-    (new : Parts) → StandsFor site kept before system → event ≡ Cable panel line piece state → IsPanel site.panels panel
-    → PanelStands site kept panel (Happened (Cable panel line piece state) ∷ before) new
-    → StandsFor site kept (Happened event ∷ before) (record system { panels = with_item system.panels (panel - 1) new })
-piece_done site kept before system event panel line piece state new h is member stands =
-    subst (λ e. StandsFor site kept (Happened e ∷ before) (record system { panels = with_item system.panels (panel - 1) new })) (sym is)
-    (stands_after_piece site kept before system panel line piece state new h member.0 stands)
+pub piece_done : (site : Site) (kept : Retained) (before : List Moment) (system : System) (desk : Desk) (event : Event) (panel line piece : ℕ) (state :
+    PieceState) (new : Parts) → StandsFor site kept before system → DeskAfter site kept before event desk → event ≡ Cable panel line piece state
+    → IsPanel site.panels panel
+    → PanelStands site kept (applied site kept before) panel (Happened (Cable panel line piece state) ∷ before) new
+    → StandsFor site kept (Happened event ∷ before) (record system { panels = with_item system.panels (panel - 1) new; desk = desk })
+piece_done site kept before system desk event panel line piece state new h after is member stands =
+    subst (λ e. StandsFor site kept (Happened e ∷ before) (record system { panels = with_item system.panels (panel - 1) new; desk = desk })) (sym is)
+    (stands_after_piece site kept before system desk panel line piece state new h (subst (λ e. DeskAfter site kept before e desk) is after) member.0
+    stands)
 
-pub other_done : (site : Site) (kept : Retained) (before : List Moment) (system : System) (event other : Event) → StandsFor site kept before system
-    → event ≡ other → IsOther other → StandsFor site kept (Happened event ∷ before) system
-other_done site kept before system event other h is o =
-    subst (λ e. StandsFor site kept (Happened e ∷ before) system) (sym is) (stands_after_other site kept before system other h o)
+pub other_done : (site : Site) (kept : Retained) (before : List Moment) (system : System) (desk : Desk) (event other : Event)
+    → StandsFor site kept before system → DeskAfter site kept before event desk → event ≡ other → IsOther other
+    → StandsFor site kept (Happened event ∷ before) (record system { desk = desk })
+other_done site kept before system desk event other h after is o =
+    subst (λ e. StandsFor site kept (Happened e ∷ before) (record system { desk = desk })) (sym is)
+    (stands_after_other site kept before system desk other h (subst (λ e. DeskAfter site kept before e desk) is after) o)
+
+-- the desk that heard of the event
+pub desk_after : (site there : Site) (kept : Retained) (before : List Moment) (system : System) (event : Event) (desk : Desk)
+    → StandsFor site kept before system → there ≡ site → has_event site event ≡ true
+    → (DesksFor there kept before system.desk → AreOfSite there (Happened event ∷ before) → DesksFor there kept (Happened event ∷ before) desk)
+    → DeskAfter site kept before event desk
+desk_after site there kept before system event desk h same has heard =
+    record {
+      has = has;
+      desks =
+          subst (λ s. DesksFor s kept (Happened event ∷ before) desk) same
+          (heard (subst (λ s. DesksFor s kept before system.desk) (sym same) h.desk)
+          (subst (λ s. AreOfSite s (Happened event ∷ before)) (sym same) (of_site site (Happened event ∷ before) (h.events, has))));
+    }
+
+-- and that the desk may hear of it
+pub can_hear : (site there : Site) (kept : Retained) (before : List Moment) (system : System) (event : Event) → StandsFor site kept before system
+    → there ≡ site → has_event site event ≡ true → length (requests site before) < 2 ^ 64 - 1 → CanTakeEvent there event system.desk
+can_hear site there kept before system event h same has few =
+    subst (λ s. CanTakeEvent s event system.desk) (sym same) (record {
+      kept = kept;
+      before = before;
+      stands = h.desk;
+      valid = h.valid;
+      of = of_site site (Happened event ∷ before) (h.events, has);
+      few = few;
+    })

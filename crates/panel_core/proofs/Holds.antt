@@ -8,7 +8,7 @@ use Rattle.tick_units.specs.declared.task.Task.TheVariants.{Poll, Decide, Hold}
 use Rattle.site_types.specs.declared.retained.Retained.{Retained}
 use Rattle.site_types.specs.declared.site.Site.{Site}
 use Rattle.site_types.specs.Bits.{mask_of}
-use Rattle.site_types.specs.Done.{Done}
+use Rattle.site_types.specs.Done.{Done, AreBy}
 use Rattle.site_types.proofs.Masks.{mask_same}
 use Rattle.isolators.specs.Reach.{Cable}
 use Rattle.isolators.specs.declared.line_status.LineStatus.{LineStatus}
@@ -30,7 +30,8 @@ use Rattle.panel_rules.specs.States.{piece_of}
 use Rattle.panel_rules.specs.Reports.{reports}
 use Rattle.panel_core.specs.Lanes.{finding_lane}
 use Rattle.panel_core.specs.Turns.{outside_of, outside_at, hold_turn, hold_turns}
-use Rattle.panel_core.specs.Stands.{PanelStands}
+use Rattle.panel_core.specs.Stands.{AreBefore, PanelStands}
+use Rattle.panel_core.proofs.Applied.{before_by}
 use Rattle.panel_rules.proofs.Reports.{cable_told, is_line}
 use Rattle.panel_core.proofs.Steps.{held_findings, seen_more, seen_after_decide, decided_after_poll, seen}
 
@@ -166,14 +167,15 @@ turns_tick site kept done panel (Turned other Hold ∷ before) =
 turns_tick site kept done panel (Turned other task ∷ before) = turns_tick site kept done panel before
 turns_tick site kept done panel (Kept failed ∷ before) = turns_tick site kept done panel before
 
-pub after_hold : (site : Site) (kept : Retained) (panel : ℕ) (before : List Moment) (parts : Parts) (hold : HoldPart) (findings' : LaneState Finding)
-    (outside : Outside) (now : ℕ) → PanelStands site kept panel before parts → now ≡ tick_of before → IsRun site.panels (Turned panel Hold ∷ before)
+pub after_hold : (site : Site) (kept : Retained) (done : List Done) (panel : ℕ) (before : List Moment) (parts : Parts) (hold : HoldPart) (findings' : LaneState Finding)
+    (outside : Outside) (now : ℕ) → PanelStands site kept done panel before parts → AreBefore (tick_of before) done
+    → now ≡ tick_of before → IsRun site.panels (Turned panel Hold ∷ before)
     → outside ≡ outside_of site panel (told_cable (reports site panel before)) → findings' ≡ after_turn parts.findings
-    → (HoldsFor site kept panel [] (hold_turns site kept [] panel before) parts.hold → MayTurn [] (hold_turns site kept [] panel before) now
-    → HoldsFor site kept panel []
+    → (HoldsFor site kept panel done (hold_turns site kept done panel before) parts.hold → MayTurn done (hold_turns site kept done panel before) now
+    → HoldsFor site kept panel done
     ((let t : HoldTurn = record { tick = now; found = take (turn_count parts.findings) parts.findings.items; outside = outside } in t)
-    ∷ hold_turns site kept [] panel before) hold)
-    → PanelStands site kept panel (Turned panel Hold ∷ before) (record {
+    ∷ hold_turns site kept done panel before) hold)
+    → PanelStands site kept done panel (Turned panel Hold ∷ before) (record {
       poller = parts.poller;
       decide = parts.decide;
       hold = hold;
@@ -181,36 +183,36 @@ pub after_hold : (site : Site) (kept : Retained) (panel : ℕ) (before : List Mo
           parts.answers;
       findings = findings';
     })
-after_hold site kept panel before parts hold findings' outside now h tick run told taken held =
+after_hold site kept done panel before parts hold findings' outside now h past tick run told taken held =
     let lag = rw run.1 at (turn_lag site.panels panel Hold before h.member tt run.0) in
-    let may : MayTurn [] (hold_turns site kept [] panel before) now =
-    record { later = omega (arith, turns_tick site kept [] panel before, lag, tick); since = tt } in
-    let turns = hold_turns site kept [] panel before in
+    let may : MayTurn done (hold_turns site kept done panel before) now =
+    record { later = omega (arith, turns_tick site kept done panel before, lag, tick); since = subst (λ t. AreBy t done) (sym tick) (before_by (tick_of before) done past) } in
+    let turns = hold_turns site kept done panel before in
     let first = held h.holds may in
     let second =
     subst
     (λ (l : LaneState Finding).
-    HoldsFor site kept panel [] ((let t : HoldTurn = record { tick = now; found = take (turn_count l) l.items; outside = outside } in t) ∷ turns)
+    HoldsFor site kept panel done ((let t : HoldTurn = record { tick = now; found = take (turn_count l) l.items; outside = outside } in t) ∷ turns)
     hold) h.findings first in
     let third =
     subst
     (λ n.
-    HoldsFor site kept panel []
+    HoldsFor site kept panel done
     ((let t : HoldTurn =
     record {
       tick = n;
-      found = take (turn_count (finding_lane site kept [] panel before)) (finding_lane site kept [] panel before).items;
+      found = take (turn_count (finding_lane site kept done panel before)) (finding_lane site kept done panel before).items;
       outside = outside;
     } in t) ∷ turns) hold) tick second in
     let fourth =
     subst
     (λ o.
-    HoldsFor site kept panel []
+    HoldsFor site kept panel done
     ((let t : HoldTurn =
     record {
       tick = tick_of before;
       found =
-          take (turn_count (finding_lane site kept [] panel before)) (finding_lane site kept [] panel before).items;
+          take (turn_count (finding_lane site kept done panel before)) (finding_lane site kept done panel before).items;
       outside = o;
     } in t) ∷ turns) hold)
     (told ∙ outside_told site panel before) third in
@@ -219,6 +221,6 @@ after_hold site kept panel before parts hold findings' outside now h tick run to
       polls = h.polls;
       answers = h.answers;
       decides = h.decides;
-      findings = taken ∙ ap after_turn h.findings ∙ held_findings site kept [] panel before;
-      holds = subst (λ ts. HoldsFor site kept panel [] ts hold) (sym (own_turn site kept [] panel before)) fourth;
+      findings = taken ∙ ap after_turn h.findings ∙ held_findings site kept done panel before;
+      holds = subst (λ ts. HoldsFor site kept panel done ts hold) (sym (own_turn site kept done panel before)) fourth;
     }

@@ -1,5 +1,5 @@
 -- Turns one after another.
-use Rattle.std.proofs.Common.{◌≡◌, ℕ, ◌+◌, ◌<◌, List, [], ◌∷◌, length, take, drop, get_or, Some, slice_get, Contains, false, refl, sym, ◌∙◌, ap, subst, take-append-drop}
+use Rattle.std.proofs.Common.{◌≡◌, ℕ, ◌+◌, ◌<◌, List, [], ◌∷◌, length, take, drop, get_or, Some, slice_get, Contains, Bool, false, refl, sym, ◌∙◌, ap, subst, take-append-drop}
 use Rattle.std.proofs.lemmas.List.{take_more}
 use Rattle.std.proofs.lemmas.Option.{slice_get_within, get_or_from_slice_get}
 use Rattle.tick_units.specs.Orders.{IsOrder, canonical_seats}
@@ -7,7 +7,9 @@ use Rattle.tick_units.proofs.OrderLaws.{Contains-order}
 use Rattle.tick_units.specs.declared.seat.Seat.{Seat}
 use Rattle.tick_units.specs.declared.task.Task.{Task}
 use Rattle.tick_units.specs.declared.task.Task.TheVariants.{Keep}
+use Rattle.site_types.specs.declared.site.Site.{Site}
 use Rattle.panel_rules.specs.Moments.{Moment, IsRun, and_turns, turn_of, tick_of}
+use Rattle.panel_rules.specs.Operations.{requests}
 use Rattle.panel_rules.proofs.Turns.{run_before}
 use Rattle.panel_rules.proofs.RecordRuns.{turns-append}
 
@@ -48,3 +50,15 @@ pub seat_known : (panels : ℕ) (order : List Seat) (i : ℕ) (seat : Seat) → 
     → Contains (canonical_seats panels) seat
 seat_known panels order i seat ordered is =
     (Contains-order panels order seat ordered).0 (i, slice_get_within order i seat is, get_or_from_slice_get order i seat seat is)
+
+-- turns ask for nothing
+turn_asks : (site : Site) (failed : Bool) (panel : ℕ) (task : Task) (before : List Moment)
+    → requests site (turn_of failed panel task ∷ before) ≡ requests site before
+turn_asks site failed panel Keep before = refl
+turn_asks site failed panel task before = refl
+
+pub turns_ask : (site : Site) (failed : Bool) (seats : List Seat) (before : List Moment)
+    → requests site (and_turns failed seats before) ≡ requests site before
+turns_ask site failed [] before = refl
+turns_ask site failed (seat ∷ seats) before =
+    turns_ask site failed seats (turn_of failed seat.panel seat.task ∷ before) ∙ turn_asks site failed seat.panel seat.task before

@@ -1,13 +1,14 @@
 -- What befalls one panel, and what it is to the others.
-use Rattle.std.proofs.Common.{◌≡◌, ℕ, ◌+◌, ◌≤◌, ◌==◌, List, [], ◌∷◌, ◌++◌, length, length-append, Some, slice_get}
-use Rattle.std.proofs.Common.{◌⊎◌, inl, inr, zero, suc, ◌-◌, ◌≢◌, Contains, Bool, false, refl, sym, ◌∙◌, ap}
-use Rattle.std.proofs.Common.{subst, arith}
+use Rattle.std.proofs.Common.{◌≡◌, ℕ, ◌==◌, List, ◌∷◌}
+use Rattle.std.proofs.Common.{◌⊎◌, inl, inr, ◌≢◌, Contains, Bool, false, refl, sym, ◌∙◌, ap}
+use Rattle.std.proofs.Common.{subst}
 use Rattle.tick_units.specs.Lane.{LaneState, with_put}
 use Rattle.tick_units.specs.declared.task.Task.{Task}
 use Rattle.tick_units.specs.declared.task.Task.TheVariants.{Poll, Decide, Hold}
 use Rattle.site_types.specs.declared.answer.Answer.{Answer}
 use Rattle.site_types.specs.declared.retained.Retained.{Retained}
 use Rattle.site_types.specs.declared.site.Site.{Site}
+use Rattle.site_types.specs.Done.{Done}
 use Rattle.loop_poller.specs.Asked.{asked_in}
 use Rattle.loop_poller.specs.Calls.{told_point, told_cable}
 use Rattle.coincidence.specs.Stands.{DecidesFor}
@@ -19,25 +20,20 @@ use Rattle.panel_core.specs.declared.parts.Parts.{Parts}
 use Rattle.panel_rules.specs.Reports.{reports}
 use Rattle.panel_core.specs.Lanes.{answer_lane, finding_lane, decided}
 use Rattle.std.proofs.lemmas.Bool.Decides.{eqb_tells}
-use Rattle.std.proofs.Math.ListN.{length-set}
-use Rattle.std.specs.Vec.{with_item}
 use Rattle.tick_units.specs.declared.task.Task.TheVariants.{Supply, Desk, Link, Effect, Drive, Keep}
 use Rattle.tick_units.specs.declared.seat.Seat.{Seat}
 use Rattle.tick_units.specs.Orders.{canonical_seats, keep_seat}
 use Rattle.tick_units.proofs.Canonical.{IsPanelSeat, Contains-canonical_seats-cases}
-use Rattle.panel_core.specs.declared.system.System.{System}
-use Rattle.panel_core.specs.Stands.{PanelStands, StandsFor}
-use Rattle.coincidence_rules.proofs.Lists.{get_set}
+use Rattle.panel_core.specs.Stands.{PanelStands}
 use Rattle.loop_poller.specs.Stands.{StandsFor as PollsFor}
-use Rattle.panel_rules.proofs.Places.{get_either}
 use Rattle.panel_rules.proofs.Reports.{asked_told}
 use Rattle.panel_core.proofs.Steps.{polled, decided_after_poll, findings_after_poll}
 
-pub after_poll : (site : Site) (kept : Retained) (panel : ℕ) (before : List Moment) (parts : Parts) (lane : LaneState Answer) (now : ℕ)
-    → PanelStands site kept panel before parts → now ≡ tick_of before
+pub after_poll : (site : Site) (kept : Retained) (done : List Done) (panel : ℕ) (before : List Moment) (parts : Parts) (lane : LaneState Answer) (now : ℕ)
+    → PanelStands site kept done panel before parts → now ≡ tick_of before
     → lane ≡ with_put parts.answers (asked_in site panel (told_point (reports site panel before)) (told_cable (reports site panel before)) now)
-    → PanelStands site kept panel (Turned panel Poll ∷ before) (record parts { answers = lane })
-after_poll site kept panel before parts lane now h tick put =
+    → PanelStands site kept done panel (Turned panel Poll ∷ before) (record parts { answers = lane })
+after_poll site kept done panel before parts lane now h tick put =
     let format = h.polls.valid.forms.format.0 in
     record {
       member = h.member;
@@ -49,39 +45,39 @@ after_poll site kept panel before parts lane now h tick put =
           ∙ ap (with_put parts.answers) (asked_told site panel before format)
           ∙ ap (λ l. with_put l (asked site panel before)) h.answers
           ∙ polled site panel before;
-      decides = subst (λ taken. DecidesFor site kept panel [] taken parts.decide) (decided_after_poll site panel before) h.decides;
-      findings = h.findings ∙ findings_after_poll site kept [] panel before;
+      decides = subst (λ taken. DecidesFor site kept panel done taken parts.decide) (decided_after_poll site panel before) h.decides;
+      findings = h.findings ∙ findings_after_poll site kept done panel before;
       holds = h.holds;
     }
 
 -- a moment that changes nothing of what a panel stands for
-record LeavesPanel (site : Site) (kept : Retained) (panel : ℕ) (before : List Moment) (moment : Moment) : Type 0 where
+record LeavesPanel (site : Site) (kept : Retained) (done : List Done) (panel : ℕ) (before : List Moment) (moment : Moment) : Type 0 where
   told : reports site panel (moment ∷ before) ≡ reports site panel before
   answers : answer_lane site panel (moment ∷ before) ≡ answer_lane site panel before
   decided_same : decided site panel (moment ∷ before) ≡ decided site panel before
-  findings : finding_lane site kept [] panel (moment ∷ before) ≡ finding_lane site kept [] panel before
-  turns : hold_turns site kept [] panel (moment ∷ before) ≡ hold_turns site kept [] panel before
+  findings : finding_lane site kept done panel (moment ∷ before) ≡ finding_lane site kept done panel before
+  turns : hold_turns site kept done panel (moment ∷ before) ≡ hold_turns site kept done panel before
 
-after_nothing : (site : Site) (kept : Retained) (panel : ℕ) (before : List Moment) (parts : Parts) (moment : Moment)
-    → LeavesPanel site kept panel before moment → PanelStands site kept panel before parts → PanelStands site kept panel (moment ∷ before) parts
-after_nothing site kept panel before parts moment leaves h = record {
+after_nothing : (site : Site) (kept : Retained) (done : List Done) (panel : ℕ) (before : List Moment) (parts : Parts) (moment : Moment)
+    → LeavesPanel site kept done panel before moment → PanelStands site kept done panel before parts → PanelStands site kept done panel (moment ∷ before) parts
+after_nothing site kept done panel before parts moment leaves h = record {
   member = h.member;
   polls = subst (λ calls. PollsFor site panel calls parts.poller) (sym leaves.told) h.polls;
   answers = h.answers ∙ sym leaves.answers;
-  decides = subst (λ taken. DecidesFor site kept panel [] taken parts.decide) (sym leaves.decided_same) h.decides;
+  decides = subst (λ taken. DecidesFor site kept panel done taken parts.decide) (sym leaves.decided_same) h.decides;
   findings = h.findings ∙ sym leaves.findings;
-  holds = subst (λ turns. HoldsFor site kept panel [] turns parts.hold) (sym leaves.turns) h.holds;
+  holds = subst (λ turns. HoldsFor site kept panel done turns parts.hold) (sym leaves.turns) h.holds;
 }
 
-pub after_begin : (site : Site) (kept : Retained) (panel : ℕ) (before : List Moment) (parts : Parts) → PanelStands site kept panel before parts
-    → PanelStands site kept panel (Began ∷ before) parts
-after_begin site kept panel before parts h =
-    after_nothing site kept panel before parts Began (record { told = refl; answers = refl; decided_same = refl; findings = refl; turns = refl }) h
+pub after_begin : (site : Site) (kept : Retained) (done : List Done) (panel : ℕ) (before : List Moment) (parts : Parts) → PanelStands site kept done panel before parts
+    → PanelStands site kept done panel (Began ∷ before) parts
+after_begin site kept done panel before parts h =
+    after_nothing site kept done panel before parts Began (record { told = refl; answers = refl; decided_same = refl; findings = refl; turns = refl }) h
 
-pub after_keep : (site : Site) (kept : Retained) (panel : ℕ) (failed : Bool) (before : List Moment) (parts : Parts)
-    → PanelStands site kept panel before parts → PanelStands site kept panel (Kept failed ∷ before) parts
-after_keep site kept panel failed before parts h =
-    after_nothing site kept panel before parts (Kept failed)
+pub after_keep : (site : Site) (kept : Retained) (done : List Done) (panel : ℕ) (failed : Bool) (before : List Moment) (parts : Parts)
+    → PanelStands site kept done panel before parts → PanelStands site kept done panel (Kept failed ∷ before) parts
+after_keep site kept done panel failed before parts h =
+    after_nothing site kept done panel before parts (Kept failed)
     (record { told = refl; answers = refl; decided_same = refl; findings = refl; turns = refl }) h
 
 -- the moment of a panel's turn
@@ -98,17 +94,17 @@ seat_panel panels seat known n = go ((Contains-canonical_seats-cases panels seat
     go (inr e) = absurd (n (ap (λ (s : Seat). s.task) e))
 
 -- a turn of another panel leaves the lanes
-findings_stay : (site : Site) (kept : Retained) (panel other : ℕ) (task : Task) (before : List Moment) → (other == panel) ≡ false
-    → finding_lane site kept [] panel (Turned other task ∷ before) ≡ finding_lane site kept [] panel before
-findings_stay site kept panel other Poll before e = rw e refl
-findings_stay site kept panel other Decide before e = rw e refl
-findings_stay site kept panel other Hold before e = rw e refl
-findings_stay site kept panel other task before e = refl
+findings_stay : (site : Site) (kept : Retained) (done : List Done) (panel other : ℕ) (task : Task) (before : List Moment) → (other == panel) ≡ false
+    → finding_lane site kept done panel (Turned other task ∷ before) ≡ finding_lane site kept done panel before
+findings_stay site kept done panel other Poll before e = rw e refl
+findings_stay site kept done panel other Decide before e = rw e refl
+findings_stay site kept done panel other Hold before e = rw e refl
+findings_stay site kept done panel other task before e = refl
 
-turns_stay : (site : Site) (kept : Retained) (panel other : ℕ) (task : Task) (before : List Moment) → (other == panel) ≡ false
-    → hold_turns site kept [] panel (Turned other task ∷ before) ≡ hold_turns site kept [] panel before
-turns_stay site kept panel other Hold before e = rw e refl
-turns_stay site kept panel other task before e = refl
+turns_stay : (site : Site) (kept : Retained) (done : List Done) (panel other : ℕ) (task : Task) (before : List Moment) → (other == panel) ≡ false
+    → hold_turns site kept done panel (Turned other task ∷ before) ≡ hold_turns site kept done panel before
+turns_stay site kept done panel other Hold before e = rw e refl
+turns_stay site kept done panel other task before e = refl
 
 decided_stay : (site : Site) (panel other : ℕ) (task : Task) (before : List Moment) → (other == panel) ≡ false
     → decided site panel (Turned other task ∷ before) ≡ decided site panel before
@@ -122,109 +118,33 @@ lane_stays site panel other Poll before e = rw e refl
 lane_stays site panel other Decide before e = rw e refl
 lane_stays site panel other task before e = refl
 
-pub others_stay : (site : Site) (kept : Retained) (panel other : ℕ) (task : Task) (before : List Moment) (parts : Parts) → other ≢ panel
-    → PanelStands site kept panel before parts → PanelStands site kept panel (Turned other task ∷ before) parts
-others_stay site kept panel other task before parts n h =
-    after_nothing site kept panel before parts (Turned other task) (record {
+pub others_stay : (site : Site) (kept : Retained) (done : List Done) (panel other : ℕ) (task : Task) (before : List Moment) (parts : Parts) → other ≢ panel
+    → PanelStands site kept done panel before parts → PanelStands site kept done panel (Turned other task ∷ before) parts
+others_stay site kept done panel other task before parts n h =
+    after_nothing site kept done panel before parts (Turned other task) (record {
       told = refl;
       answers = lane_stays site panel other task before apart;
       decided_same = decided_stay site panel other task before apart;
-      findings = findings_stay site kept panel other task before apart;
-      turns = turns_stay site kept panel other task before apart;
+      findings = findings_stay site kept done panel other task before apart;
+      turns = turns_stay site kept done panel other task before apart;
     }) h
   where
     apart : (other == panel) ≡ false
     apart = elim (eqb_tells other panel) [ inl t ↦ absurd (n t.1) | inr t ↦ t.0 ]
-
--- at a moment of one panel the others stand for what they stood for
-pub stands_changed : (site : Site) (kept : Retained) (before : List Moment) (system : System) (panel : ℕ) (parts : Parts) (moment : Moment)
-    → tick_of (moment ∷ before) ≡ tick_of before → StandsFor site kept before system → 1 ≤ panel
-    → PanelStands site kept panel (moment ∷ before) parts
-    → ((other : ℕ) (q : Parts) → panel ≢ other → PanelStands site kept other before q → PanelStands site kept other (moment ∷ before) q)
-    → StandsFor site kept (moment ∷ before) (record system { panels = with_item system.panels (panel - 1) parts })
-stands_changed site kept before system panel parts moment same_tick h one p others =
-    record {
-      valid = h.valid;
-      same = h.same;
-      tick = h.tick ∙ sym same_tick;
-      count = length-set system.panels.items (panel - 1) parts ∙ h.count;
-      each = λ place q is. (
-          elim (get_set system.panels.items (panel - 1) place parts q is) [
-            | inl g ↦
-                (let at : panel ≡ place + 1 = omega (arith, g.0) in
-                subst (λ n. PanelStands site kept n (moment ∷ before) q) at (subst (PanelStands site kept panel (moment ∷ before)) g.1 p))
-            | inr g ↦ others (place + 1) q (λ e. g.0 (omega (arith, e))) (h.each place q g.1)
-          ]);
-    }
-
--- a panel had its turn
-pub stands_after_turn : (site : Site) (kept : Retained) (before : List Moment) (system : System) (panel : ℕ) (task : Task) (parts : Parts)
-    → StandsFor site kept before system → 1 ≤ panel → PanelStands site kept panel (Turned panel task ∷ before) parts
-    → StandsFor site kept (Turned panel task ∷ before) (record system { panels = with_item system.panels (panel - 1) parts })
-stands_after_turn site kept before system panel task parts h one p =
-    stands_changed site kept before system panel parts (Turned panel task) refl h one p
-    (λ other q apart stood. others_stay site kept other panel task before q apart stood)
-
--- at a moment at which no panel is changed, each stands for what it stood for
-pub stands_unchanged : (site : Site) (kept : Retained) (before : List Moment) (system : System) (moment : Moment)
-    → tick_of (moment ∷ before) ≡ tick_of before → StandsFor site kept before system
-    → ((panel : ℕ) (q : Parts) → PanelStands site kept panel before q → PanelStands site kept panel (moment ∷ before) q)
-    → StandsFor site kept (moment ∷ before) system
-stands_unchanged site kept before system moment same_tick h each =
-    record {
-      valid = h.valid;
-      same = h.same;
-      tick = h.tick ∙ sym same_tick;
-      count = h.count;
-      each = λ place q is. each (place + 1) q (h.each place q is);
-    }
-
-pub stands_after_keep : (site : Site) (kept : Retained) (before : List Moment) (system : System) (failed : Bool) → StandsFor site kept before system
-    → StandsFor site kept (Kept failed ∷ before) system
-stands_after_keep site kept before system failed h =
-    stands_unchanged site kept before system (Kept failed) refl h (λ panel q stood. after_keep site kept panel failed before q stood)
-
--- the panel at a place
-pub panel_at : (site : Site) (kept : Retained) (before : List Moment) (system : System) (panel : ℕ) (parts : Parts)
-    → StandsFor site kept before system → 1 ≤ panel → slice_get system.panels.items (panel - 1) ≡ Some parts
-    → PanelStands site kept panel before parts
-panel_at site kept before system panel parts h one is =
-    let at : panel - 1 + 1 ≡ panel = omega arith in
-    subst (λ n. PanelStands site kept n before parts) at (h.each (panel - 1) parts is)
-
--- one panel more
-pub panels_counted : (xs ys : List Parts) (x : Parts) (n : ℕ) → ys ≡ xs ++ x ∷ [] → length xs ≡ n → length ys ≡ n + 1
-panels_counted xs ys x n e l = let m = ap length e ∙ length-append xs (x ∷ []) in omega (arith, m, l)
-
-pub panel_added : (site : Site) (kept : Retained) (xs ys : List Parts) (x : Parts) (n : ℕ) → ys ≡ xs ++ x ∷ [] → length xs ≡ n
-    → ((place : ℕ) (parts : Parts) → slice_get xs place ≡ Some parts → PanelStands site kept (place + 1) [] parts)
-    → PanelStands site kept (n + 1) [] x → (place : ℕ) (parts : Parts) → slice_get ys place ≡ Some parts → PanelStands site kept (place + 1) [] parts
-panel_added site kept xs ys x n e l each new place parts is =
-    elim (get_either xs (x ∷ []) place parts (sym (ap (λ zs. slice_get zs place) e) ∙ is)) [
-      | inl g ↦ each place parts g
-      | inr g ↦ last g.place g.far g.is
-    ]
-  where
-    last : (k : ℕ) → place ≡ k + length xs → slice_get (x ∷ []) k ≡ Some parts → PanelStands site kept (place + 1) [] parts
-    last zero far h =
-        let same : x ≡ parts = cc in
-        let at : n + 1 ≡ place + 1 = omega (arith, far, l) in
-        subst (λ m. PanelStands site kept m [] parts) at (subst (PanelStands site kept (n + 1) []) same new)
-    last (suc k) far h = cc
 
 -- a task that has no part here yet
 abbrev IsIdle : Task → Type 0
 IsIdle task = (task ≡ Supply) ⊎ ((task ≡ Desk) ⊎ ((task ≡ Link) ⊎ ((task ≡ Effect) ⊎ ((task ≡ Drive) ⊎ (task ≡ Keep)))))
 
 -- its turn changes nothing
-idle_leaves : (site : Site) (kept : Retained) (panel : ℕ) (before : List Moment) (task : Task) → IsIdle task
-    → LeavesPanel site kept panel before (Turned panel task)
-idle_leaves site kept panel before task idle = go idle
+idle_leaves : (site : Site) (kept : Retained) (done : List Done) (panel : ℕ) (before : List Moment) (task : Task) → IsIdle task
+    → LeavesPanel site kept done panel before (Turned panel task)
+idle_leaves site kept done panel before task idle = go idle
   where
-    leaves : {one : Task} → task ≡ one → LeavesPanel site kept panel before (Turned panel one) → LeavesPanel site kept panel before (Turned panel task)
-    leaves e h = subst (λ t. LeavesPanel site kept panel before (Turned panel t)) (sym e) h
+    leaves : {one : Task} → task ≡ one → LeavesPanel site kept done panel before (Turned panel one) → LeavesPanel site kept done panel before (Turned panel task)
+    leaves e h = subst (λ t. LeavesPanel site kept done panel before (Turned panel t)) (sym e) h
 
-    go : IsIdle task → LeavesPanel site kept panel before (Turned panel task)
+    go : IsIdle task → LeavesPanel site kept done panel before (Turned panel task)
     go (inl e) = leaves e (record { told = refl; answers = refl; decided_same = refl; findings = refl; turns = refl })
     go (inr (inl e)) = leaves e (record { told = refl; answers = refl; decided_same = refl; findings = refl; turns = refl })
     go (inr (inr (inl e))) = leaves e (record { told = refl; answers = refl; decided_same = refl; findings = refl; turns = refl })
@@ -232,7 +152,14 @@ idle_leaves site kept panel before task idle = go idle
     go (inr (inr (inr (inr (inl e))))) = leaves e (record { told = refl; answers = refl; decided_same = refl; findings = refl; turns = refl })
     go (inr (inr (inr (inr (inr e))))) = leaves e (record { told = refl; answers = refl; decided_same = refl; findings = refl; turns = refl })
 
-pub after_idle : (site : Site) (kept : Retained) (panel : ℕ) (before : List Moment) (parts : Parts) (task : Task) → IsIdle task
-    → PanelStands site kept panel before parts → PanelStands site kept panel (Turned panel task ∷ before) parts
-after_idle site kept panel before parts task idle h =
-    after_nothing site kept panel before parts (Turned panel task) (idle_leaves site kept panel before task idle) h
+pub after_idle : (site : Site) (kept : Retained) (done : List Done) (panel : ℕ) (before : List Moment) (parts : Parts) (task : Task) → IsIdle task
+    → PanelStands site kept done panel before parts → PanelStands site kept done panel (Turned panel task ∷ before) parts
+after_idle site kept done panel before parts task idle h =
+    after_nothing site kept done panel before parts (Turned panel task) (idle_leaves site kept done panel before task idle) h
+
+-- Desk's turn at any panel is no panel's here
+pub desk_turned : (site : Site) (kept : Retained) (done : List Done) (panel other : ℕ) (before : List Moment) (parts : Parts)
+    → PanelStands site kept done panel before parts → PanelStands site kept done panel (Turned other Desk ∷ before) parts
+desk_turned site kept done panel other before parts h =
+    after_nothing site kept done panel before parts (Turned other Desk)
+    (record { told = refl; answers = refl; decided_same = refl; findings = refl; turns = refl }) h

@@ -21,7 +21,7 @@ abbrev pub seen : Site → Retained → List Done → ℕ → List Moment → Li
 seen site kept done panel before = take (taken_by_hold site panel before) (found site kept done panel before)
 
 -- the same lane by its parts
-lane_is : {X : Type 0} (items items' : List X) (put put' taken taken' : ℕ) → items ≡ items' → put ≡ put' → taken ≡ taken'
+pub lane_is : {X : Type 0} (items items' : List X) (put put' taken taken' : ℕ) → items ≡ items' → put ≡ put' → taken ≡ taken'
     → (let l : LaneState X = record { items = items; put = put; taken = taken; quota = 32; capacity = 64 } in l) ≡ (let l : LaneState X =
     record { items = items'; put = put'; taken = taken'; quota = 32; capacity = 64 } in l)
 lane_is items items' put put' taken taken' i p t = rw (i, p, t) refl

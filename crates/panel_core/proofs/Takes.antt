@@ -1,25 +1,29 @@
 -- What a turn of Decide takes.
-use Rattle.std.proofs.Common.{◌≡◌, ℕ, zero, suc, ◌+◌, List, [], ◌∷◌, ◌++◌, take, drop, Some, slice_get, sym, ◌∙◌, ap, subst, arith}
+use Rattle.std.proofs.Common.{◌≡◌, ◌≤◌, ℕ, zero, suc, ◌+◌, List, inl, inr, false, [], ◌∷◌, ◌++◌, take, drop, Some, slice_get, sym, ◌∙◌, ap, subst, arith}
+use Rattle.std.proofs.lemmas.Bool.Decides.{leb_tells}
 use Rattle.tick_units.specs.Lane.{LaneState, with_put, after_turn, turn_count}
 use Rattle.tick_units.specs.declared.task.Task.TheVariants.{Decide}
 use Rattle.site_types.specs.declared.answer.Answer.{Answer}
 use Rattle.site_types.specs.declared.retained.Retained.{Retained}
 use Rattle.site_types.specs.declared.site.Site.{Site}
+use Rattle.site_types.specs.Done.{Done, AreBy}
 use Rattle.coincidence_rules.specs.declared.finding.Finding.{Finding}
 use Rattle.coincidence_rules.specs.Findings.{findings_after}
 use Rattle.coincidence_rules.specs.InOrder.{AreInOrder}
 use Rattle.coincidence.specs.declared.decide.Decide.{Decide as DecidePart}
 use Rattle.coincidence.specs.Premises.{MayTake}
 use Rattle.coincidence.specs.Stands.{DecidesFor, CanTake, taken_by}
-use Rattle.panel_rules.specs.Moments.{Moment, Turned, IsRun, IsPanel, present}
+use Rattle.panel_rules.specs.Moments.{Moment, Turned, IsRun, IsPanel, has_turned, present, tick_of}
 use Rattle.panel_rules.specs.Answers.{answers}
 use Rattle.panel_rules.specs.Counts.{taken_by_decide}
 use Rattle.panel_rules.proofs.Places.{take_get}
 use Rattle.panel_rules.proofs.AnswersTell.{told_by}
+use Rattle.panel_rules.proofs.Lags.{decide_has}
 use Rattle.panel_rules.proofs.Order.{answers_in_order}
+use Rattle.panel_rules.proofs.Turns.{turn_lag}
 use Rattle.panel_core.specs.declared.parts.Parts.{Parts}
 use Rattle.panel_core.specs.Lanes.{answer_lane, decided}
-use Rattle.panel_core.specs.Stands.{PanelStands}
+use Rattle.panel_core.specs.Stands.{AreBefore, PanelStands}
 use Rattle.panel_core.proofs.Fronts.{front_more}
 use Rattle.panel_core.proofs.Steps.{decided_answers, decided_more, decided_findings}
 
@@ -35,10 +39,29 @@ order_front n xs order =
       once = λ i j a b h g e s. order.once i j a b (take_get n xs i a h).1 (take_get n xs j b g).1 e s;
     }
 
+-- before Decide's turn the oldest answer that it hasn't taken is stamped in this tick or the one before
+lately : (site : Site) (panel : ℕ) (before : List Moment) (k : ℕ) (a : Answer) → IsPanel site.panels panel → IsRun site.panels before
+    → has_turned panel Decide before ≡ false → slice_get (answers site panel before) k ≡ Some a → taken_by_decide site panel before ≤ k
+    → tick_of before ≤ a.stamp.0 + 1
+lately site panel before k a p run owed is fresh =
+    elim (leb_tells (tick_of before) (a.stamp.0 + 1)) [
+      | inl l ↦ l.1
+      | inr l ↦
+          (let late = l.1 in
+          let lag = rw owed at (turn_lag site.panels panel Decide before p tt run) in
+          let had = decide_has site site.panels panel before k a p run is (omega (arith, lag, late)) in
+          absurd (omega (arith, had, fresh)))
+    ]
+
+by_stamp : (stamp tick : ℕ) (done : List Done) → tick ≤ stamp + 1 → AreBefore tick done → AreBy stamp done
+by_stamp stamp tick [] near past = tt
+by_stamp stamp tick (d ∷ done) near past = (let l = past.0 in omega (arith, near, l), by_stamp stamp tick done near past.1)
+
 -- what lies before Decide may be taken
-pub may_take : (site : Site) (panel : ℕ) (before : List Moment) → IsPanel site.panels panel → IsRun site.panels before
-    → MayTake site panel [] (decided site panel before) (taken_by (answer_lane site panel before))
-may_take site panel before p run =
+pub may_take : (site : Site) (done : List Done) (panel : ℕ) (before : List Moment) → IsPanel site.panels panel
+    → IsRun site.panels (Turned panel Decide ∷ before) → AreBefore (tick_of before) done
+    → MayTake site panel done (decided site panel before) (taken_by (answer_lane site panel before))
+may_take site done panel before p (run, owed) past =
     let d = taken_by_decide site panel before in
     let n = turn_count (answer_lane site panel before) in
     record {
@@ -50,32 +73,35 @@ may_take site panel before p run =
       order =
           subst AreInOrder (sym (front_more d n (answers site panel before)))
           (order_front (d + n) (answers site panel before) (answers_in_order site site.panels panel before p run));
-      since = λ k answer is. tt;
+      since = λ k answer is. (
+          let got = take_get n (drop d (answers site panel before)) k answer is in
+          by_stamp answer.stamp.0 (tick_of before) done
+          (lately site panel before (d + k) answer p run owed (drop_get d (answers site panel before) k answer got.1) (omega arith)) past);
     }
 
-pub can_take : (site : Site) (kept : Retained) (panel : ℕ) (before : List Moment) (parts : Parts) → PanelStands site kept panel before parts
-    → IsRun site.panels before → CanTake parts.decide (taken_by parts.answers)
-can_take site kept panel before parts h run =
+pub can_take : (site : Site) (kept : Retained) (done : List Done) (panel : ℕ) (before : List Moment) (parts : Parts)
+    → PanelStands site kept done panel before parts → IsRun site.panels (Turned panel Decide ∷ before) → AreBefore (tick_of before) done → CanTake parts.decide (taken_by parts.answers)
+can_take site kept done panel before parts h run past =
     record {
       site = site;
       kept = kept;
       panel = panel;
-      done = [];
+      done = done;
       taken = decided site panel before;
       stands = h.decides;
-      may = subst (λ (l : LaneState Answer). MayTake site panel [] (decided site panel before) (taken_by l)) (sym h.answers) (may_take site panel before h.member run);
+      may = subst (λ (l : LaneState Answer). MayTake site panel done (decided site panel before) (taken_by l)) (sym h.answers) (may_take site done panel before h.member run past);
     }
 
-pub after_decide : (site : Site) (kept : Retained) (panel : ℕ) (before : List Moment) (parts : Parts) (decide : DecidePart) (answers' :
-    LaneState Answer) (findings' : LaneState Finding) → PanelStands site kept panel before parts → IsRun site.panels before
-    → answers' ≡ after_turn parts.answers
-    → (DecidesFor site kept panel [] (decided site panel before) parts.decide
-    → MayTake site panel [] (decided site panel before) (taken_by parts.answers)
-    → DecidesFor site kept panel [] (decided site panel before ++ taken_by parts.answers) decide)
-    → (DecidesFor site kept panel [] (decided site panel before) parts.decide
-    → MayTake site panel [] (decided site panel before) (taken_by parts.answers)
-    → findings' ≡ with_put parts.findings (findings_after site kept panel [] (decided site panel before) (taken_by parts.answers)))
-    → PanelStands site kept panel (Turned panel Decide ∷ before) (record {
+pub after_decide : (site : Site) (kept : Retained) (done : List Done) (panel : ℕ) (before : List Moment) (parts : Parts) (decide : DecidePart) (answers' :
+    LaneState Answer) (findings' : LaneState Finding) → PanelStands site kept done panel before parts
+    → IsRun site.panels (Turned panel Decide ∷ before) → AreBefore (tick_of before) done → answers' ≡ after_turn parts.answers
+    → (DecidesFor site kept panel done (decided site panel before) parts.decide
+    → MayTake site panel done (decided site panel before) (taken_by parts.answers)
+    → DecidesFor site kept panel done (decided site panel before ++ taken_by parts.answers) decide)
+    → (DecidesFor site kept panel done (decided site panel before) parts.decide
+    → MayTake site panel done (decided site panel before) (taken_by parts.answers)
+    → findings' ≡ with_put parts.findings (findings_after site kept panel done (decided site panel before) (taken_by parts.answers)))
+    → PanelStands site kept done panel (Turned panel Decide ∷ before) (record {
       poller = parts.poller;
       decide = decide;
       hold = parts.hold;
@@ -83,23 +109,23 @@ pub after_decide : (site : Site) (kept : Retained) (panel : ℕ) (before : List 
           answers';
       findings = findings';
     })
-after_decide site kept panel before parts decide answers' findings' h run taken stands found =
+after_decide site kept done panel before parts decide answers' findings' h run past taken stands found =
     let may =
-    subst (λ (l : LaneState Answer). MayTake site panel [] (decided site panel before) (taken_by l)) (sym h.answers)
-    (may_take site panel before h.member run) in
+    subst (λ (l : LaneState Answer). MayTake site panel done (decided site panel before) (taken_by l)) (sym h.answers)
+    (may_take site done panel before h.member run past) in
     record {
       member = h.member;
       polls = h.polls;
       answers = taken ∙ ap after_turn h.answers ∙ decided_answers site panel before;
       decides =
-          subst (λ xs. DecidesFor site kept panel [] xs decide)
+          subst (λ xs. DecidesFor site kept panel done xs decide)
           (ap (λ (l : LaneState Answer). decided site panel before ++ taken_by l) h.answers ∙ decided_more site panel before)
           (stands h.decides may);
       findings =
           found h.decides may
-          ∙ ap (λ (l : LaneState Answer). with_put parts.findings (findings_after site kept panel [] (decided site panel before) (taken_by l)))
+          ∙ ap (λ (l : LaneState Answer). with_put parts.findings (findings_after site kept panel done (decided site panel before) (taken_by l)))
           h.answers
-          ∙ ap (λ l. with_put l (findings_after site kept panel [] (decided site panel before) (taken_by (answer_lane site panel before)))) h.findings
-          ∙ decided_findings site kept [] panel before;
+          ∙ ap (λ l. with_put l (findings_after site kept panel done (decided site panel before) (taken_by (answer_lane site panel before)))) h.findings
+          ∙ decided_findings site kept done panel before;
       holds = h.holds;
     }

@@ -147,44 +147,44 @@ module _ (site : Site) (kept : Retained) (done : List Done) (xs : List Answer) (
   first_by (Some C) = refl
 
 -- of the findings of all turns
-module _ (site : Site) (kept : Retained) (panel : ℕ) (before : List Moment) (valid : IsValid site) (run : IsRun site.panels before) (p :
+module _ (site : Site) (kept : Retained) (done : List Done) (panel : ℕ) (before : List Moment) (valid : IsValid site) (run : IsRun site.panels before) (p :
     IsPanel site.panels panel) where
   held_in_order : AreInOrder (held_answers site panel before)
   held_in_order = order_front (taken_by_hold site panel before) (answers site panel before) (answers_in_order site site.panels panel before p run)
 
   turned_alarm : (place : ℕ) (zone : Zone) → slice_get site.zones place ≡ Some zone → zone.panel ≡ panel
-      → alarm_found site [] (findings_taken (hold_turns site kept [] panel before)) place (latest_tick (hold_turns site kept [] panel before))
-      ≡ holds_alarm site kept [] panel before place
+      → alarm_found site done (findings_taken (hold_turns site kept done panel before)) place (latest_tick (hold_turns site kept done panel before))
+      ≡ holds_alarm site kept done panel before place
   turned_alarm place zone is at =
-      ap (λ fs. alarm_found site [] fs place (latest_tick (hold_turns site kept [] panel before)))
-      (turns_seen site kept [] panel before ∙ seen_found site kept [] panel before)
-      ∙ ap (alarm_found site [] (findings_of site kept panel [] (held_answers site panel before)) place) (turns_tick site kept [] panel before)
-      ∙ subst (λ q. alarm_found site [] (findings_of site kept q [] (held_answers site panel before)) place (latest_turn panel Hold before)
-      ≡ holds_alarm site kept [] panel before place) at
-      (alarm_tells site kept [] (held_answers site panel before) place zone (latest_turn panel Hold before) (wired_of site valid) is held_in_order)
+      ap (λ fs. alarm_found site done fs place (latest_tick (hold_turns site kept done panel before)))
+      (turns_seen site kept done panel before ∙ seen_found site kept done panel before)
+      ∙ ap (alarm_found site done (findings_of site kept panel done (held_answers site panel before)) place) (turns_tick site kept done panel before)
+      ∙ subst (λ q. alarm_found site done (findings_of site kept q done (held_answers site panel before)) place (latest_turn panel Hold before)
+      ≡ holds_alarm site kept done panel before place) at
+      (alarm_tells site kept done (held_answers site panel before) place zone (latest_turn panel Hold before) (wired_of site valid) is held_in_order)
 
   turned_first : (place : ℕ) (zone : Zone) → slice_get site.zones place ≡ Some zone → zone.panel ≡ panel
-      → first_found site [] (findings_taken (hold_turns site kept [] panel before)) place (latest_tick (hold_turns site kept [] panel before))
-      ≡ holds_first site kept [] panel before place
+      → first_found site done (findings_taken (hold_turns site kept done panel before)) place (latest_tick (hold_turns site kept done panel before))
+      ≡ holds_first site kept done panel before place
   turned_first place zone is at =
-      ap (λ fs. first_found site [] fs place (latest_tick (hold_turns site kept [] panel before)))
-      (turns_seen site kept [] panel before ∙ seen_found site kept [] panel before)
-      ∙ ap (first_found site [] (findings_of site kept panel [] (held_answers site panel before)) place) (turns_tick site kept [] panel before)
-      ∙ subst (λ q. first_found site [] (findings_of site kept q [] (held_answers site panel before)) place (latest_turn panel Hold before)
-      ≡ holds_first site kept [] panel before place) at
-      (first_by site kept [] (held_answers site panel before) place zone (latest_turn panel Hold before) (wired_of site valid) is held_in_order
+      ap (λ fs. first_found site done fs place (latest_tick (hold_turns site kept done panel before)))
+      (turns_seen site kept done panel before ∙ seen_found site kept done panel before)
+      ∙ ap (first_found site done (findings_of site kept panel done (held_answers site panel before)) place) (turns_tick site kept done panel before)
+      ∙ subst (λ q. first_found site done (findings_of site kept q done (held_answers site panel before)) place (latest_turn panel Hold before)
+      ≡ holds_first site kept done panel before place) at
+      (first_by site kept done (held_answers site panel before) place zone (latest_turn panel Hold before) (wired_of site valid) is held_in_order
       (rule_of (slice_get site.zones place)))
 
   -- before the first turn nothing is held
-  none_held : hold_turns site kept [] panel before ≡ [] → held_answers site panel before ≡ []
+  none_held : hold_turns site kept done panel before ≡ [] → held_answers site panel before ≡ []
   none_held e =
-      let count = ap length (sym (turns_seen site kept [] panel before) ∙ ap findings_taken e) in
+      let count = ap length (sym (turns_seen site kept done panel before) ∙ ap findings_taken e) in
       let zero_taken : taken_by_hold site panel before ≡ 0 =
       omega (
         arith,
         count,
-        length-take (taken_by_hold site panel before) (found site kept [] panel before),
-        found_length site kept [] panel before,
+        length-take (taken_by_hold site panel before) (found site kept done panel before),
+        found_length site kept done panel before,
         hold_behind site panel before,
       ) in
       ap (λ n. take n (answers site panel before)) zero_taken ∙ take_zero (answers site panel before)
@@ -193,40 +193,40 @@ module _ (site : Site) (kept : Retained) (panel : ℕ) (before : List Moment) (v
       take_zero [] = refl
       take_zero (x ∷ xs) = refl
 
-  no_first : (o : Option Rule) (tick place : ℕ) → is_first_by site kept [] [] place tick o ≡ false
+  no_first : (o : Option Rule) (tick place : ℕ) → is_first_by site kept done [] place tick o ≡ false
   no_first None tick place = refl
   no_first (Some Plain) tick place = refl
   no_first (Some (A verify within)) tick place = refl
   no_first (Some (B within)) tick place = refl
   no_first (Some C) tick place = refl
 
-  alarm_by : (turns : List HoldTurn) → hold_turns site kept [] panel before ≡ turns
-      → (word_after site kept panel [] turns).alarm ≡ zones_where site panel (λ place. holds_alarm site kept [] panel before place)
+  alarm_by : (turns : List HoldTurn) → hold_turns site kept done panel before ≡ turns
+      → (word_after site kept panel done turns).alarm ≡ zones_where site panel (λ place. holds_alarm site kept done panel before place)
   alarm_by [] e =
-      no_zones site panel ∙ zones_same site panel (λ _. false) (λ place. holds_alarm site kept [] panel before place)
-      (λ place zone is at. sym (ap (λ xs. is_in_alarm site kept [] xs place (latest_turn panel Hold before)) (none_held e)))
+      no_zones site panel ∙ zones_same site panel (λ _. false) (λ place. holds_alarm site kept done panel before place)
+      (λ place zone is at. sym (ap (λ xs. is_in_alarm site kept done xs place (latest_turn panel Hold before)) (none_held e)))
   alarm_by (turn ∷ turns) e =
-      zones_same site panel (λ place. alarm_found site [] (findings_taken (turn ∷ turns)) place turn.tick)
-      (λ place. holds_alarm site kept [] panel before place)
-      (λ place zone is at. ap (λ ts. alarm_found site [] (findings_taken ts) place (latest_tick ts)) (sym e) ∙ turned_alarm place zone is at)
+      zones_same site panel (λ place. alarm_found site done (findings_taken (turn ∷ turns)) place turn.tick)
+      (λ place. holds_alarm site kept done panel before place)
+      (λ place zone is at. ap (λ ts. alarm_found site done (findings_taken ts) place (latest_tick ts)) (sym e) ∙ turned_alarm place zone is at)
 
-  pub alarm_shown : (word_after site kept panel [] (hold_turns site kept [] panel before)).alarm
-      ≡ zones_where site panel (λ place. holds_alarm site kept [] panel before place)
-  alarm_shown = alarm_by (hold_turns site kept [] panel before) refl
+  pub alarm_shown : (word_after site kept panel done (hold_turns site kept done panel before)).alarm
+      ≡ zones_where site panel (λ place. holds_alarm site kept done panel before place)
+  alarm_shown = alarm_by (hold_turns site kept done panel before) refl
 
-  first_by_turns : (turns : List HoldTurn) → hold_turns site kept [] panel before ≡ turns
-      → (word_after site kept panel [] turns).first ≡ zones_where site panel (λ place. holds_first site kept [] panel before place)
+  first_by_turns : (turns : List HoldTurn) → hold_turns site kept done panel before ≡ turns
+      → (word_after site kept panel done turns).first ≡ zones_where site panel (λ place. holds_first site kept done panel before place)
   first_by_turns [] e =
       no_zones site panel
-      ∙ zones_same site panel (λ _. false) (λ place. holds_first site kept [] panel before place)
+      ∙ zones_same site panel (λ _. false) (λ place. holds_first site kept done panel before place)
       (λ place zone is at.
-      sym (ap (λ xs. is_first site kept [] xs place (latest_turn panel Hold before)) (none_held e) ∙ no_first
+      sym (ap (λ xs. is_first site kept done xs place (latest_turn panel Hold before)) (none_held e) ∙ no_first
       (rule_of (slice_get site.zones place)) (latest_turn panel Hold before) place))
   first_by_turns (turn ∷ turns) e =
-      zones_same site panel (λ place. first_found site [] (findings_taken (turn ∷ turns)) place turn.tick)
-      (λ place. holds_first site kept [] panel before place)
-      (λ place zone is at. ap (λ ts. first_found site [] (findings_taken ts) place (latest_tick ts)) (sym e) ∙ turned_first place zone is at)
+      zones_same site panel (λ place. first_found site done (findings_taken (turn ∷ turns)) place turn.tick)
+      (λ place. holds_first site kept done panel before place)
+      (λ place zone is at. ap (λ ts. first_found site done (findings_taken ts) place (latest_tick ts)) (sym e) ∙ turned_first place zone is at)
 
-  pub first_shown : (word_after site kept panel [] (hold_turns site kept [] panel before)).first
-      ≡ zones_where site panel (λ place. holds_first site kept [] panel before place)
-  first_shown = first_by_turns (hold_turns site kept [] panel before) refl
+  pub first_shown : (word_after site kept panel done (hold_turns site kept done panel before)).first
+      ≡ zones_where site panel (λ place. holds_first site kept done panel before place)
+  first_shown = first_by_turns (hold_turns site kept done panel before) refl

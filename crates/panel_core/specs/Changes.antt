@@ -8,35 +8,46 @@ use Rattle.site_types.specs.declared.piece_state.PieceState.{PieceState}
 use Rattle.site_types.specs.declared.point_state.PointState.{PointState}
 use Rattle.site_types.specs.declared.retained.Retained.{Retained}
 use Rattle.site_types.specs.declared.site.Site.{Site}
+use Rattle.site_types.specs.Done.{Done}
+use Rattle.face_text.specs.declared.answers.Answers.{Answers}
 use Rattle.panel_rules.specs.Moments.{Moment, Began, Happened, Turned, IsRun, and_turns, tick_of}
 use Rattle.panel_core.specs.declared.parts.Parts.{Parts}
 use Rattle.panel_core.specs.declared.system.System.{System}
+use Rattle.panel_rules.specs.Timeline.{answers_now, failed_now, told}
 use Rattle.panel_rules.specs.Reports.{is_on_panel}
-use Rattle.panel_core.specs.Stands.{PanelStands, StandsFor}
+use Rattle.panel_core.specs.Applied.{MayBeApplied, done_so_far}
+use Rattle.panel_core.specs.Stands.{AreBefore, HasApplied, PanelStands, StandsFor}
 
 -- ---- a panel
 
 -- a report came on a point of the panel
 abbrev pub HearsPoint : Parts → ℕ → PointState → Parts → Type 0
 HearsPoint old point state parts =
-    (site : Site) (kept : Retained) (panel : ℕ) (before : List Moment)
-    → PanelStands site kept panel before old → is_on_panel panel (slice_get site.points point) ≡ true
-    → PanelStands site kept panel (Happened (Point point state) ∷ before) parts
+    (site : Site) (kept : Retained) (done : List Done) (panel : ℕ) (before : List Moment)
+    → PanelStands site kept done panel before old → is_on_panel panel (slice_get site.points point) ≡ true
+    → PanelStands site kept done panel (Happened (Point point state) ∷ before) parts
 
 -- a report came on a piece of cable of the panel
 abbrev pub HearsPiece : Parts → ℕ → ℕ → PieceState → Parts → Type 0
 HearsPiece old line piece state parts =
-    (site : Site) (kept : Retained) (panel : ℕ) (before : List Moment)
-    → PanelStands site kept panel before old
-    → PanelStands site kept panel (Happened (Cable panel line piece state) ∷ before) parts
+    (site : Site) (kept : Retained) (done : List Done) (panel : ℕ) (before : List Moment)
+    → PanelStands site kept done panel before old
+    → PanelStands site kept done panel (Happened (Cable panel line piece state) ∷ before) parts
 
 -- a task had its turn, in the tick that began last
 abbrev pub MakesTurn : Parts → Task → ℕ → Parts → Type 0
 MakesTurn old task tick parts =
-    (site : Site) (kept : Retained) (panel : ℕ) (before : List Moment)
-    → PanelStands site kept panel before old → tick ≡ tick_of before
+    (site : Site) (kept : Retained) (done : List Done) (panel : ℕ) (before : List Moment)
+    → PanelStands site kept done panel before old → AreBefore (tick_of before) done → tick ≡ tick_of before
     → IsRun site.panels (Turned panel task ∷ before)
-    → PanelStands site kept panel (Turned panel task ∷ before) parts
+    → PanelStands site kept done panel (Turned panel task ∷ before) parts
+
+-- an operation that was done in the tick that ends comes in force
+abbrev pub AppliesDone : Parts → ℕ → Done → Parts → Type 0
+AppliesDone old panel d parts =
+    (site : Site) (kept : Retained) (done : List Done) (before : List Moment)
+    → PanelStands site kept done panel before old → MayBeApplied site before done d
+    → PanelStands site kept (d ∷ done) panel before parts
 
 -- ---- all panels
 
@@ -44,8 +55,26 @@ MakesTurn old task tick parts =
 abbrev pub BeginsTick : System → ℕ → System → Type 0
 BeginsTick old tick system =
     (site : Site) (kept : Retained) (before : List Moment)
-    → StandsFor site kept before old → tick ≡ tick_of (Began ∷ before)
+    → StandsFor site kept before old → tick ≡ tick_of (Began ∷ before) → IsRun site.panels (Began ∷ before)
     → StandsFor site kept (Began ∷ before) system
+
+-- what is asked for and the tick are as they were
+abbrev pub HasSameDesk : System → System → Type 0
+HasSameDesk old system = (system.desk ≡ old.desk) × (system.tick ≡ old.tick)
+
+-- an operation that was done in the tick that ends comes in force at all panels
+abbrev pub AppliesToAll : System → Done → System → Type 0
+AppliesToAll old d system =
+    (site : Site) (kept : Retained) (before : List Moment) (done : List Done)
+    → HasApplied site kept before done old → MayBeApplied site before done d
+    → HasApplied site kept before (d ∷ done) system
+
+-- all that were done so far come in force
+abbrev pub AppliesAllDone : System → System → Type 0
+AppliesAllDone old system =
+    (site : Site) (kept : Retained) (before : List Moment)
+    → StandsFor site kept before old → IsRun site.panels (Began ∷ before)
+    → HasApplied site kept before (done_so_far site kept before) system
 
 -- an event happened
 abbrev pub TakesEvent : System → Event → System → Type 0
@@ -59,3 +88,9 @@ MakesTurns old order system =
     (site : Site) (kept : Retained) (before : List Moment)
     → StandsFor site kept before old → IsRun site.panels (and_turns false order before)
     → StandsFor site kept (and_turns false order before) system
+
+-- what it answers is what the rules answer in the tick that began last
+abbrev pub AnswersAsRuled : System → Answers → Type 0
+AnswersAsRuled system answers =
+    (site : Site) (kept : Retained) (before : List Moment) → StandsFor site kept before system
+    → answers ≡ told (answers_now site kept before) (failed_now site kept before)

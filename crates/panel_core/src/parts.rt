@@ -6,6 +6,7 @@ ghost use Rattle.panel_rules.specs.Moments.{IsPanel};
 
 use coincidence::{Decide, Finding};
 use loop_poller::Poller;
+use operation_desk::DoneOperation;
 use panel_conditions::{Hold, Outside};
 use site_types::{Answer, PieceState, PointState, Retained, Site, mask_from_8};
 use std::alloc::Global;
@@ -24,14 +25,15 @@ pub struct Parts {
 impl Parts {
     ghost use Rattle.loop_poller.specs.Calls.{Call, told_cable};
     ghost use Rattle.loop_poller.specs.Stands.{StandsFor as PollsFor};
-    ghost use Rattle.panel_core.specs.Changes.{HearsPiece, HearsPoint, MakesTurn};
+    ghost use Rattle.panel_core.specs.Changes.{AppliesDone, HearsPiece, HearsPoint, MakesTurn};
+    ghost use Rattle.operation_desk.specs.Requests.{done_from};
     ghost use Rattle.panel_core.specs.Turns.{outside_of};
-    ghost use Rattle.panel_core.specs.Stands.{PanelStands, MayTurn};
+    ghost use Rattle.panel_core.specs.Stands.{MayComeInForce, MayTurn, PanelStands};
 
     pub fn new(alloc: Global, site: &Site, panel: u8, kept: &Retained) -> Result<Parts, NoMemory>
         requires valid { IsValid site.now }
         requires member { IsPanel site.now.panels panel }
-        ensures { IfOk result (λ parts. PanelStands site.now kept.now panel [] parts) }
+        ensures { IfOk result (λ parts. PanelStands site.now kept.now [] panel [] parts) }
     {
         let poller = Poller::new(alloc, site, panel)?;
         let decide = Decide::new(alloc, site, panel, kept)?;
@@ -76,6 +78,19 @@ impl Parts {
                 self.hold.turn(now, &mut self.findings, &outside);
             }
             Task::Supply | Task::Desk | Task::Link | Task::Effect | Task::Drive | Task::Keep => {}
+        }
+    }
+
+    /// An operation was done at a panel of the site, in the tick that ends. It is in force from the next one on.
+    pub fn apply(&mut self, panel: u8, done: &DoneOperation, at: Tick)
+        requires { MayComeInForce panel (done_from at.0 done.now) self.old }
+        ensures { AppliesDone self.old panel (done_from at.0 done.now) self.new }
+    {
+        if done.panel == panel {
+            self.decide.apply(&done.operation, at);
+            self.hold.apply(&done.operation, at);
+        } else {
+            self.hold.apply_elsewhere(at);
         }
     }
 

@@ -1,10 +1,13 @@
 ghost use Rattle.std.specs.Prelude.{◌≡◌, [], ◌∷◌, List, IfOk};
 ghost use Rattle.site_types.specs.declared.retained.Retained.{Retained as RetainedOf};
 ghost use Rattle.site_types.specs.declared.site.Site.{Site as SiteOf};
+ghost use Rattle.site_types.specs.Changes.{IsSized};
 ghost use Rattle.site_types.specs.Valid.{IsValid};
 ghost use Rattle.panel_rules.specs.Moments.{Moment, tick_of};
 
 use crate::parts::Parts;
+use face_text::Answers;
+use operation_desk::{Desk, DoneOperation};
 use site_types::{Event, Retained, Site};
 use std::alloc::Global;
 use tick_units::{NoMemory, Order, Seat, Task, Tick};
@@ -15,18 +18,25 @@ pub struct System {
     pub(crate) site: Site,
     pub(crate) panels: Vec<Parts>,
     pub(crate) tick: Tick,
+    pub(crate) desk: Desk,
+    /// The settings that are in force.
+    pub(crate) settings: Retained,
 }
 
 impl System {
-    ghost use Rattle.panel_core.specs.Changes.{BeginsTick, MakesTurns, TakesEvent};
+    ghost use Rattle.panel_core.specs.Changes.{AppliesAllDone, AppliesToAll, BeginsTick, HasSameDesk, MakesTurns};
+    ghost use Rattle.panel_core.specs.Changes.{AnswersAsRuled, TakesEvent};
     ghost use Rattle.panel_core.specs.Lanes.{taken_by};
     ghost use Rattle.panel_core.specs.ShownZones.{ShowsCausedZones, ShowsDueZones, ShowsLoneSignals};
     ghost use Rattle.panel_core.specs.ShownZones.{ShowsOwnFirsts, ShowsOwnZones};
-    ghost use Rattle.panel_core.specs.Stands.{StandsFor, HasPanel, MayHappen, MayTurnAll, MayTurnSeat};
+    ghost use Rattle.panel_core.specs.Stands.{StandsFor, HasPanel, MayApplyAll, MayBegin, MayHappen};
+    ghost use Rattle.panel_core.specs.Stands.{MayTurnAll, MayTurnSeat};
+    ghost use Rattle.operation_desk.specs.Requests.{done_from};
 
     /// The panels of a site before its first tick.
     pub fn open(alloc: Global, site: Site, kept: &Retained) -> Result<System, NoMemory>
-        requires { IsValid site }
+        requires valid { IsValid site }
+        requires sized { IsSized kept.now }
         ensures { IfOk result (λ system. StandsFor site kept.now [] system) }
     {
         let mut panels = Vec::with_capacity(alloc, site.panels as usize)?;
@@ -37,13 +47,18 @@ impl System {
             site,
             panels,
             tick: Tick(0),
+            desk: Desk::new(),
+            settings: *kept,
         })
     }
 
-    /// A tick begins.
+    /// A tick begins, and what was done in the one that ends comes in force.
     pub fn begin(&mut self, tick: Tick)
+        requires { MayBegin self.old }
         ensures { BeginsTick self.old tick.0 self.new }
     {
+        self.apply_done();
+        self.desk.begin(tick);
         self.tick = tick;
     }
 
@@ -52,6 +67,7 @@ impl System {
         requires { MayHappen event.now self.old }
         ensures { TakesEvent self.old event.now self.new }
     {
+        self.desk.event(&self.site, event);
         match *event {
             Event::Point { point, state } => {
                 let panel = self.site.points.as_slice()[point as usize].panel;
@@ -90,11 +106,39 @@ impl System {
         ensures { MakesTurns self.old (seat ∷ []) self.new }
     {
         match seat.task {
-            Task::Keep => {}
+            Task::Keep => self.desk.keep(false),
+            Task::Desk => self.desk.turn(&self.site, &self.settings, seat.panel),
             task => {
                 let parts = &mut self.panels[seat.panel as usize - 1];
                 parts.turn(task, self.tick);
             }
+        }
+    }
+
+    // What was done in the tick that began last comes in force.
+    fn apply_done(&mut self)
+        requires { MayBegin self.old }
+        ensures applied { AppliesAllDone self.old self.new }
+        ensures same { HasSameDesk self.old self.new }
+    {
+        for place in 0..self.desk.done().len() {
+            let done = self.desk.done()[place];
+            self.apply(&done);
+        }
+    }
+
+    // An operation comes in force at each panel and in the settings.
+    fn apply(&mut self, done: &DoneOperation)
+        requires { MayApplyAll (done_from self.old.tick.0 done.now) self.old }
+        ensures applied { AppliesToAll self.old (done_from self.old.tick.0 done.now) self.new }
+        ensures same { HasSameDesk self.old self.new }
+    {
+        for before in 0..self.site.panels {
+            let parts = &mut self.panels[before as usize];
+            parts.apply(before + 1, done, self.tick);
+        }
+        if let Some(change) = self.site.change_of(done.panel, &done.operation) {
+            self.settings.apply(&change);
         }
     }
 
@@ -137,6 +181,13 @@ impl System {
     {
         let parts = &self.panels[panel as usize - 1];
         parts.hold.word().first
+    }
+
+    /// What was answered in the tick that began last.
+    pub fn answers(&self) -> &Answers
+        ensures { AnswersAsRuled self.now result.now }
+    {
+        self.desk.answers()
     }
 
     /// The tick that began last, 0 before the first.

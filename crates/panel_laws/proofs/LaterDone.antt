@@ -30,7 +30,7 @@ turn_by : (b : Bool) (here before : ℕ) → before ≤ here → (if b then here
 turn_by true here before l = omega arith
 turn_by false here before l = l
 
-turn_in_time : (panel : ℕ) (task : Task) (moments : List Moment) → latest_turn panel task moments ≤ tick_of moments
+pub turn_in_time : (panel : ℕ) (task : Task) (moments : List Moment) → latest_turn panel task moments ≤ tick_of moments
 turn_in_time panel task [] = omega arith
 turn_in_time panel task (Began ∷ before) = omega (arith, turn_in_time panel task before)
 turn_in_time panel task (Happened event ∷ before) = turn_in_time panel task before
@@ -93,11 +93,11 @@ same_done done tick = record { new = []; is = refl; from = tt }
 one_done : (before after : List Done) (tick : ℕ) (d : Done) → tick ≤ d.tick → Grew before after tick → Grew before (d ∷ after) tick
 one_done before after tick d le h = record { new = d ∷ h.new; is = ap (λ xs. d ∷ xs) h.is; from = (le, h.from) }
 
-from_both : (tick : ℕ) (xs ys : List Done) → AreFrom tick xs → AreFrom tick ys → AreFrom tick (xs ++ ys)
+pub from_both : (tick : ℕ) (xs ys : List Done) → AreFrom tick xs → AreFrom tick ys → AreFrom tick (xs ++ ys)
 from_both tick [] ys a b = b
 from_both tick (x ∷ xs) ys a b = (a.0, from_both tick xs ys a.1 b)
 
-join : (xs ys zs : List Done) → xs ++ (ys ++ zs) ≡ (xs ++ ys) ++ zs
+pub join : (xs ys zs : List Done) → xs ++ (ys ++ zs) ≡ (xs ++ ys) ++ zs
 join [] ys zs = refl
 join (x ∷ xs) ys zs = ap (λ ws. x ∷ ws) (join xs ys zs)
 

@@ -40,7 +40,7 @@ two : (a b c d : ℕ) → a ≡ c → b ≡ d → ◌≡◌ {A = List ℕ} (a �
 two a b c d p q = cc
 
 -- each thing of a valid site has a place of its own
-own_places : (site : Site) → IsValid site → HasOwnPlaces site
+pub own_places : (site : Site) → IsValid site → HasOwnPlaces site
 own_places site valid = record {
   point = λ i p is. let n = point_numbers site valid i p is in ((n.0, n.1), n.2);
   zone = λ i z is. let n = zone_numbers site valid i z is in ((n.0, n.1), (n.2, n.3));
@@ -87,7 +87,7 @@ changes site panel (Delays on) setting h e = record { change = DelaysChange pane
 changes site panel Clear setting h e = record { change = ClearChange panel; is = refl }
 
 -- what is on no setting is not kept
-unkept : (panel : ℕ) (operation : Operation) → operation_setting panel operation ≡ None → is_kept_operation operation ≡ false
+pub unkept : (panel : ℕ) (operation : Operation) → operation_setting panel operation ≡ None → is_kept_operation operation ≡ false
 unkept panel Mute e = refl
 unkept panel Override e = refl
 unkept panel Silence e = refl

@@ -1,5 +1,5 @@
 -- What a run stands for after each of its steps.
-use Rattle.std.proofs.Common.{◌≡◌, ◌∙◌, ◌+◌, ◌≤◌, ◌++◌, ℕ, Bool, true, false, List, [], ◌∷◌, length, Option, Some, None, refl, sym, subst, arith}
+use Rattle.std.proofs.Common.{◌≡◌, ◌∙◌, ◌+◌, ◌-◌, ◌^◌, ◌<◌, ◌≤◌, ◌++◌, ℕ, Bool, true, false, List, [], ◌∷◌, length, Option, Some, None, refl, sym, ap, subst, arith, lit<, lit≤}
 use Rattle.std.proofs.lemmas.List.Sorted.{IsPermutation-refl}
 use Rattle.tick_units.specs.declared.seat.Seat.{Seat}
 use Rattle.tick_units.specs.declared.task.Task.{Task}
@@ -7,17 +7,21 @@ use Rattle.tick_units.specs.declared.task.Task.TheVariants.{Keep}
 use Rattle.tick_units.specs.Orders.{IsOrder, canonical_seats}
 use Rattle.tick_units.specs.Ticks.{last_tick}
 use Rattle.site_types.specs.declared.event.Event.{Event}
+use Rattle.site_types.specs.declared.event.Event.TheVariants.{Point, Cable, Supply, Link, Confirmed, Op}
 use Rattle.site_types.specs.declared.retained.Retained.{Retained}
 use Rattle.site_types.specs.declared.site.Site.{Site}
 use Rattle.site_types.specs.Changes.{nothing_retained}
+use Rattle.site_types.specs.Valid.{IsValid}
 use Rattle.panel_rules.specs.Moments.{Moment, Began, Happened, TickBlock, IsRun, moments, and_events, and_turns, turn_of, tick_of}
+use Rattle.panel_rules.specs.Operations.{Request, and_request, requests}
 use Rattle.panel_rules.specs.Records.{AreOrdered}
 use Rattle.panel_rules.proofs.RecordRuns.{records_are_runs}
 use Rattle.panel_core.specs.declared.system.System.{System}
+use Rattle.panel_core.proofs.Orders.{turns_ask}
 use Rattle.panel_core.specs.Stands.{StandsFor as SystemStands, MayTurnAll, HasPanel}
 use Rattle.panel_program.specs.declared.run.Run.{Run}
 use Rattle.panel_program.specs.declared.shown.Shown.{Shown}
-use Rattle.panel_program.specs.Records.{Block, Progress, ticked, closed_by, with_event, new_block, moments_by}
+use Rattle.panel_program.specs.Records.{Block, Progress, at_beginning, ticked, closed_by, is_built_event, with_event, new_block, moments_by}
 use Rattle.panel_program.specs.Stands.{Stands, MayClose, ClosesBy, HasRun, after_close, order_by}
 use Rattle.panel_program.specs.Zones.{shown_after}
 
@@ -56,6 +60,27 @@ events_more (x ∷ events) event before = events_more events event (Happened x �
 
 -- ---- steps
 
+-- before the first tick
+pub opened : (site : Site) (kept : Retained) (run : Run) → IsValid site → site.panels ≡ 1 → kept ≡ nothing_retained
+    → SystemStands site kept [] run.system → run.is_open ≡ false → run.canonical ≡ canonical_seats site.panels → run.ticks ≡ 0
+    → ((before : List Moment) → SystemStands site nothing_retained before run.system → IsRun site.panels before
+    → run.shown ≡ shown_after site before) → Stands site at_beginning run
+opened site kept run valid one nothing stands shut canonical none shows =
+    let system = subst (λ k. SystemStands site k [] run.system) nothing stands in
+    record {
+      valid = valid;
+      one = one;
+      system = system;
+      open_is = shut;
+      canonical = canonical;
+      order_is = tt;
+      ordered = tt;
+      shown = shows [] system tt;
+      count = none;
+      few = (let start : 0 ≤ last_tick = lit≤ tt in start);
+      unasked = refl;
+    }
+
 -- a tick begins
 pub begun : (site : Site) (ticks : List TickBlock) (old : Run) (system : System) → Stands site (record { run = ticks; block = None }) old →
     SystemStands site nothing_retained (Began ∷ moments ticks) system → length ticks + 1 ≤ last_tick →
@@ -72,6 +97,7 @@ begun site ticks old system h stands few =
       shown = h.shown;
       count = h.count;
       few = omega (arith, few);
+      unasked = h.unasked;
     }
 
 pub not_open : {X : Type 0} → true ≡ false → X
@@ -80,12 +106,21 @@ not_open e = absurd (go e)
     go : true ≡ false → ⊥
     go e = cc
 
+-- what parts take is no operation
+not_asked : (site : Site) (tick : ℕ) (event : Event) (before : List Request) → is_built_event event ≡ true → and_request site tick event before ≡ before
+not_asked site tick (Point point state) before built = refl
+not_asked site tick (Cable panel line piece state) before built = refl
+not_asked site tick (Supply panel kind bad) before built = refl
+not_asked site tick (Link link up) before built = refl
+not_asked site tick (Confirmed output) before built = refl
+not_asked site tick (Op panel code operation) before built = absurd cc
+
 told_by : (site : Site) (ticks : List TickBlock) (o : Option Block) (old : Run) (event : Event) (system : System)
-    → Stands site (record { run = ticks; block = o }) old → old.is_open ≡ true →
+    → Stands site (record { run = ticks; block = o }) old → is_built_event event ≡ true → old.is_open ≡ true →
     SystemStands site nothing_retained (Happened event ∷ moments_by o ticks) system
     → Stands site (record { run = ticks; block = with_event event o }) (record old { system = system })
-told_by site ticks None old event system h open_is stands = not_open (sym open_is ∙ h.open_is)
-told_by site ticks (Some block) old event system h open_is stands =
+told_by site ticks None old event system h built open_is stands = not_open (sym open_is ∙ h.open_is)
+told_by site ticks (Some block) old event system h built open_is stands =
     record {
       valid = h.valid;
       one = h.one;
@@ -97,13 +132,18 @@ told_by site ticks (Some block) old event system h open_is stands =
       shown = h.shown;
       count = h.count;
       few = h.few;
+      unasked =
+          ap (requests site) (events_more block.events event (Began ∷ moments ticks))
+          ∙ not_asked site (tick_of (and_events block.events (Began ∷ moments ticks))) event _ built
+          ∙ h.unasked;
     }
 
 -- an event comes in an open tick
-pub told : (site : Site) (p : Progress) (old : Run) (event : Event) (system : System) → Stands site p old → old.is_open ≡ true →
+pub told : (site : Site) (p : Progress) (old : Run) (event : Event) (system : System) → Stands site p old → is_built_event event ≡ true
+    → old.is_open ≡ true →
     SystemStands site nothing_retained (Happened event ∷ moments_by p.block p.run) system
     → Stands site (record { run = p.run; block = with_event event p.block }) (record old { system = system })
-told site p old event system h open_is stands = told_by site p.run p.block old event system h open_is stands
+told site p old event system h built open_is stands = told_by site p.run p.block old event system h built open_is stands
 
 untold_by : (site : Site) (ticks : List TickBlock) (o : Option Block) (run : Run) (event : Event)
     → Stands site (record { run = ticks; block = o }) run → run.is_open ≡ false → Stands site (record { run = ticks; block = with_event event o }) run
@@ -114,6 +154,10 @@ untold_by site ticks (Some block) run event h shut = not_open (sym h.open_is ∙
 pub untold : (site : Site) (p : Progress) (run : Run) (event : Event) → Stands site p run → run.is_open ≡ false
     → Stands site (record { run = p.run; block = with_event event p.block }) run
 untold site p run event h shut = untold_by site p.run p.block run event h shut
+
+-- fewer than 2 ^ 64 operations were asked for
+pub few_asked : (site : Site) (p : Progress) (run : Run) → Stands site p run → length (requests site (moments_by p.block p.run)) < 2 ^ 64 - 1
+few_asked site p run h = let none = ap length h.unasked in let top : 0 < 2 ^ 64 - 1 = lit< tt in omega (arith, none, top)
 
 -- ---- the turns of a tick
 
@@ -205,6 +249,7 @@ closes_by site ticks (Some block) run system shown h turns shows =
       shown = shows (moments (ticked block ∷ ticks)) turned (records_are_runs site.panels (ticked block ∷ ticks) h.ordered).0;
       count = omega (arith, count);
       few = h.few;
+      unasked = turns_ask site false block.order (and_events block.events (Began ∷ moments ticks)) ∙ h.unasked;
     }
 
 -- the turns were made

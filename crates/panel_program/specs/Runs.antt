@@ -8,9 +8,11 @@ use Rattle.site_types.specs.declared.site.Site.{Site}
 use Rattle.site_types.specs.declared.zone.Zone.{Zone}
 use Rattle.site_types.specs.Bits.{has_bit}
 use Rattle.site_types.specs.Changes.{nothing_retained}
+use Rattle.site_types.specs.Done.{Done}
 use Rattle.panel_rules.specs.Moments.{TickBlock, moments}
 use Rattle.panel_rules.specs.Due.{IsDue}
 use Rattle.panel_rules.specs.Caused.{IsCausedAt}
+use Rattle.panel_core.specs.Applied.{done_so_far}
 use Rattle.panel_program.specs.declared.outcome.Outcome.{Outcome}
 use Rattle.panel_program.specs.declared.run.Run.{Run}
 use Rattle.panel_program.specs.declared.run_end.RunEnd.{RunEnd}
@@ -60,17 +62,21 @@ abbrev pub ReadsRecord : Site → List ℕ → Option (List ℕ) → Option (Lis
 ReadsRecord site bytes old new run (Ok end) = ReadsTo site bytes old new run end
 ReadsRecord site bytes old new run (Err failed) = ReadsUntil site bytes old new run
 
+-- the operations that were done in these ticks; nothing was retained
+abbrev pub done_in_ticks : Site → List TickBlock → List Done
+done_in_ticks site ticks = done_so_far site nothing_retained (moments ticks)
+
 -- At the end of each of these ticks, the newest first, each zone of panel 1 that is due is shown in alarm,
 -- and none is shown that isn't caused.
 pub record KeepsPromises (site : Site) (ticks : List TickBlock) : Type 0 where
   pub due : (later earlier : List TickBlock) (zone : ℕ) (plan : Zone) → ticks ≡ later ++ earlier
       → slice_get site.zones zone ≡ Some plan → plan.panel ≡ 1
-      → IsDue site nothing_retained [] (moments earlier) zone 1
+      → IsDue site nothing_retained (done_in_ticks site earlier) (moments earlier) zone 1
       → has_bit (shown_after site (moments earlier)).alarm (plan.number - 1) ≡ true
   pub caused : (later earlier : List TickBlock) (zone : ℕ) (plan : Zone) → ticks ≡ later ++ earlier
       → slice_get site.zones zone ≡ Some plan → plan.panel ≡ 1
       → has_bit (shown_after site (moments earlier)).alarm (plan.number - 1) ≡ true
-      → IsCausedAt site nothing_retained [] (moments earlier) zone (length earlier)
+      → IsCausedAt site nothing_retained (done_in_ticks site earlier) (moments earlier) zone (length earlier)
 
 -- the run read these bytes and ended so: it wrote the text of their ticks and the last line, or a front of
 -- that with a write fault

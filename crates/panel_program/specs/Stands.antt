@@ -1,6 +1,6 @@
 -- What a run stands for, after some lines of its record.
-use Rattle.std.specs.Prelude.{◌≡◌, ◌+◌, ◌≤◌, ℕ, true, false, List, ◌++◌, length, take, Option, Some, None, Result, Ok}
-use Rattle.std.specs.Prelude.{Err, is_some}
+use Rattle.std.specs.Prelude.{◌≡◌, ◌+◌, ◌≤◌, ℕ, true, false, List, [], ◌++◌, length, take, Option, Some, None}
+use Rattle.std.specs.Prelude.{Result, Ok, Err, is_some}
 use Rattle.std.specs.List.{list_all}
 use Rattle.tick_units.specs.declared.seat.Seat.{Seat}
 use Rattle.tick_units.specs.Orders.{canonical_seats}
@@ -22,6 +22,7 @@ use Rattle.record_lines.specs.Lines.{ends_with, reading_of}
 use Rattle.record_lines.specs.Stands.{StandsFor as ReadsFor}
 use Rattle.panel_edges.specs.declared.failed.Failed.{Failed}
 use Rattle.panel_rules.specs.Moments.{TickBlock, moments}
+use Rattle.panel_rules.specs.Operations.{requests}
 use Rattle.panel_rules.specs.Records.{AreOrdered}
 use Rattle.panel_core.specs.Stands.{StandsFor as SystemStands}
 use Rattle.panel_program.specs.declared.run.Run.{Run}
@@ -57,6 +58,8 @@ pub record Stands (site : Site) (p : Progress) (run : Run) : Type 0 where
   pub shown : run.shown ≡ shown_after site (moments p.run)
   pub count : run.ticks ≡ length p.run
   pub few : length (closed p) ≤ last_tick
+  -- no part takes an operation yet
+  pub unasked : requests site (moments_in p) ≡ []
 
 abbrev pub StandsAtBeginning : Run → Type 0
 StandsAtBeginning run = (site : Site) × Stands site at_beginning run
@@ -65,6 +68,12 @@ pub record StandsSome (run : Run) : Type 0 where
   pub site : Site
   pub p : Progress
   pub stands : Stands site p run
+
+-- it stands for ticks of which none is open
+pub record StandsClosed (run : Run) : Type 0 where
+  pub site : Site
+  pub ticks : List TickBlock
+  pub stands : Stands site (record { run = ticks; block = None }) run
 
 -- a tick began behind those that were run, of which none was open
 abbrev pub OpensTick : ℕ → Run → Run → Type 0

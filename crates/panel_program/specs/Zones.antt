@@ -8,15 +8,17 @@ use Rattle.face_text.specs.Changes.{changes_text as lines_of_changes}
 use Rattle.face_text.specs.Faces.{empty_face}
 use Rattle.panel_rules.specs.Moments.{Moment}
 use Rattle.panel_rules.specs.Zones.{holds_alarm, holds_first}
+use Rattle.panel_core.specs.Applied.{done_so_far}
 use Rattle.panel_program.specs.declared.shown.Shown.{Shown}
 
--- after these moments panel 1 shows its zones in alarm and those in first state; nothing was retained, and no
--- operation was done
+-- after these moments panel 1 shows its zones in alarm and those in first state; nothing was retained
 abbrev pub shown_after : Site → List Moment → Shown
 shown_after site before =
     record {
-      alarm = zones_where site 1 (λ zone. holds_alarm site nothing_retained [] 1 before zone);
-      first = zones_where site 1 (λ zone. holds_first site nothing_retained [] 1 before zone);
+      alarm = zones_where site 1
+          (λ zone. holds_alarm site nothing_retained (done_so_far site nothing_retained before) 1 before zone);
+      first = zones_where site 1
+          (λ zone. holds_first site nothing_retained (done_so_far site nothing_retained before) 1 before zone);
     }
 
 -- a panel that shows nothing

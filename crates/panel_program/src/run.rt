@@ -4,7 +4,8 @@ ghost use Rattle.panel_edges.specs.Contents.{Grows, GrowsByFront};
 ghost use Rattle.panel_edges.specs.Faults.{HasCause};
 ghost use Rattle.panel_program.specs.Records.{Progress, at_beginning, closed, is_built_event};
 ghost use Rattle.panel_program.specs.Records.{with_order};
-ghost use Rattle.panel_program.specs.Stands.{MayClose, MayHappen as MayTell, MayTake, MayCome, Stands, StandsSome};
+ghost use Rattle.panel_program.specs.Stands.{MayClose, MayHappen as MayTell, MayTake, MayCome, Stands, StandsClosed};
+ghost use Rattle.panel_program.specs.Stands.{StandsSome};
 ghost use Rattle.panel_program.specs.Stands.{Closes, OpensTick, Takes, TellsEvent, after_close, order_by};
 ghost use Rattle.panel_core.specs.Changes.{MakesTurns};
 ghost use Rattle.panel_program.specs.Ticks.{text_of};
@@ -127,6 +128,7 @@ impl Run {
     }
 
     fn begin(&mut self, tick: Tick)
+        requires { StandsClosed self.old }
         ensures { OpensTick tick.0 self.old self.new }
     {
         self.system.begin(tick);

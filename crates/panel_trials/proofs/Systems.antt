@@ -1,15 +1,18 @@
 -- What each call of a system that is driven tick by tick leaves it with.
-use Rattle.std.proofs.Common.{◌≡◌, ℕ, ◌<◌, List, [], ◌∷◌, true, false, refl, sym, subst, arith}
+use Rattle.std.proofs.Common.{◌≡◌, ◌∙◌, ◌-◌, ◌^◌, ◌<◌, ℕ, List, [], ◌∷◌, true, false, length, refl, sym, ap, subst, arith, lit<}
 use Rattle.tick_units.specs.declared.seat.Seat.{Seat}
 use Rattle.tick_units.specs.Orders.{IsOrder}
 use Rattle.site_types.specs.declared.event.Event.{Event}
+use Rattle.site_types.specs.declared.event.Event.TheVariants.{Point}
+use Rattle.site_types.specs.declared.point_state.PointState.{PointState}
 use Rattle.site_types.specs.declared.retained.Retained.{Retained}
 use Rattle.site_types.specs.declared.site.Site.{Site}
 use Rattle.site_types.specs.Events.{has_event}
 use Rattle.panel_rules.specs.Moments.{Began, Happened, IsRun, and_turns, tick_of}
 use Rattle.panel_rules.proofs.RecordRuns.{Fresh, order_run, all_turned}
 use Rattle.panel_core.specs.declared.system.System.{System}
-use Rattle.panel_core.specs.Stands.{StandsFor, HasPanel, MayHappen, MayTurnAll}
+use Rattle.panel_core.proofs.Orders.{turns_ask}
+use Rattle.panel_core.specs.Stands.{StandsFor, HasPanel, MayBegin, MayHappen, MayTurnAll}
 use Rattle.panel_trials.specs.SystemTicks.{IsBetween, HasBegun}
 
 pub opens : (site : Site) (kept : Retained) (system : System) → StandsFor site kept [] system → IsBetween site.panels system
@@ -22,6 +25,7 @@ opens site kept system stands = record {
   run = tt;
   all =
       record { each = λ panel task p t. refl; keep = refl };
+  unasked = refl;
 }
 
 pub begins : (panels : ℕ) (system after : System) (h : IsBetween panels system) → tick_of h.before < 1000000
@@ -38,18 +42,25 @@ begins panels system after h few stands =
       unturned = λ panel task. refl;
       unkept = refl;
       few = omega (arith, few);
+      unasked = h.unasked;
     }
 
-pub may_happen : (panels : ℕ) (system : System) (event : Event) (h : HasBegun panels system) → has_event h.site event ≡ true → MayHappen event system
-may_happen panels system event h has = record { site = h.site; kept = h.kept; before = h.before; stands = h.stands; has = has }
+pub may_begin : (panels : ℕ) (system : System) → IsBetween panels system → MayBegin system
+may_begin panels system h = record { site = h.site; kept = h.kept; before = h.before; stands = h.stands; run = (h.run, h.all) }
 
-pub happens : (panels : ℕ) (system after : System) (event : Event) (h : HasBegun panels system)
-    → StandsFor h.site h.kept (Happened event ∷ h.before) after → HasBegun panels after
-happens panels system after event h stands =
+pub may_happen : (panels : ℕ) (system : System) (event : Event) (h : HasBegun panels system) → has_event h.site event ≡ true → MayHappen event system
+may_happen panels system event h has =
+    let none = ap length h.unasked in
+    let top : 0 < 2 ^ 64 - 1 = lit< tt in
+    record { site = h.site; kept = h.kept; before = h.before; stands = h.stands; has = has; few = omega (arith, none, top) }
+
+pub happens : (panels : ℕ) (system after : System) (point : ℕ) (state : PointState) (h : HasBegun panels system)
+    → StandsFor h.site h.kept (Happened (Point point state) ∷ h.before) after → HasBegun panels after
+happens panels system after point state h stands =
     record {
       site = h.site;
       kept = h.kept;
-      before = Happened event ∷ h.before;
+      before = Happened (Point point state) ∷ h.before;
       stands = stands;
       same = h.same;
       run = (h.run, h.fresh);
@@ -57,6 +68,7 @@ happens panels system after event h stands =
       unturned = h.unturned;
       unkept = h.unkept;
       few = h.few;
+      unasked = h.unasked;
     }
 
 fresh : (panels : ℕ) (system : System) (h : HasBegun panels system) → Fresh h.site.panels h.before
@@ -93,6 +105,7 @@ ends panels system after order h ordered stands =
       same = h.same;
       run = turns_run panels system order h ordered;
       all = all_turned h.site.panels false h.before (fresh panels system h) order (order_of panels system order h ordered);
+      unasked = turns_ask h.site false order h.before ∙ h.unasked;
     }
 
 pub has_first : (panels : ℕ) (system : System) → IsBetween panels system → HasPanel 1 system

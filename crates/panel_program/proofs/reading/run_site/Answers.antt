@@ -40,3 +40,6 @@ returns-clause-ran g c =
     (λ bytes r. ran_until c.args.site bytes old mid new c.read_record.new.run outcome c.requires.valid (ap (λ (o : Outcome). o.status) told)
     (ap (λ (o : Outcome). o.ticks) told ∙ c.ticks-in-Err.ensures) (c.in-Ok-write_opening.ensures.ok c.args.site c.in-Ok.ensures) r)
     (c.in-Err.ensures.reads c.args.site (c.write_opening.ensures.stands c.args.site c.in-Ok.ensures))
+
+pub read_record-requires : goal.read_record-requires
+read_record-requires g c = (c.args.site, c.write_opening.ensures.stands c.args.site c.in-Ok.ensures)

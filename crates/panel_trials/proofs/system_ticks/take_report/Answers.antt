@@ -15,5 +15,5 @@ event-requires c =
 pub returns : goal.returns
 returns c =
     let h = c.requires in
-    happens c.args.panels c.args.system.now c.event.new.self (Point c.args.report.now.point c.args.report.now.state) h
+    happens c.args.panels c.args.system.now c.event.new.self c.args.report.now.point c.args.report.now.state h
     (c.event.ensures h.site h.kept h.before h.stands)

@@ -1,4 +1,4 @@
-use Rattle.std.proofs.Common.{◌∷◌, [], subst, sym}
+use Rattle.std.proofs.Common.{◌∷◌, subst, sym}
 use Rattle.tick_units.specs.Lane.{HasRoom}
 use Rattle.panel_rules.specs.Moments.{IsRun, Turned}
 use Rattle.panel_core.specs.Lanes.{decided}
@@ -18,35 +18,37 @@ turn-requires-clause-room c =
     (subst (λ task. IsRun r.site.panels (Turned r.panel task ∷ r.before)) c.in-Poll.is r.run))
 
 pub returns-in-Poll : goal.returns-in-Poll
-returns-in-Poll c site kept panel before h now run =
+returns-in-Poll c site kept done panel before h past now run =
     rw c.in-Poll.is
-    (after_poll site kept panel before c.args.self.now c.turn.new.answers c.args.now.0 h now (c.turn.ensures.asked site panel _ h.polls))
+    (after_poll site kept done panel before c.args.self.now c.turn.new.answers c.args.now.0 h now (c.turn.ensures.asked site panel _ h.polls))
 
 pub turn-requires-in-Decide-clause-room : goal.turn-requires-in-Decide-clause-room
 turn-requires-in-Decide-clause-room c =
     let r = c.requires in
     subst (λ lane. HasRoom lane 32) (sym r.stands.findings)
-    (room_for_decide r.site r.panel r.before r.stands.member r.few r.kept []
+    (room_for_decide r.site r.panel r.before r.stands.member r.few r.kept r.done
     (subst (λ task. IsRun r.site.panels (Turned r.panel task ∷ r.before)) c.in-Decide.is r.run))
 
 pub turn-requires-in-Decide-clause-may : goal.turn-requires-in-Decide-clause-may
-turn-requires-in-Decide-clause-may c = let r = c.requires in can_take r.site r.kept r.panel r.before c.args.self.now r.stands r.run.0
+turn-requires-in-Decide-clause-may c = let r = c.requires in can_take r.site r.kept r.done r.panel r.before c.args.self.now r.stands
+    (subst (λ task. IsRun r.site.panels (Turned r.panel task ∷ r.before)) c.in-Decide.is r.run) r.past
 
 pub returns-in-Decide : goal.returns-in-Decide
-returns-in-Decide c site kept panel before h now run =
+returns-in-Decide c site kept done panel before h past now run =
     let e = c.turn-in-Decide.ensures in
     rw c.in-Decide.is
-    (after_decide site kept panel before c.args.self.now c.turn-in-Decide.new.self c.turn-in-Decide.new.answers c.turn-in-Decide.new.findings h run.0
-    e.answers (e.taken site kept panel [] (decided site panel before)) (e.findings site kept panel [] (decided site panel before)))
+    (after_decide site kept done panel before c.args.self.now c.turn-in-Decide.new.self c.turn-in-Decide.new.answers c.turn-in-Decide.new.findings h
+    (subst (λ task. IsRun site.panels (Turned panel task ∷ before)) c.in-Decide.is run) past
+    e.answers (e.taken site kept panel done (decided site panel before)) (e.findings site kept panel done (decided site panel before)))
 
 pub returns-in-Hold : goal.returns-in-Hold
-returns-in-Hold c site kept panel before h now run =
+returns-in-Hold c site kept done panel before h past now run =
     let e = c.turn-in-Hold.ensures in
     rw c.in-Hold.is
-    (after_hold site kept panel before c.args.self.now c.turn-in-Hold.new.self c.turn-in-Hold.new.findings c.outside-outside.result c.args.now.0 h now
+    (after_hold site kept done panel before c.args.self.now c.turn-in-Hold.new.self c.turn-in-Hold.new.findings c.outside-outside.result c.args.now.0 h past now
     (subst (λ task. IsRun site.panels (Turned panel task ∷ before)) c.in-Hold.is run)
     (c.outside-outside.ensures site panel (reports site panel before) h.polls) e.lane
-    (e.stands site kept panel [] (hold_turns site kept [] panel before)))
+    (e.stands site kept panel done (hold_turns site kept done panel before)))
 
 pub returns-in-Supply : goal.returns-in-Supply
-returns-in-Supply c site kept panel before h now run = after_idle site kept panel before c.args.self.now c.args.task c.in-Supply.is h
+returns-in-Supply c site kept done panel before h past now run = after_idle site kept done panel before c.args.self.now c.args.task c.in-Supply.is h

@@ -1,14 +1,8 @@
-use Rattle.std.proofs.Common.{◌+◌}
-use Rattle.panel_core.proofs.Panels.{after_begin}
+use Rattle.panel_core.proofs.Begun.{begun}
 use Rattle.panel_core.proofs.system.System.begin.Goals as goal
 
 pub returns : goal.returns
-returns c site kept before h tick =
-    record {
-      valid = h.valid;
-      same = h.same;
-      tick = tick;
-      count = h.count;
-      each =
-          λ place parts is. after_begin site kept (place + 1) before parts (h.each place parts is);
-    }
+returns c site kept before h tick run =
+    begun site kept before c.args.self.now h run c.apply_done.new.self c.begin.new.self c.args.tick tick
+    (c.apply_done.ensures.applied site kept before h run)
+    (c.begin.ensures site kept before (rw c.apply_done.ensures.same.0 h.desk) tick)

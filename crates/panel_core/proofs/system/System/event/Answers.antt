@@ -1,7 +1,12 @@
 use Rattle.std.proofs.Common.{◌∙◌, inl, inr, sym, ap, arith}
 use Rattle.site_types.specs.Events.{has_event}
-use Rattle.panel_core.proofs.Events.{point_panel, point_done, piece_read, piece_done, panel_read, other_done}
+use Rattle.panel_core.proofs.Events.{can_hear, desk_after, point_panel, point_done, piece_read, piece_done, panel_read, other_done}
 use Rattle.panel_core.proofs.system.System.event.Goals as goal
+
+pub event-requires : goal.event-requires
+event-requires c =
+    let r = c.requires in
+    can_hear r.site c.args.self.now.site r.kept r.before c.args.self.now c.args.event.now r.stands r.stands.same r.has r.few
 
 pub set_point-requires : goal.set_point-requires
 set_point-requires c =
@@ -37,9 +42,10 @@ returns-in-Point c site kept before h =
     let has = ap (λ s. has_event s c.args.event.now) same ∙ r.has in
     let p = point_panel site kept before system c.args.event.now c.in-Point.point c.in-Point.state c.as_slice.result.now c.index-as_slice-point.result
     c.index_mut-parts.result.now h has c.in-Point.is c.as_slice.ensures c.index-as_slice-point.is c.index_mut-parts.ensures.value in
-    point_done site kept before system c.args.event.now c.in-Point.point c.in-Point.state c.as_slice.result.now c.index-as_slice-point.result
-    c.index_mut-parts.result.now c.set_point.new.self h c.in-Point.is c.index-as_slice-point.is p
-    (c.set_point.ensures site kept _ before p.stands p.read.there)
+    let after = desk_after site system.site kept before system c.args.event.now c.event.new.self h h.same has (c.event.ensures kept before) in
+    point_done site kept before system c.event.new.self c.args.event.now c.in-Point.point c.in-Point.state c.as_slice.result.now c.index-as_slice-point.result
+    c.index_mut-parts.result.now c.set_point.new.self h after c.in-Point.is c.index-as_slice-point.is p
+    (c.set_point.ensures site kept _ _ before p.stands p.read.there)
 
 pub returns-in-Cable : goal.returns-in-Cable
 returns-in-Cable c site kept before h =
@@ -49,23 +55,27 @@ returns-in-Cable c site kept before h =
     let same = sym h.same ∙ r.stands.same in
     let has = ap (λ s. has_event s c.args.event.now) same ∙ r.has in
     let line = piece_read site c.args.event.now i.panel i.line i.piece i.state h.valid has i.is in
-    piece_done site kept before system c.args.event.now i.panel i.line i.piece i.state c.set_piece.new.self h i.is line.member
-    (c.set_piece.ensures site kept i.panel before (panel_read site kept before system i.panel c.index_mut-parts-in-Cable.result.now h line.member
+    let after = desk_after site system.site kept before system c.args.event.now c.event.new.self h h.same has (c.event.ensures kept before) in
+    piece_done site kept before system c.event.new.self c.args.event.now i.panel i.line i.piece i.state c.set_piece.new.self h after i.is line.member
+    (c.set_piece.ensures site kept _ i.panel before (panel_read site kept before system i.panel c.index_mut-parts-in-Cable.result.now h line.member
     c.index_mut-parts-in-Cable.ensures.value))
 
 pub returns-in-Supply : goal.returns-in-Supply
 returns-in-Supply c site kept before h =
     let system = c.args.self.now in
     let event = c.args.event.now in
+    let same = sym h.same ∙ c.requires.stands.same in
+    let has = ap (λ s. has_event s event) same ∙ c.requires.has in
+    let after = desk_after site system.site kept before system event c.event.new.self h h.same has (c.event.ensures kept before) in
     elim c.in-Supply.is [
-      | inl a ↦ other_done site kept before system event _ h a.3 tt
+      | inl a ↦ other_done site kept before system c.event.new.self event _ h after a.3 tt
       | inr a ↦
           elim a [
-            | inl b ↦ other_done site kept before system event _ h b.2 tt
+            | inl b ↦ other_done site kept before system c.event.new.self event _ h after b.2 tt
             | inr b ↦
                 elim b [
-                  | inl d ↦ other_done site kept before system event _ h d.1 tt
-                  | inr d ↦ other_done site kept before system event _ h d.3 tt
+                  | inl d ↦ other_done site kept before system c.event.new.self event _ h after d.1 tt
+                  | inr d ↦ other_done site kept before system c.event.new.self event _ h after d.3 tt
                 ]
           ]
     ]

@@ -1,5 +1,5 @@
 use Rattle.std.proofs.Common.{refl, arith}
-use Rattle.panel_core.proofs.Panels.{panel_added, panels_counted}
+use Rattle.panel_core.proofs.Whole.{panel_added, panels_counted}
 use Rattle.panel_core.proofs.system.System.open.Goals as goal
 
 pub loop-before-preserved : goal.loop-before-preserved
@@ -17,9 +17,13 @@ loop-before-preserved c =
 pub returns : goal.returns
 returns c =
     record {
-      valid = c.requires;
+      valid = c.requires.valid;
       same = refl;
       tick = refl;
       count = (let count = c.loop-before.invariant.count in omega (arith, count));
       each = c.loop-before.invariant.each;
+      events = tt;
+      desk = c.new-2.ensures c.args.site c.args.kept.now;
+      settings = λ setting is. refl;
+      sized = c.requires.sized;
     }

@@ -9,5 +9,5 @@ abbrev pub invariant-loop-before : goal.invariant-loop-before
 invariant-loop-before l =
     record {
       count : length l.panels.items ≡ l.before;
-      each : (place : ℕ) (parts : Parts) → slice_get l.panels.items place ≡ Some parts → PanelStands l.site l.kept (place + 1) [] parts;
+      each : (place : ℕ) (parts : Parts) → slice_get l.panels.items place ≡ Some parts → PanelStands l.site l.kept [] (place + 1) [] parts;
     }

@@ -1,7 +1,11 @@
-use Rattle.std.proofs.Common.{false, ◌-◌, ◌∷◌, subst, sym, arith}
+use Rattle.std.proofs.Common.{◌∙◌, ◌-◌, ◌∷◌, subst, sym, arith}
 use Rattle.std.proofs.lemmas.Option.{slice_get_read}
 use Rattle.panel_rules.specs.Moments.{IsRun}
-use Rattle.panel_core.proofs.Panels.{seat_panel, turn_is, panel_at, stands_after_turn, stands_after_keep}
+use Rattle.panel_core.specs.Applied.{applied}
+use Rattle.panel_core.proofs.Applied.{applied_past}
+use Rattle.panel_core.proofs.DeskTurns.{can_keep, can_turn, desk_turn, keep_turn}
+use Rattle.panel_core.proofs.Panels.{seat_panel, turn_is}
+use Rattle.panel_core.proofs.Whole.{panel_at, stands_after_turn}
 use Rattle.panel_core.proofs.system.System.turn_of.Goals as goal
 
 pub overflow_sub-seat : goal.overflow_sub-seat
@@ -11,8 +15,31 @@ pub index_mut-parts-requires : goal.index_mut-parts-requires
 index_mut-parts-requires c = let p = seat_panel c.requires.site.panels c.args.seat c.requires.known c.in_default.not-Keep in let count =
     c.requires.stands.count in omega (arith, p.0, p.1, count)
 
+pub keep-requires : goal.keep-requires
+keep-requires c =
+    let r = c.requires in
+    can_keep r.site r.kept r.before c.args.self.now r.stands (rw c.in-Keep.is at r.run)
+
+pub returns-in-Keep : goal.returns-in-Keep
+returns-in-Keep c site kept before h =
+    rw c.in-Keep.is (λ run. keep_turn site kept before c.args.self.now h c.keep.new.self run (c.keep.ensures site kept before))
+
 pub turn-requires : goal.turn-requires
 turn-requires c =
+    let r = c.requires in
+    can_turn r.site r.kept r.before c.args.self.now r.stands c.args.seat.panel
+    (seat_panel r.site.panels c.args.seat r.known (λ keep. (let no_way = sym c.in-Desk.is ∙ keep in cc))) (rw c.in-Desk.is at r.run)
+
+pub returns-in-Desk : goal.returns-in-Desk
+returns-in-Desk c site kept before h =
+    let count = c.requires.stands.count in
+    let here = h.count in
+    let p = seat_panel c.requires.site.panels c.args.seat c.requires.known (λ keep. (let no_way = sym c.in-Desk.is ∙ keep in cc)) in
+    rw c.in-Desk.is (λ run. desk_turn site kept before c.args.self.now h c.args.seat.panel c.turn.new.self
+    (p.0, omega (arith, p.1, count, here)) run (c.turn.ensures kept before))
+
+pub turn-requires-in_default : goal.turn-requires-in_default
+turn-requires-in_default c =
     let r = c.requires in
     let seat = c.args.seat in
     let system = c.args.self.now in
@@ -23,9 +50,11 @@ turn-requires c =
     record {
       site = r.site;
       kept = r.kept;
+      done = applied r.site r.kept r.before;
       panel = seat.panel;
       before = r.before;
       stands = panel_at r.site r.kept r.before system seat.panel c.index_mut-parts.result.now r.stands p.0 at;
+      past = applied_past r.site r.kept r.before;
       run = subst (λ moment. IsRun r.site.panels (moment ∷ r.before)) (turn_is seat.panel seat.task c.in_default.not-Keep) r.run;
       now = r.stands.tick;
       few = r.few;
@@ -38,10 +67,8 @@ returns-in_default c site kept before h run =
     let p = seat_panel c.requires.site.panels seat c.requires.known c.in_default.not-Keep in
     let at = slice_get_read system.panels.items c.requires.site.panels (seat.panel - 1) c.index_mut-parts.result.now (sym c.requires.stands.count)
     (omega (arith, p.0, p.1)) c.index_mut-parts.ensures.value in
-    let turned = c.turn.ensures site kept seat.panel before (panel_at site kept before system seat.panel c.index_mut-parts.result.now h p.0 at) h.tick
+    let turned = c.turn-in_default.ensures site kept (applied site kept before) seat.panel before
+    (panel_at site kept before system seat.panel c.index_mut-parts.result.now h p.0 at) (applied_past site kept before) h.tick
     (subst (λ moment. IsRun site.panels (moment ∷ before)) (turn_is seat.panel seat.task c.in_default.not-Keep) run) in
     rw (turn_is seat.panel seat.task c.in_default.not-Keep)
-    (stands_after_turn site kept before system seat.panel seat.task c.turn.new.self h p.0 turned)
-
-pub returns-in-Keep : goal.returns-in-Keep
-returns-in-Keep c site kept before h = rw c.in-Keep.is (λ run. stands_after_keep site kept before c.args.self.now false h)
+    (stands_after_turn site kept before system seat.panel seat.task c.turn-in_default.new.self h p.0 c.in_default.not-Desk turned)

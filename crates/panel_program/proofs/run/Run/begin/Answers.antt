@@ -1,11 +1,24 @@
 use Rattle.std.proofs.Common.{arith}
 use Rattle.site_types.specs.Changes.{nothing_retained}
 use Rattle.panel_rules.specs.Moments.{moments}
+use Rattle.panel_rules.proofs.RecordRuns.{records_are_runs}
 use Rattle.panel_program.proofs.Stood.{begun, tick_moments}
 use Rattle.panel_program.proofs.run.Run.begin.Goals as goal
+
+pub begin-requires : goal.begin-requires
+begin-requires c =
+    let r = c.requires in
+    record {
+      site = r.site;
+      kept = nothing_retained;
+      before = moments r.ticks;
+      stands = r.stands.system;
+      run = records_are_runs r.site.panels r.ticks r.stands.ordered;
+    }
 
 pub returns : goal.returns
 returns c site ticks h tick few =
     let count = tick_moments ticks in
-    begun site ticks c.args.self.now c.begin.new.self h (c.begin.ensures site nothing_retained (moments ticks) h.system (omega (arith, tick, count)))
+    begun site ticks c.args.self.now c.begin.new.self h
+    (c.begin.ensures site nothing_retained (moments ticks) h.system (omega (arith, tick, count)) (records_are_runs site.panels ticks h.ordered))
     (omega (arith, tick, few))

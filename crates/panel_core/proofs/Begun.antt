@@ -1,0 +1,189 @@
+-- When a tick begins, what was done in the one that ends comes in force: one operation after another, at each panel and
+-- in the settings.
+use Rattle.std.proofs.Common.{◌≡◌, ℕ, ◌+◌, ◌<◌, ◌≤◌, ◌&&◌, List, [], ◌∷◌, length, take, Option, Some, None, slice_get, slice_set, inl, inr, false, refl, sym, ◌∙◌, ap, subst, arith, if◌then◌else◌}
+use Rattle.std.specs.Prelude.{nat_lt}
+use Rattle.std.proofs.lemmas.List.{take_all}
+use Rattle.std.proofs.lemmas.Option.{slice_get_within}
+use Rattle.tick_units.specs.declared.tick.Tick.{Tick}
+use Rattle.site_types.specs.declared.change.Change.{Change}
+use Rattle.site_types.specs.declared.retained.Retained.{Retained}
+use Rattle.site_types.specs.declared.site.Site.{Site}
+use Rattle.site_types.specs.Changes.{CanApply, IsPanelNumber, IsSized, changed, operation_change}
+use Rattle.site_types.specs.Done.{Done, Setting, AreBy, in_force, is_kept_operation, is_on, operation_setting, value_set}
+use Rattle.site_types.specs.Valid.{IsValid}
+use Rattle.site_types.proofs.Changes.{can_apply, sized-changed}
+use Rattle.site_types.proofs.Done.{in_force-later, lt_true}
+use Rattle.site_types.proofs.Settled.{keeps-change, keeps-other}
+use Rattle.coincidence_rules.proofs.Lists.{get_set}
+use Rattle.operation_desk.specs.declared.desk.Desk.{Desk}
+use Rattle.operation_desk.specs.declared.done_operation.DoneOperation.{DoneOperation}
+use Rattle.operation_desk.specs.Replies.{AreInForce, TellsOpen}
+use Rattle.operation_desk.specs.Requests.{done_from, with_done}
+use Rattle.operation_desk.specs.Stands.{DesksFor}
+use Rattle.panel_laws.proofs.StoredSettings.{changes, own_places, unkept}
+use Rattle.panel_rules.specs.Moments.{Moment, Began, IsRun, tick_of}
+use Rattle.panel_rules.specs.Operations.{operations}
+use Rattle.panel_core.specs.declared.parts.Parts.{Parts}
+use Rattle.panel_core.specs.declared.system.System.{System}
+use Rattle.panel_core.specs.Applied.{MayBeApplied, done_so_far}
+use Rattle.panel_core.specs.Stands.{AreBefore, HasApplied, PanelStands, StandsFor}
+use Rattle.panel_core.proofs.Applied.{applied_begun, applied_is_older, before_by, by_tick, done_in_front, next_may_be_applied, with_done_more}
+use Rattle.panel_core.proofs.Panels.{after_begin}
+
+-- ---- settings
+
+-- what was done before a tick sets the same in it and in the next one
+past_force : (site : Site) (kept : Retained) (setting : Setting) (tick : ℕ) (done : List Done) → AreBefore tick done
+    → in_force site kept setting tick done ≡ in_force site kept setting (tick + 1) done
+past_force site kept setting tick [] past = refl
+past_force site kept setting tick (d ∷ done) past =
+    let now = past.0 in
+    ap (λ b. if is_on setting d && b then value_set d.operation else in_force site kept setting tick done)
+    (lt_true d.tick tick past.0 ∙ sym (lt_true d.tick (tick + 1) (omega (arith, now))))
+    ∙ ap (λ v. if is_on setting d && nat_lt d.tick (tick + 1) then value_set d.operation else v) (past_force site kept setting tick done past.1)
+
+module _ (site : Site) (kept : Retained) (before : List Moment) (done : List Done) (d : Done) (valid : IsValid site) (settings : Retained)
+    (sized : IsSized settings) (may : MayBeApplied site before done d) (h : AreInForce site kept (tick_of before + 1) done settings) where
+  number : IsPanelNumber d.panel
+  number = (let at = may.at in let few = valid.forms.panels.1 in (at.0, omega (arith, at.1, few)))
+
+  soon : d.tick < tick_of before + 1
+  soon = (let now = may.now in omega (arith, now))
+
+  -- one that changes nothing of the settings
+  pub settings_left : operation_change site d.panel d.operation ≡ None → AreInForce site kept (tick_of before + 1) (d ∷ done) settings
+  settings_left none =
+      keeps-other site kept done (tick_of before + 1) settings d soon (unset (operation_setting d.panel d.operation) refl) h
+    where
+      unset : (o : Option Setting) → operation_setting d.panel d.operation ≡ o → is_kept_operation d.operation ≡ false
+      unset None e = unkept d.panel d.operation e
+      unset (Some setting) e = (let made = changes site d.panel d.operation setting may.has e in let no_way = sym none ∙ made.is in cc)
+
+  -- one that makes a change
+  pub can_change : (change : Change) → operation_change site d.panel d.operation ≡ Some change → CanApply change
+  can_change change is = can_apply site d.panel d.operation change (own_places site valid) number is
+
+  pub settings_changed : (change : Change) → operation_change site d.panel d.operation ≡ Some change
+      → AreInForce site kept (tick_of before + 1) (d ∷ done) (changed change settings)
+  settings_changed change is =
+      keeps-change site kept done (tick_of before + 1) settings d change (own_places site valid) sized number soon is h
+
+  pub sized_changed : (change : Change) → operation_change site d.panel d.operation ≡ Some change → IsSized (changed change settings)
+  sized_changed change is = sized-changed change settings (can_change change is) sized
+
+-- ---- panels
+
+-- the operation came in force at the first so many panels
+pub record PartlyApplied (site : Site) (kept : Retained) (before : List Moment) (done : List Done) (d : Done) (n : ℕ) (panels : List Parts) :
+    Type 0 where
+  pub first : (place : ℕ) (parts : Parts) → slice_get panels place ≡ Some parts → place < n → PanelStands site kept (d ∷ done) (place + 1) before parts
+  pub rest : (place : ℕ) (parts : Parts) → slice_get panels place ≡ Some parts → n ≤ place → PanelStands site kept done (place + 1) before parts
+
+pub partly_more : (site : Site) (kept : Retained) (before : List Moment) (done : List Done) (d : Done) (n : ℕ) (panels : List Parts) (parts : Parts)
+    → PartlyApplied site kept before done d n panels → PanelStands site kept (d ∷ done) (n + 1) before parts
+    → PartlyApplied site kept before done d (n + 1) (slice_set panels n parts)
+partly_more site kept before done d n panels parts h p = record {
+  first = λ place q is less. elim (get_set panels n place parts q is) [
+    | inl g ↦ (let at : n + 1 ≡ place + 1 = omega (arith, g.0) in
+        subst (λ m. PanelStands site kept (d ∷ done) m before q) at (subst (PanelStands site kept (d ∷ done) (n + 1) before) g.1 p))
+    | inr g ↦ h.first place q g.1 (let apart = g.0 in omega (arith, less, apart))
+  ];
+  rest = λ place q is more. elim (get_set panels n place parts q is) [
+    | inl g ↦ absurd (let at = g.0 in omega (arith, at, more))
+    | inr g ↦ h.rest place q g.1 (omega (arith, more))
+  ];
+}
+
+pub partly_none : (site : Site) (kept : Retained) (before : List Moment) (done : List Done) (d : Done) (system : System)
+    → HasApplied site kept before done system → PartlyApplied site kept before done d 0 system.panels.items
+partly_none site kept before done d system h = record {
+  first = λ place q is less. absurd (omega (arith, less));
+  rest = λ place q is more. h.each place q is;
+}
+
+-- all panels and the settings have it
+pub applied_more : (site : Site) (kept : Retained) (before : List Moment) (done : List Done) (d : Done) (old new : System) (n : ℕ)
+    → HasApplied site kept before done old → new.site ≡ old.site → new.tick ≡ old.tick → length new.panels.items ≡ length old.panels.items
+    → PartlyApplied site kept before done d n new.panels.items → site.panels ≤ n → AreInForce site kept (tick_of before + 1) (d ∷ done) new.settings
+    → IsSized new.settings → HasApplied site kept before (d ∷ done) new
+applied_more site kept before done d old new n h same tick count partly whole settings sized = record {
+  valid = h.valid;
+  same = same ∙ h.same;
+  tick = ap (λ (t : Tick). t.0) tick ∙ h.tick;
+  count = count ∙ h.count;
+  each = λ place parts is. partly.first place parts is
+      (let within = slice_get_within new.panels.items place parts is in let all = count ∙ h.count in omega (arith, within, all, whole));
+  settings = settings;
+  sized = sized;
+}
+
+-- ---- from the end of a tick to the beginning of the next
+
+module _ (site : Site) (kept : Retained) (before : List Moment) (system : System) (h : StandsFor site kept before system) (run :
+    IsRun site.panels (Began ∷ before)) where
+  abbrev pub unsettled : TellsOpen (tick_of before) (operations site kept before) system.desk.waiting.items system.desk.done.items
+  unsettled = h.desk.outcomes.unsettled
+
+  abbrev pub ds : List DoneOperation
+  ds = system.desk.done.items
+
+  pub none_applied : HasApplied site kept before (with_done (tick_of before) (take 0 ds) unsettled.older) system
+  none_applied = record {
+    valid = h.valid;
+    same = h.same;
+    tick = h.tick;
+    count = h.count;
+    each = λ place parts is.
+        subst (λ done. PanelStands site kept done (place + 1) before parts) (applied_is_older site kept before ds unsettled.older unsettled.done_is unsettled.earlier)
+        (h.each place parts is);
+    settings = λ setting is.
+        let front = done_in_front (tick_of before) ds unsettled.older in
+        h.settings setting is
+        ∙ ap (in_force site kept setting (tick_of before)) (unsettled.done_is ∙ front.is)
+        ∙ in_force-later site kept setting (tick_of before) front.new unsettled.older front.from
+        ∙ past_force site kept setting (tick_of before) unsettled.older unsettled.earlier;
+    sized = h.sized;
+  }
+
+  -- those of the tick, the oldest first, so many of them
+  abbrev pub so_many : ℕ → List Done
+  so_many k = with_done (tick_of before) (take k ds) unsettled.older
+
+  pub next_applied : (k tick : ℕ) (d : DoneOperation) → tick ≡ tick_of before → slice_get ds k ≡ Some d
+      → MayBeApplied site before (so_many k) (done_from tick d)
+  next_applied k tick d now is =
+      subst (λ t. MayBeApplied site before (so_many k) (done_from t d)) (sym now)
+      (next_may_be_applied site kept before ds unsettled.older k d run.0 h.events unsettled.done_is unsettled.earlier is)
+
+  pub more_applied : (k tick : ℕ) (d : DoneOperation) (new : System) → tick ≡ tick_of before → slice_get ds k ≡ Some d
+      → HasApplied site kept before (done_from tick d ∷ so_many k) new → HasApplied site kept before (so_many (k + 1)) new
+  more_applied k tick d new now is g =
+      subst (λ done. HasApplied site kept before done new) (ap (λ t. done_from t d ∷ so_many k) now ∙ sym (with_done_more (tick_of before) ds k d unsettled.older is)) g
+
+  pub all_applied : (k : ℕ) (new : System) → length ds ≤ k → HasApplied site kept before (so_many k) new
+      → HasApplied site kept before (done_so_far site kept before) new
+  all_applied k new whole g =
+      subst (λ done. HasApplied site kept before done new)
+      (ap (λ xs. with_done (tick_of before) xs unsettled.older) (take_all k ds whole) ∙ sym unsettled.done_is) g
+
+  by_now : AreBy (tick_of before) (done_so_far site kept before)
+  by_now =
+      subst (AreBy (tick_of before)) (sym unsettled.done_is)
+      (by_tick (tick_of before) ds unsettled.older (before_by (tick_of before) unsettled.older unsettled.earlier))
+
+  pub begun : (new : System) (desk : Desk) (tick : Tick) → tick.0 ≡ tick_of (Began ∷ before)
+      → HasApplied site kept before (done_so_far site kept before) new → DesksFor site kept (Began ∷ before) desk
+      → StandsFor site kept (Began ∷ before) (record new { desk = desk; tick = tick })
+  begun new desk tick now g desks = record {
+    valid = h.valid;
+    same = g.same;
+    tick = now;
+    count = g.count;
+    each = λ place parts is.
+        subst (λ done. PanelStands site kept done (place + 1) (Began ∷ before) parts) (applied_begun site kept before by_now)
+        (after_begin site kept (done_so_far site kept before) (place + 1) before parts (g.each place parts is));
+    events = h.events;
+    desk = desks;
+    settings = g.settings;
+    sized = g.sized;
+  }

@@ -1,0 +1,138 @@
+-- All panels after a moment: one of them is changed by it, or none, and the others stand for what they stood for.
+use Rattle.std.proofs.Common.{◌≡◌, ◌≢◌, ℕ, ◌+◌, ◌-◌, ◌≤◌, List, [], ◌∷◌, ◌++◌, length, length-append, zero, suc, Some, slice_get, inl, inr, Bool, refl, sym, ◌∙◌, ap, subst, arith}
+use Rattle.std.specs.Vec.{with_item}
+use Rattle.std.proofs.Math.ListN.{length-set}
+use Rattle.tick_units.specs.declared.task.Task.{Task}
+use Rattle.tick_units.specs.declared.task.Task.TheVariants.{Poll, Decide, Supply, Desk as DeskTask, Hold, Link, Effect, Drive, Keep}
+use Rattle.site_types.specs.declared.retained.Retained.{Retained}
+use Rattle.site_types.specs.declared.site.Site.{Site}
+use Rattle.coincidence_rules.proofs.Lists.{get_set}
+use Rattle.operation_desk.specs.declared.desk.Desk.{Desk}
+use Rattle.operation_desk.specs.Stands.{DesksFor}
+use Rattle.panel_laws.specs.OperationLaws.{AreEventsOf}
+use Rattle.panel_rules.specs.Moments.{Moment, Turned, Kept, tick_of}
+use Rattle.panel_rules.proofs.Places.{get_either}
+use Rattle.panel_core.specs.declared.parts.Parts.{Parts}
+use Rattle.panel_core.specs.declared.system.System.{System}
+use Rattle.panel_core.specs.Applied.{applied}
+use Rattle.panel_core.specs.Stands.{PanelStands, StandsFor}
+use Rattle.panel_core.proofs.Applied.{applied_stays, settings_stay}
+use Rattle.panel_core.proofs.Panels.{after_keep, desk_turned, others_stay}
+
+module _ (site : Site) (kept : Retained) (before : List Moment) (system : System) (moment : Moment) (desk : Desk) (same_tick :
+    tick_of (moment ∷ before) ≡ tick_of before) (events : AreEventsOf site (moment ∷ before)) (desks : DesksFor site kept (moment ∷ before) desk)
+    (h : StandsFor site kept before system) where
+  -- with what was done before this tick a panel stands for the moment more
+  abbrev StandsMore : ℕ → Parts → Type 0
+  StandsMore panel parts = PanelStands site kept (applied site kept before) panel (moment ∷ before) parts
+
+  more_is : (panel : ℕ) (parts : Parts) → StandsMore panel parts → PanelStands site kept (applied site kept (moment ∷ before)) panel (moment ∷ before) parts
+  more_is panel parts p =
+      subst (λ done. PanelStands site kept done panel (moment ∷ before) parts) (applied_stays site kept moment before same_tick) p
+
+  abbrev StoodBefore : ℕ → Parts → Type 0
+  StoodBefore panel parts = PanelStands site kept (applied site kept before) panel before parts
+
+  -- at a moment of one panel
+  pub stands_changed : (panel : ℕ) (parts : Parts) → 1 ≤ panel → StandsMore panel parts
+      → ((other : ℕ) (q : Parts) → panel ≢ other → StoodBefore other q → StandsMore other q)
+      → StandsFor site kept (moment ∷ before) (record system { panels = with_item system.panels (panel - 1) parts; desk = desk })
+  stands_changed panel parts one p others =
+      record {
+        valid = h.valid;
+        same = h.same;
+        tick = h.tick ∙ sym same_tick;
+        count = length-set system.panels.items (panel - 1) parts ∙ h.count;
+        each = λ place q is. more_is (place + 1) q (
+            elim (get_set system.panels.items (panel - 1) place parts q is) [
+              | inl g ↦ (let at : panel ≡ place + 1 = omega (arith, g.0) in subst (λ n. StandsMore n q) at (subst (StandsMore panel) g.1 p))
+              | inr g ↦ others (place + 1) q (λ e. g.0 (omega (arith, e))) (h.each place q g.1)
+            ]);
+        events = events;
+        desk = desks;
+        settings = settings_stay site kept moment before system.settings same_tick h.settings;
+        sized = h.sized;
+      }
+
+  -- at a moment at which no panel is changed
+  pub stands_unchanged : ((panel : ℕ) (q : Parts) → StoodBefore panel q → StandsMore panel q)
+      → StandsFor site kept (moment ∷ before) (record system { desk = desk })
+  stands_unchanged each =
+      record {
+        valid = h.valid;
+        same = h.same;
+        tick = h.tick ∙ sym same_tick;
+        count = h.count;
+        each = λ place q is. more_is (place + 1) q (each (place + 1) q (h.each place q is));
+        events = events;
+        desk = desks;
+        settings = settings_stay site kept moment before system.settings same_tick h.settings;
+        sized = h.sized;
+      }
+
+-- a turn of another task leaves the desk
+module _ (site : Site) (kept : Retained) (before : List Moment) (desk : Desk) (panel : ℕ) (h : DesksFor site kept before desk) where
+  desk_left : (task : Task) → task ≢ DeskTask → DesksFor site kept (Turned panel task ∷ before) desk
+  desk_left DeskTask other = absurd (other refl)
+  desk_left Poll other = record { number = h.number; counts = h.counts; asked = h.asked; outcomes = h.outcomes; busy = h.busy; idle = h.idle; failed = h.failed; sized = h.sized }
+  desk_left Decide other = record { number = h.number; counts = h.counts; asked = h.asked; outcomes = h.outcomes; busy = h.busy; idle = h.idle; failed = h.failed; sized = h.sized }
+  desk_left Supply other = record { number = h.number; counts = h.counts; asked = h.asked; outcomes = h.outcomes; busy = h.busy; idle = h.idle; failed = h.failed; sized = h.sized }
+  desk_left Hold other = record { number = h.number; counts = h.counts; asked = h.asked; outcomes = h.outcomes; busy = h.busy; idle = h.idle; failed = h.failed; sized = h.sized }
+  desk_left Link other = record { number = h.number; counts = h.counts; asked = h.asked; outcomes = h.outcomes; busy = h.busy; idle = h.idle; failed = h.failed; sized = h.sized }
+  desk_left Effect other = record { number = h.number; counts = h.counts; asked = h.asked; outcomes = h.outcomes; busy = h.busy; idle = h.idle; failed = h.failed; sized = h.sized }
+  desk_left Drive other = record { number = h.number; counts = h.counts; asked = h.asked; outcomes = h.outcomes; busy = h.busy; idle = h.idle; failed = h.failed; sized = h.sized }
+  desk_left Keep other = record { number = h.number; counts = h.counts; asked = h.asked; outcomes = h.outcomes; busy = h.busy; idle = h.idle; failed = h.failed; sized = h.sized }
+
+-- a panel had its turn of another task than Desk
+pub stands_after_turn : (site : Site) (kept : Retained) (before : List Moment) (system : System) (panel : ℕ) (task : Task) (parts : Parts)
+    → StandsFor site kept before system → 1 ≤ panel → task ≢ DeskTask
+    → PanelStands site kept (applied site kept before) panel (Turned panel task ∷ before) parts
+    → StandsFor site kept (Turned panel task ∷ before) (record system { panels = with_item system.panels (panel - 1) parts })
+stands_after_turn site kept before system panel task parts h one other p =
+    stands_changed site kept before system (Turned panel task) system.desk refl h.events (desk_left site kept before system.desk panel h.desk task other) h
+    panel parts one p
+    (λ next q apart stood. others_stay site kept (applied site kept before) next panel task before q apart stood)
+
+-- Desk's turn changes no panel
+pub stands_after_desk : (site : Site) (kept : Retained) (before : List Moment) (system : System) (panel : ℕ) (desk : Desk)
+    → StandsFor site kept before system → DesksFor site kept (Turned panel DeskTask ∷ before) desk
+    → StandsFor site kept (Turned panel DeskTask ∷ before) (record system { desk = desk })
+stands_after_desk site kept before system panel desk h desks =
+    stands_unchanged site kept before system (Turned panel DeskTask) desk refl h.events desks h
+    (λ at q stood. desk_turned site kept (applied site kept before) at panel before q stood)
+
+-- nor does Keep's
+pub stands_after_keep : (site : Site) (kept : Retained) (before : List Moment) (system : System) (failed : Bool) (desk : Desk)
+    → StandsFor site kept before system → DesksFor site kept (Kept failed ∷ before) desk
+    → StandsFor site kept (Kept failed ∷ before) (record system { desk = desk })
+stands_after_keep site kept before system failed desk h desks =
+    stands_unchanged site kept before system (Kept failed) desk refl h.events desks h
+    (λ panel q stood. after_keep site kept (applied site kept before) panel failed before q stood)
+
+-- the panel at a place
+pub panel_at : (site : Site) (kept : Retained) (before : List Moment) (system : System) (panel : ℕ) (parts : Parts)
+    → StandsFor site kept before system → 1 ≤ panel → slice_get system.panels.items (panel - 1) ≡ Some parts
+    → PanelStands site kept (applied site kept before) panel before parts
+panel_at site kept before system panel parts h one is =
+    let at : panel - 1 + 1 ≡ panel = omega arith in
+    subst (λ n. PanelStands site kept (applied site kept before) n before parts) at (h.each (panel - 1) parts is)
+
+-- one panel more
+pub panels_counted : (xs ys : List Parts) (x : Parts) (n : ℕ) → ys ≡ xs ++ x ∷ [] → length xs ≡ n → length ys ≡ n + 1
+panels_counted xs ys x n e l = let m = ap length e ∙ length-append xs (x ∷ []) in omega (arith, m, l)
+
+pub panel_added : (site : Site) (kept : Retained) (xs ys : List Parts) (x : Parts) (n : ℕ) → ys ≡ xs ++ x ∷ [] → length xs ≡ n
+    → ((place : ℕ) (parts : Parts) → slice_get xs place ≡ Some parts → PanelStands site kept [] (place + 1) [] parts)
+    → PanelStands site kept [] (n + 1) [] x → (place : ℕ) (parts : Parts) → slice_get ys place ≡ Some parts → PanelStands site kept [] (place + 1) [] parts
+panel_added site kept xs ys x n e l each new place parts is =
+    elim (get_either xs (x ∷ []) place parts (sym (ap (λ zs. slice_get zs place) e) ∙ is)) [
+      | inl g ↦ each place parts g
+      | inr g ↦ last g.place g.far g.is
+    ]
+  where
+    last : (k : ℕ) → place ≡ k + length xs → slice_get (x ∷ []) k ≡ Some parts → PanelStands site kept [] (place + 1) [] parts
+    last zero far h =
+        let same : x ≡ parts = cc in
+        let at : n + 1 ≡ place + 1 = omega (arith, far, l) in
+        subst (λ m. PanelStands site kept [] m [] parts) at (subst (PanelStands site kept [] (n + 1) []) same new)
+    last (suc k) far h = cc

@@ -1,0 +1,48 @@
+use Rattle.std.proofs.Common.{◌∙◌, length, refl, ap, arith}
+use Rattle.tick_units.specs.declared.tick.Tick.{Tick}
+use Rattle.panel_core.proofs.Begun.{all_applied, more_applied, next_applied, none_applied, so_many}
+use Rattle.panel_core.proofs.Applied.{read_done}
+use Rattle.panel_core.proofs.system.System.apply_done.Goals as goal
+
+pub loop-place-init : goal.loop-place-init
+loop-place-init c = record { same = (refl, refl); applied = λ site kept before h run. none_applied site kept before c.args.self.now h run }
+
+pub apply-requires : goal.apply-requires
+apply-requires c =
+    let r = c.requires in
+    let inv = c.loop-place.invariant in
+    let place = c.loop-place.place in
+    let test = c.loop-place-test.true in
+    let count = ap length c.done-place-end.ensures in
+    let is = read_done c.args.self.now.desk.done.items c.done.result.now place _ (c.done.ensures ∙ ap (λ desk. desk.done.items) inv.same.0) (omega (arith, test, count)) in
+    record {
+      site = r.site;
+      kept = r.kept;
+      before = r.before;
+      done = so_many r.site r.kept r.before c.args.self.now r.stands r.run place;
+      has = inv.applied r.site r.kept r.before r.stands r.run;
+      may = next_applied r.site r.kept r.before c.args.self.now r.stands r.run place c.loop-place.self.tick.0 _ (ap (λ (t : Tick). t.0) inv.same.1 ∙ r.stands.tick) is;
+    }
+
+pub loop-place-preserved : goal.loop-place-preserved
+loop-place-preserved c =
+    let inv = c.loop-place.invariant in
+    let place = c.loop-place.place in
+    let test = c.loop-place-test.true in
+    let count = ap length c.done-place-end.ensures in
+    let is = read_done c.args.self.now.desk.done.items c.done.result.now place _ (c.done.ensures ∙ ap (λ desk. desk.done.items) inv.same.0) (omega (arith, test, count)) in
+    record {
+      same = (c.apply.ensures.same.0 ∙ inv.same.0, c.apply.ensures.same.1 ∙ inv.same.1);
+      applied = λ site kept before h run. (
+          let now = ap (λ (t : Tick). t.0) inv.same.1 ∙ h.tick in
+          more_applied site kept before c.args.self.now h run place c.loop-place.self.tick.0 _ c.apply.new.self now is
+          (c.apply.ensures.applied site kept before (so_many site kept before c.args.self.now h run place) (inv.applied site kept before h run)
+          (next_applied site kept before c.args.self.now h run place c.loop-place.self.tick.0 _ now is)));
+    }
+
+pub returns-clause-applied : goal.returns-clause-applied
+returns-clause-applied c site kept before h run =
+    let test = c.loop-place-test.false in
+    let count = ap length c.done-place-end.ensures in
+    all_applied site kept before c.args.self.now h run c.loop-place.place c.loop-place.self (omega (arith, test, count))
+    (c.loop-place.invariant.applied site kept before h run)

@@ -1,0 +1,13 @@
+use Rattle.std.proofs.Common.{refl, sym, subst}
+use Rattle.site_types.specs.Changes.{IsSized}
+use Rattle.panel_core.proofs.Sized.{nothing_sized}
+use Rattle.panel_program.proofs.Stood.{opened}
+use Rattle.panel_program.proofs.run.Run.open.Goals as goal
+
+pub open-requires-clause-sized : goal.open-requires-clause-sized
+open-requires-clause-sized c = subst IsSized (sym c.empty.ensures) nothing_sized
+
+pub returns : goal.returns
+returns c =
+    opened c.args.site c.empty.result _ c.requires.valid c.requires.one c.empty.ensures c.in-Ok.ensures refl c.canonical-canonical.ensures.seats refl
+    (c.show-shown.ensures c.args.site)
