@@ -12,8 +12,6 @@
 
 mod denied;
 mod levels;
-#[cfg(test)]
-mod tests;
 
 pub use denied::Denied;
 pub use levels::{allowed, level_of};

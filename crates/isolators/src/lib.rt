@@ -12,8 +12,6 @@
 mod begins;
 mod line_status;
 mod loop_line;
-#[cfg(test)]
-mod tests;
 
 pub use line_status::LineStatus;
 pub use loop_line::LoopLine;

@@ -32,8 +32,6 @@ mod points;
 mod shown;
 mod sign;
 mod signs;
-#[cfg(test)]
-mod tests;
 mod zone_watch;
 mod zones;
 

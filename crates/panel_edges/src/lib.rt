@@ -30,8 +30,6 @@ mod call_counts;
 mod copying;
 mod cutting;
 mod disk_call;
-#[cfg(test)]
-mod disk_tests;
 mod disks;
 mod failed;
 mod fetching;
@@ -55,8 +53,6 @@ mod std_sink;
 mod std_source;
 mod streams;
 mod syncing;
-#[cfg(test)]
-mod tests;
 mod writing;
 
 pub use disk_call::DiskCall;

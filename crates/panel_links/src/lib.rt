@@ -13,8 +13,6 @@
 
 mod frame;
 mod ring;
-#[cfg(test)]
-mod tests;
 
 pub use frame::Frame;
 pub use ring::Ring;

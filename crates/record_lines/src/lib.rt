@@ -35,8 +35,6 @@ mod print_words;
 mod reader;
 mod refusal;
 mod step;
-#[cfg(test)]
-mod tests;
 mod ticks_so_far;
 mod why;
 mod words;

@@ -37,8 +37,6 @@ mod room;
 mod slot_bytes;
 mod slots;
 mod steps;
-#[cfg(test)]
-mod tests;
 
 pub use batch::Batch;
 pub use create_refusal::CreateRefusal;

@@ -107,6 +107,3 @@ pub use term::Term;
 pub use waits::Waits;
 pub use word::Word;
 pub use zone::Zone;
-
-#[cfg(test)]
-mod tests;

@@ -11,8 +11,6 @@
 #![tactic(auto)]
 
 mod silence;
-#[cfg(test)]
-mod tests;
 mod zones;
 
 pub use silence::Silence;

@@ -12,8 +12,6 @@
 #![tactic(auto)]
 
 mod supply;
-#[cfg(test)]
-mod tests;
 mod watch;
 
 pub use supply::Supply;

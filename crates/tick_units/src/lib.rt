@@ -26,8 +26,6 @@ mod seat;
 mod seat_set;
 mod switch;
 mod task;
-#[cfg(test)]
-mod tests;
 mod tick;
 
 pub use items::Items;

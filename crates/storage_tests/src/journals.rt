@@ -5,8 +5,8 @@ ghost use Rattle.retained_journal.specs.Images.{Stands};
 ghost use Rattle.retained_journal.specs.Slots.{FitPoints, HasNarrowPoints};
 ghost use Rattle.tick_units.specs.Ticks.{last_tick};
 
-use crate::*;
 use panel_edges::{Disk, MOST_DISK_BYTES, MemoryDisk, SoundMemoryDisk};
+use retained_journal::*;
 use site_types::{Change, Retained};
 use std::alloc::{AllocError, Global};
 use std::test::Fail;

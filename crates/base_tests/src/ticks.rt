@@ -1,7 +1,9 @@
-use crate::{BadOrder, LAST_TICK, Lane, Order, Seat, Switch, Task, Tick, TickLimit, next_tick};
 use arrayvec::ArrayVec;
 use std::process::Abort;
 use std::test::Fail;
+use tick_units::{
+    BadOrder, LAST_TICK, Lane, Order, Seat, Switch, Task, Tick, TickLimit, next_tick,
+};
 
 const fn seat(panel: u8, task: Task) -> Seat {
     Seat { panel, task }

@@ -2,7 +2,7 @@ use Rattle.std.proofs.Common.{true, sym, subst}
 use Rattle.site_types.specs.declared.retained.Retained.{Retained}
 use Rattle.retained_journal.specs.Slots.{FitPoints, HasNarrowPoints}
 use Rattle.retained_journal.proofs.NewJournals.{keeps_nothing}
-use Rattle.retained_journal.proofs.tests.two_counters.Goals as goal
+use Rattle.storage_tests.proofs.journals.two_counters.Goals as goal
 
 pub returns-clause-points : goal.returns-clause-points
 returns-clause-points c = subst (λ (s : Retained). FitPoints s.points) (sym c.empty.ensures) (keeps_nothing true).fits

@@ -1,5 +1,5 @@
-use crate::Supply;
 use site_types::{SupplyKind, Waits};
+use supply_monitor::Supply;
 use tick_units::Tick;
 
 const MAINS: u8 = 1;

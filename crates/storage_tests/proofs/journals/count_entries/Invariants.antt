@@ -1,6 +1,6 @@
 use Rattle.std.proofs.Common.{◌≤◌, ◌+◌}
 use Rattle.retained_journal.specs.Images.{Stands}
-use Rattle.retained_journal.proofs.tests.count_entries.Given as goal
+use Rattle.storage_tests.proofs.journals.count_entries.Given as goal
 
 abbrev pub invariant-loop-time : goal.invariant-loop-time
 invariant-loop-time g l =

@@ -1,7 +1,7 @@
 use Rattle.std.proofs.Common.{Bool, [], ◌∷◌, subst, sym, arith}
 use Rattle.site_types.specs.declared.change.Change.TheVariants.{Count}
 use Rattle.retained_journal.specs.Batches.{IsBatch}
-use Rattle.retained_journal.proofs.tests.count_entries.Goals as goal
+use Rattle.storage_tests.proofs.journals.count_entries.Goals as goal
 
 one_is_batch : (wide : Bool) → IsBatch wide (Count 1 1 ∷ [])
 one_is_batch wide = record { some = omega arith; few = omega arith; keeps = (((omega arith, omega arith), tt), tt) }

@@ -1,4 +1,4 @@
-use crate::LoopLine;
+use isolators::LoopLine;
 use site_types::{LoopPlan, PieceState};
 use std::alloc::{AllocError, Global};
 use std::process::Abort;

@@ -1,8 +1,6 @@
 ghost use Rattle.std.specs.Prelude.{◌≤◌, IfOk};
 
-use crate::hold::Hold;
-use crate::outside::Outside;
-use coincidence_rules::Finding;
+use panel_conditions::{Finding, Hold, Outside};
 use site_types::{
     Buzzer, Item, Label, Operation, Point, PointSet, Retained, Rule, Site, Waits, Zone,
 };

@@ -1,4 +1,4 @@
-use crate::{Denied, allowed};
+use access_levels::{Denied, allowed};
 use site_types::{Item, Operation};
 
 #[test]

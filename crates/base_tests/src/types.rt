@@ -1,4 +1,4 @@
-use crate::{Profile, read_code, read_name, read_number, site_digest};
+use site_types::{Profile, read_code, read_name, read_number, site_digest};
 
 #[test]
 fn reads_numbers_by_their_form(rt: HostRuntime) {

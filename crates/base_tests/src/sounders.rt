@@ -1,4 +1,4 @@
-use crate::Silence;
+use sounder_control::Silence;
 
 // The zones of panels 1 and 8; the others have none.
 fn zones(first: u32, last: u32) -> [u32; 8] {

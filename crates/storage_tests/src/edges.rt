@@ -1,4 +1,4 @@
-use crate::*;
+use panel_edges::*;
 use std::alloc::{AllocError, Global};
 use std::test::Fail;
 use std::{fs, process};

@@ -1,5 +1,5 @@
 use Rattle.std.proofs.Common.{◌≡◌}
-use Rattle.panel_links.proofs.tests.first_heard.Given as goal
+use Rattle.base_tests.proofs.links.first_heard.Given as goal
 
 abbrev pub invariant-loop-turned : goal.invariant-loop-turned
 invariant-loop-turned g l = l.ring.panels ≡ 8

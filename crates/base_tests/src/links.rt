@@ -1,4 +1,4 @@
-use crate::Ring;
+use panel_links::Ring;
 use site_types::Word;
 use std::process::Abort;
 use tick_units::Tick;

@@ -1,5 +1,5 @@
 use Rattle.std.proofs.Common.{◌≡◌, length}
-use Rattle.tick_units.proofs.tests.a_full_lane_is_emptied_in_two_turns.Given as goal
+use Rattle.base_tests.proofs.ticks.a_full_lane_is_emptied_in_two_turns.Given as goal
 
 -- as many items were put as turns of the loop were made
 abbrev pub invariant-loop-item : goal.invariant-loop-item
