@@ -1,19 +1,17 @@
 -- What is made is the batch of the rules, in every run of a valid site.
 use Rattle.std.proofs.Common.{◌≡◌, ℕ, zero, suc, ◌+◌, ◌-◌, ◌≤◌, List, [], ◌∷◌, ◌++◌, length, inl, inr, refl, sym, ◌∙◌, ap, subst, arith}
 use Rattle.std.specs.Prelude.{slice_index}
-use Rattle.std.specs.List.{cons_option, flat_map, range_with_len}
+use Rattle.std.specs.List.{flat_map, range_with_len}
 use Rattle.std.proofs.lemmas.Bool.Decides.{eqb_tells}
 use Rattle.site_types.specs.declared.retained.Retained.{Retained}
 use Rattle.site_types.specs.declared.site.Site.{Site}
-use Rattle.site_types.specs.Changes.{operation_change}
 use Rattle.site_types.specs.Done.{Done}
 use Rattle.panel_rules.specs.Moments.{Moment, IsPanel}
 use Rattle.panel_rules.specs.Batches.{changes_of, count_of, counts, new_entries}
 use Rattle.panel_rules.specs.Operations.{operations}
 use Rattle.panel_laws.proofs.BatchesFit.{batches_fit}
-use Rattle.operation_desk.specs.declared.request.Request.{Request}
 use Rattle.operation_desk.specs.Requests.{requests_from}
-use Rattle.keep_batch.specs.Making.{changes_from, count_from}
+use Rattle.keep_batch.specs.Making.{count_from}
 use Rattle.keep_batch.specs.MakingLaws.{BatchIs, BatchMayBeMade}
 use Rattle.keep_batch.proofs.NewEntries.{few_entries_are_new}
 
@@ -36,16 +34,12 @@ module _ (site : Site) (kept : Retained) (done : List Done) (before : List Momen
       ap (λ xs. xs ++ flat_map (λ panel. count_from panel (slice_index entries (panel - 1))) (range_with_len (first + 1) many)) own
       ∙ ap (λ xs. count_of site kept done first (new_entries site kept done first before) ++ xs) ih
 
-changes_alike : (site : Site) (waiting : List Request) → changes_from site waiting ≡ changes_of site (requests_from waiting)
-changes_alike site [] = refl
-changes_alike site (r ∷ waiting) = ap (cons_option (operation_change site r.panel r.operation)) (changes_alike site waiting)
-
 pub batch_is : BatchIs
 batch_is site kept before entries waiting left =
     let done = (operations site kept before).done in
-    ap (λ xs. xs ++ changes_from site waiting)
+    ap (λ xs. xs ++ changes_of site (requests_from waiting))
     (counts_alike site kept done before entries left.entered 1 site.panels (omega arith) (omega arith))
-    ∙ ap (λ xs. counts site kept done before ++ xs) (changes_alike site waiting ∙ ap (changes_of site) left.waits)
+    ∙ ap (λ xs. counts site kept done before ++ xs) (ap (changes_of site) left.waits)
 
 pub batch_may_be_made : BatchMayBeMade
 batch_may_be_made site kept before entries waiting valid run of in_time left = record {

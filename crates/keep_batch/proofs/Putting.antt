@@ -4,13 +4,16 @@ use Rattle.std.proofs.Common.{length-append}
 use Rattle.std.specs.Prelude.{Option, slice_index}
 use Rattle.std.specs.List.{cons_option, flat_map, range_with_len}
 use Rattle.std.proofs.lemmas.Grind.{flat_map-append}
-use Rattle.std.proofs.lemmas.List.{append-nil, append_assoc, take-append-drop, take_more}
+use Rattle.std.proofs.lemmas.List.{append-nil, append_assoc, map-append, take-append-drop, take_more}
 use Rattle.std.proofs.lemmas.List.Elements.{filter_map-append}
 use Rattle.site_types.specs.declared.change.Change.{Change}
 use Rattle.site_types.specs.declared.site.Site.{Site}
 use Rattle.operation_desk.specs.declared.request.Request.{Request}
+use Rattle.operation_desk.specs.Requests.{request_from, requests_from}
+use Rattle.panel_rules.specs.Operations.{Request as RequestOf}
+use Rattle.panel_rules.specs.Batches.{changes_of}
 use Rattle.site_types.specs.Changes.{operation_change}
-use Rattle.keep_batch.specs.Making.{changes_from, count_from, counts_from}
+use Rattle.keep_batch.specs.Making.{count_from, counts_from}
 
 -- ---- counts
 
@@ -77,36 +80,44 @@ module _ (site : Site) (waiting : List Request) where
   abbrev change_at : Request → Option Change
   change_at r = operation_change site r.panel r.operation
 
+  abbrev changes_from : List Request → List Change
+  changes_from requests = changes_of site (requests_from requests)
+
+  changes-append : (xs ys : List Request) → changes_from (xs ++ ys) ≡ changes_from xs ++ changes_from ys
+  changes-append xs ys =
+      ap (changes_of site) (map-append request_from xs ys)
+      ∙ filter_map-append (λ (r : RequestOf). operation_change site r.panel r.operation) (requests_from xs) (requests_from ys)
+
   -- the change of one operation more
   changes_more : (k : ℕ) (d : Request) → k < length waiting
-      → changes_from site (take (k + 1) waiting) ≡ changes_from site (take k waiting) ++ cons_option (change_at (get_or waiting k d)) []
+      → changes_from (take (k + 1) waiting) ≡ changes_from (take k waiting) ++ cons_option (change_at (get_or waiting k d)) []
   changes_more k d within =
-      ap (changes_from site) (take_more waiting k d within) ∙ filter_map-append change_at (take k waiting) (get_or waiting k d ∷ [])
+      ap changes_from (take_more waiting k d within) ∙ changes-append (take k waiting) (get_or waiting k d ∷ [])
 
-  changes_short : (k : ℕ) → length (changes_from site (take k waiting)) ≤ length (changes_from site waiting)
+  changes_short : (k : ℕ) → length (changes_from (take k waiting)) ≤ length (changes_from waiting)
   changes_short k =
-      let whole = ap (λ rs. length (changes_from site rs)) (take-append-drop k waiting) in
-      let split = ap length (filter_map-append change_at (take k waiting) (drop k waiting))
-      ∙ length-append (changes_from site (take k waiting)) (changes_from site (drop k waiting)) in
+      let whole = ap (λ rs. length (changes_from rs)) (take-append-drop k waiting) in
+      let split = ap length (changes-append (take k waiting) (drop k waiting))
+      ∙ length-append (changes_from (take k waiting)) (changes_from (drop k waiting)) in
       omega (arith, whole, split)
 
   -- there is room for the next one
-  pub change_fits : (old now : List Change) (k most : ℕ) (d : Request) → k < length waiting → now ≡ old ++ changes_from site (take k waiting)
-      → length (old ++ changes_from site waiting) ≤ most → length (now ++ cons_option (change_at (get_or waiting k d)) []) ≤ most
+  pub change_fits : (old now : List Change) (k most : ℕ) (d : Request) → k < length waiting → now ≡ old ++ changes_from (take k waiting)
+      → length (old ++ changes_from waiting) ≤ most → length (now ++ cons_option (change_at (get_or waiting k d)) []) ≤ most
   change_fits old now k most d within is room =
       let so_far = changes_short (k + 1) in
       let next = ap length (changes_more k d within)
-      ∙ length-append (changes_from site (take k waiting)) (cons_option (change_at (get_or waiting k d)) []) in
+      ∙ length-append (changes_from (take k waiting)) (cons_option (change_at (get_or waiting k d)) []) in
       let both = ap (λ xs. length (xs ++ cons_option (change_at (get_or waiting k d)) [])) is
-      ∙ length-append (old ++ changes_from site (take k waiting)) (cons_option (change_at (get_or waiting k d)) []) in
-      let first = length-append old (changes_from site (take k waiting)) in
-      let last = length-append old (changes_from site waiting) in
+      ∙ length-append (old ++ changes_from (take k waiting)) (cons_option (change_at (get_or waiting k d)) []) in
+      let first = length-append old (changes_from (take k waiting)) in
+      let last = length-append old (changes_from waiting) in
       omega (arith, so_far, next, both, first, last, room)
 
   -- and it is put behind those before
-  pub change_put : (old now new : List Change) (k : ℕ) (d : Request) → k < length waiting → now ≡ old ++ changes_from site (take k waiting)
-      → new ≡ now ++ cons_option (change_at (get_or waiting k d)) [] → new ≡ old ++ changes_from site (take (k + 1) waiting)
+  pub change_put : (old now new : List Change) (k : ℕ) (d : Request) → k < length waiting → now ≡ old ++ changes_from (take k waiting)
+      → new ≡ now ++ cons_option (change_at (get_or waiting k d)) [] → new ≡ old ++ changes_from (take (k + 1) waiting)
   change_put old now new k d within is put =
       put ∙ ap (λ xs. xs ++ cons_option (change_at (get_or waiting k d)) []) is
-      ∙ append_assoc old (changes_from site (take k waiting)) (cons_option (change_at (get_or waiting k d)) [])
+      ∙ append_assoc old (changes_from (take k waiting)) (cons_option (change_at (get_or waiting k d)) [])
       ∙ ap (λ xs. old ++ xs) (sym (changes_more k d within))

@@ -1,12 +1,13 @@
 -- What a turn of Keep is to commit, by how many entries of each panel are not kept yet, and by what waits.
 use Rattle.std.specs.Prelude.{ℕ, ◌-◌, ◌^◌, ◌≤◌, ◌<◌, ◌==◌, List, [], ◌∷◌, ◌++◌, length, slice_index, if◌then◌else◌}
-use Rattle.std.specs.List.{filter_map, flat_map, range_with_len}
+use Rattle.std.specs.List.{flat_map, range_with_len}
 use Rattle.site_types.specs.declared.change.Change.{Change}
 use Rattle.site_types.specs.declared.change.Change.TheVariants.{Count}
 use Rattle.site_types.specs.declared.site.Site.{Site}
-use Rattle.site_types.specs.Changes.{operation_change}
+use Rattle.panel_rules.specs.Batches.{changes_of}
 use Rattle.panel_rules.specs.Moments.{IsPanel}
 use Rattle.operation_desk.specs.declared.request.Request.{Request}
+use Rattle.operation_desk.specs.Requests.{requests_from}
 
 -- the change that counts entries of a panel, where there are any
 abbrev pub count_from : ℕ → ℕ → List Change
@@ -17,13 +18,10 @@ abbrev pub counts_from : ℕ → List ℕ → List Change
 counts_from panels entries =
     flat_map (λ panel. count_from panel (slice_index entries (panel - 1))) (range_with_len 1 panels)
 
--- the changes of operations, in their order
-abbrev pub changes_from : Site → List Request → List Change
-changes_from site waiting = filter_map (λ (r : Request). operation_change site r.panel r.operation) waiting
-
 -- the counts, then the changes of what waits, in the order in which it was accepted
 abbrev pub batch_from : Site → List ℕ → List Request → List Change
-batch_from site entries waiting = counts_from site.panels entries ++ changes_from site waiting
+batch_from site entries waiting =
+    counts_from site.panels entries ++ changes_of site (requests_from waiting)
 
 -- a change can hold the count of each panel
 abbrev pub AreCountable : ℕ → List ℕ → Type 0

@@ -1,6 +1,8 @@
 ghost use Rattle.std.specs.Prelude.{◌≡◌, ◌<◌, ◌≤◌, ◌+◌, ◌^◌, ◌++◌, [], length};
 ghost use Rattle.std.specs.List.{cons_option};
-ghost use Rattle.keep_batch.specs.Making.{AreCountable, MayMake, batch_from, changes_from, count_from, counts_from};
+ghost use Rattle.keep_batch.specs.Making.{AreCountable, MayMake, batch_from, count_from, counts_from};
+ghost use Rattle.operation_desk.specs.Requests.{requests_from};
+ghost use Rattle.panel_rules.specs.Batches.{changes_of};
 
 use operation_desk::Request;
 use retained_journal::Batch;
@@ -47,8 +49,9 @@ fn put_count(batch: &mut Batch, panel: u8, entries: u64)
 
 // Puts the changes of operations.
 fn put_changes(batch: &mut Batch, site: &Site, waiting: &[Request])
-    requires { length (batch.old.items ++ changes_from site.now waiting.now) ≤ 72 }
-    ensures { batch.new.items ≡ batch.old.items ++ changes_from site.now waiting.now }
+    requires { length (batch.old.items ++ changes_of site.now (requests_from waiting.now)) ≤ 72 }
+    ensures { batch.new.items
+        ≡ batch.old.items ++ changes_of site.now (requests_from waiting.now) }
 {
     for request in waiting {
         put_change(batch, site.change_of(request.panel, &request.operation));
