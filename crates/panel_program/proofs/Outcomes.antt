@@ -5,17 +5,17 @@ use Rattle.panel_edges.specs.Limits.{most_record_bytes}
 use Rattle.panel_edges.proofs.Growing.{front_longer}
 use Rattle.site_types.specs.declared.site.Site.{Site}
 use Rattle.site_types.specs.Valid.{IsValid}
-use Rattle.panel_program.specs.declared.outcome.Outcome.{Outcome}
+use Rattle.program_status.specs.declared.outcome.Outcome.{Outcome}
 use Rattle.panel_program.specs.declared.run.Run.{Run}
 use Rattle.panel_program.specs.declared.run_end.RunEnd.{RunEnd}
-use Rattle.panel_program.specs.declared.status.Status.TheVariants.{NoMemory, WriteFault}
-use Rattle.panel_program.specs.Statuses.{number_of}
+use Rattle.program_status.specs.declared.status.Status.TheVariants.{NoMemory, WriteFault}
+use Rattle.program_status.specs.Statuses.{number_of}
 use Rattle.panel_program.specs.Endings.{end_of, within_limit, status_of, last_line}
 use Rattle.panel_program.specs.Records.{ticks_run}
 use Rattle.panel_program.specs.Runs.{Ran, ReadsTo, ReadsUntil, run_text}
 use Rattle.panel_program.specs.Stands.{text_at}
 use Rattle.panel_program.specs.Ticks.{text_of}
-use Rattle.panel_program.specs.Writings.{Says}
+use Rattle.program_status.specs.Sayings.{Says}
 use Rattle.panel_program.proofs.Ends.{within_rest}
 use Rattle.panel_program.proofs.Promises.{keeps}
 use Rattle.panel_program.proofs.Texts.{text_behind}

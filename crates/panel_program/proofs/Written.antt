@@ -3,8 +3,9 @@ use Rattle.std.proofs.Common.{◌∙◌, ◌++◌, List, ℕ, [], Option, Some, 
 use Rattle.std.specs.Prelude.{OnOk, OnErr, IfSome}
 use Rattle.panel_edges.specs.Contents.{Grows, GrowsByFront}
 use Rattle.panel_edges.proofs.Growing.{grows_none, grows_more, front_more}
-use Rattle.panel_program.specs.declared.status.Status.{Status}
-use Rattle.panel_program.specs.Writings.{Advances, Breaks, Says}
+use Rattle.program_status.specs.declared.status.Status.{Status}
+use Rattle.panel_program.specs.Writings.{Advances, Breaks}
+use Rattle.program_status.specs.Sayings.{Says}
 
 pub on_err : {T E : Type 0} {P Q : Type 0} (r : Result T E) → (P → Q) → OnErr r P → OnErr r Q
 on_err (Ok x) f h = h

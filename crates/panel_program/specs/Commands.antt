@@ -4,16 +4,16 @@ use Rattle.panel_edges.specs.Shelves.{file_of}
 use Rattle.site_types.specs.declared.site.Site.{Site}
 use Rattle.panel_program.specs.declared.command.Command.{Command}
 use Rattle.panel_program.specs.declared.command.Command.TheVariants.{Usage, Check, Run, Matrix}
-use Rattle.panel_program.specs.declared.outcome.Outcome.{Outcome}
-use Rattle.panel_program.specs.declared.status.Status.{Status}
-use Rattle.panel_program.specs.declared.status.Status.TheVariants as exit
+use Rattle.program_status.specs.declared.outcome.Outcome.{Outcome}
+use Rattle.program_status.specs.declared.status.Status.{Status}
+use Rattle.program_status.specs.declared.status.Status.TheVariants as exit
 use Rattle.panel_program.specs.declared.stop.Stop.{Stop}
 use Rattle.panel_program.specs.Lines.{counts_line, usage_line}
 use Rattle.panel_program.specs.Refusals.{stop_status, stop_text}
 use Rattle.panel_program.specs.Matrix.{IsMatrix}
 use Rattle.panel_program.specs.Runs.{Ran, RanNothing}
 use Rattle.panel_program.specs.Sites.{Loads}
-use Rattle.panel_program.specs.Writings.{Says}
+use Rattle.program_status.specs.Sayings.{Says}
 
 -- the word that names the site
 abbrev pub site_word : List (List ℕ) → List ℕ

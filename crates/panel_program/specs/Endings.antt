@@ -14,8 +14,8 @@ use Rattle.record_lines.specs.declared.line.Line.{Line}
 use Rattle.record_lines.specs.Lines.{Reading, reading_of}
 use Rattle.panel_program.specs.declared.run_end.RunEnd.{RunEnd}
 use Rattle.panel_program.specs.declared.run_end.RunEnd.TheVariants.{Ended, Refused, NotBuilt, TooManyBytes, ReadFault}
-use Rattle.panel_program.specs.declared.status.Status.{Status}
-use Rattle.panel_program.specs.declared.status.Status.TheVariants as exit
+use Rattle.program_status.specs.declared.status.Status.{Status}
+use Rattle.program_status.specs.declared.status.Status.TheVariants as exit
 use Rattle.panel_program.specs.Records.{is_built, built_lines}
 
 -- ---- how the bytes of a record end a run

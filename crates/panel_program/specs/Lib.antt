@@ -1,5 +1,4 @@
 pub mod Words
-pub mod Statuses
 pub mod Lines
 pub mod Matrix
 pub mod Zones

@@ -3,8 +3,8 @@ use Rattle.std.specs.Prelude.{ℕ, ℤ, List, [], ◌++◌, codes, decimal}
 use Rattle.std.specs.Fmt.{signed_decimal}
 use Rattle.site_document.specs.declared.refusal.SiteRefusal.{SiteRefusal}
 use Rattle.site_document.specs.declared.refusal.SiteRefusal.TheVariants as code
-use Rattle.panel_program.specs.declared.status.Status.{Status}
-use Rattle.panel_program.specs.declared.status.Status.TheVariants as exit
+use Rattle.program_status.specs.declared.status.Status.{Status}
+use Rattle.program_status.specs.declared.status.Status.TheVariants as exit
 use Rattle.panel_program.specs.declared.stop.Stop.{Stop}
 use Rattle.panel_program.specs.declared.stop.Stop.TheVariants.{Absent, Refused, Cycle, NotBuilt, ReadFault, NoMemory}
 

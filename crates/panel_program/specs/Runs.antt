@@ -13,16 +13,17 @@ use Rattle.panel_rules.specs.Moments.{TickBlock, moments}
 use Rattle.panel_rules.specs.Due.{IsDue}
 use Rattle.panel_rules.specs.Caused.{IsCausedAt}
 use Rattle.panel_core.specs.Applied.{done_so_far}
-use Rattle.panel_program.specs.declared.outcome.Outcome.{Outcome}
+use Rattle.program_status.specs.declared.outcome.Outcome.{Outcome}
 use Rattle.panel_program.specs.declared.run.Run.{Run}
 use Rattle.panel_program.specs.declared.run_end.RunEnd.{RunEnd}
 use Rattle.panel_program.specs.declared.run_end.RunEnd.TheVariants.{ReadFault}
-use Rattle.panel_program.specs.declared.status.Status.TheVariants.{NoMemory, WriteFault}
-use Rattle.panel_program.specs.Statuses.{number_of}
+use Rattle.program_status.specs.declared.status.Status.TheVariants.{NoMemory, WriteFault}
+use Rattle.program_status.specs.Statuses.{number_of}
 use Rattle.panel_program.specs.Endings.{end_of, within_limit, status_of, last_line}
 use Rattle.panel_program.specs.Records.{ticks_run}
 use Rattle.panel_program.specs.Stands.{HasRun, IsGoing, text_at}
-use Rattle.panel_program.specs.Writings.{Advances, Breaks, Says}
+use Rattle.panel_program.specs.Writings.{Advances, Breaks}
+use Rattle.program_status.specs.Sayings.{Says}
 use Rattle.panel_program.specs.Zones.{shown_after}
 
 -- the end that the bytes of a record have, with the ticks that all its bytes run; a read failed before any

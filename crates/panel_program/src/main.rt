@@ -23,17 +23,14 @@ mod lines;
 mod loaded;
 mod loading;
 mod matrix;
-mod outcome;
 #[cfg(test)]
 mod outside_tests;
 mod program;
 mod reading;
 mod run;
 mod run_end;
-mod saying;
 mod shown;
 mod site_lines;
-mod status;
 mod stop;
 mod taken;
 mod usage;
@@ -41,7 +38,7 @@ mod writing;
 
 use panel_edges::{FileShelf, StdSink, StdSource};
 use program::panel;
-use status::Status;
+use program_status::Status;
 use std::alloc::AllocError;
 use std::env;
 use std::io::ErrorKind;

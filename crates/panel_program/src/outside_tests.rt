@@ -3,14 +3,13 @@
 
 ghost use Rattle.std.specs.Prelude.{◌≡◌, ◌<◌, ◌≤◌, Some, None};
 
-use crate::outcome::Outcome;
 use crate::program::panel;
 use crate::shown::Shown;
-use crate::status::Status;
 use crate::writing::{PAGE_BYTES, write_tick};
 use panel_edges::{
     Failed, MemoryShelf, MemorySink, MemorySource, ShelfFile, Sink, SoundMemorySink, Source, Stream,
 };
+use program_status::{Outcome, Status};
 use site_config::read_site;
 use std::alloc::{AllocError, Global};
 use std::test::Fail;

@@ -1,7 +1,7 @@
 ghost use Rattle.std.specs.Prelude.{◌≡◌, ◌≢◌};
 ghost use Rattle.panel_program.specs.Endings.{status_by as status_told_by, status_of as status_told};
 
-use crate::status::Status;
+use program_status::Status;
 use record_lines::{Refusal, Why};
 
 /// How the reading of a record came to its end.

@@ -6,15 +6,14 @@ ghost use Rattle.panel_edges.specs.Contents.{Grows, GrowsByFront};
 ghost use Rattle.panel_edges.specs.Faults.{HasCause};
 ghost use Rattle.panel_program.specs.Refusals.{named_text, range_text, refusal_status, refusal_text, stop_status};
 ghost use Rattle.panel_program.specs.Refusals.{stop_text};
-ghost use Rattle.panel_program.specs.Statuses.{BlamesWrites, number_of};
-ghost use Rattle.panel_program.specs.Writings.{Says};
+ghost use Rattle.program_status.specs.Statuses.{BlamesWrites, number_of};
+ghost use Rattle.program_status.specs.Sayings.{Says};
 
-use crate::outcome::Outcome;
-use crate::status::Status;
 use crate::stop::Stop;
 use arrayvec::ArrayString;
 use itoa::Buffer;
 use panel_edges::{Failed, Sink, write_all};
+use program_status::{Outcome, Status};
 use site_config::SiteRefusal;
 
 /// Ends a command whose site isn't at hand, with the line that says why. Where memory ran out nothing is written.

@@ -1,6 +1,6 @@
 use Rattle.std.proofs.Common.{subst, inr}
-use Rattle.panel_program.specs.declared.status.Status.TheVariants.{Done}
-use Rattle.panel_program.specs.Writings.{Says}
+use Rattle.program_status.specs.declared.status.Status.TheVariants.{Done}
+use Rattle.program_status.specs.Sayings.{Says}
 use Rattle.panel_program.proofs.program.draw.Goals as goal
 
 pub returns-in-Ok-clause-drawn : goal.returns-in-Ok-clause-drawn

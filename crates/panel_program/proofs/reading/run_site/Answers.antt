@@ -1,7 +1,7 @@
 use Rattle.std.proofs.Common.{◌∙◌, ap, subst}
-use Rattle.panel_program.specs.declared.outcome.Outcome.{Outcome}
+use Rattle.program_status.specs.declared.outcome.Outcome.{Outcome}
 use Rattle.panel_program.specs.Endings.{status_of, last_line}
-use Rattle.panel_program.specs.Writings.{Says}
+use Rattle.program_status.specs.Sayings.{Says}
 use Rattle.panel_program.proofs.Outcomes.{ran_opening, ran_until, ran_to}
 use Rattle.panel_program.proofs.Written.{some_always, some_weaker}
 use Rattle.panel_program.proofs.reading.run_site.Goals as goal

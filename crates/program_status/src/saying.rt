@@ -1,8 +1,8 @@
 //! Ending a command with a text.
 
 ghost use Rattle.std.specs.Prelude.{◌≡◌, ◌≢◌, ◌≤◌};
-ghost use Rattle.panel_program.specs.Statuses.{BlamesWrites, number_of};
-ghost use Rattle.panel_program.specs.Writings.{Says};
+ghost use Rattle.program_status.specs.Statuses.{BlamesWrites, number_of};
+ghost use Rattle.program_status.specs.Sayings.{Says};
 
 use crate::outcome::Outcome;
 use crate::status::Status;

@@ -1,9 +1,9 @@
 -- The exit status of the program, and what must have come before some of them.
 use Rattle.std.specs.Prelude.{◌≡◌, ℕ, List, Option}
 use Rattle.panel_edges.specs.Faults.{Rose}
-use Rattle.panel_program.specs.declared.outcome.Outcome.{Outcome}
-use Rattle.panel_program.specs.declared.status.Status.{Status}
-use Rattle.panel_program.specs.declared.status.Status.TheVariants as exit
+use Rattle.program_status.specs.declared.outcome.Outcome.{Outcome}
+use Rattle.program_status.specs.declared.status.Status.{Status}
+use Rattle.program_status.specs.declared.status.Status.TheVariants as exit
 
 -- the number of each way in which a command ends
 abbrev pub number_of : Status → ℕ

@@ -1,5 +1,5 @@
 ghost use Rattle.std.specs.Prelude.{◌≡◌};
-ghost use Rattle.panel_program.specs.Statuses.{number_of};
+ghost use Rattle.program_status.specs.Statuses.{number_of};
 
 use crate::status::Status;
 
