@@ -1,31 +1,36 @@
 -- What an event makes of a panel.
-use Rattle.std.proofs.Common.{◌≡◌, ◌≢◌, ℕ, ◌-◌, ◌^◌, ◌≤◌, ◌<◌, ◌==◌, ◌&&◌, List, ◌∷◌, length, Some, slice_get, get_or, inl, inr, true, false, if◌then◌else◌, refl, sym, ◌∙◌, ap, subst, arith}
+use Rattle.std.proofs.Common.{◌≡◌, ◌≢◌, ℕ, ◌-◌, ◌^◌, ◌≤◌, ◌<◌, ◌==◌, ◌&&◌, List, ◌∷◌, length, Some, slice_get, get_or, inl, inr, true, false, if◌then◌else◌, refl, sym, ◌∙◌, ap, subst, arith, Bool}
 use Rattle.std.specs.Prelude.{nat_le}
 use Rattle.std.specs.Vec.{with_item}
 use Rattle.std.proofs.lemmas.Bool.{eqb-true}
 use Rattle.std.proofs.lemmas.Bool.Decides.{eqb_tells}
 use Rattle.std.proofs.lemmas.Option.{slice_get_read}
 use Rattle.site_types.specs.declared.event.Event.{Event}
-use Rattle.site_types.specs.declared.event.Event.TheVariants.{Point, Cable}
+use Rattle.site_types.specs.declared.event.Event.TheVariants.{Point, Cable, Supply}
 use Rattle.site_types.specs.declared.point.Point.{Point as PointPlan}
 use Rattle.site_types.specs.declared.loop_plan.LoopPlan.{LoopPlan}
 use Rattle.site_types.specs.declared.point_state.PointState.{PointState}
 use Rattle.site_types.specs.declared.piece_state.PieceState.{PieceState}
 use Rattle.site_types.specs.declared.retained.Retained.{Retained}
 use Rattle.site_types.specs.declared.site.Site.{Site}
+use Rattle.site_types.specs.declared.supply_kind.SupplyKind.{SupplyKind}
 use Rattle.site_types.specs.Done.{Done}
-use Rattle.site_types.specs.Events.{has_event, has_piece}
+use Rattle.site_types.specs.Events.{has_event, has_piece, is_panel}
 use Rattle.site_types.specs.Valid.{IsValid}
 use Rattle.site_types.proofs.ValidSites.{loop_at, point_at}
 use Rattle.loop_poller.specs.declared.poller.Poller.{Poller}
 use Rattle.loop_poller.specs.Calls.{Call, Reported, Cabled}
 use Rattle.loop_poller.specs.Stands.{StandsFor as PollsFor}
+use Rattle.supply_monitor.specs.declared.supply.Supply.{Supply as SupplyPart}
+use Rattle.supply_monitor.specs.Supply.{Call as SupplyCall, Reported as SupplyReported}
+use Rattle.supply_monitor.specs.Stands.{StandsFor as MonitorsFor}
+use Rattle.panel_rules.specs.Faults.{and_supply, supply_calls}
 use Rattle.panel_rules.specs.Moments.{Moment, Happened, IsPanel}
 use Rattle.panel_rules.specs.Operations.{requests}
 use Rattle.panel_rules.proofs.Bools.{parts as both_parts, at_any}
 use Rattle.panel_rules.proofs.Reports.{is_line}
 use Rattle.panel_rules.proofs.AnswersTell.{eq_true}
-use Rattle.panel_rules.proofs.Floors.{lt_from}
+use Rattle.panel_rules.proofs.Floors.{le_from, lt_from}
 use Rattle.operation_desk.specs.declared.desk.Desk.{Desk}
 use Rattle.operation_desk.specs.Stands.{CanTakeEvent, DesksFor}
 use Rattle.panel_laws.specs.OperationLaws.{AreOfSite}
@@ -37,11 +42,12 @@ use Rattle.panel_core.specs.Stands.{PanelStands, StandsFor}
 use Rattle.panel_core.specs.Applied.{applied}
 use Rattle.panel_core.proofs.Whole.{panel_at, stands_changed, stands_unchanged}
 
--- a panel after an event of which its poller was told
+-- a panel after an event of which its poller was told, and its supplies weren't
 told : (site : Site) (kept : Retained) (done : List Done) (panel : ℕ) (before : List Moment) (parts : Parts) (poller : Poller) (event : Event)
     → PanelStands site kept done panel before parts → PollsFor site panel (and_report site panel event (reports site panel before)) poller
+    → and_supply panel event (supply_calls panel before) ≡ supply_calls panel before
     → PanelStands site kept done panel (Happened event ∷ before) (record parts { poller = poller })
-told site kept done panel before parts poller event h p = record {
+told site kept done panel before parts poller event h p s = record {
   member = h.member;
   polls = p;
   answers = h.answers;
@@ -49,6 +55,7 @@ told site kept done panel before parts poller event h p = record {
   findings =
       h.findings;
   holds = h.holds;
+  supplies = subst (λ calls. MonitorsFor site.waits calls parts.supply) (sym s) h.supplies;
 }
 
 pub after_point : (site : Site) (kept : Retained) (done : List Done) (panel : ℕ) (before : List Moment) (parts : Parts) (poller : Poller) (point : ℕ) (state :
@@ -58,7 +65,7 @@ pub after_point : (site : Site) (kept : Retained) (done : List Done) (panel : �
 after_point site kept done panel before parts poller point state h at p =
     told site kept done panel before parts poller (Point point state) h
     (subst (λ b. PollsFor site panel (if b then Reported point state ∷ reports site panel before else reports site panel before) poller) (sym at)
-    p)
+    p) refl
 
 pub after_piece : (site : Site) (kept : Retained) (done : List Done) (panel : ℕ) (before : List Moment) (parts : Parts) (poller : Poller) (line piece : ℕ) (state :
     PieceState) → 1 ≤ line → line ≤ 4 → PanelStands site kept done panel before parts
@@ -67,14 +74,29 @@ pub after_piece : (site : Site) (kept : Retained) (done : List Done) (panel : �
 after_piece site kept done panel before parts poller line piece state low high h p =
     told site kept done panel before parts poller (Cable panel line piece state) h
     (subst (λ b. PollsFor site panel (if b then Cabled line piece state ∷ reports site panel before else reports site panel before) poller)
-    (sym (ap (λ b. b && (nat_le 1 line && nat_le line 4)) (eq_true panel panel refl) ∙ is_line line low high)) p)
+    (sym (ap (λ b. b && (nat_le 1 line && nat_le line 4)) (eq_true panel panel refl) ∙ is_line line low high)) p) refl
+
+pub after_report : (site : Site) (kept : Retained) (done : List Done) (panel : ℕ) (before : List Moment) (parts : Parts) (supply : SupplyPart) (kind : SupplyKind)
+    (bad : Bool) → PanelStands site kept done panel before parts → MonitorsFor site.waits (SupplyReported kind bad ∷ supply_calls panel before) supply
+    → PanelStands site kept done panel (Happened (Supply panel kind bad) ∷ before) (record parts { supply = supply })
+after_report site kept done panel before parts supply kind bad h m = record {
+  member = h.member;
+  polls = h.polls;
+  answers = h.answers;
+  decides = h.decides;
+  findings = h.findings;
+  holds = h.holds;
+  supplies =
+      subst (λ b. MonitorsFor site.waits (if b then SupplyReported kind bad ∷ supply_calls panel before else supply_calls panel before) supply)
+      (sym (eq_true panel panel refl)) m;
+}
 
 -- a panel that an event doesn't concern
 untold : (site : Site) (kept : Retained) (done : List Done) (panel : ℕ) (before : List Moment) (parts : Parts) (event : Event) → PanelStands site kept done panel before parts
     → and_report site panel event (reports site panel before) ≡ reports site panel before
-    → PanelStands site kept done panel (Happened event ∷ before) parts
-untold site kept done panel before parts event h e =
-    told site kept done panel before parts parts.poller event h (subst (λ calls. PollsFor site panel calls parts.poller) (sym e) h.polls)
+    → and_supply panel event (supply_calls panel before) ≡ supply_calls panel before → PanelStands site kept done panel (Happened event ∷ before) parts
+untold site kept done panel before parts event h e s =
+    told site kept done panel before parts parts.poller event h (subst (λ calls. PollsFor site panel calls parts.poller) (sym e) h.polls) s
 
 not_there : (a b : ℕ) → a ≢ b → (a == b) ≡ false
 not_there a b n = elim (eqb_tells a b) [ inl t ↦ absurd (n t.1) | inr t ↦ t.0 ]
@@ -95,7 +117,7 @@ stands_after_point site kept before system desk plan point state parts h after o
     (λ other q n stood.
     let away : is_on_panel other (slice_get site.points point) ≡ false = ap (is_on_panel other) is ∙ not_there plan.panel other n in
     untold site kept (applied site kept before) other before q (Point point state) stood
-    (ap (λ b. if b then Reported point state ∷ reports site other before else reports site other before) away))
+    (ap (λ b. if b then Reported point state ∷ reports site other before else reports site other before) away) refl)
 
 pub stands_after_piece : (site : Site) (kept : Retained) (before : List Moment) (system : System) (desk : Desk) (panel line piece : ℕ)
     (state : PieceState) (parts : Parts) → StandsFor site kept before system → DeskAfter site kept before (Cable panel line piece state) desk
@@ -107,12 +129,24 @@ stands_after_piece site kept before system desk panel line piece state parts h a
     (λ other q n stood.
     untold site kept (applied site kept before) other before q (Cable panel line piece state) stood
     (ap (λ b. if b && (nat_le 1 line && nat_le line 4) then Cabled line piece state ∷ reports site other before else reports site other before)
-    (not_there panel other n)))
+    (not_there panel other n)) refl)
 
--- an event that concerns no poller
+pub stands_after_report : (site : Site) (kept : Retained) (before : List Moment) (system : System) (desk : Desk) (panel : ℕ) (kind : SupplyKind) (bad : Bool)
+    (parts : Parts) → StandsFor site kept before system → DeskAfter site kept before (Supply panel kind bad) desk
+    → 1 ≤ panel → PanelStands site kept (applied site kept before) panel (Happened (Supply panel kind bad) ∷ before) parts
+    → StandsFor site kept (Happened (Supply panel kind bad) ∷ before)
+    (record system { panels = with_item system.panels (panel - 1) parts; desk = desk })
+stands_after_report site kept before system desk panel kind bad parts h after one p =
+    stands_changed site kept before system (Happened (Supply panel kind bad)) desk refl (h.events, after.has) after.desks h panel parts one p
+    (λ other q n stood.
+    untold site kept (applied site kept before) other before q (Supply panel kind bad) stood refl
+    (ap (λ b. if b then SupplyReported kind bad ∷ supply_calls other before else supply_calls other before) (not_there panel other n)))
+
+-- an event that concerns no poller and no supplies
 abbrev pub IsOther : Event → Type 0
 IsOther (Point point state) = ⊥
 IsOther (Cable panel line piece state) = ⊥
+IsOther (Supply panel kind bad) = ⊥
 IsOther event = Unit {0}
 
 not_reported : (site : Site) (panel : ℕ) (event : Event) (calls : List Call) → IsOther event → and_report site panel event calls ≡ calls
@@ -120,13 +154,17 @@ not_reported site panel (Point point state) calls o = absurd o
 not_reported site panel (Cable other line piece state) calls o = absurd o
 not_reported site panel event calls o = refl
 
+not_monitored : (panel : ℕ) (event : Event) (calls : List SupplyCall) → IsOther event → and_supply panel event calls ≡ calls
+not_monitored panel (Supply other kind bad) calls o = absurd o
+not_monitored panel event calls o = refl
+
 pub stands_after_other : (site : Site) (kept : Retained) (before : List Moment) (system : System) (desk : Desk) (event : Event)
     → StandsFor site kept before system → DeskAfter site kept before event desk → IsOther event
     → StandsFor site kept (Happened event ∷ before) (record system { desk = desk })
 stands_after_other site kept before system desk event h after o =
     stands_unchanged site kept before system (Happened event) desk refl (h.events, after.has) after.desks h
     (λ panel q stood. untold site kept (applied site kept before) panel before q event stood
-    (not_reported site panel event (reports site panel before) o))
+    (not_reported site panel event (reports site panel before) o) (not_monitored panel event (supply_calls panel before) o))
 
 -- a piece that the site has is of a panel and a loop
 pub record HasLine (site : Site) (panel line : ℕ) : Type 0 where
@@ -226,6 +264,24 @@ pub piece_done : (site : Site) (kept : Retained) (before : List Moment) (system 
 piece_done site kept before system desk event panel line piece state new h after is member stands =
     subst (λ e. StandsFor site kept (Happened e ∷ before) (record system { panels = with_item system.panels (panel - 1) new; desk = desk })) (sym is)
     (stands_after_piece site kept before system desk panel line piece state new h (subst (λ e. DeskAfter site kept before e desk) is after) member.0
+    stands)
+
+-- the panel of a supply
+pub supply_panel : (site : Site) (event : Event) (panel : ℕ) (kind : SupplyKind) (bad : Bool) → has_event site event ≡ true
+    → event ≡ Supply panel kind bad → IsPanel site.panels panel
+supply_panel site event panel kind bad has is =
+    let own : is_panel site panel ≡ true = ap (has_event site) (sym is) ∙ has in
+    let p = both_parts (nat_le 1 panel) (nat_le panel site.panels) own in
+    (le_from 1 panel p.0, le_from panel site.panels p.1)
+
+pub report_done : (site : Site) (kept : Retained) (before : List Moment) (system : System) (desk : Desk) (event : Event) (panel : ℕ) (kind : SupplyKind)
+    (bad : Bool) (new : Parts) → StandsFor site kept before system → DeskAfter site kept before event desk → event ≡ Supply panel kind bad
+    → IsPanel site.panels panel
+    → PanelStands site kept (applied site kept before) panel (Happened (Supply panel kind bad) ∷ before) new
+    → StandsFor site kept (Happened event ∷ before) (record system { panels = with_item system.panels (panel - 1) new; desk = desk })
+report_done site kept before system desk event panel kind bad new h after is member stands =
+    subst (λ e. StandsFor site kept (Happened e ∷ before) (record system { panels = with_item system.panels (panel - 1) new; desk = desk })) (sym is)
+    (stands_after_report site kept before system desk panel kind bad new h (subst (λ e. DeskAfter site kept before e desk) is after) member.0
     stands)
 
 pub other_done : (site : Site) (kept : Retained) (before : List Moment) (system : System) (desk : Desk) (event other : Event)

@@ -10,7 +10,6 @@ use Rattle.site_types.specs.declared.site.Site.{Site}
 use Rattle.site_types.specs.Bits.{mask_of}
 use Rattle.site_types.specs.Done.{Done, AreBy}
 use Rattle.site_types.proofs.Masks.{mask_same}
-use Rattle.isolators.specs.Reach.{Cable}
 use Rattle.isolators.specs.declared.line_status.LineStatus.{LineStatus}
 use Rattle.loop_poller.specs.Asked.{status_on}
 use Rattle.site_types.specs.Things.{loop_of}
@@ -21,6 +20,8 @@ use Rattle.panel_conditions.specs.declared.hold.Hold.{Hold as HoldPart}
 use Rattle.panel_conditions.specs.declared.outside.Outside.{Outside}
 use Rattle.panel_conditions.specs.Stands.{HoldsFor, MayTurn}
 use Rattle.panel_conditions.specs.Turns.{HoldTurn, findings_taken, latest_tick}
+use Rattle.supply_monitor.specs.Supply.{shown_mask}
+use Rattle.panel_rules.specs.Faults.{outside_with, supply_calls}
 use Rattle.panel_rules.specs.Moments.{Moment, Began, Happened, Turned, Kept, IsRun, latest_turn, tick_of}
 use Rattle.panel_rules.specs.Counts.{taken_by_hold}
 use Rattle.panel_rules.proofs.Turns.{turn_lag}
@@ -29,7 +30,7 @@ use Rattle.panel_core.specs.declared.parts.Parts.{Parts}
 use Rattle.panel_rules.specs.States.{piece_of}
 use Rattle.panel_rules.specs.Reports.{reports}
 use Rattle.panel_core.specs.Lanes.{finding_lane}
-use Rattle.panel_core.specs.Turns.{outside_of, outside_at, hold_turn, hold_turns}
+use Rattle.panel_core.specs.Turns.{hold_turn, hold_turns}
 use Rattle.panel_core.specs.Stands.{AreBefore, PanelStands}
 use Rattle.panel_core.proofs.Applied.{before_by}
 use Rattle.panel_rules.proofs.Reports.{cable_told, is_line}
@@ -44,71 +45,46 @@ four test a b c d p q r s (suc (suc zero)) l = r
 four test a b c d p q r s (suc (suc (suc zero))) l = s
 four test a b c d p q r s (suc (suc (suc (suc k)))) l = absurd (omega arith)
 
-pub outside_is : (site : Site) (panel : ℕ) (cables : ℕ → Cable) (one two three four' : LineStatus) (broken shorted : ℕ)
-    → one ≡ status_on (loop_of site panel 1) (cables 1) → two ≡ status_on (loop_of site panel 2) (cables 2)
-    → three ≡ status_on (loop_of site panel 3) (cables 3) → four' ≡ status_on (loop_of site panel 4) (cables 4)
-    → broken ≡ mask_of 4 (λ k. slice_index_or (one.broken ∷ two.broken ∷ three.broken ∷ four'.broken ∷ []) k false)
-    → shorted ≡ mask_of 4 (λ k. slice_index_or (one.shorted ∷ two.shorted ∷ three.shorted ∷ four'.shorted ∷ []) k false)
-    → (let o : Outside = record { supply = 0; broken = broken; shorted = shorted; silent = 0; links = 0; unconfirmed = 0 } in o)
-    ≡ outside_of site panel cables
-outside_is site panel cables one two three four' broken shorted a b c d x y =
-    let opened =
-    x ∙ mask_same 4 (λ k. slice_index_or (one.broken ∷ two.broken ∷ three.broken ∷ four'.broken ∷ []) k false)
-    (λ k. (status_on (loop_of site panel (k + 1)) (cables (k + 1))).broken)
-    (four (λ line. (status_on (loop_of site panel line) (cables line)).broken) one.broken two.broken three.broken four'.broken
-    (ap (λ s. s.broken) a) (ap (λ s. s.broken) b) (ap (λ s. s.broken) c) (ap (λ s. s.broken) d)) in
-    let shorts =
-    y ∙ mask_same 4 (λ k. slice_index_or (one.shorted ∷ two.shorted ∷ three.shorted ∷ four'.shorted ∷ []) k false)
-    (λ k. (status_on (loop_of site panel (k + 1)) (cables (k + 1))).shorted)
-    (four (λ line. (status_on (loop_of site panel line) (cables line)).shorted) one.shorted two.shorted three.shorted four'.shorted
-    (ap (λ s. s.shorted) a) (ap (λ s. s.shorted) b) (ap (λ s. s.shorted) c) (ap (λ s. s.shorted) d)) in
-    ap (λ n. (let o : Outside = record { supply = 0; broken = n; shorted = shorted; silent = 0; links = 0; unconfirmed = 0 } in o)) opened
-    ∙ ap (λ n. (let o : Outside = record {
-      supply = 0;
-      broken = mask_of 4 (λ k. (status_on (loop_of site panel (k + 1)) (cables (k + 1))).broken);
-      shorted = n;
-      silent = 0;
-      links = 0;
-      unconfirmed = 0;
-    } in o)) shorts
+-- what stands besides missing points, part by part
+outside_same : (supply broken shorted a b c : ℕ) → supply ≡ a → broken ≡ b → shorted ≡ c
+    → (let one : Outside = record { supply = supply; broken = broken; shorted = shorted; silent = 0; links = 0; unconfirmed = 0 } in
+    let other : Outside = record { supply = a; broken = b; shorted = c; silent = 0; links = 0; unconfirmed = 0 } in one ≡ other)
+outside_same supply broken shorted a b c e f g = rw (e, f, g) refl
 
--- what the poller was told of the cables is what they are at
+-- what the poller and the supplies tell is what befell the panel
 module _ (site : Site) (panel : ℕ) (before : List Moment) where
-  abbrev cables_told : ℕ → Cable
-  cables_told = told_cable (reports site panel before)
+  -- the state of a loop
+  abbrev pub loop_status : ℕ → LineStatus
+  loop_status line = status_on (loop_of site panel line) (λ piece. piece_of panel line piece before)
 
-  abbrev cables_stood : ℕ → Cable
-  cables_stood line piece = piece_of panel line piece before
+  -- the same by what the poller was told
+  abbrev pub status_told : ℕ → LineStatus
+  status_told line = status_on (loop_of site panel line) (told_cable (reports site panel before) line)
 
-  same_cables : (line : ℕ) → 1 ≤ line → line ≤ 4 → cables_told line ≡ cables_stood line
-  same_cables line low high = fun_ext (λ piece. cable_told site panel line piece before (is_line line low high))
+  told_is : (line : ℕ) → 1 ≤ line → line ≤ 4 → status_told line ≡ loop_status line
+  told_is line low high =
+      ap (status_on (loop_of site panel line)) (fun_ext (λ piece. cable_told site panel line piece before (is_line line low high)))
 
-  outside_told : outside_of site panel (told_cable (reports site panel before)) ≡ outside_at site panel before
-  outside_told =
-      ap (λ n. (let o : Outside = record {
-        supply = 0;
-        broken = n;
-        shorted =
-            mask_of 4 (λ k. (status_on (loop_of site panel (k + 1)) (cables_told (k + 1))).shorted);
-        silent = 0;
-        links = 0;
-        unconfirmed = 0;
-      } in
-      o)) (mask_same 4 (λ k. (status_on (loop_of site panel (k + 1)) (cables_told (k + 1))).broken) (λ k.
-      (status_on (loop_of site panel (k + 1)) (cables_stood (k + 1))).broken) (λ k small.
-      ap (λ c. (status_on (loop_of site panel (k + 1)) c).broken) (same_cables (k + 1) (omega arith) (omega (arith, small)))))
-      ∙ ap (λ n. (let o : Outside = record {
-        supply = 0;
-        broken =
-            mask_of 4 (λ k. (status_on (loop_of site panel (k + 1)) (cables_stood (k + 1))).broken);
-        shorted = n;
-        silent = 0;
-        links = 0;
-        unconfirmed =
-            0;
-      } in o)) (mask_same 4 (λ k. (status_on (loop_of site panel (k + 1)) (cables_told (k + 1))).shorted) (λ k.
-      (status_on (loop_of site panel (k + 1)) (cables_stood (k + 1))).shorted) (λ k small.
-      ap (λ c. (status_on (loop_of site panel (k + 1)) c).shorted) (same_cables (k + 1) (omega arith) (omega (arith, small)))))
+  -- one flag of each loop, as a mask
+  flags_are : (flag : LineStatus → Bool) (one two three last : LineStatus) (mask : ℕ) → one ≡ status_told 1 → two ≡ status_told 2 → three ≡ status_told 3
+      → last ≡ status_told 4 → mask ≡ mask_of 4 (λ k. slice_index_or (flag one ∷ flag two ∷ flag three ∷ flag last ∷ []) k false)
+      → mask ≡ mask_of 4 (λ k. flag (loop_status (k + 1)))
+  flags_are flag one two three last mask a b c d e =
+      e
+      ∙ mask_same 4 (λ k. slice_index_or (flag one ∷ flag two ∷ flag three ∷ flag last ∷ []) k false) (λ k. flag (loop_status (k + 1)))
+      (four (λ line. flag (loop_status line)) (flag one) (flag two) (flag three) (flag last)
+      (ap flag (a ∙ told_is 1 (omega arith) (omega arith))) (ap flag (b ∙ told_is 2 (omega arith) (omega arith)))
+      (ap flag (c ∙ told_is 3 (omega arith) (omega arith))) (ap flag (d ∙ told_is 4 (omega arith) (omega arith))))
+
+  pub outside_is : (one two three last : LineStatus) (supply broken shorted : ℕ) → one ≡ status_told 1 → two ≡ status_told 2 → three ≡ status_told 3
+      → last ≡ status_told 4 → supply ≡ shown_mask site.waits (supply_calls panel before)
+      → broken ≡ mask_of 4 (λ k. slice_index_or (one.broken ∷ two.broken ∷ three.broken ∷ last.broken ∷ []) k false)
+      → shorted ≡ mask_of 4 (λ k. slice_index_or (one.shorted ∷ two.shorted ∷ three.shorted ∷ last.shorted ∷ []) k false)
+      → (let o : Outside = record { supply = supply; broken = broken; shorted = shorted; silent = 0; links = 0; unconfirmed = 0 } in o)
+      ≡ outside_with site panel before 0 0 0
+  outside_is one two three last supply broken shorted a b c d shown opened shorts =
+      outside_same supply broken shorted _ _ _ shown (flags_are (λ s. s.broken) one two three last broken a b c d opened)
+      (flags_are (λ s. s.shorted) one two three last shorted a b c d shorts)
 
 own_turn : (site : Site) (kept : Retained) (done : List Done) (panel : ℕ) (before : List Moment)
     → hold_turns site kept done panel (Turned panel Hold ∷ before) ≡ hold_turn site kept done panel before ∷ hold_turns site kept done panel before
@@ -170,7 +146,7 @@ turns_tick site kept done panel (Kept failed ∷ before) = turns_tick site kept 
 pub after_hold : (site : Site) (kept : Retained) (done : List Done) (panel : ℕ) (before : List Moment) (parts : Parts) (hold : HoldPart) (findings' : LaneState Finding)
     (outside : Outside) (now : ℕ) → PanelStands site kept done panel before parts → AreBefore (tick_of before) done
     → now ≡ tick_of before → IsRun site.panels (Turned panel Hold ∷ before)
-    → outside ≡ outside_of site panel (told_cable (reports site panel before)) → findings' ≡ after_turn parts.findings
+    → outside ≡ outside_with site panel before 0 0 0 → findings' ≡ after_turn parts.findings
     → (HoldsFor site kept panel done (hold_turns site kept done panel before) parts.hold → MayTurn done (hold_turns site kept done panel before) now
     → HoldsFor site kept panel done
     ((let t : HoldTurn = record { tick = now; found = take (turn_count parts.findings) parts.findings.items; outside = outside } in t)
@@ -182,6 +158,7 @@ pub after_hold : (site : Site) (kept : Retained) (done : List Done) (panel : ℕ
       answers =
           parts.answers;
       findings = findings';
+      supply = parts.supply;
     })
 after_hold site kept done panel before parts hold findings' outside now h past tick run told taken held =
     let lag = rw run.1 at (turn_lag site.panels panel Hold before h.member tt run.0) in
@@ -215,7 +192,7 @@ after_hold site kept done panel before parts hold findings' outside now h past t
           take (turn_count (finding_lane site kept done panel before)) (finding_lane site kept done panel before).items;
       outside = o;
     } in t) ∷ turns) hold)
-    (told ∙ outside_told site panel before) third in
+    told third in
     record {
       member = h.member;
       polls = h.polls;
@@ -223,4 +200,5 @@ after_hold site kept done panel before parts hold findings' outside now h past t
       decides = h.decides;
       findings = taken ∙ ap after_turn h.findings ∙ held_findings site kept done panel before;
       holds = subst (λ ts. HoldsFor site kept panel done ts hold) (sym (own_turn site kept done panel before)) fourth;
+      supplies = h.supplies;
     }

@@ -6,10 +6,11 @@ pub mod Rooms
 pub mod OfSite
 pub mod Sized
 pub mod Applied
--- what befalls a panel: turns, those of Decide and Hold, an operation that comes in force
+-- what befalls a panel: turns, those of Decide, Hold and Supply, an operation that comes in force
 pub mod Panels
 pub mod Takes
 pub mod Holds
+pub mod Supplies
 pub mod Operations
 -- all panels: a moment, events, turns one after another, operations that come in force
 pub mod Whole

@@ -19,6 +19,7 @@ use Rattle.coincidence.proofs.Elsewhere.{stands_elsewhere}
 use Rattle.panel_conditions.specs.declared.hold.Hold.{Hold as HoldPart}
 use Rattle.panel_conditions.specs.Stands.{HoldsFor, MayApply as HoldMayApply, MayNote}
 use Rattle.panel_conditions.specs.Turns.{HoldTurn, latest_tick}
+use Rattle.panel_rules.specs.Faults.{outside_with}
 use Rattle.panel_rules.specs.Moments.{Moment, Began, Happened, Turned, Kept, tick_of}
 use Rattle.panel_rules.specs.Answers.{answers}
 use Rattle.panel_rules.specs.Counts.{taken_by_decide, taken_by_hold}
@@ -29,7 +30,7 @@ use Rattle.panel_core.specs.declared.parts.Parts.{Parts}
 use Rattle.panel_core.specs.Applied.{MayBeApplied}
 use Rattle.panel_core.specs.Lanes.{decided, finding_lane, found}
 use Rattle.panel_core.specs.Stands.{PanelStands}
-use Rattle.panel_core.specs.Turns.{hold_turn, hold_turns, outside_at}
+use Rattle.panel_core.specs.Turns.{hold_turn, hold_turns}
 use Rattle.panel_core.proofs.Holds.{turns_tick}
 use Rattle.panel_core.proofs.Steps.{lane_is}
 
@@ -49,7 +50,10 @@ module _ (site : Site) (kept : Retained) (done : List Done) (d : Done) (panel : 
 
   turn_same : (before : List Moment) → tick_of before ≤ d.tick → hold_turn site kept done panel before ≡ hold_turn site kept (d ∷ done) panel before
   turn_same before late =
-      ap (λ (l : LaneState Finding). (let t : HoldTurn = record { tick = tick_of before; found = take (turn_count l) l.items; outside = outside_at site panel before } in t)) (lane_same before late)
+      ap
+      (λ (l : LaneState Finding).
+      (let t : HoldTurn = record { tick = tick_of before; found = take (turn_count l) l.items; outside = outside_with site panel before 0 0 0 } in t))
+      (lane_same before late)
 
   pub turns_same : (before : List Moment) → tick_of before ≤ d.tick → hold_turns site kept done panel before ≡ hold_turns site kept (d ∷ done) panel before
   turns_same [] late = refl
@@ -112,6 +116,7 @@ module _ (site : Site) (kept : Retained) (done : List Done) (d : Done) (panel : 
           decides = decides;
           findings = h.findings ∙ lane_same before late;
           holds = subst (λ ts. HoldsFor site kept panel (d ∷ done) ts hold) (turns_same before late) holds;
+          supplies = h.supplies;
         }
 
     -- one of this panel was applied to both

@@ -26,6 +26,8 @@ use Rattle.tick_units.specs.Orders.{canonical_seats, keep_seat}
 use Rattle.tick_units.proofs.Canonical.{IsPanelSeat, Contains-canonical_seats-cases}
 use Rattle.panel_core.specs.Stands.{PanelStands}
 use Rattle.loop_poller.specs.Stands.{StandsFor as PollsFor}
+use Rattle.supply_monitor.specs.Stands.{StandsFor as MonitorsFor}
+use Rattle.panel_rules.specs.Faults.{supply_calls}
 use Rattle.panel_rules.proofs.Reports.{asked_told}
 use Rattle.panel_core.proofs.Steps.{polled, decided_after_poll, findings_after_poll}
 
@@ -48,6 +50,7 @@ after_poll site kept done panel before parts lane now h tick put =
       decides = subst (λ taken. DecidesFor site kept panel done taken parts.decide) (decided_after_poll site panel before) h.decides;
       findings = h.findings ∙ findings_after_poll site kept done panel before;
       holds = h.holds;
+      supplies = h.supplies;
     }
 
 -- a moment that changes nothing of what a panel stands for
@@ -57,6 +60,7 @@ record LeavesPanel (site : Site) (kept : Retained) (done : List Done) (panel : �
   decided_same : decided site panel (moment ∷ before) ≡ decided site panel before
   findings : finding_lane site kept done panel (moment ∷ before) ≡ finding_lane site kept done panel before
   turns : hold_turns site kept done panel (moment ∷ before) ≡ hold_turns site kept done panel before
+  supplies : supply_calls panel (moment ∷ before) ≡ supply_calls panel before
 
 after_nothing : (site : Site) (kept : Retained) (done : List Done) (panel : ℕ) (before : List Moment) (parts : Parts) (moment : Moment)
     → LeavesPanel site kept done panel before moment → PanelStands site kept done panel before parts → PanelStands site kept done panel (moment ∷ before) parts
@@ -67,18 +71,19 @@ after_nothing site kept done panel before parts moment leaves h = record {
   decides = subst (λ taken. DecidesFor site kept panel done taken parts.decide) (sym leaves.decided_same) h.decides;
   findings = h.findings ∙ sym leaves.findings;
   holds = subst (λ turns. HoldsFor site kept panel done turns parts.hold) (sym leaves.turns) h.holds;
+  supplies = subst (λ calls. MonitorsFor site.waits calls parts.supply) (sym leaves.supplies) h.supplies;
 }
 
 pub after_begin : (site : Site) (kept : Retained) (done : List Done) (panel : ℕ) (before : List Moment) (parts : Parts) → PanelStands site kept done panel before parts
     → PanelStands site kept done panel (Began ∷ before) parts
 after_begin site kept done panel before parts h =
-    after_nothing site kept done panel before parts Began (record { told = refl; answers = refl; decided_same = refl; findings = refl; turns = refl }) h
+    after_nothing site kept done panel before parts Began (record { told = refl; answers = refl; decided_same = refl; findings = refl; turns = refl; supplies = refl }) h
 
 pub after_keep : (site : Site) (kept : Retained) (done : List Done) (panel : ℕ) (failed : Bool) (before : List Moment) (parts : Parts)
     → PanelStands site kept done panel before parts → PanelStands site kept done panel (Kept failed ∷ before) parts
 after_keep site kept done panel failed before parts h =
     after_nothing site kept done panel before parts (Kept failed)
-    (record { told = refl; answers = refl; decided_same = refl; findings = refl; turns = refl }) h
+    (record { told = refl; answers = refl; decided_same = refl; findings = refl; turns = refl; supplies = refl }) h
 
 -- the moment of a panel's turn
 pub turn_is : (panel : ℕ) (task : Task) → task ≢ Keep → turn_of false panel task ≡ Turned panel task
@@ -112,6 +117,11 @@ decided_stay site panel other Poll before e = rw e refl
 decided_stay site panel other Decide before e = rw e refl
 decided_stay site panel other task before e = refl
 
+supplies_stay : (panel other : ℕ) (task : Task) (before : List Moment) → (other == panel) ≡ false
+    → supply_calls panel (Turned other task ∷ before) ≡ supply_calls panel before
+supplies_stay panel other Supply before e = rw e refl
+supplies_stay panel other task before e = refl
+
 lane_stays : (site : Site) (panel other : ℕ) (task : Task) (before : List Moment) → (other == panel) ≡ false
     → answer_lane site panel (Turned other task ∷ before) ≡ answer_lane site panel before
 lane_stays site panel other Poll before e = rw e refl
@@ -127,6 +137,7 @@ others_stay site kept done panel other task before parts n h =
       decided_same = decided_stay site panel other task before apart;
       findings = findings_stay site kept done panel other task before apart;
       turns = turns_stay site kept done panel other task before apart;
+      supplies = supplies_stay panel other task before apart;
     }) h
   where
     apart : (other == panel) ≡ false
@@ -134,7 +145,7 @@ others_stay site kept done panel other task before parts n h =
 
 -- a task that has no part here yet
 abbrev IsIdle : Task → Type 0
-IsIdle task = (task ≡ Supply) ⊎ ((task ≡ Desk) ⊎ ((task ≡ Link) ⊎ ((task ≡ Effect) ⊎ ((task ≡ Drive) ⊎ (task ≡ Keep)))))
+IsIdle task = (task ≡ Desk) ⊎ ((task ≡ Link) ⊎ ((task ≡ Effect) ⊎ ((task ≡ Drive) ⊎ (task ≡ Keep))))
 
 -- its turn changes nothing
 idle_leaves : (site : Site) (kept : Retained) (done : List Done) (panel : ℕ) (before : List Moment) (task : Task) → IsIdle task
@@ -145,12 +156,11 @@ idle_leaves site kept done panel before task idle = go idle
     leaves e h = subst (λ t. LeavesPanel site kept done panel before (Turned panel t)) (sym e) h
 
     go : IsIdle task → LeavesPanel site kept done panel before (Turned panel task)
-    go (inl e) = leaves e (record { told = refl; answers = refl; decided_same = refl; findings = refl; turns = refl })
-    go (inr (inl e)) = leaves e (record { told = refl; answers = refl; decided_same = refl; findings = refl; turns = refl })
-    go (inr (inr (inl e))) = leaves e (record { told = refl; answers = refl; decided_same = refl; findings = refl; turns = refl })
-    go (inr (inr (inr (inl e)))) = leaves e (record { told = refl; answers = refl; decided_same = refl; findings = refl; turns = refl })
-    go (inr (inr (inr (inr (inl e))))) = leaves e (record { told = refl; answers = refl; decided_same = refl; findings = refl; turns = refl })
-    go (inr (inr (inr (inr (inr e))))) = leaves e (record { told = refl; answers = refl; decided_same = refl; findings = refl; turns = refl })
+    go (inl e) = leaves e (record { told = refl; answers = refl; decided_same = refl; findings = refl; turns = refl; supplies = refl })
+    go (inr (inl e)) = leaves e (record { told = refl; answers = refl; decided_same = refl; findings = refl; turns = refl; supplies = refl })
+    go (inr (inr (inl e))) = leaves e (record { told = refl; answers = refl; decided_same = refl; findings = refl; turns = refl; supplies = refl })
+    go (inr (inr (inr (inl e)))) = leaves e (record { told = refl; answers = refl; decided_same = refl; findings = refl; turns = refl; supplies = refl })
+    go (inr (inr (inr (inr e)))) = leaves e (record { told = refl; answers = refl; decided_same = refl; findings = refl; turns = refl; supplies = refl })
 
 pub after_idle : (site : Site) (kept : Retained) (done : List Done) (panel : ℕ) (before : List Moment) (parts : Parts) (task : Task) → IsIdle task
     → PanelStands site kept done panel before parts → PanelStands site kept done panel (Turned panel task ∷ before) parts
@@ -162,4 +172,4 @@ pub desk_turned : (site : Site) (kept : Retained) (done : List Done) (panel othe
     → PanelStands site kept done panel before parts → PanelStands site kept done panel (Turned other Desk ∷ before) parts
 desk_turned site kept done panel other before parts h =
     after_nothing site kept done panel before parts (Turned other Desk)
-    (record { told = refl; answers = refl; decided_same = refl; findings = refl; turns = refl }) h
+    (record { told = refl; answers = refl; decided_same = refl; findings = refl; turns = refl; supplies = refl }) h

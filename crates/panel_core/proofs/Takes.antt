@@ -108,6 +108,7 @@ pub after_decide : (site : Site) (kept : Retained) (done : List Done) (panel : �
       answers =
           answers';
       findings = findings';
+      supply = parts.supply;
     })
 after_decide site kept done panel before parts decide answers' findings' h run past taken stands found =
     let may =
@@ -128,4 +129,5 @@ after_decide site kept done panel before parts decide answers' findings' h run p
           ∙ ap (λ l. with_put l (findings_after site kept panel done (decided site panel before) (taken_by (answer_lane site panel before)))) h.findings
           ∙ decided_findings site kept done panel before;
       holds = h.holds;
+      supplies = h.supplies;
     }

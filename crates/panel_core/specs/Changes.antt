@@ -1,20 +1,25 @@
 -- What reports, events and turns make of a panel and of the system, whatever they stood for.
-use Rattle.std.specs.Prelude.{◌≡◌, ℕ, true, false, List, ◌∷◌, slice_get}
+use Rattle.std.specs.Prelude.{◌≡◌, ℕ, Bool, true, false, List, ◌∷◌, slice_get}
 use Rattle.tick_units.specs.declared.seat.Seat.{Seat}
 use Rattle.tick_units.specs.declared.task.Task.{Task}
 use Rattle.site_types.specs.declared.event.Event.{Event}
-use Rattle.site_types.specs.declared.event.Event.TheVariants.{Point, Cable}
+use Rattle.site_types.specs.declared.event.Event.TheVariants.{Point, Cable, Supply}
 use Rattle.site_types.specs.declared.piece_state.PieceState.{PieceState}
 use Rattle.site_types.specs.declared.point_state.PointState.{PointState}
 use Rattle.site_types.specs.declared.retained.Retained.{Retained}
 use Rattle.site_types.specs.declared.site.Site.{Site}
+use Rattle.site_types.specs.declared.supply_kind.SupplyKind.{SupplyKind}
 use Rattle.site_types.specs.Done.{Done}
 use Rattle.face_text.specs.declared.answers.Answers.{Answers}
+use Rattle.loop_poller.specs.Stands.{StandsFor as PollsFor}
+use Rattle.supply_monitor.specs.Stands.{StandsFor as MonitorsFor}
+use Rattle.panel_conditions.specs.declared.outside.Outside.{Outside}
+use Rattle.panel_rules.specs.Faults.{outside_with, supply_calls}
 use Rattle.panel_rules.specs.Moments.{Moment, Began, Happened, Turned, IsRun, and_turns, tick_of}
 use Rattle.panel_core.specs.declared.parts.Parts.{Parts}
 use Rattle.panel_core.specs.declared.system.System.{System}
 use Rattle.panel_rules.specs.Timeline.{answers_now, failed_now, told}
-use Rattle.panel_rules.specs.Reports.{is_on_panel}
+use Rattle.panel_rules.specs.Reports.{is_on_panel, reports}
 use Rattle.panel_core.specs.Applied.{MayBeApplied, done_so_far}
 use Rattle.panel_core.specs.Stands.{AreBefore, HasApplied, PanelStands, StandsFor}
 
@@ -33,6 +38,19 @@ HearsPiece old line piece state parts =
     (site : Site) (kept : Retained) (done : List Done) (panel : ℕ) (before : List Moment)
     → PanelStands site kept done panel before old
     → PanelStands site kept done panel (Happened (Cable panel line piece state) ∷ before) parts
+
+-- a report came on a supply of the panel
+abbrev pub HearsSupply : Parts → SupplyKind → Bool → Parts → Type 0
+HearsSupply old kind bad parts =
+    (site : Site) (kept : Retained) (done : List Done) (panel : ℕ) (before : List Moment)
+    → PanelStands site kept done panel before old
+    → PanelStands site kept done panel (Happened (Supply panel kind bad) ∷ before) parts
+
+-- what a turn of Hold is told from outside, whatever the poller and the supplies stand for
+abbrev pub TellsHold : Parts → Outside → Type 0
+TellsHold parts outside =
+    (site : Site) (panel : ℕ) (before : List Moment) → PollsFor site panel (reports site panel before) parts.poller
+    → MonitorsFor site.waits (supply_calls panel before) parts.supply → outside ≡ outside_with site panel before 0 0 0
 
 -- a task had its turn, in the tick that began last
 abbrev pub MakesTurn : Parts → Task → ℕ → Parts → Type 0

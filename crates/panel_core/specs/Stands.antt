@@ -14,8 +14,10 @@ use Rattle.site_types.specs.Done.{Done}
 use Rattle.site_types.specs.Events.{has_event}
 use Rattle.site_types.specs.Valid.{IsValid}
 use Rattle.loop_poller.specs.Stands.{StandsFor as PollsFor}
+use Rattle.supply_monitor.specs.Stands.{StandsFor as MonitorsFor}
 use Rattle.coincidence.specs.Stands.{DecidesFor}
 use Rattle.panel_conditions.specs.Stands.{HoldsFor}
+use Rattle.panel_rules.specs.Faults.{supply_calls}
 use Rattle.panel_rules.specs.Moments.{Moment, Began, Turned, IsRun, IsPanel, and_turns, tick_of}
 use Rattle.panel_rules.specs.Operations.{requests}
 use Rattle.panel_laws.specs.OperationLaws.{AreEventsOf}
@@ -37,6 +39,7 @@ pub record PanelStands (site : Site) (kept : Retained) (done : List Done) (panel
   pub decides : DecidesFor site kept panel done (decided site panel before) parts.decide
   pub findings : parts.findings ≡ finding_lane site kept done panel before
   pub holds : HoldsFor site kept panel done (hold_turns site kept done panel before) parts.hold
+  pub supplies : MonitorsFor site.waits (supply_calls panel before) parts.supply
 
 -- each was done before a tick
 abbrev pub AreBefore : ℕ → List Done → Type 0

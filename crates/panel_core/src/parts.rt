@@ -1,5 +1,4 @@
-ghost use Rattle.std.specs.Prelude.{◌≡◌, ◌≤◌, [], List, ℕ, IfOk};
-ghost use Rattle.site_types.specs.declared.site.Site.{Site as SiteOf};
+ghost use Rattle.std.specs.Prelude.{◌≤◌, [], IfOk};
 ghost use Rattle.site_types.specs.Valid.{IsValid};
 ghost use Rattle.loop_poller.specs.Stands.{HasPoint};
 ghost use Rattle.panel_rules.specs.Moments.{IsPanel};
@@ -8,8 +7,9 @@ use coincidence::{Decide, Finding};
 use loop_poller::Poller;
 use operation_desk::DoneOperation;
 use panel_conditions::{Hold, Outside};
-use site_types::{Answer, PieceState, PointState, Retained, Site, mask_from_8};
+use site_types::{Answer, PieceState, PointState, Retained, Site, SupplyKind, mask_from_8};
 use std::alloc::Global;
+use supply_monitor::Supply;
 use tick_units::{Lane, NoMemory, Task, Tick};
 
 /// The parts of a panel, joined by lanes.
@@ -20,14 +20,13 @@ pub struct Parts {
     pub(crate) hold: Hold,
     pub(crate) answers: Lane<Answer>,
     pub(crate) findings: Lane<Finding>,
+    pub(crate) supply: Supply,
 }
 
 impl Parts {
-    ghost use Rattle.loop_poller.specs.Calls.{Call, told_cable};
-    ghost use Rattle.loop_poller.specs.Stands.{StandsFor as PollsFor};
-    ghost use Rattle.panel_core.specs.Changes.{AppliesDone, HearsPiece, HearsPoint, MakesTurn};
+    ghost use Rattle.panel_core.specs.Changes.{AppliesDone, HearsPiece, HearsPoint, HearsSupply, MakesTurn};
+    ghost use Rattle.panel_core.specs.Changes.{TellsHold};
     ghost use Rattle.operation_desk.specs.Requests.{done_from};
-    ghost use Rattle.panel_core.specs.Turns.{outside_of};
     ghost use Rattle.panel_core.specs.Stands.{MayComeInForce, MayTurn, PanelStands};
 
     pub fn new(alloc: Global, site: &Site, panel: u8, kept: &Retained) -> Result<Parts, NoMemory>
@@ -46,6 +45,7 @@ impl Parts {
             hold,
             answers,
             findings,
+            supply: Supply::new(&site.waits),
         })
     }
 
@@ -65,6 +65,13 @@ impl Parts {
         self.poller.set_piece(line, piece, state);
     }
 
+    /// A report comes on a supply of the panel.
+    pub fn set_supply(&mut self, kind: SupplyKind, bad: bool)
+        ensures { HearsSupply self.old kind bad self.new }
+    {
+        self.supply.read(kind, bad);
+    }
+
     /// A task has its turn.
     pub fn turn(&mut self, task: Task, now: Tick)
         requires { MayTurn task now.0 self.old }
@@ -77,7 +84,8 @@ impl Parts {
                 let outside = self.outside();
                 self.hold.turn(now, &mut self.findings, &outside);
             }
-            Task::Supply | Task::Desk | Task::Link | Task::Effect | Task::Drive | Task::Keep => {}
+            Task::Supply => self.supply.turn(now),
+            Task::Desk | Task::Link | Task::Effect | Task::Drive | Task::Keep => {}
         }
     }
 
@@ -96,16 +104,14 @@ impl Parts {
 
     // What the other parts tell Hold.
     fn outside(&self) -> Outside
-        ensures { (site : SiteOf) (panel : ℕ) (calls : List Call)
-            → PollsFor site panel calls self.now.poller
-            → result ≡ outside_of site panel (told_cable calls) }
+        ensures { TellsHold self.now result }
     {
         let first = self.poller.status(1);
         let second = self.poller.status(2);
         let third = self.poller.status(3);
         let fourth = self.poller.status(4);
         Outside {
-            supply: 0,
+            supply: self.supply.faults(),
             broken: mask_from_8(&[first.broken, second.broken, third.broken, fourth.broken]),
             shorted: mask_from_8(&[first.shorted, second.shorted, third.shorted, fourth.shorted]),
             silent: 0,

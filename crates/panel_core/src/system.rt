@@ -83,10 +83,11 @@ impl System {
                 let parts = &mut self.panels[panel as usize - 1];
                 parts.set_piece(line, piece, state);
             }
-            Event::Supply { .. }
-            | Event::Link { .. }
-            | Event::Confirmed { .. }
-            | Event::Op { .. } => {}
+            Event::Supply { panel, kind, bad } => {
+                let parts = &mut self.panels[panel as usize - 1];
+                parts.set_supply(kind, bad);
+            }
+            Event::Link { .. } | Event::Confirmed { .. } | Event::Op { .. } => {}
         }
     }
 

@@ -58,6 +58,19 @@ silent_panels site stamps tick =
 abbrev pub links_down : Site → ℕ → (ℕ → Bool) → ℕ
 links_down site panel up = mask_of most_panels (λ k. is_link_of site.panels panel (k + 1) && not (up (k + 1)))
 
+-- what stands besides missing points, with these silent panels, links that are down and outputs without
+-- confirmation
+abbrev pub outside_with : Site → ℕ → List Moment → ℕ → ℕ → ℕ → Outside
+outside_with site panel moments silent links unconfirmed =
+    record {
+      supply = shown_mask site.waits (supply_calls panel moments);
+      broken = broken_loops site panel moments;
+      shorted = shorted_loops site panel moments;
+      silent = silent;
+      links = links;
+      unconfirmed = unconfirmed;
+    }
+
 module _ (site : Site) (facts : ℕ → List Moment → Facts) (kept : Retained) (done : List Done) where
   -- an output that asks for a confirmation has been on for too long without one
   abbrev pub is_unconfirmed : ℕ → List Moment → Bool
@@ -70,14 +83,8 @@ module _ (site : Site) (facts : ℕ → List Moment → Facts) (kept : Retained)
     -- what stands besides missing points
     abbrev pub outside_at : ℕ → List Moment → Outside
     outside_at panel moments =
-        record {
-          supply = shown_mask site.waits (supply_calls panel moments);
-          broken = broken_loops site panel moments;
-          shorted = shorted_loops site panel moments;
-          silent = silent_panels site stamps (tick_of moments);
-          links = links_down site panel up;
-          unconfirmed = outputs_where site panel (λ output. is_unconfirmed output moments);
-        }
+        outside_with site panel moments (silent_panels site stamps (tick_of moments)) (links_down site panel up)
+        (outputs_where site panel (λ output. is_unconfirmed output moments))
 
     -- the faults that stand at a turn of Hold, with what had befallen up to that turn
     abbrev pub faults_by : ℕ → List Moment → FaultSet

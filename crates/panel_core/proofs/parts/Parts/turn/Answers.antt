@@ -6,7 +6,8 @@ use Rattle.panel_core.proofs.Panels.{after_idle, after_poll}
 use Rattle.panel_core.proofs.Rooms.{room_for_poll, room_for_decide}
 use Rattle.panel_core.proofs.Takes.{can_take, after_decide}
 use Rattle.panel_core.proofs.Holds.{after_hold}
-use Rattle.panel_rules.specs.Reports.{reports}
+use Rattle.panel_core.proofs.Supplies.{after_supply}
+use Rattle.panel_rules.specs.Faults.{supply_calls}
 use Rattle.panel_core.specs.Turns.{hold_turns}
 use Rattle.panel_core.proofs.parts.Parts.turn.Goals as goal
 
@@ -47,8 +48,15 @@ returns-in-Hold c site kept done panel before h past now run =
     rw c.in-Hold.is
     (after_hold site kept done panel before c.args.self.now c.turn-in-Hold.new.self c.turn-in-Hold.new.findings c.outside-outside.result c.args.now.0 h past now
     (subst (λ task. IsRun site.panels (Turned panel task ∷ before)) c.in-Hold.is run)
-    (c.outside-outside.ensures site panel (reports site panel before) h.polls) e.lane
+    (c.outside-outside.ensures site panel before h.polls h.supplies) e.lane
     (e.stands site kept panel done (hold_turns site kept done panel before)))
 
 pub returns-in-Supply : goal.returns-in-Supply
-returns-in-Supply c site kept done panel before h past now run = after_idle site kept done panel before c.args.self.now c.args.task c.in-Supply.is h
+returns-in-Supply c site kept done panel before h past now run =
+    rw c.in-Supply.is
+    (after_supply site kept done panel before c.args.self.now c.turn-in-Supply.new.self c.args.now.0 h now
+    (subst (λ task. IsRun site.panels (Turned panel task ∷ before)) c.in-Supply.is run)
+    (c.turn-in-Supply.ensures site.waits (supply_calls panel before)))
+
+pub returns-in-Desk : goal.returns-in-Desk
+returns-in-Desk c site kept done panel before h past now run = after_idle site kept done panel before c.args.self.now c.args.task c.in-Desk.is h

@@ -1,6 +1,6 @@
 use Rattle.std.proofs.Common.{◌∙◌, inl, inr, sym, ap, arith}
 use Rattle.site_types.specs.Events.{has_event}
-use Rattle.panel_core.proofs.Events.{can_hear, desk_after, point_panel, point_done, piece_read, piece_done, panel_read, other_done}
+use Rattle.panel_core.proofs.Events.{can_hear, desk_after, point_panel, point_done, piece_read, piece_done, report_done, supply_panel, panel_read, other_done}
 use Rattle.panel_core.proofs.system.System.event.Goals as goal
 
 pub event-requires : goal.event-requires
@@ -60,22 +60,42 @@ returns-in-Cable c site kept before h =
     (c.set_piece.ensures site kept _ i.panel before (panel_read site kept before system i.panel c.index_mut-parts-in-Cable.result.now h line.member
     c.index_mut-parts-in-Cable.ensures.value))
 
+pub overflow_sub-panel-in-Supply : goal.overflow_sub-panel-in-Supply
+overflow_sub-panel-in-Supply c = let r = c.requires in let i = c.in-Supply in (supply_panel r.site c.args.event.now i.panel i.kind i.bad r.has i.is).0
+
+pub index_mut-parts-requires-in-Supply : goal.index_mut-parts-requires-in-Supply
+index_mut-parts-requires-in-Supply c =
+    let r = c.requires in
+    let i = c.in-Supply in
+    let member = supply_panel r.site c.args.event.now i.panel i.kind i.bad r.has i.is in
+    let count = r.stands.count in
+    omega (arith, member.0, member.1, count)
+
 pub returns-in-Supply : goal.returns-in-Supply
 returns-in-Supply c site kept before h =
+    let r = c.requires in
+    let i = c.in-Supply in
+    let system = c.args.self.now in
+    let event = c.args.event.now in
+    let has = ap (λ s. has_event s event) (sym h.same ∙ r.stands.same) ∙ r.has in
+    let member = supply_panel site event i.panel i.kind i.bad has i.is in
+    let after = desk_after site system.site kept before system event c.event.new.self h h.same has (c.event.ensures kept before) in
+    report_done site kept before system c.event.new.self event i.panel i.kind i.bad c.set_supply.new.self h after i.is member
+    (c.set_supply.ensures site kept _ i.panel before (panel_read site kept before system i.panel c.index_mut-parts-in-Supply.result.now h member
+    c.index_mut-parts-in-Supply.ensures.value))
+
+pub returns-in-Link : goal.returns-in-Link
+returns-in-Link c site kept before h =
     let system = c.args.self.now in
     let event = c.args.event.now in
     let same = sym h.same ∙ c.requires.stands.same in
     let has = ap (λ s. has_event s event) same ∙ c.requires.has in
     let after = desk_after site system.site kept before system event c.event.new.self h h.same has (c.event.ensures kept before) in
-    elim c.in-Supply.is [
-      | inl a ↦ other_done site kept before system c.event.new.self event _ h after a.3 tt
+    elim c.in-Link.is [
+      | inl a ↦ other_done site kept before system c.event.new.self event _ h after a.2 tt
       | inr a ↦
           elim a [
-            | inl b ↦ other_done site kept before system c.event.new.self event _ h after b.2 tt
-            | inr b ↦
-                elim b [
-                  | inl d ↦ other_done site kept before system c.event.new.self event _ h after d.1 tt
-                  | inr d ↦ other_done site kept before system c.event.new.self event _ h after d.3 tt
-                ]
+            | inl b ↦ other_done site kept before system c.event.new.self event _ h after b.1 tt
+            | inr b ↦ other_done site kept before system c.event.new.self event _ h after b.3 tt
           ]
     ]
