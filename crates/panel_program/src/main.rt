@@ -26,6 +26,7 @@ mod matrix;
 mod outcome;
 #[cfg(test)]
 mod outside_tests;
+mod own_journal;
 mod program;
 mod reading;
 mod run;
