@@ -26,8 +26,10 @@ use Rattle.panel_rules.specs.Operations.{operations}
 use Rattle.panel_core.specs.declared.parts.Parts.{Parts}
 use Rattle.panel_core.specs.declared.system.System.{System}
 use Rattle.panel_core.specs.Applied.{MayBeApplied, done_so_far}
+use Rattle.panel_core.specs.Entries.{CountsFor}
 use Rattle.panel_core.specs.Stands.{AreBefore, HasApplied, PanelStands, StandsFor}
 use Rattle.panel_core.proofs.Applied.{applied_begun, applied_is_older, before_by, by_tick, done_in_front, next_may_be_applied, with_done_more}
+use Rattle.panel_core.proofs.Counts.{counts_stay}
 use Rattle.panel_core.proofs.Panels.{after_begin}
 
 -- ---- settings
@@ -172,9 +174,9 @@ module _ (site : Site) (kept : Retained) (before : List Moment) (system : System
       (by_tick (tick_of before) ds unsettled.older (before_by (tick_of before) unsettled.older unsettled.earlier))
 
   pub begun : (new : System) (desk : Desk) (tick : Tick) → tick.0 ≡ tick_of (Began ∷ before)
-      → HasApplied site kept before (done_so_far site kept before) new → DesksFor site kept (Began ∷ before) desk
+      → HasApplied site kept before (done_so_far site kept before) new → DesksFor site kept (Began ∷ before) desk → new.counts ≡ system.counts
       → StandsFor site kept (Began ∷ before) (record new { desk = desk; tick = tick })
-  begun new desk tick now g desks = record {
+  begun new desk tick now g desks same = record {
     valid = h.valid;
     same = g.same;
     tick = now;
@@ -186,4 +188,5 @@ module _ (site : Site) (kept : Retained) (before : List Moment) (system : System
     desk = desks;
     settings = g.settings;
     sized = g.sized;
+    counts = subst (CountsFor site kept (Began ∷ before)) (sym same) (counts_stay site kept before Began system.counts (λ e. cc) h.counts);
   }

@@ -1,5 +1,5 @@
 -- The turns of Desk and Keep: when the desk may have them, and what they make of the system.
-use Rattle.std.proofs.Common.{ℕ, false, List, ◌∷◌, sym, subst}
+use Rattle.std.proofs.Common.{ℕ, Bool, List, ◌∷◌, sym, subst}
 use Rattle.tick_units.specs.declared.task.Task.TheVariants.{Desk as DeskTask}
 use Rattle.site_types.specs.declared.retained.Retained.{Retained}
 use Rattle.site_types.specs.declared.site.Site.{Site}
@@ -7,7 +7,9 @@ use Rattle.operation_desk.specs.declared.desk.Desk.{Desk}
 use Rattle.operation_desk.specs.Stands.{CanAnswerAll, CanTurn, DesksFor, MayTakeKeepTurn, MayTakeTurn}
 use Rattle.panel_laws.proofs.EventsOfSite.{of_site}
 use Rattle.panel_rules.specs.Moments.{Moment, Turned, Kept, IsPanel, IsRun}
+use Rattle.panel_core.specs.declared.kept_counts.KeptCounts.{KeptCounts}
 use Rattle.panel_core.specs.declared.system.System.{System}
+use Rattle.panel_core.specs.Entries.{CountsFor}
 use Rattle.panel_core.specs.Stands.{StandsFor}
 use Rattle.panel_core.proofs.Whole.{stands_after_desk, stands_after_keep}
 
@@ -38,13 +40,14 @@ module _ (site : Site) (kept : Retained) (before : List Moment) (system : System
       stands_after_desk site kept before system panel desk h
       (subst (λ s. DesksFor s kept (Turned panel DeskTask ∷ before) desk) h.same (takes desk_stands (desk_may panel member run)))
 
-  keep_may : IsRun site.panels (Kept false ∷ before) → MayTakeKeepTurn site false before
-  keep_may run = record { valid = h.valid; run = run; of = of_site site before h.events }
+  keep_may : (failed : Bool) → IsRun site.panels (Kept failed ∷ before) → MayTakeKeepTurn site failed before
+  keep_may failed run = record { valid = h.valid; run = run; of = of_site site before h.events }
 
-  pub can_keep : IsRun site.panels (Kept false ∷ before) → CanAnswerAll false system.desk
-  can_keep run = record { site = site; kept = kept; before = before; stands = h.desk; may = keep_may run }
+  pub can_keep : (failed : Bool) → IsRun site.panels (Kept failed ∷ before) → CanAnswerAll failed system.desk
+  can_keep failed run = record { site = site; kept = kept; before = before; stands = h.desk; may = keep_may failed run }
 
-  pub keep_turn : (desk : Desk) → IsRun site.panels (Kept false ∷ before)
-      → (DesksFor site kept before system.desk → MayTakeKeepTurn site false before → DesksFor site kept (Kept false ∷ before) desk)
-      → StandsFor site kept (Kept false ∷ before) (record system { desk = desk })
-  keep_turn desk run takes = stands_after_keep site kept before system false desk h (takes h.desk (keep_may run))
+  pub keep_turn : (failed : Bool) (desk : Desk) (counts : KeptCounts) → IsRun site.panels (Kept failed ∷ before)
+      → (DesksFor site kept before system.desk → MayTakeKeepTurn site failed before → DesksFor site kept (Kept failed ∷ before) desk)
+      → CountsFor site kept (Kept failed ∷ before) counts → StandsFor site kept (Kept failed ∷ before) (record system { desk = desk; counts = counts })
+  keep_turn failed desk counts run takes counted =
+      stands_after_keep site kept before system failed desk counts h (takes h.desk (keep_may failed run)) counted

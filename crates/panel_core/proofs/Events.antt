@@ -40,6 +40,7 @@ use Rattle.panel_core.specs.declared.system.System.{System}
 use Rattle.panel_rules.specs.Reports.{and_report, is_on_panel, reports}
 use Rattle.panel_core.specs.Stands.{PanelStands, StandsFor}
 use Rattle.panel_core.specs.Applied.{applied}
+use Rattle.panel_core.proofs.Counts.{counts_stay}
 use Rattle.panel_core.proofs.Whole.{panel_at, stands_changed, stands_unchanged}
 
 -- a panel after an event of which its poller was told, and its supplies weren't
@@ -113,7 +114,8 @@ pub stands_after_point : (site : Site) (kept : Retained) (before : List Moment) 
     → StandsFor site kept (Happened (Point point state) ∷ before)
     (record system { panels = with_item system.panels (plan.panel - 1) parts; desk = desk })
 stands_after_point site kept before system desk plan point state parts h after one is p =
-    stands_changed site kept before system (Happened (Point point state)) desk refl (h.events, after.has) after.desks h plan.panel parts one p
+    stands_changed site kept before system (Happened (Point point state)) desk system.counts refl (h.events, after.has) after.desks
+    (counts_stay site kept before (Happened (Point point state)) system.counts (λ e. cc) h.counts) h plan.panel parts one p
     (λ other q n stood.
     let away : is_on_panel other (slice_get site.points point) ≡ false = ap (is_on_panel other) is ∙ not_there plan.panel other n in
     untold site kept (applied site kept before) other before q (Point point state) stood
@@ -125,7 +127,8 @@ pub stands_after_piece : (site : Site) (kept : Retained) (before : List Moment) 
     → StandsFor site kept (Happened (Cable panel line piece state) ∷ before)
     (record system { panels = with_item system.panels (panel - 1) parts; desk = desk })
 stands_after_piece site kept before system desk panel line piece state parts h after one p =
-    stands_changed site kept before system (Happened (Cable panel line piece state)) desk refl (h.events, after.has) after.desks h panel parts one p
+    stands_changed site kept before system (Happened (Cable panel line piece state)) desk system.counts refl (h.events, after.has) after.desks
+    (counts_stay site kept before (Happened (Cable panel line piece state)) system.counts (λ e. cc) h.counts) h panel parts one p
     (λ other q n stood.
     untold site kept (applied site kept before) other before q (Cable panel line piece state) stood
     (ap (λ b. if b && (nat_le 1 line && nat_le line 4) then Cabled line piece state ∷ reports site other before else reports site other before)
@@ -162,7 +165,8 @@ pub stands_after_other : (site : Site) (kept : Retained) (before : List Moment) 
     → StandsFor site kept before system → DeskAfter site kept before event desk → IsOther event
     → StandsFor site kept (Happened event ∷ before) (record system { desk = desk })
 stands_after_other site kept before system desk event h after o =
-    stands_unchanged site kept before system (Happened event) desk refl (h.events, after.has) after.desks h
+    stands_unchanged site kept before system (Happened event) desk system.counts refl (h.events, after.has) after.desks
+    (counts_stay site kept before (Happened event) system.counts (λ e. cc) h.counts) h
     (λ panel q stood. untold site kept (applied site kept before) panel before q event stood
     (not_reported site panel event (reports site panel before) o) (not_monitored panel event (supply_calls panel before) o))
 

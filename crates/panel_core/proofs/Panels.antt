@@ -14,7 +14,7 @@ use Rattle.loop_poller.specs.Calls.{told_point, told_cable}
 use Rattle.coincidence.specs.Stands.{DecidesFor}
 use Rattle.panel_conditions.specs.Stands.{HoldsFor}
 use Rattle.panel_core.specs.Turns.{hold_turns}
-use Rattle.panel_rules.specs.Moments.{Moment, Began, Turned, Kept, turn_of, IsPanel, tick_of}
+use Rattle.panel_rules.specs.Moments.{Moment, Began, Turned, Kept, IsPanel, tick_of}
 use Rattle.panel_rules.specs.Answers.{asked}
 use Rattle.panel_core.specs.declared.parts.Parts.{Parts}
 use Rattle.panel_rules.specs.Reports.{reports}
@@ -84,11 +84,6 @@ pub after_keep : (site : Site) (kept : Retained) (done : List Done) (panel : ℕ
 after_keep site kept done panel failed before parts h =
     after_nothing site kept done panel before parts (Kept failed)
     (record { told = refl; answers = refl; decided_same = refl; findings = refl; turns = refl; supplies = refl }) h
-
--- the moment of a panel's turn
-pub turn_is : (panel : ℕ) (task : Task) → task ≢ Keep → turn_of false panel task ≡ Turned panel task
-turn_is panel Keep n = absurd (n refl)
-turn_is panel task n = refl
 
 -- a seat that is not Keep's is of a panel
 pub seat_panel : (panels : ℕ) (seat : Seat) → Contains (canonical_seats panels) seat → seat.task ≢ Keep → IsPanel panels seat.panel

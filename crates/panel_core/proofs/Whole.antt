@@ -12,16 +12,19 @@ use Rattle.operation_desk.specs.Stands.{DesksFor}
 use Rattle.panel_laws.specs.OperationLaws.{AreEventsOf}
 use Rattle.panel_rules.specs.Moments.{Moment, Turned, Kept, tick_of}
 use Rattle.panel_rules.proofs.Places.{get_either}
+use Rattle.panel_core.specs.declared.kept_counts.KeptCounts.{KeptCounts}
 use Rattle.panel_core.specs.declared.parts.Parts.{Parts}
 use Rattle.panel_core.specs.declared.system.System.{System}
 use Rattle.panel_core.specs.Applied.{applied}
+use Rattle.panel_core.specs.Entries.{CountsFor}
 use Rattle.panel_core.specs.Stands.{PanelStands, StandsFor}
 use Rattle.panel_core.proofs.Applied.{applied_stays, settings_stay}
+use Rattle.panel_core.proofs.Counts.{counts_stay}
 use Rattle.panel_core.proofs.Panels.{after_keep, desk_turned, others_stay}
 
-module _ (site : Site) (kept : Retained) (before : List Moment) (system : System) (moment : Moment) (desk : Desk) (same_tick :
-    tick_of (moment ∷ before) ≡ tick_of before) (events : AreEventsOf site (moment ∷ before)) (desks : DesksFor site kept (moment ∷ before) desk)
-    (h : StandsFor site kept before system) where
+module _ (site : Site) (kept : Retained) (before : List Moment) (system : System) (moment : Moment) (desk : Desk) (counts :
+    KeptCounts) (same_tick : tick_of (moment ∷ before) ≡ tick_of before) (events : AreEventsOf site (moment ∷ before))
+    (desks : DesksFor site kept (moment ∷ before) desk) (counted : CountsFor site kept (moment ∷ before) counts) (h : StandsFor site kept before system) where
   -- with what was done before this tick a panel stands for the moment more
   abbrev StandsMore : ℕ → Parts → Type 0
   StandsMore panel parts = PanelStands site kept (applied site kept before) panel (moment ∷ before) parts
@@ -36,7 +39,7 @@ module _ (site : Site) (kept : Retained) (before : List Moment) (system : System
   -- at a moment of one panel
   pub stands_changed : (panel : ℕ) (parts : Parts) → 1 ≤ panel → StandsMore panel parts
       → ((other : ℕ) (q : Parts) → panel ≢ other → StoodBefore other q → StandsMore other q)
-      → StandsFor site kept (moment ∷ before) (record system { panels = with_item system.panels (panel - 1) parts; desk = desk })
+      → StandsFor site kept (moment ∷ before) (record system { panels = with_item system.panels (panel - 1) parts; desk = desk; counts = counts })
   stands_changed panel parts one p others =
       record {
         valid = h.valid;
@@ -52,11 +55,12 @@ module _ (site : Site) (kept : Retained) (before : List Moment) (system : System
         desk = desks;
         settings = settings_stay site kept moment before system.settings same_tick h.settings;
         sized = h.sized;
+        counts = counted;
       }
 
   -- at a moment at which no panel is changed
   pub stands_unchanged : ((panel : ℕ) (q : Parts) → StoodBefore panel q → StandsMore panel q)
-      → StandsFor site kept (moment ∷ before) (record system { desk = desk })
+      → StandsFor site kept (moment ∷ before) (record system { desk = desk; counts = counts })
   stands_unchanged each =
       record {
         valid = h.valid;
@@ -68,6 +72,7 @@ module _ (site : Site) (kept : Retained) (before : List Moment) (system : System
         desk = desks;
         settings = settings_stay site kept moment before system.settings same_tick h.settings;
         sized = h.sized;
+        counts = counted;
       }
 
 -- a turn of another task leaves the desk
@@ -89,7 +94,8 @@ pub stands_after_turn : (site : Site) (kept : Retained) (before : List Moment) (
     → PanelStands site kept (applied site kept before) panel (Turned panel task ∷ before) parts
     → StandsFor site kept (Turned panel task ∷ before) (record system { panels = with_item system.panels (panel - 1) parts })
 stands_after_turn site kept before system panel task parts h one other p =
-    stands_changed site kept before system (Turned panel task) system.desk refl h.events (desk_left site kept before system.desk panel h.desk task other) h
+    stands_changed site kept before system (Turned panel task) system.desk system.counts refl h.events
+    (desk_left site kept before system.desk panel h.desk task other) (counts_stay site kept before (Turned panel task) system.counts (λ e. cc) h.counts) h
     panel parts one p
     (λ next q apart stood. others_stay site kept (applied site kept before) next panel task before q apart stood)
 
@@ -98,15 +104,16 @@ pub stands_after_desk : (site : Site) (kept : Retained) (before : List Moment) (
     → StandsFor site kept before system → DesksFor site kept (Turned panel DeskTask ∷ before) desk
     → StandsFor site kept (Turned panel DeskTask ∷ before) (record system { desk = desk })
 stands_after_desk site kept before system panel desk h desks =
-    stands_unchanged site kept before system (Turned panel DeskTask) desk refl h.events desks h
+    stands_unchanged site kept before system (Turned panel DeskTask) desk system.counts refl h.events desks
+    (counts_stay site kept before (Turned panel DeskTask) system.counts (λ e. cc) h.counts) h
     (λ at q stood. desk_turned site kept (applied site kept before) at panel before q stood)
 
 -- nor does Keep's
-pub stands_after_keep : (site : Site) (kept : Retained) (before : List Moment) (system : System) (failed : Bool) (desk : Desk)
-    → StandsFor site kept before system → DesksFor site kept (Kept failed ∷ before) desk
-    → StandsFor site kept (Kept failed ∷ before) (record system { desk = desk })
-stands_after_keep site kept before system failed desk h desks =
-    stands_unchanged site kept before system (Kept failed) desk refl h.events desks h
+pub stands_after_keep : (site : Site) (kept : Retained) (before : List Moment) (system : System) (failed : Bool) (desk : Desk) (counts : KeptCounts)
+    → StandsFor site kept before system → DesksFor site kept (Kept failed ∷ before) desk → CountsFor site kept (Kept failed ∷ before) counts
+    → StandsFor site kept (Kept failed ∷ before) (record system { desk = desk; counts = counts })
+stands_after_keep site kept before system failed desk counts h desks counted =
+    stands_unchanged site kept before system (Kept failed) desk counts refl h.events desks counted h
     (λ panel q stood. after_keep site kept (applied site kept before) panel failed before q stood)
 
 -- the panel at a place

@@ -1,7 +1,9 @@
 -- What reports, events and turns make of a panel and of the system, whatever they stood for.
-use Rattle.std.specs.Prelude.{◌≡◌, ℕ, Bool, true, false, List, ◌∷◌, slice_get}
+use Rattle.std.specs.Prelude.{◌≡◌, ◌≢◌, ◌≤◌, ℕ, Bool, true, false, List, ◌∷◌, Some, drop, length, slice_get, take}
+use Rattle.std.specs.List.{AllByRecursion}
 use Rattle.tick_units.specs.declared.seat.Seat.{Seat}
 use Rattle.tick_units.specs.declared.task.Task.{Task}
+use Rattle.tick_units.specs.declared.task.Task.TheVariants.{Keep}
 use Rattle.site_types.specs.declared.event.Event.{Event}
 use Rattle.site_types.specs.declared.event.Event.TheVariants.{Point, Cable, Supply}
 use Rattle.site_types.specs.declared.piece_state.PieceState.{PieceState}
@@ -76,9 +78,11 @@ BeginsTick old tick system =
     → StandsFor site kept before old → tick ≡ tick_of (Began ∷ before) → IsRun site.panels (Began ∷ before)
     → StandsFor site kept (Began ∷ before) system
 
--- what is asked for and the tick are as they were
-abbrev pub HasSameDesk : System → System → Type 0
-HasSameDesk old system = (system.desk ≡ old.desk) × (system.tick ≡ old.tick)
+-- what is asked for, the tick and what is kept are as they were
+pub record HasSameRest (old system : System) : Type 0 where
+  pub desk : system.desk ≡ old.desk
+  pub tick : system.tick ≡ old.tick
+  pub counts : system.counts ≡ old.counts
 
 -- an operation that was done in the tick that ends comes in force at all panels
 abbrev pub AppliesToAll : System → Done → System → Type 0
@@ -100,12 +104,28 @@ TakesEvent old event system =
     (site : Site) (kept : Retained) (before : List Moment)
     → StandsFor site kept before old → StandsFor site kept (Happened event ∷ before) system
 
--- each of these seats had its turn, in this order, and no journal failed
+-- each of these seats of panels had its turn, in this order
 abbrev pub MakesTurns : System → List Seat → System → Type 0
-MakesTurns old order system =
+MakesTurns old seats system =
     (site : Site) (kept : Retained) (before : List Moment)
-    → StandsFor site kept before old → IsRun site.panels (and_turns false order before)
-    → StandsFor site kept (and_turns false order before) system
+    → StandsFor site kept before old → IsRun site.panels (and_turns false seats before)
+    → StandsFor site kept (and_turns false seats before) system
+
+-- the seats of an order from one place up to another
+abbrev pub seats_between : ℕ → ℕ → List Seat → List Seat
+seats_between from to order = drop from (take to order)
+
+-- none of them is Keep's
+abbrev pub AreOfPanels : List Seat → Type 0
+AreOfPanels seats = AllByRecursion (λ (seat : Seat). seat.task ≢ Keep) seats
+
+-- the seats from one place up to another had their turns, and at that place stands Keep's, or none
+pub record MakesTurnsFrom (old : System) (order : List Seat) (from to : ℕ) (system : System) : Type 0 where
+  pub since : from ≤ length order → from ≤ to
+  pub within : to ≤ length order
+  pub panels : AreOfPanels (seats_between from to order)
+  pub keep : (seat : Seat) → slice_get order to ≡ Some seat → seat.task ≡ Keep
+  pub turns : MakesTurns old (seats_between from to order) system
 
 -- what it answers is what the rules answer in the tick that began last
 abbrev pub AnswersAsRuled : System → Answers → Type 0

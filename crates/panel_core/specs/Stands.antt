@@ -1,9 +1,10 @@
 -- What the system and each of its panels stand for, after some moments.
 use Rattle.std.specs.Prelude.{◌≡◌, ◌<◌, ◌≤◌, ◌+◌, ◌-◌, ◌^◌, ℕ, List, ◌∷◌, [], length, true, false, Some}
-use Rattle.std.specs.Prelude.{slice_get, Contains}
+use Rattle.std.specs.Prelude.{◌≢◌, drop, slice_get, Contains}
 use Rattle.std.specs.List.{AllByRecursion}
 use Rattle.tick_units.specs.declared.seat.Seat.{Seat}
 use Rattle.tick_units.specs.declared.task.Task.{Task}
+use Rattle.tick_units.specs.declared.task.Task.TheVariants.{Keep}
 use Rattle.tick_units.specs.Orders.{IsOrder, canonical_seats}
 use Rattle.tick_units.specs.Ticks.{last_tick}
 use Rattle.site_types.specs.declared.event.Event.{Event}
@@ -27,6 +28,7 @@ use Rattle.panel_core.specs.declared.parts.Parts.{Parts}
 use Rattle.panel_core.specs.declared.system.System.{System}
 use Rattle.panel_rules.specs.Reports.{reports}
 use Rattle.panel_core.specs.Applied.{MayBeApplied, applied, done_so_far}
+use Rattle.panel_core.specs.Entries.{CountsFor}
 use Rattle.panel_core.specs.Lanes.{answer_lane, finding_lane, decided}
 use Rattle.panel_core.specs.Turns.{hold_turns}
 
@@ -79,6 +81,7 @@ pub record StandsFor (site : Site) (kept : Retained) (before : List Moment) (sys
   pub desk : DesksFor site kept before system.desk
   pub settings : AreInForce site kept (tick_of before) (done_so_far site kept before) system.settings
   pub sized : IsSized system.settings
+  pub counts : CountsFor site kept before system.counts
 
 -- at the end of a tick its panels and settings have these operations applied
 pub record HasApplied (site : Site) (kept : Retained) (before : List Moment) (done : List Done) (system : System)
@@ -109,23 +112,24 @@ pub record MayBegin (system : System) : Type 0 where
   pub stands : StandsFor site kept before system
   pub run : IsRun site.panels (Began ∷ before)
 
--- the system stands for some run of ordered ticks in which these turns may come next
-pub record MayTurnAll (order : List Seat) (system : System) : Type 0 where
+-- the system stands for some run in which the seats of an order from a place on may have their turns
+pub record MayTurnFrom (order : List Seat) (from : ℕ) (system : System) : Type 0 where
   pub site : Site
   pub kept : Retained
   pub before : List Moment
   pub stands : StandsFor site kept before system
   pub ordered : IsOrder site.panels order
-  pub run : IsRun site.panels (and_turns false order before)
+  pub run : IsRun site.panels (and_turns false (drop from order) before)
   pub few : tick_of before ≤ last_tick
 
--- one seat of the site may have its turn
+-- one seat of a panel may have its turn
 pub record MayTurnSeat (seat : Seat) (system : System) : Type 0 where
   pub site : Site
   pub kept : Retained
   pub before : List Moment
   pub stands : StandsFor site kept before system
   pub known : Contains (canonical_seats site.panels) seat
+  pub panels : seat.task ≢ Keep
   pub run : IsRun site.panels (and_turns false (seat ∷ []) before)
   pub few : tick_of before ≤ last_tick
 

@@ -17,7 +17,11 @@
 //! and Hold take at most 32 items.
 #![tactic(auto)]
 
+mod keeping;
+mod kept_counts;
 mod parts;
 mod system;
+mod turns;
 
+pub use keep_turn::Store;
 pub use system::System;

@@ -1,16 +1,17 @@
-ghost use Rattle.std.specs.Prelude.{◌≡◌, [], ◌∷◌, List, IfOk};
+ghost use Rattle.std.specs.Prelude.{◌≡◌, [], List, IfOk};
 ghost use Rattle.site_types.specs.declared.retained.Retained.{Retained as RetainedOf};
 ghost use Rattle.site_types.specs.declared.site.Site.{Site as SiteOf};
 ghost use Rattle.site_types.specs.Changes.{IsSized};
 ghost use Rattle.site_types.specs.Valid.{IsValid};
 ghost use Rattle.panel_rules.specs.Moments.{Moment, tick_of};
 
+use crate::kept_counts::KeptCounts;
 use crate::parts::Parts;
 use face_text::Answers;
 use operation_desk::{Desk, DoneOperation};
 use site_types::{Event, Retained, Site};
 use std::alloc::Global;
-use tick_units::{NoMemory, Order, Seat, Task, Tick};
+use tick_units::{NoMemory, Task, Tick};
 
 /// The panels of a site.
 #[derive(Drop)]
@@ -21,16 +22,16 @@ pub struct System {
     pub(crate) desk: Desk,
     /// The settings that are in force.
     pub(crate) settings: Retained,
+    pub(crate) counts: KeptCounts,
 }
 
 impl System {
-    ghost use Rattle.panel_core.specs.Changes.{AppliesAllDone, AppliesToAll, BeginsTick, HasSameDesk, MakesTurns};
+    ghost use Rattle.panel_core.specs.Changes.{AppliesAllDone, AppliesToAll, BeginsTick, HasSameRest};
     ghost use Rattle.panel_core.specs.Changes.{AnswersAsRuled, TakesEvent};
     ghost use Rattle.panel_core.specs.Lanes.{taken_by};
     ghost use Rattle.panel_core.specs.ShownZones.{ShowsCausedZones, ShowsDueZones, ShowsLoneSignals};
     ghost use Rattle.panel_core.specs.ShownZones.{ShowsOwnFirsts, ShowsOwnZones};
     ghost use Rattle.panel_core.specs.Stands.{StandsFor, HasPanel, MayApplyAll, MayBegin, MayHappen};
-    ghost use Rattle.panel_core.specs.Stands.{MayTurnAll, MayTurnSeat};
     ghost use Rattle.operation_desk.specs.Requests.{done_from};
 
     /// The panels of a site before its first tick.
@@ -49,6 +50,7 @@ impl System {
             tick: Tick(0),
             desk: Desk::new(),
             settings: *kept,
+            counts: KeptCounts::at_opening(kept),
         })
     }
 
@@ -91,36 +93,11 @@ impl System {
         }
     }
 
-    /// Each seat has its turn, in this order.
-    pub fn turns(&mut self, order: &Order)
-        requires { MayTurnAll order.now self.old }
-        ensures { MakesTurns self.old order.now self.new }
-    {
-        for place in 0..order.len() {
-            self.turn_of(order.seat(place));
-        }
-    }
-
-    // One seat has its turn.
-    fn turn_of(&mut self, seat: Seat)
-        requires { MayTurnSeat seat self.old }
-        ensures { MakesTurns self.old (seat ∷ []) self.new }
-    {
-        match seat.task {
-            Task::Keep => self.desk.keep(false),
-            Task::Desk => self.desk.turn(&self.site, &self.settings, seat.panel),
-            task => {
-                let parts = &mut self.panels[seat.panel as usize - 1];
-                parts.turn(task, self.tick);
-            }
-        }
-    }
-
     // What was done in the tick that began last comes in force.
     fn apply_done(&mut self)
         requires { MayBegin self.old }
         ensures applied { AppliesAllDone self.old self.new }
-        ensures same { HasSameDesk self.old self.new }
+        ensures same { HasSameRest self.old self.new }
     {
         for place in 0..self.desk.done().len() {
             let done = self.desk.done()[place];
@@ -132,7 +109,7 @@ impl System {
     fn apply(&mut self, done: &DoneOperation)
         requires { MayApplyAll (done_from self.old.tick.0 done.now) self.old }
         ensures applied { AppliesToAll self.old (done_from self.old.tick.0 done.now) self.new }
-        ensures same { HasSameDesk self.old self.new }
+        ensures same { HasSameRest self.old self.new }
     {
         for before in 0..self.site.panels {
             let parts = &mut self.panels[before as usize];

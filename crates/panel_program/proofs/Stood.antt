@@ -18,11 +18,13 @@ use Rattle.panel_rules.specs.Records.{AreOrdered}
 use Rattle.panel_rules.proofs.RecordRuns.{records_are_runs}
 use Rattle.panel_core.specs.declared.system.System.{System}
 use Rattle.panel_core.proofs.Orders.{turns_ask}
-use Rattle.panel_core.specs.Stands.{StandsFor as SystemStands, MayTurnAll, HasPanel}
+use Rattle.panel_core.specs.Stands.{StandsFor as SystemStands, HasPanel}
+use Rattle.panel_program.specs.declared.own_journal.OwnJournal.{OwnJournal}
 use Rattle.panel_program.specs.declared.run.Run.{Run}
 use Rattle.panel_program.specs.declared.shown.Shown.{Shown}
 use Rattle.panel_program.specs.Records.{Block, Progress, at_beginning, ticked, closed_by, is_built_event, with_event, new_block, moments_by}
 use Rattle.panel_program.specs.Stands.{Stands, MayClose, ClosesBy, HasRun, after_close, order_by}
+use Rattle.panel_program.specs.OwnJournals.{KeepsOwn, MayTurnOwn}
 use Rattle.panel_program.specs.Zones.{shown_after}
 
 -- ---- the tick of a record's moments
@@ -62,15 +64,16 @@ events_more (x ∷ events) event before = events_more events event (Happened x �
 
 -- before the first tick
 pub opened : (site : Site) (kept : Retained) (run : Run) → IsValid site → site.panels ≡ 1 → kept ≡ nothing_retained
-    → SystemStands site kept [] run.system → run.is_open ≡ false → run.canonical ≡ canonical_seats site.panels → run.ticks ≡ 0
+    → SystemStands site kept [] run.system → KeepsOwn site [] 0 run.own → run.is_open ≡ false → run.canonical ≡ canonical_seats site.panels → run.ticks ≡ 0
     → ((before : List Moment) → SystemStands site nothing_retained before run.system → IsRun site.panels before
     → run.shown ≡ shown_after site before) → Stands site at_beginning run
-opened site kept run valid one nothing stands shut canonical none shows =
+opened site kept run valid one nothing stands own shut canonical none shows =
     let system = subst (λ k. SystemStands site k [] run.system) nothing stands in
     record {
       valid = valid;
       one = one;
       system = system;
+      own = subst (λ n. KeepsOwn site [] n run.own) (sym none) own;
       open_is = shut;
       canonical = canonical;
       order_is = tt;
@@ -90,6 +93,7 @@ begun site ticks old system h stands few =
       valid = h.valid;
       one = h.one;
       system = stands;
+      own = record { keeps = record { keeps = h.own.keeps.keeps; wide = h.own.keeps.wide }; sound = h.own.sound; tried = h.own.tried };
       open_is = refl;
       canonical = h.canonical;
       order_is = sym h.canonical;
@@ -125,6 +129,12 @@ told_by site ticks (Some block) old event system h built open_is stands =
       valid = h.valid;
       one = h.one;
       system = subst (λ ms. SystemStands site nothing_retained ms system) (sym (events_more block.events event (Began ∷ moments ticks))) stands;
+      own =
+          subst (λ ms. KeepsOwn site ms old.ticks old.own) (sym (events_more block.events event (Began ∷ moments ticks))) (record {
+            keeps = record { keeps = h.own.keeps.keeps; wide = h.own.keeps.wide };
+            sound = h.own.sound;
+            tried = h.own.tried;
+          });
       open_is = h.open_is;
       canonical = h.canonical;
       order_is = h.order_is;
@@ -161,6 +171,14 @@ few_asked site p run h = let none = ap length h.unasked in let top : 0 < 2 ^ 64 
 
 -- ---- the turns of a tick
 
+-- turns in this order lead a system and its journal from any history to the longer one
+abbrev pub Turning : Site → Run → System → OwnJournal → Type 0
+Turning site run system own =
+    (before : List Moment) (most : ℕ) → SystemStands site nothing_retained before run.system → KeepsOwn site before most run.own
+    → IsRun site.panels (and_turns false (order_by run.order run.canonical) before) → tick_of before ≤ last_tick
+    → SystemStands site nothing_retained (and_turns false (order_by run.order run.canonical) before) system
+    × KeepsOwn site (and_turns false (order_by run.order run.canonical) before) (most + 1) own
+
 module _ (site : Site) (ticks : List TickBlock) (block : Block) (run : Run) (h : Stands site (record { run = ticks; block = Some block }) run) where
   abbrev before : List Moment
   before = and_events block.events (Began ∷ moments ticks)
@@ -169,29 +187,35 @@ module _ (site : Site) (ticks : List TickBlock) (block : Block) (run : Run) (h :
   order_run =
       subst (λ order. IsRun site.panels (and_turns false order before)) h.order_is (records_are_runs site.panels (ticked block ∷ ticks) h.ordered).0
 
-  pub may_turn_block : MayTurnAll (order_by run.order run.canonical) run.system
+  in_time : tick_of before ≤ last_tick
+  in_time = let tick = block_tick block ticks in let few = h.few in omega (arith, tick, few)
+
+  pub may_turn_block : MayTurnOwn (order_by run.order run.canonical) run.own run.system
   may_turn_block =
-      let tick = block_tick block ticks in
       let few = h.few in
+      let count = h.count in
+      let tried = h.own.tried in
       record {
-        site = site;
-        kept = nothing_retained;
-        before = before;
-        stands = h.system;
-        ordered = subst (IsOrder site.panels) h.order_is h.ordered.1;
-        run = order_run;
-        few = omega (arith, tick, few);
+        turns = record {
+          site = site;
+          kept = nothing_retained;
+          before = before;
+          stands = h.system;
+          keeps = h.own.keeps;
+          ordered = subst (IsOrder site.panels) h.order_is h.ordered.1;
+          run = order_run;
+          few = in_time;
+          tried = omega (arith, few, count, tried);
+        };
+        sound = h.own.sound;
       }
 
-  -- after its turns the system stands for one tick more
-  pub turned_block : (system : System)
-      → ((kept : Retained) (before : List Moment) → SystemStands site kept before run.system
-      → IsRun site.panels (and_turns false (order_by run.order run.canonical) before)
-      → SystemStands site kept (and_turns false (order_by run.order run.canonical) before) system) →
-      SystemStands site nothing_retained (moments (ticked block ∷ ticks)) system
-  turned_block system turns =
-      subst (λ order. SystemStands site nothing_retained (and_turns false order before) system) (sym h.order_is)
-      (turns nothing_retained before h.system order_run)
+  -- after its turns the system and its journal stand for one tick more
+  pub turned_block : (system : System) (own : OwnJournal) → Turning site run system own
+      → SystemStands site nothing_retained (moments (ticked block ∷ ticks)) system × KeepsOwn site (moments (ticked block ∷ ticks)) (run.ticks + 1) own
+  turned_block system own turns =
+      subst (λ order. SystemStands site nothing_retained (and_turns false order before) system × KeepsOwn site (and_turns false order before) (run.ticks + 1) own)
+      (sym h.order_is) (turns before run.ticks h.system h.own order_run in_time)
 
 pub shows_one : (site : Site) (ticks : List TickBlock) (system : System) → site.panels ≡ 1 → SystemStands site nothing_retained (moments ticks) system
     → HasPanel 1 system
@@ -204,59 +228,54 @@ shows_one site ticks system one stands = record {
       (omega arith, omega (arith, one));
 }
 
--- turns in this order lead a system from any history to the longer one
-abbrev pub Turning : Site → Run → System → Type 0
-Turning site run system =
-    (kept : Retained) (before : List Moment) → SystemStands site kept before run.system
-    → IsRun site.panels (and_turns false (order_by run.order run.canonical) before)
-    → SystemStands site kept (and_turns false (order_by run.order run.canonical) before) system
-
 may_turn_by : (site : Site) (ticks : List TickBlock) (o : Option Block) (run : Run) → Stands site (record { run = ticks; block = o }) run
-    → run.is_open ≡ true → MayTurnAll (order_by run.order run.canonical) run.system
+    → run.is_open ≡ true → MayTurnOwn (order_by run.order run.canonical) run.own run.system
 may_turn_by site ticks None run h open_is = not_open (sym open_is ∙ h.open_is)
 may_turn_by site ticks (Some block) run h open_is = may_turn_block site ticks block run h
 
 -- an open tick may have its turns
-pub may_turn : (run : Run) (r : MayClose run) → MayTurnAll (order_by run.order run.canonical) run.system
+pub may_turn : (run : Run) (r : MayClose run) → MayTurnOwn (order_by run.order run.canonical) run.own run.system
 may_turn run r = may_turn_by r.site r.p.run r.p.block run r.stands r.open_is
 
-may_show_by : (site : Site) (ticks : List TickBlock) (o : Option Block) (run : Run) (system : System)
-    → Stands site (record { run = ticks; block = o }) run → run.is_open ≡ true → Turning site run system → HasPanel 1 system
-may_show_by site ticks None run system h open_is turns = not_open (sym open_is ∙ h.open_is)
-may_show_by site ticks (Some block) run system h open_is turns =
-    shows_one site (ticked block ∷ ticks) system h.one (turned_block site ticks block run h system turns)
+may_show_by : (site : Site) (ticks : List TickBlock) (o : Option Block) (run : Run) (system : System) (own : OwnJournal)
+    → Stands site (record { run = ticks; block = o }) run → run.is_open ≡ true → Turning site run system own → HasPanel 1 system
+may_show_by site ticks None run system own h open_is turns = not_open (sym open_is ∙ h.open_is)
+may_show_by site ticks (Some block) run system own h open_is turns =
+    shows_one site (ticked block ∷ ticks) system h.one (turned_block site ticks block run h system own turns).0
 
 -- and then be asked what is shown
-pub may_show : (run : Run) (system : System) (r : MayClose run) → Turning r.site run system → HasPanel 1 system
-may_show run system r turns = may_show_by r.site r.p.run r.p.block run system r.stands r.open_is turns
+pub may_show : (run : Run) (system : System) (own : OwnJournal) (r : MayClose run) → Turning r.site run system own → HasPanel 1 system
+may_show run system own r turns = may_show_by r.site r.p.run r.p.block run system own r.stands r.open_is turns
 
-closes_by : (site : Site) (ticks : List TickBlock) (o : Option Block) (run : Run) (system : System) (shown : Shown)
-    → Stands site (record { run = ticks; block = o }) run → Turning site run system →
+closes_by : (site : Site) (ticks : List TickBlock) (o : Option Block) (run : Run) (system : System) (own : OwnJournal) (shown : Shown)
+    → Stands site (record { run = ticks; block = o }) run → Turning site run system own →
     ((before : List Moment) → SystemStands site nothing_retained before system → IsRun site.panels before → shown ≡ shown_after site before) →
-    ClosesBy site (record { run = ticks; block = o }) o (record run { system = system; is_open = false; ticks = run.ticks + 1; shown = shown })
-closes_by site ticks None run system shown h turns shows = tt
-closes_by site ticks (Some block) run system shown h turns shows =
-    let turned = turned_block site ticks block run h system turns in
+    ClosesBy site (record { run = ticks; block = o }) o
+    (record run { system = system; own = own; is_open = false; ticks = run.ticks + 1; shown = shown })
+closes_by site ticks None run system own shown h turns shows = tt
+closes_by site ticks (Some block) run system own shown h turns shows =
+    let turned = turned_block site ticks block run h system own turns in
     let count = h.count in
     record {
       valid = h.valid;
       one = h.one;
-      system = turned;
+      system = turned.0;
+      own = turned.1;
       open_is = refl;
       canonical = h.canonical;
       order_is = tt;
       ordered = h.ordered;
-      shown = shows (moments (ticked block ∷ ticks)) turned (records_are_runs site.panels (ticked block ∷ ticks) h.ordered).0;
+      shown = shows (moments (ticked block ∷ ticks)) turned.0 (records_are_runs site.panels (ticked block ∷ ticks) h.ordered).0;
       count = omega (arith, count);
       few = h.few;
       unasked = turns_ask site false block.order (and_events block.events (Began ∷ moments ticks)) ∙ h.unasked;
     }
 
 -- the turns were made
-pub closes : (site : Site) (p : Progress) (run : Run) (system : System) (shown : Shown) → Stands site p run → Turning site run system →
+pub closes : (site : Site) (p : Progress) (run : Run) (system : System) (own : OwnJournal) (shown : Shown) → Stands site p run → Turning site run system own →
     ((before : List Moment) → SystemStands site nothing_retained before system → IsRun site.panels before → shown ≡ shown_after site before) →
-    ClosesBy site p p.block (record run { system = system; is_open = false; ticks = run.ticks + 1; shown = shown })
-closes site p run system shown h turns shows = closes_by site p.run p.block run system shown h turns shows
+    ClosesBy site p p.block (record run { system = system; own = own; is_open = false; ticks = run.ticks + 1; shown = shown })
+closes site p run system own shown h turns shows = closes_by site p.run p.block run system own shown h turns shows
 
 run_few : (o : Option Block) (ticks : List TickBlock) → length ticks ≤ length (closed_by o ticks)
 run_few None ticks = omega arith

@@ -6,6 +6,7 @@ pub mod Ticks
 pub mod Records
 pub mod Endings
 pub mod Writings
+pub mod OwnJournals
 pub mod Refusals
 pub mod Stands
 pub mod Runs

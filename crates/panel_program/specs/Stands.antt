@@ -33,6 +33,7 @@ use Rattle.panel_program.specs.Records.{moments_in}
 use Rattle.panel_program.specs.Records.{is_built, is_built_event, built_lines, ticks_run}
 use Rattle.panel_program.specs.declared.taken.Taken.{Taken}
 use Rattle.panel_program.specs.Endings.{number_behind}
+use Rattle.panel_program.specs.OwnJournals.{KeepsOwn}
 use Rattle.panel_program.specs.Ticks.{text_of}
 use Rattle.panel_program.specs.Zones.{shown_after}
 use Rattle.panel_program.specs.Writings.{Advances, Breaks}
@@ -51,6 +52,7 @@ pub record Stands (site : Site) (p : Progress) (run : Run) : Type 0 where
   pub valid : IsValid site
   pub one : site.panels ≡ 1
   pub system : SystemStands site nothing_retained (moments_in p) run.system
+  pub own : KeepsOwn site (moments_in p) run.ticks run.own
   pub open_is : run.is_open ≡ is_some p.block
   pub canonical : run.canonical ≡ canonical_seats site.panels
   pub order_is : OrderIs p.block (order_by run.order run.canonical)

@@ -25,6 +25,7 @@ mod loading;
 mod matrix;
 #[cfg(test)]
 mod outside_tests;
+mod own_journal;
 mod program;
 mod reading;
 mod run;

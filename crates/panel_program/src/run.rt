@@ -1,5 +1,5 @@
 ghost use Rattle.std.specs.Prelude.{◌≡◌, ◌+◌, [], List, Option, IfOk, OnErr, OnOk, false, None, Some};
-ghost use Rattle.panel_core.specs.Stands.{HasPanel, MayTurnAll, StandsFor as SystemStands};
+ghost use Rattle.panel_core.specs.Stands.{HasPanel, StandsFor as SystemStands};
 ghost use Rattle.panel_edges.specs.Contents.{Grows, GrowsByFront};
 ghost use Rattle.panel_edges.specs.Faults.{HasCause};
 ghost use Rattle.panel_program.specs.Records.{Progress, at_beginning, closed, is_built_event};
@@ -7,7 +7,7 @@ ghost use Rattle.panel_program.specs.Records.{with_order};
 ghost use Rattle.panel_program.specs.Stands.{MayClose, MayHappen as MayTell, MayTake, MayCome, Stands, StandsClosed};
 ghost use Rattle.panel_program.specs.Stands.{StandsSome};
 ghost use Rattle.panel_program.specs.Stands.{Closes, OpensTick, Takes, TellsEvent, after_close, order_by};
-ghost use Rattle.panel_core.specs.Changes.{MakesTurns};
+ghost use Rattle.panel_program.specs.OwnJournals.{MayTurnOwn, TurnsOwn};
 ghost use Rattle.panel_program.specs.Ticks.{text_of};
 ghost use Rattle.panel_program.specs.Writings.{Advances, Breaks};
 ghost use Rattle.panel_program.specs.Zones.{shown_after};
@@ -17,6 +17,7 @@ ghost use Rattle.site_types.specs.Changes.{nothing_retained};
 ghost use Rattle.site_types.specs.Valid.{IsValid};
 ghost use Rattle.site_types.specs.declared.site.Site.{Site as SiteOf};
 
+use crate::own_journal::OwnJournal;
 use crate::run_end::RunEnd;
 use crate::shown::Shown;
 use crate::writing::{PAGE_BYTES, PANEL, write_opening, write_tick};
@@ -31,6 +32,7 @@ use tick_units::{Order, Tick};
 #[derive(Drop)]
 pub struct Run {
     pub(crate) system: System,
+    pub(crate) own: OwnJournal,
     // What was shown after the tick that was run last.
     pub(crate) shown: Shown,
     // Whether the block of a tick is being read, whose turns are yet to be made.
@@ -52,6 +54,7 @@ impl Run {
         ensures { IfOk result (Stands site at_beginning) }
     {
         let canonical = Order::canonical(site.panels);
+        let own = OwnJournal::open(alloc, &site)?;
         let Ok(system) = System::open(alloc, site, &Retained::empty()) else {
             return Err(NoMemory);
         };
@@ -59,6 +62,7 @@ impl Run {
         let shown = show(&system);
         Ok(Run {
             system,
+            own,
             shown,
             is_open: false,
             order: None,
@@ -192,7 +196,7 @@ impl Run {
         requires { MayClose self.old }
         ensures { (site : SiteOf) (p : Progress) → Stands site p self.old → Closes site p self.new }
     {
-        turn_all(&mut self.system, &self.order, &self.canonical);
+        turn_all(&mut self.own, &mut self.system, &self.order, &self.canonical);
         self.is_open = false;
         self.ticks += 1;
         self.shown = show(&self.system);
@@ -210,13 +214,18 @@ fn is_built(event: &Event) -> bool
 }
 
 // Each seat has its turn, in the order that was given, else in the canonical one.
-fn turn_all(system: &mut System, given: &Option<Order>, canonical: &Order)
-    requires { MayTurnAll (order_by given.now canonical.now) system.old }
-    ensures { MakesTurns system.old (order_by given.now canonical.now) system.new }
+fn turn_all(
+    own: &mut OwnJournal,
+    system: &mut System,
+    given: &Option<Order>,
+    canonical: &Order,
+)
+    requires { MayTurnOwn (order_by given.now canonical.now) own.old system.old }
+    ensures { TurnsOwn (order_by given.now canonical.now) own.old system.old own.new system.new }
 {
     match given {
-        Some(order) => system.turns(order),
-        None => system.turns(canonical),
+        Some(order) => own.turns(system, order),
+        None => own.turns(system, canonical),
     }
 }
 

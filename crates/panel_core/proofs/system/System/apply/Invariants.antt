@@ -16,6 +16,7 @@ invariant-loop-before l =
       site : l.self.site ≡ l.fn.self.site;
       tick : l.self.tick ≡ l.fn.self.tick;
       desk : l.self.desk ≡ l.fn.self.desk;
+      counts : l.self.counts ≡ l.fn.self.counts;
       settings : l.self.settings ≡ l.fn.self.settings;
       count : length l.self.panels.items ≡ length l.fn.self.panels.items;
       partly : (site : Site) (kept : Retained) (before : List Moment) (done : List Done) → HasApplied site kept before done l.fn.self

@@ -5,7 +5,7 @@ use Rattle.panel_core.proofs.Applied.{read_done}
 use Rattle.panel_core.proofs.system.System.apply_done.Goals as goal
 
 pub loop-place-init : goal.loop-place-init
-loop-place-init c = record { same = (refl, refl); applied = λ site kept before h run. none_applied site kept before c.args.self.now h run }
+loop-place-init c = record { same = record { desk = refl; tick = refl; counts = refl }; applied = λ site kept before h run. none_applied site kept before c.args.self.now h run }
 
 pub apply-requires : goal.apply-requires
 apply-requires c =
@@ -14,14 +14,14 @@ apply-requires c =
     let place = c.loop-place.place in
     let test = c.loop-place-test.true in
     let count = ap length c.done-place-end.ensures in
-    let is = read_done c.args.self.now.desk.done.items c.done.result.now place _ (c.done.ensures ∙ ap (λ desk. desk.done.items) inv.same.0) (omega (arith, test, count)) in
+    let is = read_done c.args.self.now.desk.done.items c.done.result.now place _ (c.done.ensures ∙ ap (λ desk. desk.done.items) inv.same.desk) (omega (arith, test, count)) in
     record {
       site = r.site;
       kept = r.kept;
       before = r.before;
       done = so_many r.site r.kept r.before c.args.self.now r.stands r.run place;
       has = inv.applied r.site r.kept r.before r.stands r.run;
-      may = next_applied r.site r.kept r.before c.args.self.now r.stands r.run place c.loop-place.self.tick.0 _ (ap (λ (t : Tick). t.0) inv.same.1 ∙ r.stands.tick) is;
+      may = next_applied r.site r.kept r.before c.args.self.now r.stands r.run place c.loop-place.self.tick.0 _ (ap (λ (t : Tick). t.0) inv.same.tick ∙ r.stands.tick) is;
     }
 
 pub loop-place-preserved : goal.loop-place-preserved
@@ -30,11 +30,15 @@ loop-place-preserved c =
     let place = c.loop-place.place in
     let test = c.loop-place-test.true in
     let count = ap length c.done-place-end.ensures in
-    let is = read_done c.args.self.now.desk.done.items c.done.result.now place _ (c.done.ensures ∙ ap (λ desk. desk.done.items) inv.same.0) (omega (arith, test, count)) in
+    let is = read_done c.args.self.now.desk.done.items c.done.result.now place _ (c.done.ensures ∙ ap (λ desk. desk.done.items) inv.same.desk) (omega (arith, test, count)) in
     record {
-      same = (c.apply.ensures.same.0 ∙ inv.same.0, c.apply.ensures.same.1 ∙ inv.same.1);
+      same = record {
+        desk = c.apply.ensures.same.desk ∙ inv.same.desk;
+        tick = c.apply.ensures.same.tick ∙ inv.same.tick;
+        counts = c.apply.ensures.same.counts ∙ inv.same.counts;
+      };
       applied = λ site kept before h run. (
-          let now = ap (λ (t : Tick). t.0) inv.same.1 ∙ h.tick in
+          let now = ap (λ (t : Tick). t.0) inv.same.tick ∙ h.tick in
           more_applied site kept before c.args.self.now h run place c.loop-place.self.tick.0 _ c.apply.new.self now is
           (c.apply.ensures.applied site kept before (so_many site kept before c.args.self.now h run place) (inv.applied site kept before h run)
           (next_applied site kept before c.args.self.now h run place c.loop-place.self.tick.0 _ now is)));

@@ -26,4 +26,5 @@ returns c =
       desk = c.new-2.ensures c.args.site c.args.kept.now;
       settings = λ setting is. refl;
       sized = c.requires.sized;
+      counts = c.at_opening.ensures c.args.site;
     }

@@ -1,36 +1,64 @@
-use Rattle.std.proofs.Common.{◌+◌, subst, sym, take, false, arith}
-use Rattle.std.proofs.lemmas.List.{take_all}
-use Rattle.panel_rules.specs.Moments.{and_turns, IsRun}
-use Rattle.panel_core.specs.Stands.{StandsFor}
-use Rattle.panel_core.proofs.Orders.{turns_next, front_turns, turns_tick, seat_known}
+use Rattle.std.proofs.Common.{subst}
+use Rattle.panel_edges.specs.Crashes.{LeavesOnly}
+use Rattle.retained_journal.specs.Images.{MayLeaveOr}
+use Rattle.panel_rules.specs.Batches.{batch}
+use Rattle.panel_core.proofs.AllTurns.{all_turned, few_between, keep_run, keeps_between, may_begin, may_keep, may_rest, same_order, stands_between, then_is}
 use Rattle.panel_core.proofs.system.System.turns.Goals as goal
 
-pub turn_of-requires : goal.turn_of-requires
-turn_of-requires c =
-    let r = c.requires in
+pub turns_from-place-requires : goal.turns_from-place-requires
+turns_from-place-requires g c = may_begin c.args.order.now c.args.journal.now c.args.self.now c.requires.may
+
+pub keep-store-requires-clause-may : goal.keep-store-requires-clause-may
+keep-store-requires-clause-may g c =
+    let r = c.requires.may in
+    may_keep r.site r.kept r.before c.args.self.now c.turns_from-place.new.self c.args.journal.now c.args.order.now c.turns_from-place.result r.stands
+    r.keeps r.ordered r.run r.few c.turns_from-place.ensures.turns r.tried
+
+pub turns_from-requires : goal.turns_from-requires
+turns_from-requires g c =
+    let r = c.requires.may in
+    let store = c.keep-store.result in
+    may_rest r.site r.kept r.before c.args.self.now c.turns_from-place.new.self c.args.journal.now c.args.order.now c.turns_from-place.result r.stands
+    r.keeps r.ordered r.run r.few c.turns_from-place.ensures.turns store c.keep-store.new.journal c.keep-store.new.self
+    (c.keep-store.ensures.kept r.site r.kept _
+    (stands_between r.site r.kept r.before c.args.self.now c.turns_from-place.new.self c.args.journal.now c.args.order.now c.turns_from-place.result
+    r.stands r.keeps r.ordered r.run r.few c.turns_from-place.ensures.turns)
+    (keeps_between r.site r.kept r.before c.args.self.now c.turns_from-place.new.self c.args.journal.now c.args.order.now c.turns_from-place.result
+    r.stands r.keeps r.ordered r.run r.few c.turns_from-place.ensures.turns)
+    (keep_run r.site r.kept r.before c.args.self.now c.turns_from-place.new.self c.args.journal.now c.args.order.now c.turns_from-place.result
+    r.stands r.keeps r.ordered r.run r.few c.turns_from-place.ensures.turns)
+    (few_between r.site r.kept r.before c.args.self.now c.turns_from-place.new.self c.args.journal.now c.args.order.now c.turns_from-place.result
+    r.stands r.keeps r.ordered r.run r.few c.turns_from-place.ensures.turns))
+
+pub returns-clause-turns : goal.returns-clause-turns
+returns-clause-turns g c site kept before h keeps run few =
+    let r = c.requires.may in
     let order = c.args.order.now in
-    let i = c.loop-place.place in
-    let seat = c.seat.result in
-    record {
-      site = r.site;
-      kept = r.kept;
-      before = and_turns false (take i order) r.before;
-      stands = c.loop-place.invariant r.site r.kept r.before r.stands r.run;
-      known = seat_known r.site.panels order i seat r.ordered c.seat.ensures;
-      run = subst (IsRun r.site.panels) (turns_next order i seat r.before c.seat.ensures) (front_turns r.site.panels order _ r.before r.run);
-      few = rw (turns_tick (take i order) r.before) r.few;
-    }
+    let place = c.turns_from-place.result in
+    let ordered = same_order site r.site kept r.kept before r.before c.args.self.now order h r.stands r.ordered in
+    let first = c.turns_from-place.ensures.turns in
+    let stands = stands_between site kept before c.args.self.now c.turns_from-place.new.self c.args.journal.now order place h keeps ordered run few first in
+    let kept_so = keeps_between site kept before c.args.self.now c.turns_from-place.new.self c.args.journal.now order place h keeps ordered run few first in
+    let turned =
+    c.keep-store.ensures.kept site kept _ stands kept_so
+    (keep_run site kept before c.args.self.now c.turns_from-place.new.self c.args.journal.now order place h keeps ordered run few first)
+    (few_between site kept before c.args.self.now c.turns_from-place.new.self c.args.journal.now order place h keeps ordered run few first) in
+    all_turned site kept before c.args.self.now c.turns_from-place.new.self c.args.journal.now order place h keeps ordered run few first
+    c.keep-store.result c.keep-store.new.journal c.keep-store.new.self turned c.turns_from.result c.turns_from.new.self c.turns_from.ensures.turns
 
-pub loop-place-preserved : goal.loop-place-preserved
-loop-place-preserved c site kept before h run =
-    subst (λ moments. StandsFor site kept moments c.turn_of.new.self)
-    (sym (turns_next c.args.order.now c.loop-place.place c.seat.result before c.seat.ensures))
-    (c.turn_of.ensures site kept (and_turns false (take c.loop-place.place c.args.order.now) before) (c.loop-place.invariant site kept before h run)
-    (subst (IsRun site.panels) (turns_next c.args.order.now c.loop-place.place c.seat.result before c.seat.ensures)
-    (front_turns site.panels c.args.order.now (c.loop-place.place + 1) before run)))
-
-pub returns : goal.returns
-returns c site kept before h run =
-    let count = c.len-place-end.ensures.count in
-    subst (λ xs. StandsFor site kept (and_turns false xs before) c.loop-place.self)
-    (take_all c.loop-place.place c.args.order.now (omega (arith, count))) (c.loop-place.invariant site kept before h run)
+pub returns-clause-moments : goal.returns-clause-moments
+returns-clause-moments g c room site kept before h keeps run few honest =
+    let r = c.requires.may in
+    let order = c.args.order.now in
+    let place = c.turns_from-place.result in
+    let ordered = same_order site r.site kept r.kept before r.before c.args.self.now order h r.stands r.ordered in
+    let first = c.turns_from-place.ensures.turns in
+    let stands = stands_between site kept before c.args.self.now c.turns_from-place.new.self c.args.journal.now order place h keeps ordered run few first in
+    let kept_so = keeps_between site kept before c.args.self.now c.turns_from-place.new.self c.args.journal.now order place h keeps ordered run few first in
+    let keeping = keep_run site kept before c.args.self.now c.turns_from-place.new.self c.args.journal.now order place h keeps ordered run few first in
+    let late = few_between site kept before c.args.self.now c.turns_from-place.new.self c.args.journal.now order place h keeps ordered run few first in
+    let turned = c.keep-store.ensures.kept site kept _ stands kept_so keeping late in
+    subst (λ ms. LeavesOnly g.D.Disk.moment g.D.Disk.left_since c.args.disk.now c.keep-store.new.disk (MayLeaveOr c.args.journal.now (batch site kept ms)))
+    (then_is site kept before c.args.self.now c.turns_from-place.new.self c.args.journal.now order place h keeps ordered run few first
+    c.keep-store.result c.keep-store.new.journal c.keep-store.new.self turned c.turns_from.result c.turns_from.new.self c.turns_from.ensures.turns)
+    (c.keep-store.ensures.moments room site kept _ stands kept_so keeping.0 late honest)

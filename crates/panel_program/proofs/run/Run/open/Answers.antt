@@ -9,5 +9,5 @@ open-requires-clause-sized c = subst IsSized (sym c.empty.ensures) nothing_sized
 
 pub returns : goal.returns
 returns c =
-    opened c.args.site c.empty.result _ c.requires.valid c.requires.one c.empty.ensures c.in-Ok.ensures refl c.canonical-canonical.ensures.seats refl
+    opened c.args.site c.empty.result _ c.requires.valid c.requires.one c.empty.ensures c.in-Ok.ensures c.in_ok-open.ensures refl c.canonical-canonical.ensures.seats refl
     (c.show-shown.ensures c.args.site)

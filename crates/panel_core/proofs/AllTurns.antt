@@ -1,0 +1,139 @@
+-- The turns of an order: those before Keep's, Keep's, and the rest.
+use Rattle.std.proofs.Common.{◌≡◌, ◌∙◌, ◌+◌, ◌<◌, ◌≤◌, ℕ, List, ◌∷◌, Bool, false, Some, length, drop, get_or, slice_get, ap, arith, subst, sym}
+use Rattle.std.proofs.lemmas.List.{take_all}
+use Rattle.std.proofs.lemmas.Option.{slice_get-get_or}
+use Rattle.tick_units.specs.declared.seat.Seat.{Seat}
+use Rattle.tick_units.specs.Orders.{IsOrder, keep_seat}
+use Rattle.tick_units.specs.Ticks.{last_tick}
+use Rattle.site_types.specs.declared.retained.Retained.{Retained}
+use Rattle.site_types.specs.declared.site.Site.{Site}
+use Rattle.retained_journal.specs.declared.journal.Journal.{Journal}
+use Rattle.keep_turn.specs.declared.store.Store.{Store}
+use Rattle.panel_rules.specs.Batches.{batch, kept_after}
+use Rattle.panel_rules.specs.Moments.{Moment, Kept, IsRun, and_turns, tick_of}
+use Rattle.panel_rules.specs.Storing.{keep_answer}
+use Rattle.panel_core.specs.declared.system.System.{System}
+use Rattle.panel_core.specs.Changes.{AreOfPanels, MakesTurnsFrom, seats_between}
+use Rattle.panel_core.specs.Keeping.{HasKept, KeepsRun, MayKeep, MayTurnAll, before_keep, has_failed, store_of}
+use Rattle.panel_core.specs.Stands.{MayTurnFrom, StandsFor}
+use Rattle.panel_core.proofs.Orders.{before_turns, front_turns, keep_within, no_other, order_parted, panels_keep, panels_leave_keep, run_behind, same_turns, turns_tick}
+
+-- all its seats may have their turns, so the first may
+pub may_begin : (order : List Seat) (journal : Journal) (system : System) → MayTurnAll order journal system → MayTurnFrom order 0 system
+may_begin order journal system r = record {
+  site = r.site;
+  kept = r.kept;
+  before = r.before;
+  stands = r.stands;
+  ordered = r.ordered;
+  run = r.run;
+  few = r.few;
+}
+
+-- an order of a site that a system stands for is one of each site that it stands for
+pub same_order : (site there : Site) (kept other : Retained) (before past : List Moment) (system : System) (order : List Seat)
+    → StandsFor site kept before system → StandsFor there other past system → IsOrder there.panels order → IsOrder site.panels order
+same_order site there kept other before past system order h g ordered =
+    subst (λ (s : Site). IsOrder s.panels order) (sym g.same ∙ h.same) ordered
+
+module _ (site : Site) (kept : Retained) (before : List Moment) (old between : System) (journal : Journal) (order : List Seat) (place : ℕ)
+    (h : StandsFor site kept before old) (keeps : KeepsRun site kept before journal) (ordered : IsOrder site.panels order)
+    (run : IsRun site.panels (and_turns false order before)) (few : tick_of before ≤ last_tick) (first : MakesTurnsFrom old order 0 place between) where
+  -- what had befallen before the turn of Keep
+  abbrev pub then : List Moment
+  then = and_turns false (seats_between 0 place order) before
+
+  within : place < length order
+  within = keep_within site.panels order ordered place first.within first.panels
+
+  there : slice_get order place ≡ Some (get_or order place keep_seat)
+  there = slice_get-get_or order place keep_seat within
+
+  -- the turns by the place of Keep
+  parted : (failed : Bool) → and_turns failed order before ≡ and_turns failed (drop (place + 1) order) (Kept failed ∷ then)
+  parted failed = order_parted order place (get_or order place keep_seat) there (first.keep (get_or order place keep_seat) there) first.panels failed before
+
+  rest_run : IsRun site.panels (and_turns false (drop (place + 1) order) (Kept false ∷ then))
+  rest_run = subst (IsRun site.panels) (parted false) run
+
+  pub keep_run : IsRun site.panels (Kept false ∷ then)
+  keep_run = before_turns site.panels false (drop (place + 1) order) (Kept false ∷ then) rest_run
+
+  pub stands_between : StandsFor site kept then between
+  stands_between = first.turns site kept before h (front_turns site.panels order 0 place before (omega arith) first.within run)
+
+  pub keeps_between : KeepsRun site kept then journal
+  keeps_between = record { keeps = keeps.keeps ∙ sym (panels_keep site kept false (seats_between 0 place order) before first.panels); wide = keeps.wide }
+
+  pub few_between : tick_of then ≤ last_tick
+  few_between = rw (turns_tick false (seats_between 0 place order) before) few
+
+  -- Keep may have its turn then
+  pub may_keep : journal.tried ≤ last_tick → MayKeep journal between
+  may_keep tried = record {
+    site = site;
+    kept = kept;
+    before = then;
+    stands = stands_between;
+    keeps = keeps_between;
+    run = keep_run;
+    few = few_between;
+    tried = tried;
+  }
+
+  module _ (store : Store) (journal' : Journal) (after : System) (turned : HasKept site kept (Kept (has_failed store) ∷ then) store journal' after) where
+    behind_run : IsRun site.panels (and_turns false (drop (place + 1) order) (Kept (has_failed store) ∷ then))
+    behind_run = run_behind site.panels false (has_failed store) (drop (place + 1) order) then rest_run
+
+    -- and the rest after it
+    pub may_rest : MayTurnFrom order (place + 1) after
+    may_rest = record {
+      site = site;
+      kept = kept;
+      before = Kept (has_failed store) ∷ then;
+      stands = turned.stands;
+      ordered = ordered;
+      run = behind_run;
+      few = few_between;
+    }
+
+    module _ (end : ℕ) (last : System) (second : MakesTurnsFrom after order (place + 1) end last) where
+      ended : end ≡ length order
+      ended =
+          no_other order place (get_or order place keep_seat) there (first.keep (get_or order place keep_seat) there) first.panels site.panels end then
+          (second.since (let inside = within in omega (arith, inside))) second.within second.panels second.keep rest_run
+
+      rest_is : seats_between (place + 1) end order ≡ drop (place + 1) order
+      rest_is = ap (drop (place + 1)) (take_all end order (let e = ended in omega (arith, e)))
+
+      rest_panels : AreOfPanels (drop (place + 1) order)
+      rest_panels = subst AreOfPanels rest_is second.panels
+
+      -- so the order was turned
+      pub all_turned : HasKept site kept (and_turns (has_failed store) order before) store journal' last
+      all_turned =
+          let failed = has_failed store in
+          let rest = drop (place + 1) order in
+          let is = parted failed ∙ same_turns failed false rest (Kept failed ∷ then) rest_panels in
+          let stands =
+          second.turns site kept (Kept failed ∷ then) turned.stands
+          (front_turns site.panels order (place + 1) end (Kept failed ∷ then) (second.since (let inside = within in omega (arith, inside))) second.within
+          behind_run) in
+          record {
+            stands =
+                subst (λ ms. StandsFor site kept ms last) (ap (λ xs. and_turns false xs (Kept failed ∷ then)) rest_is ∙ sym is) stands;
+            keeps = record {
+              keeps =
+                  turned.keeps.keeps ∙ sym (panels_keep site kept failed rest (Kept failed ∷ then) rest_panels)
+                  ∙ ap (kept_after site kept) (sym (parted failed));
+              wide = turned.keeps.wide;
+            };
+            answers =
+                turned.answers
+                ∙ ap (λ ms. store_of (keep_answer failed (batch site kept ms)))
+                (sym (panels_leave_keep failed rest (Kept failed ∷ then) rest_panels) ∙ ap before_keep (sym (parted failed)));
+          }
+
+      -- and this had befallen before the latest turn of Keep
+      pub then_is : then ≡ before_keep (and_turns false order before)
+      then_is = sym (panels_leave_keep false (drop (place + 1) order) (Kept false ∷ then) rest_panels) ∙ ap before_keep (sym (parted false))

@@ -1,0 +1,154 @@
+-- A turn of Keep: what is left to keep is the batch of the rules, and what its answer makes of the journal and the system.
+use Rattle.std.proofs.Common.{◌≡◌, ◌≢◌, ℕ, zero, suc, ◌-◌, ◌<◌, ◌≤◌, List, [], ◌∷◌, length, Some, slice_get, Bool, true, false, refl, sym, ◌∙◌, ap, subst, arith}
+use Rattle.std.specs.Prelude.{slice_index}
+use Rattle.tick_units.specs.Ticks.{last_tick}
+use Rattle.site_types.specs.declared.change.Change.{Change}
+use Rattle.site_types.specs.declared.retained.Retained.{Retained}
+use Rattle.site_types.specs.declared.site.Site.{Site}
+use Rattle.site_types.specs.Changes.{changed_by}
+use Rattle.retained_journal.specs.declared.journal.Journal.{Journal}
+use Rattle.keep_turn.specs.declared.store.Store.{Store}
+use Rattle.keep_turn.specs.declared.store.Store.TheVariants.{Idle, Kept as WasKept, Failed}
+use Rattle.keep_turn.specs.Turns.{AnswersTurn, MayCommit}
+use Rattle.keep_batch.specs.Making.{MayMake, batch_from}
+use Rattle.keep_batch.specs.MakingLaws.{IsLeftToKeep}
+use Rattle.keep_batch.proofs.Committing.{batch_may_be_committed}
+use Rattle.keep_batch.proofs.Making.{batch_is, batch_may_be_made}
+use Rattle.operation_desk.specs.declared.desk.Desk.{Desk}
+use Rattle.operation_desk.specs.declared.request.Request.{Request}
+use Rattle.operation_desk.specs.Requests.{requests_from}
+use Rattle.operation_desk.specs.Stands.{DesksFor, MayTakeKeepTurn}
+use Rattle.panel_laws.specs.TimelineLaws.{counted_entries}
+use Rattle.panel_laws.proofs.EventsOfSite.{of_site}
+use Rattle.panel_rules.specs.Batches.{batch, kept_after, new_entries}
+use Rattle.panel_rules.specs.Operations.{operations}
+use Rattle.panel_rules.specs.Moments.{Moment, Kept, IsPanel, IsRun, tick_of}
+use Rattle.panel_rules.specs.Storing.{keep_answer}
+use Rattle.panel_core.specs.declared.parts.Parts.{Parts}
+use Rattle.panel_core.specs.declared.system.System.{System}
+use Rattle.panel_core.specs.Applied.{applied, done_so_far}
+use Rattle.panel_core.specs.Entries.{CountsFor, TellsEntries}
+use Rattle.panel_core.specs.Keeping.{KeepsRun, MayKeep, MayMakeBatch, has_failed, store_of}
+use Rattle.panel_core.specs.Stands.{StandsFor}
+use Rattle.panel_core.specs.Turns.{hold_turns}
+use Rattle.panel_core.proofs.Counts.{counts_stay}
+use Rattle.panel_core.proofs.DeskTurns.{keep_turn}
+use Rattle.panel_core.proofs.EntriesKept.{counted_by_keep, left_to_keep}
+use Rattle.panel_core.proofs.Whole.{panel_at}
+
+not_both : true ≡ false → ⊥
+not_both e = cc
+
+-- an item within a list
+record ItemAt {X : Type 0} (k : ℕ) (xs : List X) : Type 0 where
+  item : X
+  is : slice_get xs k ≡ Some item
+
+item_at : {X : Type 0} (k : ℕ) (xs : List X) → k < length xs → ItemAt k xs
+item_at k [] less = absurd (omega (arith, less))
+item_at zero (x ∷ xs) less = record { item = x; is = refl }
+item_at (suc k) (x ∷ xs) less = let there = item_at k xs (omega (arith, less)) in record { item = there.item; is = there.is }
+
+-- ---- what is left to keep
+
+module _ (site : Site) (kept : Retained) (before : List Moment) (system : System) (h : StandsFor site kept before system) (run :
+    IsRun site.panels before) (few : tick_of before ≤ last_tick) (entries left : List ℕ) (told : TellsEntries system.panels.items entries)
+    (less : (place : ℕ) → place < 8 → slice_index left place ≡ slice_index entries place - slice_index system.counts.entries place) where
+  -- of one panel
+  entered : (panel : ℕ) (p : IsPanel site.panels panel) (parts : Parts) → slice_get system.panels.items (panel - 1) ≡ Some parts
+      → slice_index left (panel - 1) ≡ length (new_entries site kept (operations site kept before).done panel before)
+  entered panel p parts is =
+      let eight = h.valid.forms.panels.1 in
+      let counted = told (panel - 1) parts is site kept panel (applied site kept before) (hold_turns site kept (applied site kept before) panel before)
+      (panel_at site kept before system panel parts h p.0 is).holds in
+      less (panel - 1) (omega (arith, p.0, p.1, eight))
+      ∙ ap (λ n. n - slice_index system.counts.entries (panel - 1)) counted
+      ∙ left_to_keep site kept panel before h.valid run p (slice_index system.counts.entries (panel - 1)) (h.counts.counted panel p)
+
+  pub is_left : (waiting : List Request) → waiting ≡ system.desk.waiting.items → IsLeftToKeep site kept before left waiting
+  is_left waiting same = record {
+    entered = λ panel p. (
+        let count = h.count in
+        let within : panel - 1 < length system.panels.items = omega (arith, p.0, p.1, count) in
+        let parts = item_at (panel - 1) system.panels.items within in
+        entered panel p parts.item parts.is);
+    waits = ap requests_from same ∙ h.desk.outcomes.unsettled.waiting_is;
+  }
+
+  pub may_make : (waiting : List Request) → waiting ≡ system.desk.waiting.items → MayMake system.site left waiting
+  may_make waiting same =
+      subst (λ s. MayMake s left waiting) (sym h.same)
+      (batch_may_be_made site kept before left waiting h.valid run (of_site site before h.events) few (is_left waiting same))
+
+  pub left_batch : (waiting : List Request) → waiting ≡ system.desk.waiting.items → batch_from system.site left waiting ≡ batch site kept before
+  left_batch waiting same =
+      ap (λ s. batch_from s left waiting) h.same ∙ batch_is site kept before left waiting (is_left waiting same)
+
+-- and the journal can keep it
+pub can_commit : (site : Site) (kept : Retained) (before : List Moment) (system : System) (journal : Journal) (changes : List Change)
+    → StandsFor site kept before system → KeepsRun site kept before journal → IsRun site.panels before → changes ≡ batch site kept before
+    → MayCommit journal.wide changes
+can_commit site kept before system journal changes h keeps run is =
+    rw (keeps.wide, is) (batch_may_be_committed site kept before h.valid run (of_site site before h.events))
+
+-- ---- what the answer of its turn says
+
+module _ (site : Site) (kept : Retained) (before : List Moment) (old new : Journal) where
+  pub keeps_by : (store : Store) → old.kept ≡ kept_after site kept before → AnswersTurn (batch site kept before) old store new
+      → new.kept ≡ kept_after site kept (Kept (has_failed store) ∷ before)
+  keeps_by Idle h a = a.1 ∙ h ∙ sym (ap (λ xs. changed_by xs (kept_after site kept before)) a.0)
+  keeps_by WasKept h a = a.1 ∙ ap (changed_by (batch site kept before)) h
+  keeps_by Failed h a = a.0 ∙ h
+
+  pub answers_by : (store : Store) → AnswersTurn (batch site kept before) old store new
+      → store ≡ store_of (keep_answer (has_failed store) (batch site kept before))
+  answers_by Idle a = rw a.0 refl
+  answers_by WasKept a = some (batch site kept before) a.0
+    where
+      some : (changes : List Change) → changes ≢ [] → WasKept ≡ store_of (keep_answer false changes)
+      some [] apart = absurd (apart refl)
+      some (change ∷ changes) apart = refl
+  answers_by Failed a = refl
+
+pub can_make : (journal : Journal) (system : System) → MayKeep journal system → MayMakeBatch system
+can_make journal system may = record { site = may.site; kept = may.kept; before = may.before; stands = may.stands; run = may.run.0; few = may.few }
+
+-- ---- what is kept after it
+
+module _ (site : Site) (kept : Retained) (before : List Moment) (system : System) (h : StandsFor site kept before system) (run :
+    IsRun site.panels before) where
+  -- all entries, where it didn't fail
+  pub counts_noted : (entries : List ℕ) (journal : Journal) → TellsEntries system.panels.items entries
+      → journal.kept ≡ kept_after site kept (Kept false ∷ before)
+      → CountsFor site kept (Kept false ∷ before) (record { entries = entries; counters = journal.kept.counters })
+  counts_noted entries journal told keeps = record {
+    counted = λ panel p. (
+        let count = h.count in
+        let within : panel - 1 < length system.panels.items = omega (arith, p.0, p.1, count) in
+        let parts = item_at (panel - 1) system.panels.items within in
+        noted panel p parts.item parts.is);
+    counters = ap (λ (k : Retained). k.counters) keeps;
+  }
+    where
+      noted : (panel : ℕ) (p : IsPanel site.panels panel) (parts : Parts) → slice_get system.panels.items (panel - 1) ≡ Some parts
+          → slice_index entries (panel - 1) ≡ counted_entries site kept (done_so_far site kept (Kept false ∷ before)) panel (Kept false ∷ before)
+      noted panel p parts is =
+          told (panel - 1) parts is site kept panel (applied site kept before) (hold_turns site kept (applied site kept before) panel before)
+          (panel_at site kept before system panel parts h p.0 is).holds
+          ∙ counted_by_keep site kept panel before h.valid run p
+
+  module _ (desk : Desk) (entries : List ℕ) (journal : Journal) (told : TellsEntries system.panels.items entries) where
+    pub noted : (failed : Bool) → failed ≡ false → IsRun site.panels (Kept failed ∷ before) → journal.kept ≡ kept_after site kept (Kept failed ∷ before)
+        → (DesksFor site kept before system.desk → MayTakeKeepTurn site failed before → DesksFor site kept (Kept failed ∷ before) desk)
+        → StandsFor site kept (Kept failed ∷ before) (record system { desk = desk; counts = record { entries = entries; counters = journal.kept.counters } })
+    noted true e turned keeps takes = absurd (not_both e)
+    noted false e turned keeps takes =
+        keep_turn site kept before system h false desk (record { entries = entries; counters = journal.kept.counters }) turned takes
+        (counts_noted entries journal told keeps)
+
+    pub not_noted : (failed : Bool) → failed ≡ true → IsRun site.panels (Kept failed ∷ before)
+        → (DesksFor site kept before system.desk → MayTakeKeepTurn site failed before → DesksFor site kept (Kept failed ∷ before) desk)
+        → StandsFor site kept (Kept failed ∷ before) (record system { desk = desk })
+    not_noted false e turned takes = absurd (not_both (sym e))
+    not_noted true e turned takes =
+        keep_turn site kept before system h true desk system.counts turned takes (counts_stay site kept before (Kept true) system.counts (λ e. cc) h.counts)

@@ -1,0 +1,142 @@
+-- What a turn of Keep makes of the system and of its journal.
+use Rattle.std.specs.Prelude.{◌≡◌, ◌≤◌, ℕ, Bool, true, false, List, [], ◌∷◌}
+use Rattle.panel_edges.specs.Crashes.{LeavesOnly}
+use Rattle.tick_units.specs.declared.seat.Seat.{Seat}
+use Rattle.tick_units.specs.Orders.{IsOrder}
+use Rattle.tick_units.specs.Ticks.{last_tick}
+use Rattle.site_types.specs.declared.change.Change.{Change}
+use Rattle.site_types.specs.declared.retained.Retained.{Retained}
+use Rattle.site_types.specs.declared.site.Site.{Site}
+use Rattle.retained_journal.specs.declared.journal.Journal.{Journal}
+use Rattle.retained_journal.specs.Images.{MayLeaveOr}
+use Rattle.keep_turn.specs.declared.store.Store.{Store}
+use Rattle.keep_turn.specs.declared.store.Store.TheVariants.{Idle, Kept as WasKept, Failed}
+use Rattle.keep_batch.specs.MakingLaws.{is_wide}
+use Rattle.panel_rules.specs.Batches.{batch, kept_after}
+use Rattle.panel_rules.specs.Moments.{Moment, Began, Happened, Turned, Kept, IsRun, and_turns, tick_of}
+use Rattle.panel_rules.specs.Storing.{KeepAnswer, Idle as WasIdle, Stored, NotStored, keep_answer}
+use Rattle.panel_core.specs.declared.system.System.{System}
+use Rattle.panel_core.specs.Entries.{TellsEntries}
+use Rattle.panel_core.specs.Stands.{StandsFor}
+
+-- whether a turn of Keep failed
+abbrev pub has_failed : Store → Bool
+has_failed Failed = true
+has_failed _ = false
+
+abbrev pub store_of : KeepAnswer → Store
+store_of WasIdle = Idle
+store_of Stored = WasKept
+store_of NotStored = Failed
+
+-- what had befallen before the latest turn of Keep, else nothing
+abbrev pub before_keep : List Moment → List Moment
+before_keep [] = []
+before_keep (Began ∷ before) = before_keep before
+before_keep (Happened event ∷ before) = before_keep before
+before_keep (Turned panel task ∷ before) = before_keep before
+before_keep (Kept failed ∷ before) = before
+
+-- the journal of a site keeps what a run keeps
+pub record KeepsRun (site : Site) (kept : Retained) (moments : List Moment) (journal : Journal) : Type 0 where
+  pub keeps : journal.kept ≡ kept_after site kept moments
+  pub wide : journal.wide ≡ is_wide site
+
+-- after a turn of Keep that answered so
+pub record HasKept (site : Site) (kept : Retained) (moments : List Moment) (store : Store) (journal : Journal)
+    (system : System) : Type 0 where
+  pub stands : StandsFor site kept moments system
+  pub keeps : KeepsRun site kept moments journal
+  pub answers : store ≡ store_of (keep_answer (has_failed store) (batch site kept (before_keep moments)))
+
+-- the system stands for some run up to the last tick
+pub record MayMakeBatch (system : System) : Type 0 where
+  pub site : Site
+  pub kept : Retained
+  pub before : List Moment
+  pub stands : StandsFor site kept before system
+  pub run : IsRun site.panels before
+  pub few : tick_of before ≤ last_tick
+
+-- what is left to keep is the batch of the rules
+abbrev pub IsLeftBatch : System → List Change → Type 0
+IsLeftBatch system changes =
+    (site : Site) (kept : Retained) (before : List Moment)
+    → StandsFor site kept before system → IsRun site.panels before → tick_of before ≤ last_tick
+    → changes ≡ batch site kept before
+
+-- Keep may have its turn, and answer so
+pub record MayNote (store : Store) (system : System) : Type 0 where
+  pub site : Site
+  pub kept : Retained
+  pub before : List Moment
+  pub stands : StandsFor site kept before system
+  pub run : IsRun site.panels (Kept (has_failed store) ∷ before)
+
+-- the turn of Keep with this answer, and with so many entries since opening, left this journal
+abbrev pub NotesKept : System → Store → List ℕ → Journal → System → Type 0
+NotesKept old store entries journal system =
+    (site : Site) (kept : Retained) (before : List Moment)
+    → StandsFor site kept before old → TellsEntries old.panels.items entries
+    → IsRun site.panels (Kept (has_failed store) ∷ before)
+    → journal.kept ≡ kept_after site kept (Kept (has_failed store) ∷ before)
+    → StandsFor site kept (Kept (has_failed store) ∷ before) system
+
+-- Keep may have its turn, and the journal one commit more
+pub record MayKeep (journal : Journal) (system : System) : Type 0 where
+  pub site : Site
+  pub kept : Retained
+  pub before : List Moment
+  pub stands : StandsFor site kept before system
+  pub keeps : KeepsRun site kept before journal
+  pub run : IsRun site.panels (Kept false ∷ before)
+  pub few : tick_of before ≤ last_tick
+  pub tried : journal.tried ≤ last_tick
+
+-- Keep had its turn
+abbrev pub KeepsTurn : System → Journal → Store → Journal → System → Type 0
+KeepsTurn old journal store journal' system =
+    (site : Site) (kept : Retained) (before : List Moment)
+    → StandsFor site kept before old → KeepsRun site kept before journal
+    → IsRun site.panels (Kept false ∷ before) → tick_of before ≤ last_tick
+    → HasKept site kept (Kept (has_failed store) ∷ before) store journal' system
+
+-- each seat may have its turn, in this order, and the journal one commit more
+pub record MayTurnAll (order : List Seat) (journal : Journal) (system : System) : Type 0 where
+  pub site : Site
+  pub kept : Retained
+  pub before : List Moment
+  pub stands : StandsFor site kept before system
+  pub keeps : KeepsRun site kept before journal
+  pub ordered : IsOrder site.panels order
+  pub run : IsRun site.panels (and_turns false order before)
+  pub few : tick_of before ≤ last_tick
+  pub tried : journal.tried ≤ last_tick
+
+-- each seat had its turn, in this order
+abbrev pub MakesAllTurns : System → List Seat → Journal → Store → Journal → System → Type 0
+MakesAllTurns old order journal store journal' system =
+    (site : Site) (kept : Retained) (before : List Moment)
+    → StandsFor site kept before old → KeepsRun site kept before journal
+    → IsRun site.panels (and_turns false order before) → tick_of before ≤ last_tick
+    → HasKept site kept (and_turns (has_failed store) order before) store journal' system
+
+module _ {D : Type 0} (honest : D → Type 0) (moment : D → ℕ) (left_since : D → ℕ → List ℕ → Type 0) (old new :
+    D) where
+  -- at each moment of Keep's turn a crash leaves what it might have left before, or what is kept with the batch of
+  -- the rules
+  abbrev pub LeavesWithBatch : System → Journal → Type 0
+  LeavesWithBatch system journal =
+      (site : Site) (kept : Retained) (before : List Moment)
+      → StandsFor site kept before system → KeepsRun site kept before journal
+      → IsRun site.panels before → tick_of before ≤ last_tick
+      → honest old → LeavesOnly moment left_since old new (MayLeaveOr journal (batch site kept before))
+
+  -- at each moment of the turns of an order
+  abbrev pub LeavesInTurns : List Seat → System → Journal → Type 0
+  LeavesInTurns order system journal =
+      (site : Site) (kept : Retained) (before : List Moment)
+      → StandsFor site kept before system → KeepsRun site kept before journal
+      → IsRun site.panels (and_turns false order before) → tick_of before ≤ last_tick
+      → honest old → LeavesOnly moment left_since old new
+      (MayLeaveOr journal (batch site kept (before_keep (and_turns false order before))))

@@ -1,0 +1,71 @@
+ghost use Rattle.std.specs.Prelude.{◌≡◌, ◌≢◌, ◌≤◌, ◌↔◌, [], ◌∷◌};
+ghost use Rattle.retained_journal.specs.Images.{HasRoom, HasRoomForTwo, IsEarly, Stands};
+ghost use Rattle.retained_journal.specs.Outcomes.{EachMayBeLeft, EachOpens};
+ghost use Rattle.keep_turn.specs.Turns.{FailsByItsDisk, TriesAtMostOnce};
+
+use crate::system::System;
+use keep_turn::Store;
+use panel_edges::Disk;
+use retained_journal::Journal;
+use tick_units::{Order, Seat, Task};
+
+impl System {
+    ghost use Rattle.panel_core.specs.Changes.{MakesTurns, MakesTurnsFrom};
+    ghost use Rattle.panel_core.specs.Keeping.{LeavesInTurns, MakesAllTurns, MayTurnAll};
+    ghost use Rattle.panel_core.specs.Stands.{MayTurnFrom, MayTurnSeat};
+
+    /// Each seat has its turn, in this order, with the journal that keeps what the run keeps. The answer is that of
+    /// Keep's turn: after any but a failure each file that a power cut may leave opens to what is kept.
+    pub fn turns<D: Disk>(&mut self, order: &Order, journal: &mut Journal, disk: &mut D) -> Store
+        requires may { MayTurnAll order.now journal.old self.old }
+        requires stands { Stands D.honest D.images disk.old journal.old }
+        ensures turns { MakesAllTurns self.old order.now journal.old result journal.new self.new }
+        ensures stands { Stands D.honest D.images disk.new journal.new }
+        ensures same { TriesAtMostOnce journal.old journal.new }
+        ensures early { IsEarly journal.old → IsEarly journal.new }
+        ensures opens { result ≢ Store.Failed → D.honest disk.new → HasRoom journal.new
+            → EachOpens (D.images disk.new) journal.new }
+        ensures images { D.honest disk.new → HasRoom journal.new
+            → EachMayBeLeft (D.images disk.new) journal.new }
+        // At each moment a crash leaves what it might have left before, or what is kept with the batch of the tick.
+        ensures moments { HasRoomForTwo journal.old
+            → LeavesInTurns D.honest D.moment D.left_since disk.old disk.new order.now self.old journal.old }
+        ensures honest { D.honest disk.new ↔ D.honest disk.old }
+        ensures cause { FailsByItsDisk (D.faults disk.old) (D.faults disk.new) result }
+    {
+        let place = self.turns_from(order, 0);
+        let store = self.keep(journal, disk);
+        self.turns_from(order, place + 1);
+        store
+    }
+
+    // The seats from a place on have their turns, up to that of Keep. Tells the place of Keep, or the end.
+    fn turns_from(&mut self, order: &Order, from: usize) -> usize
+        requires { MayTurnFrom order.now from self.old }
+        ensures turns { MakesTurnsFrom self.old order.now from result self.new }
+        ensures few { result ≤ 65 }
+    {
+        for place in from..order.len() {
+            let seat = order.seat(place);
+            if let Task::Keep = seat.task {
+                return place;
+            }
+            self.turn_of(seat);
+        }
+        order.len()
+    }
+
+    // One seat of a panel has its turn.
+    fn turn_of(&mut self, seat: Seat)
+        requires { MayTurnSeat seat self.old }
+        ensures { MakesTurns self.old (seat ∷ []) self.new }
+    {
+        match seat.task {
+            Task::Desk => self.desk.turn(&self.site, &self.settings, seat.panel),
+            task => {
+                let parts = &mut self.panels[seat.panel as usize - 1];
+                parts.turn(task, self.tick);
+            }
+        }
+    }
+}
