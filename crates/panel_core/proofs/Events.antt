@@ -140,7 +140,8 @@ pub stands_after_report : (site : Site) (kept : Retained) (before : List Moment)
     → StandsFor site kept (Happened (Supply panel kind bad) ∷ before)
     (record system { panels = with_item system.panels (panel - 1) parts; desk = desk })
 stands_after_report site kept before system desk panel kind bad parts h after one p =
-    stands_changed site kept before system (Happened (Supply panel kind bad)) desk refl (h.events, after.has) after.desks h panel parts one p
+    stands_changed site kept before system (Happened (Supply panel kind bad)) desk system.counts refl (h.events, after.has) after.desks
+    (counts_stay site kept before (Happened (Supply panel kind bad)) system.counts (λ e. cc) h.counts) h panel parts one p
     (λ other q n stood.
     untold site kept (applied site kept before) other before q (Supply panel kind bad) stood refl
     (ap (λ b. if b then SupplyReported kind bad ∷ supply_calls other before else supply_calls other before) (not_there panel other n)))

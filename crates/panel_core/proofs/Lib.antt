@@ -2,9 +2,8 @@
 pub mod Fronts
 pub mod Steps
 pub mod Rooms
--- operations: that they are of the site, which were done before a tick; what is retained at first
+-- operations: that they are of the site, which were done before a tick
 pub mod OfSite
-pub mod Sized
 pub mod Applied
 -- what befalls a panel: turns, those of Decide, Hold and Supply, an operation that comes in force
 pub mod Panels

@@ -160,7 +160,7 @@ from_first : {X : Type 0} (xs : List X) (k : ℕ) (x : X) → slice_get xs k ≡
 from_first xs k x is = let e : k ≡ 0 + k = omega arith in subst (λ j. slice_get xs j ≡ Some x) e is
 
 -- nothing retained: each list has its length, and no setting is set
-sized_nothing : IsSized nothing_retained
+pub sized_nothing : IsSized nothing_retained
 sized_nothing =
     let halves : List ℕ = replicate 2 0 in
     let loops : List (List ℕ) = replicate 4 halves in

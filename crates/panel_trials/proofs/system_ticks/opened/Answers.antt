@@ -1,7 +1,7 @@
 use Rattle.std.proofs.Common.{sym, subst}
 use Rattle.site_types.specs.Changes.{IsSized}
-use Rattle.panel_core.proofs.Sized.{nothing_sized}
+use Rattle.site_types.proofs.CarriedSettings.{sized_nothing}
 use Rattle.panel_trials.proofs.system_ticks.opened.Goals as goal
 
 pub open-requires-clause-sized : goal.open-requires-clause-sized
-open-requires-clause-sized c = subst IsSized (sym c.empty.ensures) nothing_sized
+open-requires-clause-sized c = subst IsSized (sym c.empty.ensures) sized_nothing
