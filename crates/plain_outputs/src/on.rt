@@ -7,8 +7,8 @@ ghost use Rattle.site_types.specs.Valid.{IsValid};
 ghost use Rattle.site_types.specs.declared.site.Site.{Site as SiteOf};
 ghost use Rattle.panel_rules.specs.Markers.{Facts as FactsOf};
 ghost use Rattle.panel_rules.specs.Moments.{Moment as MomentOf};
-ghost use Rattle.panel_rules.specs.Outputs.{confirmations, is_on as is_on_in, on_run};
-ghost use Rattle.plain_outputs.specs.Drives.{AreSeen, greatest, is_confirmation, newest};
+ghost use Rattle.panel_rules.specs.Outputs.{confirmations, is_on as is_on_in, on_run, panel_of_output as panel_in};
+ghost use Rattle.plain_outputs.specs.Drives.{AreSeen, greatest, is_confirmation, is_turn_of, newest};
 ghost use Rattle.plain_history.specs.Histories.{moment_of};
 ghost use Rattle.plain_outputs.specs.Outputs.{TellsBy};
 
@@ -17,7 +17,7 @@ use crate::requests::panel_of_output;
 use crate::seen::Seen;
 use crate::turns::is_turn;
 use plain_history::{Moment, Settings};
-use site_types::Event;
+use site_types::{Event, Site};
 use tick_units::{Task, Tick};
 
 /// Whether an output is on after the latest turn of Drive of its panel.
@@ -28,11 +28,7 @@ pub(crate) fn is_on(settings: &Settings, output: u16, seen: &[Seen]) -> bool
     match seen {
         [] => false,
         [before @ .., last] => {
-            if is_turn(
-                &last.moment,
-                panel_of_output(settings.site, output),
-                Task::Drive,
-            ) {
+            if is_own_drive(settings.site, output, &last.moment) {
                 goes_on(settings, output, last.tick, before, seen)
             } else {
                 is_on(settings, output, before)
@@ -51,11 +47,7 @@ pub(crate) fn latest_on(settings: &Settings, output: u16, seen: &[Seen]) -> Opti
     match seen {
         [] => None,
         [before @ .., last] => {
-            if is_turn(
-                &last.moment,
-                panel_of_output(settings.site, output),
-                Task::Drive,
-            ) {
+            if is_own_drive(settings.site, output, &last.moment) {
                 if goes_on(settings, output, last.tick, before, seen) {
                     Some(last.tick)
                 } else {
@@ -84,11 +76,7 @@ pub(crate) fn was_on_for(
     match seen {
         [] => false,
         [before @ .., last] => {
-            if is_turn(
-                &last.moment,
-                panel_of_output(settings.site, output),
-                Task::Drive,
-            ) {
+            if is_own_drive(settings.site, output, &last.moment) {
                 goes_on(settings, output, last.tick, before, seen)
                     && (has_passed(last.tick, ticks, tick)
                         || was_on_for(settings, output, ticks, tick, before))
@@ -97,6 +85,13 @@ pub(crate) fn was_on_for(
             }
         }
     }
+}
+
+// Whether a moment is a turn of Drive of an output's panel.
+fn is_own_drive(site: &Site, output: u16, moment: &Moment) -> bool
+    ensures { result ≡ is_turn_of (panel_in site.now output) Task.Drive (moment_of moment.now) }
+{
+    is_turn(moment, panel_of_output(site, output), Task::Drive)
 }
 
 /// The last tick in which an output was confirmed from outside, else 0.
