@@ -196,7 +196,12 @@ impl Run {
         requires { MayClose self.old }
         ensures { (site : SiteOf) (p : Progress) → Stands site p self.old → Closes site p self.new }
     {
-        turn_all(&mut self.own, &mut self.system, &self.order, &self.canonical);
+        turn_all(
+            &mut self.own,
+            &mut self.system,
+            &self.order,
+            &self.canonical,
+        );
         self.is_open = false;
         self.ticks += 1;
         self.shown = show(&self.system);
@@ -214,12 +219,7 @@ fn is_built(event: &Event) -> bool
 }
 
 // Each seat has its turn, in the order that was given, else in the canonical one.
-fn turn_all(
-    own: &mut OwnJournal,
-    system: &mut System,
-    given: &Option<Order>,
-    canonical: &Order,
-)
+fn turn_all(own: &mut OwnJournal, system: &mut System, given: &Option<Order>, canonical: &Order)
     requires { MayTurnOwn (order_by given.now canonical.now) own.old system.old }
     ensures { TurnsOwn (order_by given.now canonical.now) own.old system.old own.new system.new }
 {
