@@ -7,7 +7,7 @@
 #[cfg(test)]
 mod conditions;
 #[cfg(test)]
-mod isolators;
+mod sections;
 #[cfg(test)]
 mod levels;
 #[cfg(test)]
