@@ -7,13 +7,13 @@
 #[cfg(test)]
 mod conditions;
 #[cfg(test)]
-mod sections;
-#[cfg(test)]
 mod levels;
 #[cfg(test)]
 mod links;
 #[cfg(test)]
 mod records;
+#[cfg(test)]
+mod sections;
 #[cfg(test)]
 mod sounders;
 #[cfg(test)]
