@@ -14,7 +14,7 @@ use Rattle.panel_rules.specs.Moments.{Moment, Kept, IsRun, and_turns, tick_of}
 use Rattle.panel_rules.specs.Storing.{keep_answer}
 use Rattle.panel_core.specs.declared.system.System.{System}
 use Rattle.panel_core.specs.Changes.{AreOfPanels, MakesTurnsFrom, seats_between}
-use Rattle.panel_core.specs.Keeping.{HasKept, KeepsRun, MayKeep, MayTurnAll, before_keep, has_failed, store_of}
+use Rattle.panel_core.specs.Keeping.{HasTurned, KeepsRun, MayKeep, MayTurnAll, before_keep, has_failed, store_of}
 use Rattle.panel_core.specs.Stands.{MayTurnFrom, StandsFor}
 use Rattle.panel_core.proofs.Orders.{before_turns, front_turns, keep_within, no_other, order_parted, panels_keep, panels_leave_keep, run_behind, same_turns, turns_tick}
 
@@ -81,7 +81,7 @@ module _ (site : Site) (kept : Retained) (before : List Moment) (old between : S
     tried = tried;
   }
 
-  module _ (store : Store) (journal' : Journal) (after : System) (turned : HasKept site kept (Kept (has_failed store) ∷ then) store journal' after) where
+  module _ (store : Store) (journal' : Journal) (after : System) (turned : HasTurned site kept (Kept (has_failed store) ∷ then) store journal' after) where
     behind_run : IsRun site.panels (and_turns false (drop (place + 1) order) (Kept (has_failed store) ∷ then))
     behind_run = run_behind site.panels false (has_failed store) (drop (place + 1) order) then rest_run
 
@@ -110,7 +110,7 @@ module _ (site : Site) (kept : Retained) (before : List Moment) (old between : S
       rest_panels = subst AreOfPanels rest_is second.panels
 
       -- so the order was turned
-      pub all_turned : HasKept site kept (and_turns (has_failed store) order before) store journal' last
+      pub all_turned : HasTurned site kept (and_turns (has_failed store) order before) store journal' last
       all_turned =
           let failed = has_failed store in
           let rest = drop (place + 1) order in

@@ -27,7 +27,7 @@ use Rattle.panel_rules.specs.Storing.{keep_answer}
 use Rattle.panel_core.specs.declared.parts.Parts.{Parts}
 use Rattle.panel_core.specs.declared.system.System.{System}
 use Rattle.panel_core.specs.Applied.{applied, done_so_far}
-use Rattle.panel_core.specs.Entries.{CountsFor, TellsEntries}
+use Rattle.panel_core.specs.Entries.{AreLeft, CountsFor, TellsEntries}
 use Rattle.panel_core.specs.Keeping.{KeepsRun, MayKeep, MayMakeBatch, has_failed, store_of}
 use Rattle.panel_core.specs.Stands.{StandsFor}
 use Rattle.panel_core.specs.Turns.{hold_turns}
@@ -53,7 +53,7 @@ item_at (suc k) (x ∷ xs) less = let there = item_at k xs (omega (arith, less))
 
 module _ (site : Site) (kept : Retained) (before : List Moment) (system : System) (h : StandsFor site kept before system) (run :
     IsRun site.panels before) (few : tick_of before ≤ last_tick) (entries left : List ℕ) (told : TellsEntries system.panels.items entries)
-    (less : (place : ℕ) → place < 8 → slice_index left place ≡ slice_index entries place - slice_index system.counts.entries place) where
+    (less : AreLeft entries system.counts.entries left) where
   -- of one panel
   entered : (panel : ℕ) (p : IsPanel site.panels panel) (parts : Parts) → slice_get system.panels.items (panel - 1) ≡ Some parts
       → slice_index left (panel - 1) ≡ length (new_entries site kept (operations site kept before).done panel before)

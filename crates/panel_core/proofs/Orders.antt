@@ -1,5 +1,6 @@
 -- Turns one after another.
-use Rattle.std.proofs.Common.{◌≡◌, ◌≢◌, ℕ, zero, suc, ◌+◌, ◌<◌, ◌≤◌, List, [], ◌∷◌, ◌++◌, length, take, drop, get_or, Some, slice_get, Contains, Bool, false, refl, sym, ◌∙◌, ap, subst, arith, take-append-drop, length-take, inl, inr}
+use Rattle.std.proofs.Common.{◌≡◌, ◌≢◌, ℕ, zero, suc, ◌+◌, ◌<◌, ◌≤◌, List, [], ◌∷◌, ◌++◌, length, take, drop, get_or, Some, slice_get, Contains}
+use Rattle.std.proofs.Common.{Bool, false, refl, sym, ◌∙◌, ap, subst, arith, take-append-drop, length-take, inl, inr}
 use Rattle.std.proofs.lemmas.List.{drop-append-le, take_all, take_more}
 use Rattle.std.proofs.lemmas.Bool.Decides.{eqb_tells}
 use Rattle.std.proofs.lemmas.Option.{slice_get-get_or, slice_get_within, get_or_from_slice_get}

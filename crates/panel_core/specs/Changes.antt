@@ -79,7 +79,7 @@ BeginsTick old tick system =
     → StandsFor site kept (Began ∷ before) system
 
 -- what is asked for, the tick and what is kept are as they were
-pub record HasSameRest (old system : System) : Type 0 where
+pub record HasSameDesk (old system : System) : Type 0 where
   pub desk : system.desk ≡ old.desk
   pub tick : system.tick ≡ old.tick
   pub counts : system.counts ≡ old.counts

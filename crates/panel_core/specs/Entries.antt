@@ -1,5 +1,5 @@
 -- How many entries into the fire alarm condition there were of each panel, and how many of them are kept.
-use Rattle.std.specs.Prelude.{◌≡◌, ◌-◌, ℕ, List, Some, slice_get, slice_index}
+use Rattle.std.specs.Prelude.{◌≡◌, ◌-◌, ◌<◌, ℕ, List, Some, slice_get, slice_index}
 use Rattle.site_types.specs.declared.retained.Retained.{Retained}
 use Rattle.site_types.specs.declared.site.Site.{Site}
 use Rattle.panel_conditions.specs.Changes.{ShowsAs}
@@ -16,6 +16,11 @@ pub record CountsFor (site : Site) (kept : Retained) (before : List Moment) (cou
   pub counted : (panel : ℕ) → IsPanel site.panels panel → slice_index counts.entries (panel - 1)
       ≡ counted_entries site kept (done_so_far site kept before) panel before
   pub counters : counts.counters ≡ (kept_after site kept before).counters
+
+-- by panel, what is left of entries that aren't counted yet
+abbrev pub AreLeft : List ℕ → List ℕ → List ℕ → Type 0
+AreLeft entries counted left = (place : ℕ) → place < 8
+    → slice_index left place ≡ slice_index entries place - slice_index counted place
 
 -- by panel, how many entries there were since opening
 abbrev pub TellsEntries : List Parts → List ℕ → Type 0

@@ -8,7 +8,7 @@ use Rattle.site_types.specs.declared.change.Change.{Change}
 use Rattle.site_types.specs.declared.retained.Retained.{Retained}
 use Rattle.site_types.specs.declared.site.Site.{Site}
 use Rattle.retained_journal.specs.declared.journal.Journal.{Journal}
-use Rattle.retained_journal.specs.Images.{MayLeaveOr}
+use Rattle.retained_journal.specs.Images.{HasRoomForTwo, MayLeaveOr}
 use Rattle.keep_turn.specs.declared.store.Store.{Store}
 use Rattle.keep_turn.specs.declared.store.Store.TheVariants.{Idle, Kept as WasKept, Failed}
 use Rattle.keep_batch.specs.MakingLaws.{is_wide}
@@ -43,7 +43,7 @@ pub record KeepsRun (site : Site) (kept : Retained) (moments : List Moment) (jou
   pub wide : journal.wide ≡ is_wide site
 
 -- after a turn of Keep that answered so
-pub record HasKept (site : Site) (kept : Retained) (moments : List Moment) (store : Store) (journal : Journal)
+pub record HasTurned (site : Site) (kept : Retained) (moments : List Moment) (store : Store) (journal : Journal)
     (system : System) : Type 0 where
   pub stands : StandsFor site kept moments system
   pub keeps : KeepsRun site kept moments journal
@@ -66,7 +66,7 @@ IsLeftBatch system changes =
     → changes ≡ batch site kept before
 
 -- Keep may have its turn, and answer so
-pub record MayNote (store : Store) (system : System) : Type 0 where
+pub record MayNoteKept (store : Store) (system : System) : Type 0 where
   pub site : Site
   pub kept : Retained
   pub before : List Moment
@@ -99,7 +99,7 @@ KeepsTurn old journal store journal' system =
     (site : Site) (kept : Retained) (before : List Moment)
     → StandsFor site kept before old → KeepsRun site kept before journal
     → IsRun site.panels (Kept false ∷ before) → tick_of before ≤ last_tick
-    → HasKept site kept (Kept (has_failed store) ∷ before) store journal' system
+    → HasTurned site kept (Kept (has_failed store) ∷ before) store journal' system
 
 -- each seat may have its turn, in this order, and the journal one commit more
 pub record MayTurnAll (order : List Seat) (journal : Journal) (system : System) : Type 0 where
@@ -119,9 +119,9 @@ MakesAllTurns old order journal store journal' system =
     (site : Site) (kept : Retained) (before : List Moment)
     → StandsFor site kept before old → KeepsRun site kept before journal
     → IsRun site.panels (and_turns false order before) → tick_of before ≤ last_tick
-    → HasKept site kept (and_turns (has_failed store) order before) store journal' system
+    → HasTurned site kept (and_turns (has_failed store) order before) store journal' system
 
-module _ {D : Type 0} (honest : D → Type 0) (moment : D → ℕ) (left_since : D → ℕ → List ℕ → Type 0) (old new :
+module _ {D : Type 0} (moment : D → ℕ) (left_since : D → ℕ → List ℕ → Type 0) (old new :
     D) where
   -- at each moment of Keep's turn a crash leaves what it might have left before, or what is kept with the batch of
   -- the rules
@@ -129,14 +129,14 @@ module _ {D : Type 0} (honest : D → Type 0) (moment : D → ℕ) (left_since :
   LeavesWithBatch system journal =
       (site : Site) (kept : Retained) (before : List Moment)
       → StandsFor site kept before system → KeepsRun site kept before journal
-      → IsRun site.panels before → tick_of before ≤ last_tick
-      → honest old → LeavesOnly moment left_since old new (MayLeaveOr journal (batch site kept before))
+      → IsRun site.panels before → tick_of before ≤ last_tick → HasRoomForTwo journal
+      → LeavesOnly moment left_since old new (MayLeaveOr journal (batch site kept before))
 
   -- at each moment of the turns of an order
   abbrev pub LeavesInTurns : List Seat → System → Journal → Type 0
   LeavesInTurns order system journal =
       (site : Site) (kept : Retained) (before : List Moment)
       → StandsFor site kept before system → KeepsRun site kept before journal
-      → IsRun site.panels (and_turns false order before) → tick_of before ≤ last_tick
-      → honest old → LeavesOnly moment left_since old new
+      → IsRun site.panels (and_turns false order before) → tick_of before ≤ last_tick → HasRoomForTwo journal
+      → LeavesOnly moment left_since old new
       (MayLeaveOr journal (batch site kept (before_keep (and_turns false order before))))

@@ -1,5 +1,5 @@
 ghost use Rattle.std.specs.Prelude.{◌≡◌, ◌≢◌, ◌↔◌};
-ghost use Rattle.retained_journal.specs.Images.{HasRoom, HasRoomForTwo, IsEarly, Stands};
+ghost use Rattle.retained_journal.specs.Images.{HasRoom, IsEarly, Stands};
 ghost use Rattle.retained_journal.specs.Outcomes.{EachMayBeLeft, EachOpens};
 ghost use Rattle.keep_turn.specs.Turns.{FailsByItsDisk, TriesAtMostOnce};
 
@@ -12,8 +12,8 @@ use retained_journal::{Batch, Journal};
 
 impl System {
     ghost use Rattle.panel_core.specs.Entries.{TellsEntries};
-    ghost use Rattle.panel_core.specs.Keeping.{IsLeftBatch, KeepsTurn, LeavesWithBatch, MayKeep, MayNote, MayMakeBatch};
-    ghost use Rattle.panel_core.specs.Keeping.{NotesKept};
+    ghost use Rattle.panel_core.specs.Keeping.{IsLeftBatch, KeepsTurn, LeavesWithBatch, NotesKept};
+    ghost use Rattle.panel_core.specs.Keeping.{MayKeep, MayMakeBatch, MayNoteKept};
 
     // Keep has its turn: what isn't kept yet is committed, and the operations that wait get their answers.
     pub(crate) fn keep<D: Disk>(&mut self, journal: &mut Journal, disk: &mut D) -> Store
@@ -27,8 +27,8 @@ impl System {
             → EachOpens (D.images disk.new) journal.new }
         ensures images { D.honest disk.new → HasRoom journal.new
             → EachMayBeLeft (D.images disk.new) journal.new }
-        ensures moments { HasRoomForTwo journal.old
-            → LeavesWithBatch D.honest D.moment D.left_since disk.old disk.new self.old journal.old }
+        ensures moments { D.honest disk.old
+            → LeavesWithBatch D.moment D.left_since disk.old disk.new self.old journal.old }
         ensures honest { D.honest disk.new ↔ D.honest disk.old }
         ensures cause { FailsByItsDisk (D.faults disk.old) (D.faults disk.new) result }
     {
@@ -54,7 +54,7 @@ impl System {
 
     // The operations that wait get their answers, and what is kept is noted unless Keep failed.
     fn note_kept(&mut self, store: Store, entries: &[u64; 8], journal: &Journal)
-        requires { MayNote store self.old }
+        requires { MayNoteKept store self.old }
         ensures { NotesKept self.old store entries.now journal.now self.new }
     {
         let failed = has_failed(store);

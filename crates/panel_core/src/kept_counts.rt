@@ -1,4 +1,4 @@
-ghost use Rattle.std.specs.Prelude.{◌≡◌, ◌≤◌, ◌<◌, ◌-◌, ℕ, [], length, slice_index};
+ghost use Rattle.std.specs.Prelude.{◌≡◌, ◌≤◌, [], length};
 ghost use Rattle.site_types.specs.declared.retained.Retained.{Retained as RetainedOf};
 ghost use Rattle.site_types.specs.declared.site.Site.{Site as SiteOf};
 
@@ -15,7 +15,7 @@ pub struct KeptCounts {
 }
 
 impl KeptCounts {
-    ghost use Rattle.panel_core.specs.Entries.{CountsFor};
+    ghost use Rattle.panel_core.specs.Entries.{AreLeft, CountsFor};
 
     /// What is kept at opening.
     pub fn at_opening(kept: &Retained) -> KeptCounts
@@ -29,8 +29,7 @@ impl KeptCounts {
 
     /// How many of these entries aren't kept yet.
     pub fn left_of(&self, entries: &[u64; 8]) -> [u64; 8]
-        ensures { (place : ℕ) → place < 8
-            → slice_index result place ≡ slice_index entries.now place - slice_index self.now.entries place }
+        ensures { AreLeft entries.now self.now.entries result }
     {
         let mut left = *entries;
         for place in 0..8 {

@@ -6,11 +6,11 @@
 //! of `panel_rules`, whatever the orders were: how many answers each task has taken, and which zones each
 //! panel shows in alarm and in first state. A zone that is due is shown, and none is shown without a cause.
 //!
-//! So far the tasks Poll, Decide, Supply, Hold, Desk and Keep are at work. An operation is asked for by an event, gets
-//! its one answer from Desk or at Keep's turn, and what was done in a tick comes in force when the next one begins;
-//! [`System::answers`] tells the answers of the tick. [`System::turns`] takes the journal: Keep commits the entries into
-//! the fire alarm condition that aren't kept yet and the operations that wait, in one batch, and after a failure it
-//! tries again in the next tick. What links, markers and outputs add isn't there yet.
+//! So far the tasks Poll, Decide, Supply, Hold, Desk and Keep are at work. An operation is asked for by an event,
+//! gets its one answer from Desk or at Keep's turn, and what was done in a tick comes in force when the next one
+//! begins; [`System::answers`] tells the answers of the tick. [`System::turns`] takes the journal: Keep commits the
+//! entries into the fire alarm condition that aren't kept yet and the operations that wait, in one batch, and after a
+//! failure it tries again in the next tick. What links, markers and outputs add isn't there yet.
 //!
 //! Within a panel two lanes join Poll, Decide and Hold; they never hold more than 64 items, so no turn has an
 //! answer for a full lane.

@@ -26,7 +26,7 @@ pub struct System {
 }
 
 impl System {
-    ghost use Rattle.panel_core.specs.Changes.{AppliesAllDone, AppliesToAll, BeginsTick, HasSameRest};
+    ghost use Rattle.panel_core.specs.Changes.{AppliesAllDone, AppliesToAll, BeginsTick, HasSameDesk};
     ghost use Rattle.panel_core.specs.Changes.{AnswersAsRuled, TakesEvent};
     ghost use Rattle.panel_core.specs.Lanes.{taken_by};
     ghost use Rattle.panel_core.specs.ShownZones.{ShowsCausedZones, ShowsDueZones, ShowsLoneSignals};
@@ -97,7 +97,7 @@ impl System {
     fn apply_done(&mut self)
         requires { MayBegin self.old }
         ensures applied { AppliesAllDone self.old self.new }
-        ensures same { HasSameRest self.old self.new }
+        ensures same { HasSameDesk self.old self.new }
     {
         for place in 0..self.desk.done().len() {
             let done = self.desk.done()[place];
@@ -109,7 +109,7 @@ impl System {
     fn apply(&mut self, done: &DoneOperation)
         requires { MayApplyAll (done_from self.old.tick.0 done.now) self.old }
         ensures applied { AppliesToAll self.old (done_from self.old.tick.0 done.now) self.new }
-        ensures same { HasSameRest self.old self.new }
+        ensures same { HasSameDesk self.old self.new }
     {
         for before in 0..self.site.panels {
             let parts = &mut self.panels[before as usize];

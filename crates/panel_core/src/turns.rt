@@ -1,5 +1,5 @@
 ghost use Rattle.std.specs.Prelude.{◌≡◌, ◌≢◌, ◌≤◌, ◌↔◌, [], ◌∷◌};
-ghost use Rattle.retained_journal.specs.Images.{HasRoom, HasRoomForTwo, IsEarly, Stands};
+ghost use Rattle.retained_journal.specs.Images.{HasRoom, IsEarly, Stands};
 ghost use Rattle.retained_journal.specs.Outcomes.{EachMayBeLeft, EachOpens};
 ghost use Rattle.keep_turn.specs.Turns.{FailsByItsDisk, TriesAtMostOnce};
 
@@ -28,8 +28,8 @@ impl System {
         ensures images { D.honest disk.new → HasRoom journal.new
             → EachMayBeLeft (D.images disk.new) journal.new }
         // At each moment a crash leaves what it might have left before, or what is kept with the batch of the tick.
-        ensures moments { HasRoomForTwo journal.old
-            → LeavesInTurns D.honest D.moment D.left_since disk.old disk.new order.now self.old journal.old }
+        ensures moments { D.honest disk.old
+            → LeavesInTurns D.moment D.left_since disk.old disk.new order.now self.old journal.old }
         ensures honest { D.honest disk.new ↔ D.honest disk.old }
         ensures cause { FailsByItsDisk (D.faults disk.old) (D.faults disk.new) result }
     {

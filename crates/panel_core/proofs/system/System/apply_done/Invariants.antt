@@ -2,7 +2,7 @@ use Rattle.std.proofs.Common.{◌∷◌, List}
 use Rattle.site_types.specs.declared.retained.Retained.{Retained}
 use Rattle.site_types.specs.declared.site.Site.{Site}
 use Rattle.panel_rules.specs.Moments.{Moment, Began, IsRun}
-use Rattle.panel_core.specs.Changes.{HasSameRest}
+use Rattle.panel_core.specs.Changes.{HasSameDesk}
 use Rattle.panel_core.specs.Stands.{HasApplied, StandsFor}
 use Rattle.panel_core.proofs.Begun.{so_many}
 use Rattle.panel_core.proofs.system.System.apply_done.Given as goal
@@ -11,7 +11,7 @@ use Rattle.panel_core.proofs.system.System.apply_done.Given as goal
 abbrev pub invariant-loop-place : goal.invariant-loop-place
 invariant-loop-place l =
     record {
-      same : HasSameRest l.fn.self l.self;
+      same : HasSameDesk l.fn.self l.self;
       applied : (site : Site) (kept : Retained) (before : List Moment) (h : StandsFor site kept before l.fn.self)
           (run : IsRun site.panels (Began ∷ before)) → HasApplied site kept before (so_many site kept before l.fn.self h run l.place) l.self;
     }

@@ -36,6 +36,6 @@ returns-clause-kept g c site kept before h keeps run few =
     }
 
 pub returns-clause-moments : goal.returns-clause-moments
-returns-clause-moments g c room site kept before h keeps run few honest =
+returns-clause-moments g c honest site kept before h keeps run few room =
     subst (λ changes. LeavesOnly g.D.Disk.moment g.D.Disk.left_since c.args.disk.now c.keep_turn-store.new.disk (MayLeaveOr c.args.journal.now changes))
     (c.left_batch-batch.ensures site kept before h run few) (c.keep_turn-store.ensures.moments honest room)

@@ -47,7 +47,7 @@ returns-clause-turns g c site kept before h keeps run few =
     c.keep-store.result c.keep-store.new.journal c.keep-store.new.self turned c.turns_from.result c.turns_from.new.self c.turns_from.ensures.turns
 
 pub returns-clause-moments : goal.returns-clause-moments
-returns-clause-moments g c room site kept before h keeps run few honest =
+returns-clause-moments g c honest site kept before h keeps run few room =
     let r = c.requires.may in
     let order = c.args.order.now in
     let place = c.turns_from-place.result in
@@ -61,4 +61,4 @@ returns-clause-moments g c room site kept before h keeps run few honest =
     subst (λ ms. LeavesOnly g.D.Disk.moment g.D.Disk.left_since c.args.disk.now c.keep-store.new.disk (MayLeaveOr c.args.journal.now (batch site kept ms)))
     (then_is site kept before c.args.self.now c.turns_from-place.new.self c.args.journal.now order place h keeps ordered run few first
     c.keep-store.result c.keep-store.new.journal c.keep-store.new.self turned c.turns_from.result c.turns_from.new.self c.turns_from.ensures.turns)
-    (c.keep-store.ensures.moments room site kept _ stands kept_so keeping.0 late honest)
+    (c.keep-store.ensures.moments honest site kept _ stands kept_so keeping.0 late room)
