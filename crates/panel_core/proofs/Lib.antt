@@ -28,3 +28,4 @@ pub mod Begun
 -- what is answered, and what is shown of zones
 pub mod Answered
 pub mod Shows
+pub mod OwnFaults

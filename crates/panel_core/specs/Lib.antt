@@ -6,3 +6,4 @@ pub mod Stands
 pub mod Changes
 pub mod Keeping
 pub mod ShownZones
+pub mod OwnFaces

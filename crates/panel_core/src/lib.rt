@@ -10,7 +10,8 @@
 //! gets its one answer from Desk or at Keep's turn, and what was done in a tick comes in force when the next one
 //! begins; [`System::answers`] tells the answers of the tick. [`System::turns`] takes the journal: Keep commits the
 //! entries into the fire alarm condition that aren't kept yet and the operations that wait, in one batch, and after a
-//! failure it tries again in the next tick. What links, markers and outputs add isn't there yet.
+//! failure it tries again in the next tick. [`System::face`] tells what a panel shows of its own. What links, markers
+//! and outputs add isn't there yet.
 //!
 //! Within a panel two lanes join Poll, Decide and Hold; they never hold more than 64 items, so no turn has an
 //! answer for a full lane.
@@ -20,6 +21,7 @@
 //! at most 64, at each panel.
 #![tactic(auto)]
 
+mod faces;
 mod keeping;
 mod kept_counts;
 mod parts;
