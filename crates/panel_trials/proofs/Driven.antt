@@ -94,9 +94,12 @@ may_happen panels own event h has =
       few = omega (arith, asked, few, top);
     }
 
+one_more : {X : Type 0} (xs : List X) (x : X) → length (xs ++ x ∷ []) ≤ length xs + 1
+one_more xs x = let e = length-append xs (x ∷ []) in omega (arith, e)
+
 -- an event asks for one operation at most
 asks_once : (site : Site) (event : Event) (before : List Moment) → length (requests site (Happened event ∷ before)) ≤ length (requests site before) + 1
-asks_once site (Op panel code operation) before = let e = length-append (requests site before) (_ ∷ []) in omega (arith, e)
+asks_once site (Op panel code operation) before = one_more (requests site before) _
 asks_once site (Point point state) before = omega arith
 asks_once site (Cable panel line piece state) before = omega arith
 asks_once site (Supply panel kind bad) before = omega arith

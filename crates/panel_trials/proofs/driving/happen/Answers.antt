@@ -1,4 +1,4 @@
-use Rattle.std.proofs.Common.{◌≡◌, ◌∙◌, true, subst, sym}
+use Rattle.std.proofs.Common.{◌≡◌, ◌∙◌, true, subst, sym, arith}
 use Rattle.site_types.specs.Changes.{nothing_retained}
 use Rattle.site_types.specs.Events.{has_event}
 use Rattle.panel_trials.proofs.Driven.{may_happen, happens}
@@ -14,5 +14,5 @@ event-requires c =
 pub returns : goal.returns
 returns c =
     let h = c.requires in
-    happens c.args.panels c.args.own.now _ c.args.event.now h ?
+    happens c.args.panels c.args.own.now _ c.args.event.now h (let few = c.if-own-ge1000000.false in omega (arith, few))
     (c.event.ensures h.site nothing_retained h.before h.after.stands)
