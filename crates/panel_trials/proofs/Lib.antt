@@ -1,1 +1,1 @@
-mod Systems
+mod Driven

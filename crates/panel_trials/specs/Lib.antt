@@ -1,1 +1,1 @@
-pub mod SystemTicks
+pub mod Installations

@@ -3,7 +3,8 @@
 
 ghost use Rattle.site_types.specs.Valid.{IsValid};
 
-use crate::system_ticks::{opened, order_of, run_tick, shown};
+use crate::driving::{opened, run_tick, shown};
+use crate::orders::order_of;
 use anyhow::Result;
 use rand_pcg::Pcg32;
 use site_types::{Answer, PointState, Rule, Site, Zone, has_bit_32};
@@ -234,12 +235,12 @@ pub(crate) fn due_at_end(alloc: Global, site: Site, draws: &mut Pcg32) -> Result
     let panels = site.panels;
     let reports = drawn_reports(alloc, draws)?;
     let bounds = all_bounds(alloc, &site, &reports)?;
-    let mut system = opened(alloc, site)?;
+    let mut own = opened(alloc, site, Vec::new(alloc))?;
     let mut due = 0;
     for tick in 1..=LAST {
         let order = order_of(alloc, panels, below(draws, 2) == 0)?;
-        run_tick(&mut system, panels, &reports, &order)?;
-        match due_zones(&bounds, shown(&system, panels).0, tick) {
+        run_tick(&mut own, panels, &reports, &order)?;
+        match due_zones(&bounds, shown(&own, panels, 1).0, tick) {
             Some(zones) => due = zones,
             None => return Ok(None),
         }

@@ -2,7 +2,8 @@
 
 ghost use Rattle.std.specs.Prelude.{◌≡◌, ◌<◌};
 
-use crate::system_ticks::{opened, order_of, run_tick, taken};
+use crate::driving::{opened, run_tick, taken};
+use crate::orders::order_of;
 use anyhow::{Result, bail};
 use arrayvec::ArrayVec;
 use site_config::read_site;
@@ -49,12 +50,12 @@ pub(crate) fn taken_of_full_loops(alloc: Global, orders: &str) -> Result<String>
         bail!("a refused site");
     };
     let panels = site.panels;
-    let mut system = opened(alloc, site)?;
+    let mut own = opened(alloc, site, Vec::new(alloc))?;
     let mut lines = Lines::new(alloc);
     for word in orders.split(", ") {
         let order = order_of(alloc, panels, word == "reversed")?;
-        run_tick(&mut system, panels, &[], &order)?;
-        let (decided, held) = taken(&system, panels);
+        run_tick(&mut own, panels, &[], &order)?;
+        let (decided, held) = taken(&own, panels);
         lines.say("    ");
         lines.say(word);
         lines.count(": Decide ", decided);

@@ -2,7 +2,8 @@
 
 ghost use Rattle.site_types.specs.Valid.{IsValid};
 
-use crate::system_ticks::{opened, order_of, run_tick, shown};
+use crate::driving::{opened, run_tick, shown};
+use crate::orders::order_of;
 use anyhow::{Result, bail};
 use face_text::Face;
 use site_types::{Event, Site};
@@ -31,14 +32,14 @@ pub(crate) fn say_zones_shown(
     } else {
         "    canonical"
     };
-    let mut system = opened(alloc, site)?;
+    let mut own = opened(alloc, site, Vec::new(alloc))?;
     let mut before = Face::empty(1);
     let mut is_same = true;
     for tick in 1..=history.last {
-        run_tick(&mut system, panels, &reports, &order)?;
-        let after = face_of(shown(&system, panels));
+        run_tick(&mut own, panels, &reports, &order)?;
+        let after = face_of(shown(&own, panels, 1));
         if after != before {
-            let changes = changes_of(alloc, system.site(), &before, &after)?;
+            let changes = changes_of(alloc, own.system.site(), &before, &after)?;
             lines.say(word);
             lines.count(", tick ", tick);
             say_end(lines, &changes);

@@ -1,4 +1,5 @@
-//! The text of a timeline and of a change, for trials: put together from what the writers of faces and answers write.
+//! The text of a timeline, of a change and of answers, for trials: put together from what the writers of faces
+//! and answers write.
 //!
 //! Only programs that try things stand on this crate, and it promises nothing.
 #![tactic(auto)]
@@ -6,5 +7,5 @@
 mod changes;
 mod writing;
 
-pub use changes::changes_of;
+pub use changes::{answers_of, changes_of};
 pub use writing::text_of;

@@ -1,5 +1,5 @@
-use Rattle.panel_trials.specs.SystemTicks.{IsBetween}
+use Rattle.panel_trials.specs.Installations.{IsBetween}
 use Rattle.panel_trials.proofs.due_zones.due_at_end.Given as goal
 
 abbrev pub invariant-loop-tick : goal.invariant-loop-tick
-invariant-loop-tick l = IsBetween l.panels l.system
+invariant-loop-tick l = IsBetween l.panels l.own
