@@ -19,7 +19,7 @@ use Rattle.panel_rules.specs.Moments.{Moment, Began, Happened, IsRun, and_turns,
 use Rattle.panel_rules.specs.Operations.{requests, and_request}
 use Rattle.panel_rules.proofs.RecordRuns.{Fresh, order_run, all_turned}
 use Rattle.panel_core.specs.declared.system.System.{System}
-use Rattle.panel_core.specs.Keeping.{HasKept, KeepsRun, MayTurnAll, has_failed}
+use Rattle.panel_core.specs.Keeping.{HasTurned, KeepsRun, MayTurnAll, has_failed}
 use Rattle.panel_core.proofs.Orders.{turns_ask, turns_tick}
 use Rattle.panel_core.specs.Stands.{StandsFor, HasPanel, MayBegin, MayHappen}
 use Rattle.panel_trials.specs.declared.installation.Installation.{Installation}
@@ -160,7 +160,7 @@ may_turn panels own order h ordered =
     }
 
 pub ends : (panels : ℕ) (own after : Installation) (order : List Seat) (store : Store) (h : HasBegun panels own) → IsOrder panels order
-    → HasKept h.site nothing_retained (and_turns (has_failed store) order h.before) store after.journal after.system
+    → HasTurned h.site nothing_retained (and_turns (has_failed store) order h.before) store after.journal after.system
     → Stands (λ (disk : MemoryDisk). Unit {0}) images_of after.disk after.journal
     → TriesAtMostOnce own.journal after.journal → after.events ≡ own.events → IsBetween panels after
 ends panels own after order store h ordered kept images once events =

@@ -15,8 +15,7 @@ use plain_panel::timeline;
 use site_types::{Event, Retained, Site};
 use std::alloc::{AllocError, Global};
 use tick_units::{Order, Seat, Task};
-use timeline_text::answers_of;
-use trial_cases::Block;
+use trial_records::{Block, answers_of};
 
 /// What a record told, tick by tick, and what befell by then.
 #[derive(Drop)]

@@ -6,7 +6,8 @@ use crate::operations::first_other;
 use anyhow::Result;
 use rand_pcg::Pcg32;
 use std::alloc::{AllocError, Global};
-use trial_cases::{Case, Sample, below, blocks_of, otherwise, site_at};
+use trial_cases::{Case, Sample, below, otherwise, site_at};
+use trial_records::blocks_of;
 
 /// The stream of numbers that is drawn from.
 const STREAM: u64 = 55;

@@ -6,7 +6,8 @@ use anyhow::{Result, bail};
 use site_types::Site;
 use std::alloc::Global;
 use std::fs;
-use trial_cases::{Case, Lines, Words, blocks_of, site_at};
+use trial_cases::{Case, Lines, Words, site_at};
+use trial_records::blocks_of;
 
 /// How a record is played.
 #[derive(Drop)]

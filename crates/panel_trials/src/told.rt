@@ -9,8 +9,9 @@ use anyhow::Result;
 use face_text::Face;
 use site_types::Site;
 use std::alloc::Global;
-use timeline_text::{answers_of, changes_of};
+use timeline_text::changes_of;
 use trial_cases::Lines;
+use trial_records::answers_of;
 
 /// What was told in a tick: the zones that each panel showed of its own, and what was answered, as text.
 #[derive(Drop, PartialEq)]

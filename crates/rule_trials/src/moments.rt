@@ -5,7 +5,7 @@ use plain_history::Moment;
 use site_types::Site;
 use std::alloc::{AllocError, Global};
 use tick_units::{Order, Seat, Task};
-use trial_cases::{Block, blocks_of};
+use trial_records::{Block, blocks_of};
 
 /// The moments of a record: its ticks, each with what befalls and then its turns, in the order that the record gives or
 /// else the canonical one.

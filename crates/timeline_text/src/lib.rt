@@ -1,5 +1,4 @@
-//! The text of a timeline, of a change and of answers, for trials: put together from what the writers of faces
-//! and answers write.
+//! The text of a timeline and of a change, for trials: put together from what the writers of faces and answers write.
 //!
 //! Only programs that try things stand on this crate, and it promises nothing.
 #![tactic(auto)]
@@ -7,5 +6,5 @@
 mod changes;
 mod writing;
 
-pub use changes::{answers_of, changes_of};
+pub use changes::changes_of;
 pub use writing::text_of;

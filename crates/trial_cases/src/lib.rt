@@ -1,5 +1,5 @@
 //! What the programs of trials share: the list of cases, sites from their files, histories on a line, what
-//! befalls a site, whole records, names for masks, words that are read, and lines that are told.
+//! befalls a site, names for masks, words that are read, and lines that are told.
 //!
 //! Only the programs of trials stand on this crate. It promises what they need to call the parts of a panel:
 //! [`site_at`] gives a valid site, and [`event_of`] an event of which the site has all that it names.
@@ -16,7 +16,6 @@
 #![tactic(auto)]
 
 mod answering;
-mod blocks;
 mod case;
 mod draws;
 mod events;
@@ -29,7 +28,6 @@ mod step;
 mod words;
 
 pub use answering::{answer_cases, is_heading};
-pub use blocks::{Block, blocks_of};
 pub use case::Case;
 pub use draws::below;
 pub use events::event_of;
