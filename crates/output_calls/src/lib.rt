@@ -1,0 +1,11 @@
+//! What the outputs of a panel are told over a run, and that what they make of it is what the rules say.
+//!
+//! The rules speak of moments; the parts that drive outputs, `routing_outputs`, `output_delays` and
+//! `sounder_control`, each speak of calls of their own. Here stand the calls that a run makes of each, and the
+//! laws that both say the same. Each function is a law: its contract says it, and its body does nothing. A panel
+//! that makes these calls drives its outputs by the rules.
+#![tactic(auto)]
+
+mod routing;
+
+pub use routing::{confirmed_by_calls, unconfirmed_by_calls};
