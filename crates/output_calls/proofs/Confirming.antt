@@ -28,6 +28,7 @@ use Rattle.panel_laws.proofs.FacesShow.{output_bit}
 use Rattle.output_calls.specs.RoutingCalls.{confirmed_at, routing_calls, ConfirmedByCalls, UnconfirmedByCalls}
 use Rattle.output_calls.proofs.Falling.{any_earliest, earliest_by, passed}
 use Rattle.output_calls.proofs.Numbers.{numbered_is, same_output}
+use Rattle.output_calls.proofs.RunTicks.{run_made, run_before, run_falls}
 
 -- ---- the run of an output by the calls, and by the rules
 
@@ -167,61 +168,32 @@ module _ (site : Site) (facts : ℕ → List Moment → Facts) (kept : Retained)
   panel_is : panel_of_output site output ≡ plan.panel
   panel_is = ap panel_of_plan is
 
-  -- no turn after which it was on is later than the last tick, and in a fresh tick each is of an earlier one
-  on_by : (m : List Moment) → AllByRecursion (λ t. t ≤ tick_of m) (on_run site facts kept done output m)
-  on_by [] = tt
-  on_by (Began ∷ before) =
-      each_to (λ t. t ≤ tick_of before) (λ t. t ≤ tick_of before + 1) (on_run site facts kept done output before) (λ t less. omega (arith, less))
-      (on_by before)
-  on_by (Happened event ∷ before) = on_by before
-  on_by (Turned other Drive ∷ before) = go (other == panel_of_output site output) (goes_on site facts kept done output before) (on_by before)
-    where
-      go : (b c : Bool) → AllByRecursion (λ t. t ≤ tick_of before) (on_run site facts kept done output before)
-          → AllByRecursion (λ t. t ≤ tick_of before)
-          (if b then (if c then tick_of before ∷ on_run site facts kept done output before else []) else on_run site facts kept done output before)
-      go true true by = (omega arith, by)
-      go true false by = tt
-      go false c by = by
-  on_by (Turned other Poll ∷ before) = on_by before
-  on_by (Turned other Decide ∷ before) = on_by before
-  on_by (Turned other Supply ∷ before) = on_by before
-  on_by (Turned other Desk ∷ before) = on_by before
-  on_by (Turned other Hold ∷ before) = on_by before
-  on_by (Turned other Link ∷ before) = on_by before
-  on_by (Turned other Effect ∷ before) = on_by before
-  on_by (Turned other Keep ∷ before) = on_by before
-  on_by (Kept failed ∷ before) = on_by before
+  -- the run of turns after which it was on
+  on_is : (m : List Moment)
+      → on_run site facts kept done output m ≡ run_made (goes_on site facts kept done output) (panel_of_output site output) m
+  on_is [] = refl
+  on_is (Began ∷ before) = on_is before
+  on_is (Happened event ∷ before) = on_is before
+  on_is (Turned other Drive ∷ before) =
+      ap (λ (run : List ℕ). if other == panel_of_output site output
+      then (if goes_on site facts kept done output before then tick_of before ∷ run else []) else run) (on_is before)
+  on_is (Turned other Poll ∷ before) = on_is before
+  on_is (Turned other Decide ∷ before) = on_is before
+  on_is (Turned other Supply ∷ before) = on_is before
+  on_is (Turned other Desk ∷ before) = on_is before
+  on_is (Turned other Hold ∷ before) = on_is before
+  on_is (Turned other Link ∷ before) = on_is before
+  on_is (Turned other Effect ∷ before) = on_is before
+  on_is (Turned other Keep ∷ before) = on_is before
+  on_is (Kept failed ∷ before) = on_is before
 
   on_before : (m : List Moment) → is_fresh m ≡ true → AllByRecursion (λ t. t < tick_of m) (on_run site facts kept done output m)
-  on_before [] fresh = cc
-  on_before (Began ∷ before) fresh =
-      each_to (λ t. t ≤ tick_of before) (λ t. t < tick_of before + 1) (on_run site facts kept done output before) (λ t less. omega (arith, less))
-      (on_by before)
-  on_before (Happened event ∷ before) fresh = on_before before fresh
-  on_before (Turned other task ∷ before) fresh = cc
-  on_before (Kept failed ∷ before) fresh = cc
+  on_before m fresh =
+      subst (AllByRecursion (λ t. t < tick_of m)) (sym (on_is m))
+      (run_before (goes_on site facts kept done output) (panel_of_output site output) m fresh)
 
   on_falls : (m : List Moment) → IsFalling (on_run site facts kept done output m)
-  on_falls [] = tt
-  on_falls (Began ∷ before) = on_falls before
-  on_falls (Happened event ∷ before) = on_falls before
-  on_falls (Turned other Drive ∷ before) = go (other == panel_of_output site output) (goes_on site facts kept done output before) (on_falls before)
-    where
-      go : (b c : Bool) → IsFalling (on_run site facts kept done output before)
-          → IsFalling
-          (if b then (if c then tick_of before ∷ on_run site facts kept done output before else []) else on_run site facts kept done output before)
-      go true true falls = (on_by before, falls)
-      go true false falls = tt
-      go false c falls = falls
-  on_falls (Turned other Poll ∷ before) = on_falls before
-  on_falls (Turned other Decide ∷ before) = on_falls before
-  on_falls (Turned other Supply ∷ before) = on_falls before
-  on_falls (Turned other Desk ∷ before) = on_falls before
-  on_falls (Turned other Hold ∷ before) = on_falls before
-  on_falls (Turned other Link ∷ before) = on_falls before
-  on_falls (Turned other Effect ∷ before) = on_falls before
-  on_falls (Turned other Keep ∷ before) = on_falls before
-  on_falls (Kept failed ∷ before) = on_falls before
+  on_falls m = subst IsFalling (sym (on_is m)) (run_falls (goes_on site facts kept done output) (panel_of_output site output) m)
 
   -- no confirmation is later than the last tick
   confirmed_by : (m : List Moment) → AllByRecursion (λ t. t ≤ tick_of m) (confirmations output m)

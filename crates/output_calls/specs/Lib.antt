@@ -1,1 +1,3 @@
+pub mod DoneCalls
 pub mod RoutingCalls
+pub mod DelayCalls

@@ -6,6 +6,8 @@
 //! that makes these calls drives its outputs by the rules.
 #![tactic(auto)]
 
+mod delays;
 mod routing;
 
+pub use delays::through_by_calls;
 pub use routing::{confirmed_by_calls, unconfirmed_by_calls};
