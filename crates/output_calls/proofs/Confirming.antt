@@ -1,11 +1,15 @@
 -- What the Routing of a panel is told makes of its outputs what the rules say.
-use Rattle.std.proofs.Common.{◌≡◌, ◌≢◌, ◌≤◌, ◌<◌, ◌+◌, ◌==◌, ◌&&◌, ◌||◌, ◌⊎◌, not, ℕ, Bool, true, false, List, [], ◌∷◌, Option, Some, None, slice_get, if◌then◌else◌, inl, inr, refl, sym, ◌∙◌, ap, subst, arith}
+use Rattle.std.proofs.Common.{◌≡◌, ◌≢◌, ◌≤◌, ◌<◌, ◌+◌, ◌==◌, ◌&&◌, ◌||◌, ◌⊎◌, not, ℕ, Bool, true, false, List, []}
+use Rattle.std.proofs.Common.{◌∷◌, Option, Some, None, slice_get, if◌then◌else◌, inl, inr, refl, sym, ◌∙◌, ap, subst}
+use Rattle.std.proofs.Common.{arith}
 use Rattle.std.specs.Prelude.{nat_le, nat_lt}
 use Rattle.std.specs.List.{AllByRecursion, list_any}
 use Rattle.std.proofs.lemmas.Bool.Decides.{eqb_tells}
 use Rattle.tick_units.specs.Earliest.{earliest, IsFalling}
-use Rattle.tick_units.specs.declared.task.Task.TheVariants.{Poll, Decide, Supply, Desk, Hold, Link, Effect, Drive, Keep}
-use Rattle.site_types.specs.declared.event.Event.TheVariants.{Op, Point, Cable, Supply as SupplyEvent, Link as LinkEvent, Confirmed as ConfirmedEvent}
+use Rattle.tick_units.specs.declared.task.Task.TheVariants.{Poll, Decide, Supply, Desk, Hold, Link, Effect, Drive}
+use Rattle.tick_units.specs.declared.task.Task.TheVariants.{Keep}
+use Rattle.site_types.specs.declared.event.Event.TheVariants.{Op, Point, Cable, Supply as SupplyEvent}
+use Rattle.site_types.specs.declared.event.Event.TheVariants.{Link as LinkEvent, Confirmed as ConfirmedEvent}
 use Rattle.site_types.specs.declared.output.Output.{Output}
 use Rattle.site_types.specs.declared.retained.Retained.{Retained}
 use Rattle.site_types.specs.declared.site.Site.{Site}
@@ -14,12 +18,18 @@ use Rattle.site_types.specs.Events.{is_confirming, is_some_with}
 use Rattle.site_types.specs.Profile.{routing_of}
 use Rattle.site_types.specs.Valid.{IsValid}
 use Rattle.site_types.proofs.Done.{lt_false, lt_true}
-use Rattle.routing_outputs.specs.declared.routing_state.RoutingState.TheVariants.{Idle, Waiting, Confirmed as IsConfirmed, Unconfirmed}
-use Rattle.routing_outputs.specs.Confirmations.{Call, Turned as TurnMade, Confirmed, is_confirming_output, is_watched, is_on as is_on_in, with_confirmation, run_of, has_confirmation, ticks_of, spans, state_in, is_confirmed, is_unconfirmed as is_unconfirmed_state}
+use Rattle.routing_outputs.specs.declared.routing_state.RoutingState.TheVariants.{Idle, Waiting}
+use Rattle.routing_outputs.specs.declared.routing_state.RoutingState.TheVariants.{Confirmed as IsConfirmed}
+use Rattle.routing_outputs.specs.declared.routing_state.RoutingState.TheVariants.{Unconfirmed}
+use Rattle.routing_outputs.specs.Confirmations.{Call, Turned as TurnMade, Confirmed, is_confirming_output, is_watched}
+use Rattle.routing_outputs.specs.Confirmations.{is_on as is_on_in, with_confirmation, run_of, has_confirmation}
+use Rattle.routing_outputs.specs.Confirmations.{ticks_of, spans, state_in, is_confirmed}
+use Rattle.routing_outputs.specs.Confirmations.{is_unconfirmed as is_unconfirmed_state}
 use Rattle.panel_rules.specs.Moments.{Moment, Began, Happened, Turned, Kept, tick_of, is_turn, is_fresh, IsRun}
 use Rattle.panel_rules.specs.Latest.{made_latest}
 use Rattle.panel_rules.specs.Markers.{Facts}
-use Rattle.panel_rules.specs.Outputs.{on_output, panel_of_plan, panel_of_output, outputs_where, goes_on, is_on, on_run, confirmations, is_confirmed_in, has_lasted}
+use Rattle.panel_rules.specs.Outputs.{on_output, panel_of_plan, panel_of_output, outputs_where, goes_on, is_on}
+use Rattle.panel_rules.specs.Outputs.{on_run, confirmations, is_confirmed_in, has_lasted}
 use Rattle.panel_rules.proofs.Counting.{each_to}
 use Rattle.panel_rules.proofs.Floors.{le_from, le_to}
 use Rattle.panel_rules.proofs.Turns.{own_turn}

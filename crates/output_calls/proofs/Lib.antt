@@ -1,8 +1,12 @@
--- ticks that fall, what was done in a tick, and the outputs of a panel by their numbers
+-- ticks that fall, what was done in a tick, the outputs of a panel by their numbers, and masks of zones
 pub mod Falling
 pub mod RunTicks
 pub mod DoneNow
+pub mod LatestFirst
 pub mod Numbers
+pub mod ZoneMasks
 -- the parts
 pub mod Confirming
+pub mod DelaysDone
 pub mod Delaying
+pub mod Silencing

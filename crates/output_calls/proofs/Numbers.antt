@@ -1,5 +1,6 @@
 -- An output of a valid site is found by its panel and its number.
-use Rattle.std.proofs.Common.{◌≡◌, ◌==◌, ◌&&◌, ℕ, zero, suc, Bool, true, false, List, [], ◌∷◌, Some, slice_get, if◌then◌else◌, refl, sym, ◌∙◌, ap, arith}
+use Rattle.std.proofs.Common.{◌≡◌, ◌==◌, ◌&&◌, ℕ, zero, suc, Bool, true, false, List, [], ◌∷◌, Some, slice_get}
+use Rattle.std.proofs.Common.{if◌then◌else◌, refl, sym, ◌∙◌, ap, arith}
 use Rattle.std.specs.List.{find}
 use Rattle.site_types.specs.declared.output.Output.{Output}
 use Rattle.site_types.specs.declared.site.Site.{Site}

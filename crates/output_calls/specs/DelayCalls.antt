@@ -15,7 +15,7 @@ use Rattle.output_delays.specs.Runs.{Call, Turned as TurnMade, Overrode, Switche
 use Rattle.panel_rules.specs.Moments.{Moment, Began, Happened, Turned, Kept, tick_of}
 use Rattle.panel_rules.specs.Markers.{Facts}
 use Rattle.panel_rules.specs.Outputs.{outputs_where, is_requested, is_requested_by_hand, may_act}
-use Rattle.output_calls.specs.DoneCalls.{IsLatestFirst, and_done}
+use Rattle.output_calls.specs.DoneCalls.{IsLatestFirst, and_done_in}
 
 -- what an operation that was done in a tick is to the delays of its panel
 abbrev pub and_delaying : ℕ → Operation → List Call → List Call
@@ -38,7 +38,7 @@ module _ (site : Site) (facts : ℕ → List Moment → Facts) where
   abbrev pub delay_calls : List Done → ℕ → List Moment → List Call
   delay_calls done panel [] = []
   delay_calls done panel (Began ∷ before) =
-      and_done (and_delaying (tick_of before)) panel (tick_of before) done (delay_calls done panel before)
+      and_done_in (and_delaying (tick_of before)) panel (tick_of before) done (delay_calls done panel before)
   delay_calls done panel (Happened event ∷ before) = delay_calls done panel before
   delay_calls done panel (Turned other Drive ∷ before) =
       if other == panel then TurnMade (tick_of before) (requests_at panel before)

@@ -1,3 +1,4 @@
 pub mod DoneCalls
 pub mod RoutingCalls
 pub mod DelayCalls
+pub mod SilenceCalls

@@ -7,7 +7,11 @@
 #![tactic(auto)]
 
 mod delays;
+mod done;
 mod routing;
+mod silence;
 
 pub use delays::through_by_calls;
+pub use done::done_is_latest_first;
 pub use routing::{confirmed_by_calls, unconfirmed_by_calls};
+pub use silence::quiet_by_calls;
