@@ -10,3 +10,5 @@ pub mod Confirming
 pub mod DelaysDone
 pub mod Delaying
 pub mod Silencing
+-- masks of outputs
+pub mod OutputMasks

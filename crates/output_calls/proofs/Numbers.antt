@@ -1,5 +1,5 @@
 -- An output of a valid site is found by its panel and its number.
-use Rattle.std.proofs.Common.{◌≡◌, ◌==◌, ◌&&◌, ℕ, zero, suc, Bool, true, false, List, [], ◌∷◌, Some, slice_get}
+use Rattle.std.proofs.Common.{◌≡◌, ◌==◌, ◌&&◌, ℕ, zero, suc, Bool, true, false, List, [], ◌∷◌, Option, Some, None, slice_get}
 use Rattle.std.proofs.Common.{if◌then◌else◌, refl, sym, ◌∙◌, ap, arith}
 use Rattle.std.specs.List.{find}
 use Rattle.site_types.specs.declared.output.Output.{Output}
@@ -7,7 +7,9 @@ use Rattle.site_types.specs.declared.site.Site.{Site}
 use Rattle.site_types.specs.Things.{numbered_output}
 use Rattle.site_types.specs.Valid.{IsValid}
 use Rattle.panel_rules.proofs.AnswersTell.{eq_true}
+use Rattle.panel_rules.specs.Outputs.{output_numbered}
 use Rattle.panel_rules.proofs.Bools.{both, parts}
+use Rattle.panel_rules.proofs.ValidLayout.{position_unique}
 use Rattle.panel_laws.proofs.AnswerLaws.{eq_is}
 
 find_one : {X : Type 0} (test : X → Bool) (xs : List X) (i : ℕ) (x : X) → slice_get xs i ≡ Some x → test x ≡ true
@@ -40,3 +42,37 @@ numbered_is site valid output plan is =
     (both _ _ (eq_true plan.panel plan.panel refl) (eq_true plan.number plan.number refl))
     (λ j o at t. (let g = parts (o.panel == plan.panel) (o.number == plan.number) t in
     same_output site valid j output o plan at is (eq_is o.panel plan.panel g.0) (eq_is o.number plan.number g.1)))
+
+-- ---- a number that no output has
+
+record IsFound {X : Type 0} (test : X → Bool) (xs : List X) (x : X) : Type 0 where
+  place : ℕ
+  is : slice_get xs place ≡ Some x
+  passes : test x ≡ true
+
+find_got : {X : Type 0} (test : X → Bool) (xs : List X) (x : X) → find test xs ≡ Some x → IsFound test xs x
+find_got test [] x h = cc
+find_got {X = X} test (y ∷ xs) x h = go (test y) refl h (find_got test xs x)
+  where
+    go : (b : Bool) → test y ≡ b → (if b then Some y else find test xs) ≡ Some x → (find test xs ≡ Some x → IsFound test xs x)
+        → IsFound test (y ∷ xs) x
+    go true e h more = let same : y ≡ x = cc in record { place = 0; is = h; passes = sym (ap test same) ∙ e }
+    go false e h more = let found = more h in record { place = suc found.place; is = found.is; passes = found.passes }
+
+pub none_found : (site : Site) → IsValid site → (panel number : ℕ) → output_numbered site panel number ≡ None
+    → numbered_output site panel number ≡ None
+none_found site valid panel number none = go (numbered_output site panel number) refl
+  where
+    go : (o : Option Output) → numbered_output site panel number ≡ o → o ≡ None
+    go None is = refl
+    go (Some plan) is =
+        let test : Output → Bool = λ (o : Output). (o.panel == panel) && (o.number == number) in
+        let found = find_got test site.outputs plan is in
+        let mine = parts (plan.panel == panel) (plan.number == number) found.passes in
+        let placed : output_numbered site panel number ≡ Some found.place =
+        position_unique test site.outputs found.place plan found.is found.passes
+        (λ j o at t. (let g = parts (o.panel == panel) (o.number == number) t in
+        same_output site valid j found.place o plan at found.is (eq_is o.panel panel g.0 ∙ sym (eq_is plan.panel panel mine.0))
+        (eq_is o.number number g.1 ∙ sym (eq_is plan.number number mine.1)))) in
+        let never : None ≡ Some found.place = sym none ∙ placed in
+        cc

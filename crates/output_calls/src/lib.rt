@@ -8,10 +8,14 @@
 
 mod delays;
 mod done;
+mod masks;
 mod routing;
 mod silence;
 
 pub use delays::through_by_calls;
 pub use done::done_is_latest_first;
+pub use masks::{
+    confirmed_mask_by_calls, overrides_are_over, through_mask_by_calls, unconfirmed_mask_by_calls,
+};
 pub use routing::{confirmed_by_calls, unconfirmed_by_calls};
 pub use silence::quiet_by_calls;
