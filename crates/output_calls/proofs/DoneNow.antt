@@ -34,7 +34,7 @@ module _ {C : Type 0} (adds : Operation → List C → List C) (panel tick : ℕ
       same : (d.tick == tick) ≡ true
       same = elim (eqb_tells d.tick tick) [ inl t ↦ t.0 | inr t ↦ absurd (t.1 is) ]
 
-  now_not : (d : Done) (ds : List Done) (calls : List C) → (d.tick == tick) ≡ false
+  pub now_not : (d : Done) (ds : List Done) (calls : List C) → (d.tick == tick) ≡ false
       → and_done_in adds panel tick (d ∷ ds) calls ≡ and_done_in adds panel tick ds calls
   now_not d ds calls apart =
       ap (λ b. if b then adds d.operation (and_done_in adds panel tick ds calls) else and_done_in adds panel tick ds calls)

@@ -12,3 +12,5 @@ pub mod Delaying
 pub mod Silencing
 -- masks of outputs
 pub mod OutputMasks
+-- what is done later
+pub mod LaterDone
