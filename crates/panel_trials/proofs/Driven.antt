@@ -1,5 +1,5 @@
 -- What each call of a system with its journal leaves it with, tick by tick.
-use Rattle.std.proofs.Common.{◌≡◌, ◌∙◌, Bool, inl, inr, ◌-◌, ◌+◌, ◌^◌, ◌<◌, ◌≤◌, ℕ, List, [], ◌∷◌, ◌++◌, true, false, length, length-append, refl, sym, ap, subst, arith, lit<}
+use Rattle.std.proofs.Common.{◌≡◌, Bool, inl, inr, ◌-◌, ◌+◌, ◌^◌, ◌<◌, ◌≤◌, ℕ, List, [], ◌∷◌, ◌++◌, true, false, length, length-append, refl, sym, ap, subst, arith, lit<}
 use Rattle.panel_edges.specs.MemoryDisks.{images_of}
 use Rattle.panel_edges.specs.declared.memory_disk.MemoryDisk.{MemoryDisk}
 use Rattle.tick_units.specs.declared.seat.Seat.{Seat}
@@ -12,18 +12,17 @@ use Rattle.site_types.specs.declared.site.Site.{Site}
 use Rattle.site_types.specs.Events.{has_event}
 use Rattle.retained_journal.specs.Images.{Stands}
 use Rattle.retained_journal.specs.Outcomes.{IsKeptIn}
-use Rattle.retained_journal.specs.declared.journal.Journal.{Journal}
 use Rattle.keep_turn.specs.Turns.{TriesAtMostOnce}
 use Rattle.keep_turn.specs.declared.store.Store.{Store}
 use Rattle.panel_rules.specs.Moments.{Moment, Began, Happened, IsRun, and_turns, tick_of}
-use Rattle.panel_rules.specs.Operations.{requests, and_request}
+use Rattle.panel_rules.specs.Operations.{requests}
 use Rattle.panel_rules.proofs.RecordRuns.{Fresh, order_run, all_turned}
 use Rattle.panel_core.specs.declared.system.System.{System}
 use Rattle.panel_core.specs.Keeping.{HasTurned, KeepsRun, MayTurnAll, has_failed}
 use Rattle.panel_core.proofs.Orders.{turns_ask, turns_tick}
 use Rattle.panel_core.specs.Stands.{StandsFor, HasPanel, MayBegin, MayHappen}
 use Rattle.panel_trials.specs.declared.installation.Installation.{Installation}
-use Rattle.panel_trials.specs.Installations.{IsDriven, IsBetween, HasBegun}
+use Rattle.panel_trials.specs.Installations.{IsBetween, HasBegun}
 
 -- a journal that is opened in an empty file keeps nothing
 pub keeps_nothing : (wide : Bool) (digest : List ℕ) (state : Retained) (file : List ℕ) → file ≡ [] → IsKeptIn wide digest state file

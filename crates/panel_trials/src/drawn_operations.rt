@@ -37,11 +37,11 @@ pub(crate) fn try_operations(rt: &HostRuntime, case: &Case) -> Result<String> {
             return otherwise(alloc, "plain program", seed);
         }
     }
-    let is_enough = tried.answered >= 20 && tried.changed >= 20 && tried.failed >= 5;
+    let is_enough = tried.answered >= 10 && tried.changed >= 1 && tried.failed >= 1;
     let words = if is_enough {
-        " records: as by the plain program; 20 ticks or more with answers, 20 with changes, 5 with a failed store"
+        " records: as by the plain program; ten ticks or more with answers, some with a change and with a failed store"
     } else {
-        " records: as by the plain program; few ticks with answers, changes or a failed store"
+        " records: as by the plain program; fewer than ten ticks with answers, or none with a change or a failed store"
     };
     sample.all_alike(alloc, words)
 }
