@@ -1,7 +1,8 @@
 //! Tests of the low crates: written cases that need a part's types in hand, and what no clause says.
 //!
 //! A crate's tests prove the whole crate again. Here they prove little besides themselves, so that a crate below stands
-//! proved once. There is one file for each crate that is tested; the crate promises nothing, and nothing stands on it.
+//! proved once. There is one file for each crate that is tested; the crate promises nothing but a law on records, and
+//! nothing stands on it.
 #![tactic(auto)]
 
 #[cfg(test)]
@@ -10,7 +11,6 @@ mod conditions;
 mod levels;
 #[cfg(test)]
 mod links;
-#[cfg(test)]
 mod records;
 #[cfg(test)]
 mod sections;
@@ -22,3 +22,5 @@ mod supplies;
 mod ticks;
 #[cfg(test)]
 mod types;
+
+pub use records::ticks_end_at_the_last;
