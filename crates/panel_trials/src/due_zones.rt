@@ -3,9 +3,8 @@
 
 ghost use Rattle.site_types.specs.Valid.{IsValid};
 
-use crate::driving::{opened, run_tick, shown};
-use crate::orders::order_of;
 use anyhow::Result;
+use driven_panel::{opened, order_of, run_tick, shown};
 use rand_pcg::Pcg32;
 use site_types::{Answer, PointState, Rule, Site, Zone, has_bit_32};
 use std::alloc::{AllocError, Global};

@@ -5,10 +5,6 @@ pub(crate) enum Kind {
     Zones,
     /// Drawn records: what is due is shown, and nothing is shown without a cause.
     DrawnZones,
-    /// A record with operations, what fails given: what the system tells, and whether the plain program tells the same.
-    Operations,
-    /// Drawn records with operations: that the plain program tells the same.
-    DrawnOperations,
     /// How much a panel's parts have taken, every address of four loops being asked.
     FullLoops,
     /// How much lies in a lane.
@@ -16,11 +12,9 @@ pub(crate) enum Kind {
 }
 
 /// The kinds by name.
-pub(crate) const KINDS: [(&str, Kind); 6] = [
+pub(crate) const KINDS: [(&str, Kind); 4] = [
     ("zones", Kind::Zones),
     ("drawn-zones", Kind::DrawnZones),
-    ("operations", Kind::Operations),
-    ("drawn-operations", Kind::DrawnOperations),
     ("full-loops", Kind::FullLoops),
     ("lane", Kind::Lane),
 ];

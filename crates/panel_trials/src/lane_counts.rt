@@ -2,10 +2,9 @@
 
 ghost use Rattle.std.specs.Prelude.{◌≡◌, ◌<◌};
 
-use crate::driving::{opened, run_tick, taken};
-use crate::orders::order_of;
 use anyhow::{Result, bail};
 use arrayvec::ArrayVec;
+use driven_panel::{opened, order_of, run_tick, taken};
 use site_config::read_site;
 use std::alloc::Global;
 use tick_units::Lane;

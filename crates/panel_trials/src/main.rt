@@ -1,35 +1,19 @@
-//! Trials of a whole panel.
+//! Trials of a whole panel: what it shows of its zones over records of points, and how its lanes fill.
 //!
 //! `Kind` of src/kind has the kinds of cases, and the head of trial_cases how a list of cases and a history are
-//! written. src/driving drives a system with its journal tick by tick: it tests what each call asks for, so that a
-//! case needs no proof.
-//!
-//! `operations SITE RECORD: reversed, fails 75 76` plays a record, both files. With the word `reversed` a tick whose
-//! order isn't given has the reversed one, else the canonical one; the disk's calls 75 and 76 fail, of which opening a
-//! new journal takes the first four. For each tick in which there is something to tell, what panels show of their own
-//! zones and what is answered is printed, and then whether the plain program of the definitions tells the same.
-//! `drawn-operations SITE: 10 from seed 1` compares ten drawn records in the same way.
+//! written. `driven_panel` drives a system with its journal tick by tick. Records with operations are tried by
+//! `operation_trials`.
 #![tactic(auto)]
 
-mod both;
-mod drawn_operations;
-mod drawn_records;
-mod driving;
 mod due_zones;
-mod installation;
 mod kind;
 mod lane_counts;
-mod operations;
-mod orders;
 mod shown_zones;
-mod told;
 
 use anyhow::Result;
-use drawn_operations::try_operations;
 use due_zones::due_at_end;
 use kind::{KINDS, Kind};
 use lane_counts::{lane_lengths, taken_of_full_loops};
-use operations::say_operations;
 use rand_pcg::Pcg32;
 use shown_zones::say_zones_shown;
 use std::process::ExitCode;
@@ -47,8 +31,6 @@ fn answer(rt: &HostRuntime, kind: Kind, case: &Case) -> Result<String> {
     match kind {
         Kind::Zones => both_orders(rt, case),
         Kind::DrawnZones => try_records(rt, case),
-        Kind::Operations => say_operations(rt, case),
-        Kind::DrawnOperations => try_operations(rt, case),
         Kind::FullLoops => taken_of_full_loops(rt.alloc(), case.rest),
         Kind::Lane => lane_lengths(rt.alloc(), case.rest),
     }

@@ -2,9 +2,8 @@
 
 ghost use Rattle.site_types.specs.Valid.{IsValid};
 
-use crate::driving::{opened, run_tick, shown};
-use crate::orders::order_of;
 use anyhow::{Result, bail};
+use driven_panel::{opened, order_of, run_tick, shown};
 use face_text::Face;
 use site_types::{Event, Site};
 use std::alloc::Global;

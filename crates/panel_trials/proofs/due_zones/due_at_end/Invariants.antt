@@ -1,4 +1,4 @@
-use Rattle.panel_trials.specs.Installations.{IsBetween}
+use Rattle.driven_panel.specs.Installations.{IsBetween}
 use Rattle.panel_trials.proofs.due_zones.due_at_end.Given as goal
 
 abbrev pub invariant-loop-tick : goal.invariant-loop-tick

@@ -1,4 +1,4 @@
-use Rattle.panel_trials.specs.Installations.{IsBetween}
+use Rattle.driven_panel.specs.Installations.{IsBetween}
 use Rattle.panel_trials.proofs.lane_counts.taken_of_full_loops.Given as goal
 
 abbrev pub invariant-loop-word : goal.invariant-loop-word
