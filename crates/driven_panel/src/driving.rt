@@ -1,18 +1,21 @@
 //! A system with its journal, driven tick by tick.
 
-ghost use Rattle.std.specs.Prelude.{◌≤◌, IfOk};
+ghost use Rattle.std.specs.Prelude.{◌≡◌, ◌<◌, ◌≤◌, IfOk};
 ghost use Rattle.tick_units.specs.Orders.{IsOrder};
 ghost use Rattle.site_types.specs.Valid.{IsValid};
 ghost use Rattle.driven_panel.specs.Installations.{IsBetween, HasBegun};
 
 use crate::installation::Installation;
 use anyhow::{Result, bail};
+use cause_effect::{Steps, compile};
 use face_text::Face;
 use panel_core::{Store, System};
 use panel_edges::MemoryDisk;
 use retained_journal::Journal;
 use site_types::{Event, Retained, Site};
 use std::alloc::Global;
+use std::marker::Brand;
+use std::sync::ledger::{Blank, Ledger};
 use tick_units::{Order, Task, Tick};
 use trial_base::Report;
 
@@ -33,7 +36,10 @@ pub fn opened(alloc: Global, site: Site, fails: Vec<u64>) -> Result<Installation
     let Ok((journal, _)) = Journal::open(&mut disk, [0; 32], site.format == 2) else {
         bail!("the journal isn't opened");
     };
-    let Ok(system) = System::open(alloc, site, &Retained::empty()) else {
+    let Ok(plan) = compile(alloc, &site) else {
+        bail!("no plan of the markers");
+    };
+    let Ok(system) = System::open(alloc, site, plan, &Retained::empty()) else {
         bail!("no memory");
     };
     Ok(Installation {
@@ -45,12 +51,7 @@ pub fn opened(alloc: Global, site: Site, fails: Vec<u64>) -> Result<Installation
 }
 
 /// The next tick: those of the reports that come in it, and its turns in an order.
-pub fn run_tick(
-    own: &mut Installation,
-    panels: u8,
-    reports: &[Report],
-    order: &Order,
-) -> Result<()>
+pub fn run_tick(own: &mut Installation, panels: u8, reports: &[Report], order: &Order) -> Result<()>
     requires between { IsBetween panels own.old }
     requires ordered { IsOrder panels order.now }
     ensures { IfOk result (λ _. IsBetween panels own.new) }
@@ -120,7 +121,21 @@ fn turn_all(own: &mut Installation, panels: u8, order: &Order) -> Store
     requires ordered { IsOrder panels order.now }
     ensures { IsBetween panels own.new }
 {
-    own.system.turns(order, &mut own.journal, &mut own.disk)
+    turn_counted::<Brand>(own, panels, order, Blank::new(1))
+}
+
+// The same, with a counter of steps that is let go.
+fn turn_counted<L: Ledger>(own: &mut Installation, panels: u8, order: &Order, blank: Blank) -> Store
+    requires begun { HasBegun panels own.old }
+    requires ordered { IsOrder panels order.now }
+    requires name { blank.name ≡ L.name }
+    requires parts { blank.parts ≡ L.parts }
+    requires some { 0 < blank.parts }
+    ensures { IsBetween panels own.new }
+{
+    let mut steps: Steps<L> = Steps::new(blank);
+    own.system
+        .turns(order, &mut own.journal, &mut own.disk, &mut steps)
 }
 
 /// The zones that a panel shows of its own in alarm, and those in first state.
@@ -132,7 +147,7 @@ pub fn shown(own: &Installation, panels: u8, panel: u8) -> (u32, u32)
     (own.system.zones(panel), own.system.first(panel))
 }
 
-/// What a panel shows of its own.
+/// All that a panel shows.
 pub fn face_of(own: &Installation, panels: u8, panel: u8) -> Face
     requires between { IsBetween panels own.now }
     requires first { 1 ≤ panel }

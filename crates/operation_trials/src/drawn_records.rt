@@ -5,14 +5,15 @@ ghost use Rattle.site_types.specs.Valid.{IsValid};
 
 use anyhow::Result;
 use rand_pcg::Pcg32;
-use site_types::Site;
+use site_types::{Output, OutputKind, Site};
 use std::alloc::Global;
 use tick_units::{Order, Seat, Task};
 use trial_cases::{Lines, below};
 
 const LAST: u64 = 60;
 
-/// A drawn record: in each tick events of points, cables, supplies and operations, and in most a drawn order of turns.
+/// A drawn record: in each tick events of points, cables, supplies, links, outputs and operations, and in most a drawn
+/// order of turns.
 pub(crate) fn drawn_record(alloc: Global, site: &Site, draws: &mut Pcg32) -> Result<String>
     requires { IsValid site.now }
 {
@@ -81,11 +82,13 @@ fn say_seat(lines: &mut Lines, seat: Seat) {
     }
 }
 
-// An event of a point, or at times of a cable or a supply.
+// An event of a point, or at times of a cable, a supply, a link or an output.
 fn say_report(alloc: Global, lines: &mut Lines, site: &Site, draws: &mut Pcg32) -> Result<()> {
     match below(draws, 12) {
         0 => say_cable(lines, site, draws),
         1 => say_supply(lines, site, draws),
+        2 if site.panels > 1 => say_link(lines, site, draws),
+        3 | 4 if has_confirming(site) => say_confirmation(alloc, lines, site, draws)?,
         _ => {
             lines.say("point ");
             let panel = drawn_panel(site, draws);
@@ -113,6 +116,23 @@ fn say_supply(lines: &mut Lines, site: &Site, draws: &mut Pcg32) {
     lines.say(one_of(&[" ok", " bad"], draws));
 }
 
+fn say_link(lines: &mut Lines, site: &Site, draws: &mut Pcg32) {
+    lines.count("link ", drawn_panel(site, draws));
+    lines.say(one_of(&[" up", " up", " down"], draws));
+}
+
+fn say_confirmation(
+    alloc: Global,
+    lines: &mut Lines,
+    site: &Site,
+    draws: &mut Pcg32,
+) -> Result<()> {
+    lines.say("routing ");
+    lines.say(one_of(&confirming_of(alloc, site)?, draws));
+    lines.say(" confirmed");
+    Ok(())
+}
+
 // An operation at a panel on something of it, with a code of any level or a wrong one.
 fn say_operation(alloc: Global, lines: &mut Lines, site: &Site, draws: &mut Pcg32) -> Result<()> {
     let panel = drawn_panel(site, draws);
@@ -128,9 +148,13 @@ fn say_operation(alloc: Global, lines: &mut Lines, site: &Site, draws: &mut Pcg3
             lines.say(one_of(&["cancel ", "test ", "untest "], draws));
             lines.say(one_of(&zones_of(alloc, site, panel)?, draws));
         }
-        4 | 5 => {
+        4 => {
             lines.say(one_of(&["disable zone ", "enable zone "], draws));
             lines.say(one_of(&zones_of(alloc, site, panel)?, draws));
+        }
+        5 if has_output(site, panel) => {
+            lines.say(one_of(&["disable output ", "enable output "], draws));
+            lines.say(one_of(&outputs_of(alloc, site, panel)?, draws));
         }
         _ => {
             lines.say(one_of(&["disable point ", "enable point "], draws));
@@ -165,4 +189,41 @@ fn zones_of<'a>(alloc: Global, site: &'a Site, panel: u64) -> Result<Vec<&'a str
         }
     }
     Ok(names)
+}
+
+// The names of the outputs of a panel.
+fn outputs_of<'a>(alloc: Global, site: &'a Site, panel: u64) -> Result<Vec<&'a str>> {
+    let mut names = Vec::new(alloc);
+    for output in site.outputs.as_slice() {
+        if output.panel as u64 == panel {
+            names.push(output.name.as_str())?;
+        }
+    }
+    Ok(names)
+}
+
+fn has_output(site: &Site, panel: u64) -> bool {
+    site.outputs
+        .as_slice()
+        .iter()
+        .any(|output| output.panel as u64 == panel)
+}
+
+// The names of the outputs that are confirmed from outside.
+fn confirming_of<'a>(alloc: Global, site: &'a Site) -> Result<Vec<&'a str>> {
+    let mut names = Vec::new(alloc);
+    for output in site.outputs.as_slice() {
+        if is_confirming(output) {
+            names.push(output.name.as_str())?;
+        }
+    }
+    Ok(names)
+}
+
+fn has_confirming(site: &Site) -> bool {
+    site.outputs.as_slice().iter().any(is_confirming)
+}
+
+fn is_confirming(output: &Output) -> bool {
+    matches!(output.kind, OutputKind::Routing | OutputKind::Protection)
 }

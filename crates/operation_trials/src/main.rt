@@ -5,9 +5,9 @@
 //!
 //! `operations SITE RECORD: reversed, fails 75 76` plays a record, both files. With the word `reversed` a tick whose
 //! order isn't given has the reversed one, else the canonical one; the disk's calls 75 and 76 fail, of which opening a
-//! new journal takes the first four. For each tick in which there is something to tell, what panels show of their own
-//! (zones, faults, buzzer and counter) and what is answered is printed, and then whether the plain program of the
-//! definitions tells the same. `drawn-operations SITE: 10 from seed 1` compares ten drawn records in the same way.
+//! new journal takes the first four. For each tick in which there is something to tell, what panels show and what is
+//! answered is printed, and then whether the plain program of the definitions tells the same.
+//! `drawn-operations SITE: 10 from seed 1` compares ten drawn records in the same way.
 #![tactic(auto)]
 
 mod both;

@@ -10,10 +10,10 @@ use timeline_text::changes_of;
 use trial_cases::Lines;
 use trial_records::answers_of;
 
-/// What was told in a tick: what each panel showed of its own, and what was answered, as text.
+/// What was told in a tick: what each panel showed, and what was answered, as text.
 #[derive(Drop, PartialEq)]
 pub(crate) struct Told {
-    /// By panel, with its own zones, its faults, buzzer and counter alone.
+    /// By panel.
     pub(crate) faces: Vec<Face>,
     pub(crate) answers: String,
 }
@@ -32,18 +32,18 @@ impl Told {
         Ok(Told { faces, answers })
     }
 
-    /// What faces show of their panels' own, with these answers.
+    /// What these faces show, with these answers.
     pub(crate) fn by_faces(
         alloc: Global,
         faces: &[Face],
         answers: String,
     ) -> Result<Told, AllocError> {
-        let mut own = Vec::new(alloc);
+        let mut all = Vec::new(alloc);
         for face in faces {
-            own.push(own_alone(face))?;
+            all.push(*face)?;
         }
         Ok(Told {
-            faces: own,
+            faces: all,
             answers,
         })
     }
@@ -70,18 +70,4 @@ impl Told {
         }
         lines.done()
     }
-}
-
-// Of a face what its panel shows of its own zones, faults, buzzer and counter.
-fn own_alone(face: &Face) -> Face {
-    let mut own = Face::empty(face.panel);
-    let place = (face.panel as usize).wrapping_sub(1);
-    if place < 8 {
-        own.zones[place] = face.zones[place];
-        own.firsts[place] = face.firsts[place];
-    }
-    own.faults = face.faults;
-    own.buzzer = face.buzzer;
-    own.counter = face.counter;
-    own
 }

@@ -1,5 +1,5 @@
 -- The turns of an order: those before Keep's, Keep's, and the rest.
-use Rattle.std.proofs.Common.{◌≡◌, ◌∙◌, ◌+◌, ◌<◌, ◌≤◌, ℕ, List, ◌∷◌, Bool, false, Some, length, drop, get_or, slice_get, ap, arith, subst, sym}
+use Rattle.std.proofs.Common.{◌≡◌, ◌∙◌, ◌+◌, ◌<◌, ◌≤◌, ◌++◌, ℕ, List, [], ◌∷◌, Bool, false, Some, length, drop, get_or, refl, slice_get, ap, arith, subst, sym, take-append-drop}
 use Rattle.std.proofs.lemmas.List.{take_all}
 use Rattle.std.proofs.lemmas.Option.{slice_get-get_or}
 use Rattle.tick_units.specs.declared.seat.Seat.{Seat}
@@ -10,13 +10,18 @@ use Rattle.site_types.specs.declared.site.Site.{Site}
 use Rattle.retained_journal.specs.declared.journal.Journal.{Journal}
 use Rattle.keep_turn.specs.declared.store.Store.{Store}
 use Rattle.panel_rules.specs.Batches.{batch, kept_after}
-use Rattle.panel_rules.specs.Moments.{Moment, Kept, IsRun, and_turns, tick_of}
+use Rattle.panel_rules.specs.Moments.{Moment, Kept, IsRun, and_turns, tick_of, turn_of}
+use Rattle.panel_rules.specs.Run.{facts_of}
+use Rattle.panel_rules.proofs.RecordRuns.{turns-append}
 use Rattle.panel_rules.specs.Storing.{keep_answer}
 use Rattle.panel_core.specs.declared.system.System.{System}
 use Rattle.panel_core.specs.Changes.{AreOfPanels, MakesTurnsFrom, seats_between}
 use Rattle.panel_core.specs.Keeping.{HasTurned, KeepsRun, MayKeep, MayTurnAll, before_keep, has_failed, store_of}
 use Rattle.panel_core.specs.Stands.{MayTurnFrom, StandsFor}
-use Rattle.panel_core.proofs.Orders.{before_turns, front_turns, keep_within, no_other, order_parted, panels_keep, panels_leave_keep, run_behind, same_turns, turns_tick}
+use Rattle.panel_core.specs.StepCounts.{CountsTurnsFrom, RisesOver, facts_in_force}
+use Rattle.panel_core.proofs.Applied.{applied_stays}
+use Rattle.panel_core.proofs.StepsCounted.{applied_over, keep_rises, rises_both, rises_either, rises_more}
+use Rattle.panel_core.proofs.Orders.{before_turns, between_more, front_turns, keep_within, no_other, order_parted, panels_keep, panels_leave_keep, run_behind, same_turns, turns_tick}
 
 -- all its seats may have their turns, so the first may
 pub may_begin : (order : List Seat) (journal : Journal) (system : System) → MayTurnAll order journal system → MayTurnFrom order 0 system
@@ -133,6 +138,43 @@ module _ (site : Site) (kept : Retained) (before : List Moment) (old between : S
                 ∙ ap (λ ms. store_of (keep_answer failed (batch site kept ms)))
                 (sym (panels_leave_keep failed rest (Kept failed ∷ then) rest_panels) ∙ ap before_keep (sym (parted failed)));
           }
+
+      -- the order by the place of Keep
+      whole_order : (seats_between 0 place order ++ get_or order place keep_seat ∷ []) ++ drop (place + 1) order ≡ order
+      whole_order =
+          ap (λ xs. xs ++ drop (place + 1) order) (sym (between_more order 0 place (get_or order place keep_seat) (omega arith) there))
+          ∙ take-append-drop (place + 1) order
+
+      -- and its steps are those of the turns before Keep's and of those after it
+      pub all_counted : (a b c : ℕ) → CountsTurnsFrom old order 0 place a b → CountsTurnsFrom after order (place + 1) end b c
+          → RisesOver site (facts_in_force site kept before) (has_failed store) order before a c
+      all_counted a b c front back =
+          let failed = has_failed store in
+          let facts = facts_in_force site kept before in
+          let seat = get_or order place keep_seat in
+          let xs = seats_between 0 place order in
+          let rest = drop (place + 1) order in
+          let is_keep = first.keep seat there in
+          let early =
+          rises_either site facts false failed xs before a b first.panels
+          (front site kept before h (front_turns site.panels order 0 place before (omega arith) first.within run)) in
+          let up_to_keep =
+          rises_more site facts failed xs seat before a b b early (keep_rises site facts seat.panel seat.task (and_turns failed xs before) b is_keep) in
+          let then_keep : and_turns failed (xs ++ seat ∷ []) before ≡ Kept failed ∷ then =
+          turns-append failed xs (seat ∷ []) before ∙ ap (λ t. turn_of failed seat.panel t ∷ and_turns failed xs before) is_keep
+          ∙ ap (λ ms. Kept failed ∷ ms) (same_turns failed false xs before first.panels) in
+          let told =
+          back site kept (Kept failed ∷ then) turned.stands
+          (front_turns site.panels order (place + 1) end (Kept failed ∷ then) (second.since (let inside = within in omega (arith, inside))) second.within
+          behind_run) in
+          let in_force = sym (applied_stays site kept (Kept failed) then refl) ∙ applied_over site kept false xs before in
+          let late =
+          rises_either site facts false failed rest (Kept failed ∷ then) b c rest_panels
+          (subst (λ seats. RisesOver site facts false seats (Kept failed ∷ then) b c) rest_is
+          (subst (λ done. RisesOver site (facts_of site kept done) false (seats_between (place + 1) end order) (Kept failed ∷ then) b c) in_force told)) in
+          subst (λ seats. RisesOver site facts failed seats before a c) whole_order
+          (rises_both site facts failed (xs ++ seat ∷ []) rest before a b c up_to_keep
+          (subst (λ ms. RisesOver site facts failed rest ms b c) (sym then_keep) late))
 
       -- and this had befallen before the latest turn of Keep
       pub then_is : then ≡ before_keep (and_turns false order before)

@@ -23,14 +23,18 @@ use Rattle.operation_desk.specs.Stands.{DesksFor}
 use Rattle.panel_laws.proofs.StoredSettings.{changes, own_places, unkept}
 use Rattle.panel_rules.specs.Moments.{Moment, Began, IsRun, tick_of}
 use Rattle.panel_rules.specs.Operations.{operations}
+use Rattle.settings_shown.specs.Shown.{HasNoStrangeBits}
+use Rattle.settings_shown.proofs.Changes.{changes_keep}
 use Rattle.panel_core.specs.declared.parts.Parts.{Parts}
 use Rattle.panel_core.specs.declared.system.System.{System}
-use Rattle.panel_core.specs.Applied.{MayBeApplied, done_so_far}
+use Rattle.panel_core.specs.Applied.{MayBeApplied, applied, done_so_far}
 use Rattle.panel_core.specs.Entries.{CountsFor}
-use Rattle.panel_core.specs.Stands.{AreBefore, HasApplied, PanelStands, StandsFor}
-use Rattle.panel_core.proofs.Applied.{applied_begun, applied_is_older, before_by, by_tick, done_in_front, next_may_be_applied, with_done_more}
+use Rattle.panel_core.specs.Stands.{AreBefore, HasApplied, HasBegunPanels, HasPlan, KeepsWords, PanelStands, StandsFor}
+use Rattle.panel_core.proofs.Applied.{applied_begun, applied_is_older, before_by, by_tick, done_after_applied, done_in_front, next_may_be_applied, with_done_more}
+use Rattle.panel_core.proofs.Later.{done_from_tick, words_later}
 use Rattle.panel_core.proofs.Counts.{counts_stay}
-use Rattle.panel_core.proofs.Panels.{after_begin}
+use Rattle.panel_core.proofs.Panels.{HasOutputs, after_begin}
+use Rattle.output_drive.specs.declared.drive.Drive.{Drive as DrivePart}
 
 -- ---- settings
 
@@ -70,6 +74,10 @@ module _ (site : Site) (kept : Retained) (before : List Moment) (done : List Don
   settings_changed change is =
       keeps-change site kept done (tick_of before + 1) settings d change (own_places site valid) sized number soon is h
 
+  pub own_changed : (change : Change) → operation_change site d.panel d.operation ≡ Some change → HasNoStrangeBits site settings
+      → HasNoStrangeBits site (changed change settings)
+  own_changed change is own = changes_keep site settings d.panel d.operation change valid sized is own
+
   pub sized_changed : (change : Change) → operation_change site d.panel d.operation ≡ Some change → IsSized (changed change settings)
   sized_changed change is = sized-changed change settings (can_change change is) sized
 
@@ -107,8 +115,8 @@ partly_none site kept before done d system h = record {
 pub applied_more : (site : Site) (kept : Retained) (before : List Moment) (done : List Done) (d : Done) (old new : System) (n : ℕ)
     → HasApplied site kept before done old → new.site ≡ old.site → new.tick ≡ old.tick → length new.panels.items ≡ length old.panels.items
     → PartlyApplied site kept before done d n new.panels.items → site.panels ≤ n → AreInForce site kept (tick_of before + 1) (d ∷ done) new.settings
-    → IsSized new.settings → HasApplied site kept before (d ∷ done) new
-applied_more site kept before done d old new n h same tick count partly whole settings sized = record {
+    → IsSized new.settings → HasNoStrangeBits site new.settings → HasApplied site kept before (d ∷ done) new
+applied_more site kept before done d old new n h same tick count partly whole settings sized own = record {
   valid = h.valid;
   same = same ∙ h.same;
   tick = ap (λ (t : Tick). t.0) tick ∙ h.tick;
@@ -117,6 +125,67 @@ applied_more site kept before done d old new n h same tick count partly whole se
       (let within = slice_get_within new.panels.items place parts is in let all = count ∙ h.count in omega (arith, within, all, whole));
   settings = settings;
   sized = sized;
+  own = own;
+}
+
+-- ---- outputs
+
+-- the outputs of the first so many panels have taken what was done
+pub record PartlyBegun (site : Site) (kept : Retained) (before : List Moment) (done : List Done) (n : ℕ) (panels : List Parts) : Type 0 where
+  pub first : (place : ℕ) (parts : Parts) → slice_get panels place ≡ Some parts → place < n → PanelStands site kept done (place + 1) (Began ∷ before) parts
+  pub rest : (place : ℕ) (parts : Parts) → slice_get panels place ≡ Some parts → n ≤ place → PanelStands site kept done (place + 1) before parts
+
+pub begun_more : (site : Site) (kept : Retained) (before : List Moment) (done : List Done) (n : ℕ) (panels : List Parts) (parts : Parts)
+    → PartlyBegun site kept before done n panels → PanelStands site kept done (n + 1) (Began ∷ before) parts
+    → PartlyBegun site kept before done (n + 1) (slice_set panels n parts)
+begun_more site kept before done n panels parts h p = record {
+  first = λ place q is less. elim (get_set panels n place parts q is) [
+    | inl g ↦ (let at : n + 1 ≡ place + 1 = omega (arith, g.0) in
+        subst (λ m. PanelStands site kept done m (Began ∷ before) q) at (subst (PanelStands site kept done (n + 1) (Began ∷ before)) g.1 p))
+    | inr g ↦ h.first place q g.1 (let apart = g.0 in omega (arith, less, apart))
+  ];
+  rest = λ place q is more. elim (get_set panels n place parts q is) [
+    | inl g ↦ absurd (let at = g.0 in omega (arith, at, more))
+    | inr g ↦ h.rest place q g.1 (omega (arith, more))
+  ];
+}
+
+pub begun_none : (site : Site) (kept : Retained) (before : List Moment) (done : List Done) (system : System)
+    → HasApplied site kept before done system → PartlyBegun site kept before done 0 system.panels.items
+begun_none site kept before done system h = record {
+  first = λ place q is less. absurd (omega (arith, less));
+  rest = λ place q is more. h.each place q is;
+}
+
+-- a panel whose outputs took what its desk has done in the tick that ends
+pub outputs_begun : (site : Site) (kept : Retained) (before : List Moment) (panel : ℕ) (desk : Desk) (ds : List DoneOperation) (parts : Parts) (drive : DrivePart)
+    → DesksFor site kept before desk → ds ≡ desk.done.items
+    → PanelStands site kept (done_so_far site kept before) panel before parts
+    → ((older : List Done) → HasOutputs site kept (with_done (tick_of before) ds older) panel before before parts.drive → AreBefore (tick_of before) older
+    → HasOutputs site kept (with_done (tick_of before) ds older) panel before (Began ∷ before) drive)
+    → PanelStands site kept (done_so_far site kept before) panel (Began ∷ before) (record parts { drive = drive })
+outputs_begun site kept before panel desk ds parts drive desks is stands takes =
+    let told = desks.outcomes.unsettled in
+    let whole : done_so_far site kept before ≡ with_done (tick_of before) ds told.older =
+    told.done_is ∙ ap (λ xs. with_done (tick_of before) xs told.older) (sym is) in
+    let before_it = subst (λ done. HasOutputs site kept done panel before before parts.drive) whole stands.drives in
+    after_begin site kept (done_so_far site kept before) panel before parts drive stands
+    (subst (λ done. HasOutputs site kept done panel before (Began ∷ before) drive) (sym whole) (takes told.older before_it told.earlier))
+
+pub all_begun : (site : Site) (kept : Retained) (before : List Moment) (old new : System) (n : ℕ)
+    → HasApplied site kept before (done_so_far site kept before) old → new.site ≡ old.site → new.tick ≡ old.tick
+    → length new.panels.items ≡ length old.panels.items → new.settings ≡ old.settings
+    → PartlyBegun site kept before (done_so_far site kept before) n new.panels.items → site.panels ≤ n → HasBegunPanels site kept before new
+all_begun site kept before old new n h same tick count settings partly whole = record {
+  valid = h.valid;
+  same = same ∙ h.same;
+  tick = ap (λ (t : Tick). t.0) tick ∙ h.tick;
+  count = count ∙ h.count;
+  each = λ place parts is. partly.first place parts is
+      (let within = slice_get_within new.panels.items place parts is in let all = count ∙ h.count in omega (arith, within, all, whole));
+  settings = rw settings h.settings;
+  sized = rw settings h.sized;
+  own = rw settings h.own;
 }
 
 -- ---- from the end of a tick to the beginning of the next
@@ -145,6 +214,7 @@ module _ (site : Site) (kept : Retained) (before : List Moment) (system : System
         ∙ in_force-later site kept setting (tick_of before) front.new unsettled.older front.from
         ∙ past_force site kept setting (tick_of before) unsettled.older unsettled.earlier;
     sized = h.sized;
+    own = h.own;
   }
 
   -- those of the tick, the oldest first, so many of them
@@ -173,20 +243,31 @@ module _ (site : Site) (kept : Retained) (before : List Moment) (system : System
       subst (AreBy (tick_of before)) (sym unsettled.done_is)
       (by_tick (tick_of before) ds unsettled.older (before_by (tick_of before) unsettled.older unsettled.earlier))
 
+  -- the words that panels keep are those with all that was done
+  words : KeepsWords site kept (applied site kept (Began ∷ before)) (Began ∷ before) system.ring
+  words =
+      let grew = done_after_applied site kept before system.desk.done.items unsettled.older unsettled.done_is unsettled.earlier in
+      subst (λ done. KeepsWords site kept done (Began ∷ before) system.ring) (sym grew.is ∙ applied_begun site kept before by_now)
+      (words_later site kept (applied site kept before) grew.new before (tick_of before) (done_from_tick (tick_of before) grew.new grew.from) (omega arith)
+      system.ring h.ring)
+
   pub begun : (new : System) (desk : Desk) (tick : Tick) → tick.0 ≡ tick_of (Began ∷ before)
-      → HasApplied site kept before (done_so_far site kept before) new → DesksFor site kept (Began ∷ before) desk → new.counts ≡ system.counts
+      → HasBegunPanels site kept before new → DesksFor site kept (Began ∷ before) desk → new.counts ≡ system.counts
+      → new.plan ≡ system.plan → new.ring ≡ system.ring
       → StandsFor site kept (Began ∷ before) (record new { desk = desk; tick = tick })
-  begun new desk tick now g desks same = record {
+  begun new desk tick now g desks same plan ring = record {
     valid = h.valid;
     same = g.same;
+    plan = subst (HasPlan site) (sym plan) h.plan;
     tick = now;
     count = g.count;
     each = λ place parts is.
-        subst (λ done. PanelStands site kept done (place + 1) (Began ∷ before) parts) (applied_begun site kept before by_now)
-        (after_begin site kept (done_so_far site kept before) (place + 1) before parts (g.each place parts is));
+        subst (λ done. PanelStands site kept done (place + 1) (Began ∷ before) parts) (applied_begun site kept before by_now) (g.each place parts is);
+    ring = subst (KeepsWords site kept (applied site kept (Began ∷ before)) (Began ∷ before)) (sym ring) words;
     events = h.events;
     desk = desks;
     settings = g.settings;
     sized = g.sized;
+    own = g.own;
     counts = subst (CountsFor site kept (Began ∷ before)) (sym same) (counts_stay site kept before Began system.counts (λ e. cc) h.counts);
   }

@@ -20,9 +20,9 @@ use Rattle.panel_rules.specs.Operations.{after_reply, after_request, desk_reply,
 use Rattle.panel_rules.proofs.Bools.{parts}
 use Rattle.panel_rules.proofs.Counting.{each_filtered}
 use Rattle.panel_core.specs.Applied.{applied, done_so_far}
-use Rattle.panel_core.specs.Turns.{hold_turns}
+use Rattle.hold_calls.specs.Turns.{hold_turns}
 use Rattle.panel_core.proofs.Applied.{applied_begun, applied_stays}
-use Rattle.panel_core.proofs.Entries.{entries_told}
+use Rattle.hold_calls.proofs.EntriesHeld.{entries_held}
 
 -- ---- what was done so far, and what of it is in force
 
@@ -109,7 +109,7 @@ module _ (site : Site) (kept : Retained) (panel : ℕ) (before : List Moment) wh
     pub told_by_hold : entries_after site kept panel (applied site kept before) (hold_turns site kept (applied site kept before) panel before)
         ≡ counted_entries site kept now_done panel before + length (new_entries site kept now_done panel before)
     told_by_hold =
-        let told = entries_told site kept (applied site kept before) panel valid member before run in
+        let told = entries_held site kept (applied site kept before) panel before valid member run in
         let parted = counted_once site kept (applied site kept before) panel before in
         let grew = grew_since_applied site kept before in
         let counted = counted_grown now_done (applied site kept before) grew in

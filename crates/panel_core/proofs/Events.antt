@@ -1,12 +1,15 @@
 -- What an event makes of a panel.
-use Rattle.std.proofs.Common.{◌≡◌, ◌≢◌, ℕ, ◌-◌, ◌^◌, ◌≤◌, ◌<◌, ◌==◌, ◌&&◌, List, ◌∷◌, length, Some, slice_get, get_or, inl, inr, true, false, if◌then◌else◌, refl, sym, ◌∙◌, ap, subst, arith, Bool}
+use Rattle.std.proofs.Common.{◌≡◌, ◌≢◌, ℕ, ◌-◌, ◌^◌, ◌≤◌, ◌<◌, ◌==◌, ◌&&◌, List, ◌∷◌, length, Option, Some, None, slice_get}
+use Rattle.std.proofs.Common.{get_or, inl, inr, true, false, if◌then◌else◌, refl, sym, ◌∙◌, ap, subst, arith, Bool}
 use Rattle.std.specs.Prelude.{nat_le}
 use Rattle.std.specs.Vec.{with_item}
 use Rattle.std.proofs.lemmas.Bool.{eqb-true}
 use Rattle.std.proofs.lemmas.Bool.Decides.{eqb_tells}
-use Rattle.std.proofs.lemmas.Option.{slice_get_read}
+use Rattle.std.proofs.lemmas.Option.{slice_get_read, slice_get_within}
 use Rattle.site_types.specs.declared.event.Event.{Event}
-use Rattle.site_types.specs.declared.event.Event.TheVariants.{Point, Cable, Supply}
+use Rattle.site_types.specs.declared.event.Event.TheVariants.{Point, Cable, Supply, Confirmed, Link as LinkEvent}
+use Rattle.site_types.specs.declared.output.Output.{Output}
+use Rattle.site_types.specs.Changes.{IsNumber}
 use Rattle.site_types.specs.declared.point.Point.{Point as PointPlan}
 use Rattle.site_types.specs.declared.loop_plan.LoopPlan.{LoopPlan}
 use Rattle.site_types.specs.declared.point_state.PointState.{PointState}
@@ -15,9 +18,9 @@ use Rattle.site_types.specs.declared.retained.Retained.{Retained}
 use Rattle.site_types.specs.declared.site.Site.{Site}
 use Rattle.site_types.specs.declared.supply_kind.SupplyKind.{SupplyKind}
 use Rattle.site_types.specs.Done.{Done}
-use Rattle.site_types.specs.Events.{has_event, has_piece, is_panel}
+use Rattle.site_types.specs.Events.{has_event, has_piece, is_confirming, is_panel, is_some_with}
 use Rattle.site_types.specs.Valid.{IsValid}
-use Rattle.site_types.proofs.ValidSites.{loop_at, point_at}
+use Rattle.site_types.proofs.ValidSites.{loop_at, output_at, point_at}
 use Rattle.loop_poller.specs.declared.poller.Poller.{Poller}
 use Rattle.loop_poller.specs.Calls.{Call, Reported, Cabled}
 use Rattle.loop_poller.specs.Stands.{StandsFor as PollsFor}
@@ -38,17 +41,33 @@ use Rattle.panel_laws.proofs.EventsOfSite.{of_site}
 use Rattle.panel_core.specs.declared.parts.Parts.{Parts}
 use Rattle.panel_core.specs.declared.system.System.{System}
 use Rattle.panel_rules.specs.Reports.{and_report, is_on_panel, reports}
-use Rattle.panel_core.specs.Stands.{PanelStands, StandsFor}
+use Rattle.panel_core.specs.Stands.{KeepsWords, PanelStands, StandsFor}
 use Rattle.panel_core.specs.Applied.{applied}
 use Rattle.panel_core.proofs.Counts.{counts_stay}
+use Rattle.panel_effects.proofs.LatestFacts.{effects_stay}
+use Rattle.output_drive.specs.declared.drive.Drive.{Drive as DrivePart}
+use Rattle.output_drive.proofs.Alike.{ConfirmsNone, after_other_event}
+use Rattle.panel_links.specs.declared.ring.Ring.{Ring}
+use Rattle.panel_rules.specs.Outputs.{panel_of_plan}
+use Rattle.panel_rules.specs.Run.{facts_of}
+use Rattle.panel_core.proofs.Panels.{HasFacts, HasOutputs}
 use Rattle.panel_core.proofs.Whole.{panel_at, stands_changed, stands_unchanged}
 
--- a panel after an event of which its poller was told, and its supplies weren't
+module _ (site : Site) (kept : Retained) (done : List Done) (panel : ℕ) (before : List Moment) (parts : Parts) (h : PanelStands site kept done panel before parts) where
+  -- an event is no turn of Effect
+  facts_stay : (event : Event) → HasFacts site kept done panel before (Happened event ∷ before) parts.effects
+  facts_stay event = effects_stay site (facts_of site kept done) panel before parts.effects (Happened event) (λ e. cc) h.effects
+
+  -- and one that confirms no output of the panel leaves its outputs
+  outputs_stay : (event : Event) → ConfirmsNone site panel event → HasOutputs site kept done panel before (Happened event ∷ before) parts.drive
+  outputs_stay event none = after_other_event site (facts_of site kept done) kept done panel before parts.drive h.drives event none
+
+-- a panel after an event of which its poller was told, and its supplies and outputs weren't
 told : (site : Site) (kept : Retained) (done : List Done) (panel : ℕ) (before : List Moment) (parts : Parts) (poller : Poller) (event : Event)
     → PanelStands site kept done panel before parts → PollsFor site panel (and_report site panel event (reports site panel before)) poller
-    → and_supply panel event (supply_calls panel before) ≡ supply_calls panel before
+    → and_supply panel event (supply_calls panel before) ≡ supply_calls panel before → ConfirmsNone site panel event
     → PanelStands site kept done panel (Happened event ∷ before) (record parts { poller = poller })
-told site kept done panel before parts poller event h p s = record {
+told site kept done panel before parts poller event h p s none = record {
   member = h.member;
   polls = p;
   answers = h.answers;
@@ -57,6 +76,8 @@ told site kept done panel before parts poller event h p s = record {
       h.findings;
   holds = h.holds;
   supplies = subst (λ calls. MonitorsFor site.waits calls parts.supply) (sym s) h.supplies;
+  effects = facts_stay site kept done panel before parts h event;
+  drives = outputs_stay site kept done panel before parts h event none;
 }
 
 pub after_point : (site : Site) (kept : Retained) (done : List Done) (panel : ℕ) (before : List Moment) (parts : Parts) (poller : Poller) (point : ℕ) (state :
@@ -66,7 +87,7 @@ pub after_point : (site : Site) (kept : Retained) (done : List Done) (panel : �
 after_point site kept done panel before parts poller point state h at p =
     told site kept done panel before parts poller (Point point state) h
     (subst (λ b. PollsFor site panel (if b then Reported point state ∷ reports site panel before else reports site panel before) poller) (sym at)
-    p) refl
+    p) refl tt
 
 pub after_piece : (site : Site) (kept : Retained) (done : List Done) (panel : ℕ) (before : List Moment) (parts : Parts) (poller : Poller) (line piece : ℕ) (state :
     PieceState) → 1 ≤ line → line ≤ 4 → PanelStands site kept done panel before parts
@@ -75,7 +96,7 @@ pub after_piece : (site : Site) (kept : Retained) (done : List Done) (panel : �
 after_piece site kept done panel before parts poller line piece state low high h p =
     told site kept done panel before parts poller (Cable panel line piece state) h
     (subst (λ b. PollsFor site panel (if b then Cabled line piece state ∷ reports site panel before else reports site panel before) poller)
-    (sym (ap (λ b. b && (nat_le 1 line && nat_le line 4)) (eq_true panel panel refl) ∙ is_line line low high)) p) refl
+    (sym (ap (λ b. b && (nat_le 1 line && nat_le line 4)) (eq_true panel panel refl) ∙ is_line line low high)) p) refl tt
 
 pub after_report : (site : Site) (kept : Retained) (done : List Done) (panel : ℕ) (before : List Moment) (parts : Parts) (supply : SupplyPart) (kind : SupplyKind)
     (bad : Bool) → PanelStands site kept done panel before parts → MonitorsFor site.waits (SupplyReported kind bad ∷ supply_calls panel before) supply
@@ -90,14 +111,33 @@ after_report site kept done panel before parts supply kind bad h m = record {
   supplies =
       subst (λ b. MonitorsFor site.waits (if b then SupplyReported kind bad ∷ supply_calls panel before else supply_calls panel before) supply)
       (sym (eq_true panel panel refl)) m;
+  effects = facts_stay site kept done panel before parts h (Supply panel kind bad);
+  drives = outputs_stay site kept done panel before parts h (Supply panel kind bad) tt;
+}
+
+-- an output of the panel was confirmed
+pub after_confirmation : (site : Site) (kept : Retained) (done : List Done) (panel : ℕ) (before : List Moment) (parts : Parts) (drive : DrivePart) (output : ℕ)
+    → PanelStands site kept done panel before parts → HasOutputs site kept done panel before (Happened (Confirmed output) ∷ before) drive
+    → PanelStands site kept done panel (Happened (Confirmed output) ∷ before) (record parts { drive = drive })
+after_confirmation site kept done panel before parts drive output h confirmed = record {
+  member = h.member;
+  polls = h.polls;
+  answers = h.answers;
+  decides = h.decides;
+  findings = h.findings;
+  holds = h.holds;
+  supplies = h.supplies;
+  effects = facts_stay site kept done panel before parts h (Confirmed output);
+  drives = confirmed;
 }
 
 -- a panel that an event doesn't concern
 untold : (site : Site) (kept : Retained) (done : List Done) (panel : ℕ) (before : List Moment) (parts : Parts) (event : Event) → PanelStands site kept done panel before parts
     → and_report site panel event (reports site panel before) ≡ reports site panel before
-    → and_supply panel event (supply_calls panel before) ≡ supply_calls panel before → PanelStands site kept done panel (Happened event ∷ before) parts
-untold site kept done panel before parts event h e s =
-    told site kept done panel before parts parts.poller event h (subst (λ calls. PollsFor site panel calls parts.poller) (sym e) h.polls) s
+    → and_supply panel event (supply_calls panel before) ≡ supply_calls panel before → ConfirmsNone site panel event
+    → PanelStands site kept done panel (Happened event ∷ before) parts
+untold site kept done panel before parts event h e s none =
+    told site kept done panel before parts parts.poller event h (subst (λ calls. PollsFor site panel calls parts.poller) (sym e) h.polls) s none
 
 not_there : (a b : ℕ) → a ≢ b → (a == b) ≡ false
 not_there a b n = elim (eqb_tells a b) [ inl t ↦ absurd (n t.1) | inr t ↦ t.0 ]
@@ -114,12 +154,12 @@ pub stands_after_point : (site : Site) (kept : Retained) (before : List Moment) 
     → StandsFor site kept (Happened (Point point state) ∷ before)
     (record system { panels = with_item system.panels (plan.panel - 1) parts; desk = desk })
 stands_after_point site kept before system desk plan point state parts h after one is p =
-    stands_changed site kept before system (Happened (Point point state)) desk system.counts refl (h.events, after.has) after.desks
-    (counts_stay site kept before (Happened (Point point state)) system.counts (λ e. cc) h.counts) h plan.panel parts one p
+    stands_changed site kept before system (Happened (Point point state)) desk system.counts system.ring refl (h.events, after.has) after.desks
+    (counts_stay site kept before (Happened (Point point state)) system.counts (λ e. cc) h.counts) h.ring h plan.panel parts one p
     (λ other q n stood.
     let away : is_on_panel other (slice_get site.points point) ≡ false = ap (is_on_panel other) is ∙ not_there plan.panel other n in
     untold site kept (applied site kept before) other before q (Point point state) stood
-    (ap (λ b. if b then Reported point state ∷ reports site other before else reports site other before) away) refl)
+    (ap (λ b. if b then Reported point state ∷ reports site other before else reports site other before) away) refl tt)
 
 pub stands_after_piece : (site : Site) (kept : Retained) (before : List Moment) (system : System) (desk : Desk) (panel line piece : ℕ)
     (state : PieceState) (parts : Parts) → StandsFor site kept before system → DeskAfter site kept before (Cable panel line piece state) desk
@@ -127,12 +167,12 @@ pub stands_after_piece : (site : Site) (kept : Retained) (before : List Moment) 
     → StandsFor site kept (Happened (Cable panel line piece state) ∷ before)
     (record system { panels = with_item system.panels (panel - 1) parts; desk = desk })
 stands_after_piece site kept before system desk panel line piece state parts h after one p =
-    stands_changed site kept before system (Happened (Cable panel line piece state)) desk system.counts refl (h.events, after.has) after.desks
-    (counts_stay site kept before (Happened (Cable panel line piece state)) system.counts (λ e. cc) h.counts) h panel parts one p
+    stands_changed site kept before system (Happened (Cable panel line piece state)) desk system.counts system.ring refl (h.events, after.has) after.desks
+    (counts_stay site kept before (Happened (Cable panel line piece state)) system.counts (λ e. cc) h.counts) h.ring h panel parts one p
     (λ other q n stood.
     untold site kept (applied site kept before) other before q (Cable panel line piece state) stood
     (ap (λ b. if b && (nat_le 1 line && nat_le line 4) then Cabled line piece state ∷ reports site other before else reports site other before)
-    (not_there panel other n)) refl)
+    (not_there panel other n)) refl tt)
 
 pub stands_after_report : (site : Site) (kept : Retained) (before : List Moment) (system : System) (desk : Desk) (panel : ℕ) (kind : SupplyKind) (bad : Bool)
     (parts : Parts) → StandsFor site kept before system → DeskAfter site kept before (Supply panel kind bad) desk
@@ -140,18 +180,36 @@ pub stands_after_report : (site : Site) (kept : Retained) (before : List Moment)
     → StandsFor site kept (Happened (Supply panel kind bad) ∷ before)
     (record system { panels = with_item system.panels (panel - 1) parts; desk = desk })
 stands_after_report site kept before system desk panel kind bad parts h after one p =
-    stands_changed site kept before system (Happened (Supply panel kind bad)) desk system.counts refl (h.events, after.has) after.desks
-    (counts_stay site kept before (Happened (Supply panel kind bad)) system.counts (λ e. cc) h.counts) h panel parts one p
+    stands_changed site kept before system (Happened (Supply panel kind bad)) desk system.counts system.ring refl (h.events, after.has) after.desks
+    (counts_stay site kept before (Happened (Supply panel kind bad)) system.counts (λ e. cc) h.counts) h.ring h panel parts one p
     (λ other q n stood.
     untold site kept (applied site kept before) other before q (Supply panel kind bad) stood refl
-    (ap (λ b. if b then SupplyReported kind bad ∷ supply_calls other before else supply_calls other before) (not_there panel other n)))
+    (ap (λ b. if b then SupplyReported kind bad ∷ supply_calls other before else supply_calls other before) (not_there panel other n)) tt)
 
--- an event that concerns no poller and no supplies
+pub stands_after_confirmation : (site : Site) (kept : Retained) (before : List Moment) (system : System) (desk : Desk) (output : ℕ) (plan : Output)
+    (parts : Parts) → StandsFor site kept before system → DeskAfter site kept before (Confirmed output) desk
+    → 1 ≤ plan.panel → slice_get site.outputs output ≡ Some plan
+    → PanelStands site kept (applied site kept before) plan.panel (Happened (Confirmed output) ∷ before) parts
+    → StandsFor site kept (Happened (Confirmed output) ∷ before)
+    (record system { panels = with_item system.panels (plan.panel - 1) parts; desk = desk })
+stands_after_confirmation site kept before system desk output plan parts h after one is p =
+    stands_changed site kept before system (Happened (Confirmed output)) desk system.counts system.ring refl (h.events, after.has) after.desks
+    (counts_stay site kept before (Happened (Confirmed output)) system.counts (λ e. cc) h.counts) h.ring h plan.panel parts one p
+    (λ other q n stood.
+    untold site kept (applied site kept before) other before q (Confirmed output) stood refl refl
+    (λ found there same. n (ap (λ (o : Option Output). panel_of_plan o) (sym is ∙ there) ∙ same)))
+
+-- an event that concerns no panel
 abbrev pub IsOther : Event → Type 0
 IsOther (Point point state) = ⊥
 IsOther (Cable panel line piece state) = ⊥
 IsOther (Supply panel kind bad) = ⊥
+IsOther (Confirmed output) = ⊥
 IsOther event = Unit {0}
+
+none_confirmed : (site : Site) (panel : ℕ) (event : Event) → IsOther event → ConfirmsNone site panel event
+none_confirmed site panel (Confirmed output) o = absurd o
+none_confirmed site panel event o = tt
 
 not_reported : (site : Site) (panel : ℕ) (event : Event) (calls : List Call) → IsOther event → and_report site panel event calls ≡ calls
 not_reported site panel (Point point state) calls o = absurd o
@@ -162,14 +220,15 @@ not_monitored : (panel : ℕ) (event : Event) (calls : List SupplyCall) → IsOt
 not_monitored panel (Supply other kind bad) calls o = absurd o
 not_monitored panel event calls o = refl
 
-pub stands_after_other : (site : Site) (kept : Retained) (before : List Moment) (system : System) (desk : Desk) (event : Event)
-    → StandsFor site kept before system → DeskAfter site kept before event desk → IsOther event
-    → StandsFor site kept (Happened event ∷ before) (record system { desk = desk })
-stands_after_other site kept before system desk event h after o =
-    stands_unchanged site kept before system (Happened event) desk system.counts refl (h.events, after.has) after.desks
-    (counts_stay site kept before (Happened event) system.counts (λ e. cc) h.counts) h
+pub stands_after_other : (site : Site) (kept : Retained) (before : List Moment) (system : System) (desk : Desk) (ring : Ring) (event : Event)
+    → StandsFor site kept before system → DeskAfter site kept before event desk → KeepsWords site kept (applied site kept before) (Happened event ∷ before) ring
+    → IsOther event → StandsFor site kept (Happened event ∷ before) (record system { ring = ring; desk = desk })
+stands_after_other site kept before system desk ring event h after rings o =
+    stands_unchanged site kept before system (Happened event) desk system.counts ring refl (h.events, after.has) after.desks
+    (counts_stay site kept before (Happened event) system.counts (λ e. cc) h.counts) rings h
     (λ panel q stood. untold site kept (applied site kept before) panel before q event stood
-    (not_reported site panel event (reports site panel before) o) (not_monitored panel event (supply_calls panel before) o))
+    (not_reported site panel event (reports site panel before) o) (not_monitored panel event (supply_calls panel before) o)
+    (none_confirmed site panel event o))
 
 -- a piece that the site has is of a panel and a loop
 pub record HasLine (site : Site) (panel line : ℕ) : Type 0 where
@@ -289,12 +348,66 @@ report_done site kept before system desk event panel kind bad new h after is mem
     (stands_after_report site kept before system desk panel kind bad new h (subst (λ e. DeskAfter site kept before e desk) is after) member.0
     stands)
 
-pub other_done : (site : Site) (kept : Retained) (before : List Moment) (system : System) (desk : Desk) (event other : Event)
-    → StandsFor site kept before system → DeskAfter site kept before event desk → event ≡ other → IsOther other
-    → StandsFor site kept (Happened event ∷ before) (record system { desk = desk })
-other_done site kept before system desk event other h after is o =
-    subst (λ e. StandsFor site kept (Happened e ∷ before) (record system { desk = desk })) (sym is)
-    (stands_after_other site kept before system desk other h (subst (λ e. DeskAfter site kept before e desk) is after) o)
+-- the system after an event that concerns no panel; the ring may have heard of it
+pub other_done : (site : Site) (kept : Retained) (before : List Moment) (system : System) (desk : Desk) (ring : Ring) (event other : Event)
+    → StandsFor site kept before system → DeskAfter site kept before event desk → event ≡ other
+    → KeepsWords site kept (applied site kept before) (Happened other ∷ before) ring → IsOther other
+    → StandsFor site kept (Happened event ∷ before) (record system { ring = ring; desk = desk })
+other_done site kept before system desk ring event other h after is rings o =
+    subst (λ e. StandsFor site kept (Happened e ∷ before) (record system { ring = ring; desk = desk })) (sym is)
+    (stands_after_other site kept before system desk ring other h (subst (λ e. DeskAfter site kept before e desk) is after) rings o)
+
+-- a link of the ring
+pub link_within : (site : Site) (event : Event) (link : ℕ) (up : Bool) → IsValid site → has_event site event ≡ true → event ≡ LinkEvent link up
+    → (1 ≤ link) × (link ≤ 8)
+link_within site event link up valid has is =
+    let own : has_event site (LinkEvent link up) ≡ true = ap (has_event site) (sym is) ∙ has in
+    let eight = valid.forms.panels.1 in
+    let p = both_parts (nat_le 2 site.panels && nat_le 1 link) (nat_le link site.panels) own in
+    let low = le_from 1 link (both_parts (nat_le 2 site.panels) (nat_le 1 link) p.0).1 in
+    let high = le_from link site.panels p.1 in
+    (low, omega (arith, high, eight))
+
+pub output_within : (site : Site) (output : ℕ) → has_event site (Confirmed output) ≡ true → output < length site.outputs
+output_within site output has = go (slice_get site.outputs output) refl has
+  where
+    go : (o : Option Output) → slice_get site.outputs output ≡ o → is_some_with (λ (p : Output). is_confirming p.kind) o ≡ true → output < length site.outputs
+    go None is none = absurd (cc)
+    go (Some plan) is some = slice_get_within site.outputs output plan is
+
+-- the plan of an output that an event names, as the system finds it, and its panel
+pub record OutputPanel (site : Site) (kept : Retained) (before : List Moment) (output : ℕ) (plan : Output) (parts : Parts) : Type 0 where
+  pub is : slice_get site.outputs output ≡ Some plan
+  pub member : IsPanel site.panels plan.panel
+  pub number : IsNumber plan.number
+  pub stands : PanelStands site kept (applied site kept before) plan.panel before parts
+
+pub output_panel : (site : Site) (kept : Retained) (before : List Moment) (system : System) (event : Event) (output : ℕ) (outputs : List Output)
+    (plan : Output) (parts : Parts) → StandsFor site kept before system → has_event site event ≡ true → event ≡ Confirmed output
+    → outputs ≡ system.site.outputs → plan ≡ get_or outputs output plan → parts ≡ get_or system.panels.items (plan.panel - 1) parts
+    → OutputPanel site kept before output plan parts
+output_panel site kept before system event output outputs plan parts h has is same read found =
+    let had : has_event site (Confirmed output) ≡ true = ap (has_event site) (sym is) ∙ has in
+    let e : outputs ≡ site.outputs = same ∙ ap (λ (s : Site). s.outputs) h.same in
+    let within = output_within site output had in
+    let at = slice_get_read site.outputs (length site.outputs) output plan refl within (read ∙ ap (λ xs. get_or xs output plan) e) in
+    let there = output_at site h.valid output plan at in
+    record {
+      is = at;
+      member = there.panel;
+      number = there.number;
+      stands = panel_read site kept before system plan.panel parts h there.panel found;
+    }
+
+pub confirmation_done : (site : Site) (kept : Retained) (before : List Moment) (system : System) (desk : Desk) (event : Event) (output : ℕ) (plan : Output)
+    (old new : Parts) → StandsFor site kept before system → DeskAfter site kept before event desk → event ≡ Confirmed output
+    → OutputPanel site kept before output plan old
+    → PanelStands site kept (applied site kept before) plan.panel (Happened (Confirmed output) ∷ before) new
+    → StandsFor site kept (Happened event ∷ before) (record system { panels = with_item system.panels (plan.panel - 1) new; desk = desk })
+confirmation_done site kept before system desk event output plan old new h after is p stands =
+    subst (λ e. StandsFor site kept (Happened e ∷ before) (record system { panels = with_item system.panels (plan.panel - 1) new; desk = desk })) (sym is)
+    (stands_after_confirmation site kept before system desk output plan new h (subst (λ e. DeskAfter site kept before e desk) is after) p.member.0 p.is
+    stands)
 
 -- the desk that heard of the event
 pub desk_after : (site there : Site) (kept : Retained) (before : List Moment) (system : System) (event : Event) (desk : Desk)

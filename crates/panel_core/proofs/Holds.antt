@@ -2,9 +2,8 @@
 use mathlib.Core.Path.{fun_ext}
 use Rattle.std.proofs.Common.{◌≡◌, ℕ, zero, suc, ◌+◌, ◌<◌, ◌≤◌, List, [], ◌∷◌, ◌++◌, take, inl, inr, Bool, false, refl, sym, ◌∙◌, ap, subst, arith}
 use Rattle.std.specs.Prelude.{slice_index_or}
-use Rattle.std.proofs.lemmas.Bool.Decides.{eqb_tells}
-use Rattle.tick_units.specs.Lane.{LaneState, after_turn, turn_count}
-use Rattle.tick_units.specs.declared.task.Task.TheVariants.{Poll, Decide, Hold}
+use Rattle.tick_units.specs.Lane.{LaneState, after_turn}
+use Rattle.tick_units.specs.declared.task.Task.TheVariants.{Hold}
 use Rattle.site_types.specs.declared.retained.Retained.{Retained}
 use Rattle.site_types.specs.declared.site.Site.{Site}
 use Rattle.site_types.specs.Bits.{mask_of}
@@ -14,27 +13,26 @@ use Rattle.isolators.specs.declared.line_status.LineStatus.{LineStatus}
 use Rattle.loop_poller.specs.Asked.{status_on}
 use Rattle.site_types.specs.Things.{loop_of}
 use Rattle.loop_poller.specs.Calls.{told_cable}
-use Rattle.coincidence_rules.specs.Findings.{findings_of}
 use Rattle.coincidence_rules.specs.declared.finding.Finding.{Finding}
 use Rattle.panel_conditions.specs.declared.hold.Hold.{Hold as HoldPart}
 use Rattle.panel_conditions.specs.declared.outside.Outside.{Outside}
 use Rattle.panel_conditions.specs.Stands.{HoldsFor, MayTurn}
-use Rattle.panel_conditions.specs.Turns.{HoldTurn, findings_taken, latest_tick}
 use Rattle.supply_monitor.specs.Supply.{shown_mask}
 use Rattle.panel_rules.specs.Faults.{outside_with, supply_calls}
-use Rattle.panel_rules.specs.Moments.{Moment, Began, Happened, Turned, Kept, IsRun, latest_turn, tick_of}
-use Rattle.panel_rules.specs.Counts.{taken_by_hold}
+use Rattle.panel_rules.specs.Moments.{Moment, Turned, IsRun, tick_of}
 use Rattle.panel_rules.proofs.Turns.{turn_lag}
-use Rattle.panel_rules.proofs.AnswersTell.{eq_true}
 use Rattle.panel_core.specs.declared.parts.Parts.{Parts}
 use Rattle.panel_rules.specs.States.{piece_of}
 use Rattle.panel_rules.specs.Reports.{reports}
-use Rattle.panel_core.specs.Lanes.{finding_lane}
-use Rattle.panel_core.specs.Turns.{hold_turn, hold_turns}
+use Rattle.hold_calls.specs.Lanes.{finding_lane}
+use Rattle.hold_calls.specs.Turns.{hold_turn, hold_turns, outside_now}
+use Rattle.panel_conditions.specs.Changes.{turn_from}
 use Rattle.panel_core.specs.Stands.{AreBefore, PanelStands}
 use Rattle.panel_core.proofs.Applied.{before_by}
 use Rattle.panel_rules.proofs.Reports.{cable_told, is_line}
-use Rattle.panel_core.proofs.Steps.{held_findings, seen_more, seen_after_decide, decided_after_poll, seen}
+use Rattle.hold_calls.proofs.Steps.{held_findings}
+use Rattle.hold_calls.proofs.TurnsMade.{own_turn, turns_tick}
+use Rattle.panel_core.proofs.Panels.{facts_left, outputs_left}
 
 -- four flags as the bits of four loops
 four : (test : ℕ → Bool) (a b c d : Bool) → a ≡ test 1 → b ≡ test 2 → c ≡ test 3 → d ≡ test 4 → (k : ℕ) → k < 4
@@ -46,10 +44,10 @@ four test a b c d p q r s (suc (suc (suc zero))) l = s
 four test a b c d p q r s (suc (suc (suc (suc k)))) l = absurd (omega arith)
 
 -- what stands besides missing points, part by part
-outside_same : (supply broken shorted a b c : ℕ) → supply ≡ a → broken ≡ b → shorted ≡ c
-    → (let one : Outside = record { supply = supply; broken = broken; shorted = shorted; silent = 0; links = 0; unconfirmed = 0 } in
-    let other : Outside = record { supply = a; broken = b; shorted = c; silent = 0; links = 0; unconfirmed = 0 } in one ≡ other)
-outside_same supply broken shorted a b c e f g = rw (e, f, g) refl
+outside_same : (supply broken shorted silent links unconfirmed a b c d : ℕ) → supply ≡ a → broken ≡ b → shorted ≡ c → unconfirmed ≡ d
+    → (let one : Outside = record { supply = supply; broken = broken; shorted = shorted; silent = silent; links = links; unconfirmed = unconfirmed } in
+    let other : Outside = record { supply = a; broken = b; shorted = c; silent = silent; links = links; unconfirmed = d } in one ≡ other)
+outside_same supply broken shorted silent links unconfirmed a b c d e f g h = rw (e, f, g, h) refl
 
 -- what the poller and the supplies tell is what befell the panel
 module _ (site : Site) (panel : ℕ) (before : List Moment) where
@@ -76,129 +74,44 @@ module _ (site : Site) (panel : ℕ) (before : List Moment) where
       (ap flag (a ∙ told_is 1 (omega arith) (omega arith))) (ap flag (b ∙ told_is 2 (omega arith) (omega arith)))
       (ap flag (c ∙ told_is 3 (omega arith) (omega arith))) (ap flag (d ∙ told_is 4 (omega arith) (omega arith))))
 
-  pub outside_is : (one two three last : LineStatus) (supply broken shorted : ℕ) → one ≡ status_told 1 → two ≡ status_told 2 → three ≡ status_told 3
+  pub outside_is : (one two three last : LineStatus) (supply broken shorted silent links unconfirmed late : ℕ) → one ≡ status_told 1 → two ≡ status_told 2 → three ≡ status_told 3
       → last ≡ status_told 4 → supply ≡ shown_mask site.waits (supply_calls panel before)
       → broken ≡ mask_of 4 (λ k. slice_index_or (one.broken ∷ two.broken ∷ three.broken ∷ last.broken ∷ []) k false)
       → shorted ≡ mask_of 4 (λ k. slice_index_or (one.shorted ∷ two.shorted ∷ three.shorted ∷ last.shorted ∷ []) k false)
-      → (let o : Outside = record { supply = supply; broken = broken; shorted = shorted; silent = 0; links = 0; unconfirmed = 0 } in o)
-      ≡ outside_with site panel before 0 0 0
-  outside_is one two three last supply broken shorted a b c d shown opened shorts =
-      outside_same supply broken shorted _ _ _ shown (flags_are (λ s. s.broken) one two three last broken a b c d opened)
-      (flags_are (λ s. s.shorted) one two three last shorted a b c d shorts)
-
-own_turn : (site : Site) (kept : Retained) (done : List Done) (panel : ℕ) (before : List Moment)
-    → hold_turns site kept done panel (Turned panel Hold ∷ before) ≡ hold_turn site kept done panel before ∷ hold_turns site kept done panel before
-own_turn site kept done panel before = rw (eq_true panel panel refl) refl
-
-one_more : (site : Site) (kept : Retained) (done : List Done) (panel : ℕ) (before : List Moment)
-    → findings_taken (hold_turns site kept done panel before) ≡ seen site kept done panel before
-    → findings_taken (hold_turns site kept done panel (Turned panel Hold ∷ before)) ≡ seen site kept done panel (Turned panel Hold ∷ before)
-one_more site kept done panel before ih =
-    ap findings_taken (own_turn site kept done panel before)
-    ∙ ap (λ xs. xs ++ take (turn_count (finding_lane site kept done panel before)) (finding_lane site kept done panel before).items) ih
-    ∙ seen_more site kept done panel before
-
--- the findings of all turns are those that Hold has taken
-pub turns_seen : (site : Site) (kept : Retained) (done : List Done) (panel : ℕ) (before : List Moment)
-    → findings_taken (hold_turns site kept done panel before) ≡ seen site kept done panel before
-turns_seen site kept done panel [] = refl
-turns_seen site kept done panel (Began ∷ before) = turns_seen site kept done panel before
-turns_seen site kept done panel (Happened event ∷ before) = turns_seen site kept done panel before
-turns_seen site kept done panel (Turned other Poll ∷ before) =
-    elim (eqb_tells other panel) [
-      | inl t ↦
-          turns_seen site kept done panel before ∙ subst (λ p. seen site kept done panel before ≡ seen site kept done panel (Turned p Poll ∷ before))
-          (sym t.1) (ap (λ xs. take (taken_by_hold site panel before) (findings_of site kept panel done xs)) (decided_after_poll site panel before))
-      | inr t ↦ rw t.0 (turns_seen site kept done panel before)
-    ]
-turns_seen site kept done panel (Turned other Decide ∷ before) =
-    elim (eqb_tells other panel) [
-      | inl t ↦
-          turns_seen site kept done panel before ∙ subst
-          (λ p. seen site kept done panel before ≡ seen site kept done panel (Turned p Decide ∷ before)) (sym t.1)
-          (seen_after_decide site kept done panel before)
-      | inr t ↦ rw t.0 (turns_seen site kept done panel before)
-    ]
-turns_seen site kept done panel (Turned other Hold ∷ before) =
-    elim (eqb_tells other panel) [
-      | inl t ↦
-          subst (λ p. findings_taken (hold_turns site kept done panel (Turned p Hold ∷ before)) ≡ seen site kept done panel (Turned p Hold ∷ before))
-          (sym t.1) (one_more site kept done panel before (turns_seen site kept done panel before))
-      | inr t ↦ rw t.0 (turns_seen site kept done panel before)
-    ]
-turns_seen site kept done panel (Turned other task ∷ before) = turns_seen site kept done panel before
-turns_seen site kept done panel (Kept failed ∷ before) = turns_seen site kept done panel before
-
--- and the latest turn's tick is that of Hold's latest turn
-pub turns_tick : (site : Site) (kept : Retained) (done : List Done) (panel : ℕ) (before : List Moment)
-    → latest_tick (hold_turns site kept done panel before) ≡ latest_turn panel Hold before
-turns_tick site kept done panel [] = refl
-turns_tick site kept done panel (Began ∷ before) = turns_tick site kept done panel before
-turns_tick site kept done panel (Happened event ∷ before) = turns_tick site kept done panel before
-turns_tick site kept done panel (Turned other Hold ∷ before) =
-    elim (eqb_tells other panel) [
-      | inl t ↦ rw t.0 refl
-      | inr t ↦ rw t.0 (turns_tick site kept done panel before)
-    ]
-turns_tick site kept done panel (Turned other task ∷ before) = turns_tick site kept done panel before
-turns_tick site kept done panel (Kept failed ∷ before) = turns_tick site kept done panel before
+      → unconfirmed ≡ late
+      → (let o : Outside = record { supply = supply; broken = broken; shorted = shorted; silent = silent; links = links; unconfirmed = unconfirmed } in o)
+      ≡ outside_with site panel before silent links late
+  outside_is one two three last supply broken shorted silent links unconfirmed late a b c d shown opened shorts waited =
+      outside_same supply broken shorted silent links unconfirmed _ _ _ _ shown (flags_are (λ s. s.broken) one two three last broken a b c d opened)
+      (flags_are (λ s. s.shorted) one two three last shorted a b c d shorts) waited
 
 pub after_hold : (site : Site) (kept : Retained) (done : List Done) (panel : ℕ) (before : List Moment) (parts : Parts) (hold : HoldPart) (findings' : LaneState Finding)
     (outside : Outside) (now : ℕ) → PanelStands site kept done panel before parts → AreBefore (tick_of before) done
     → now ≡ tick_of before → IsRun site.panels (Turned panel Hold ∷ before)
-    → outside ≡ outside_with site panel before 0 0 0 → findings' ≡ after_turn parts.findings
+    → outside ≡ outside_now site kept done panel before → findings' ≡ after_turn parts.findings
     → (HoldsFor site kept panel done (hold_turns site kept done panel before) parts.hold → MayTurn done (hold_turns site kept done panel before) now
-    → HoldsFor site kept panel done
-    ((let t : HoldTurn = record { tick = now; found = take (turn_count parts.findings) parts.findings.items; outside = outside } in t)
-    ∷ hold_turns site kept done panel before) hold)
-    → PanelStands site kept done panel (Turned panel Hold ∷ before) (record {
-      poller = parts.poller;
-      decide = parts.decide;
-      hold = hold;
-      answers =
-          parts.answers;
-      findings = findings';
-      supply = parts.supply;
-    })
+    → HoldsFor site kept panel done (turn_from now parts.findings outside ∷ hold_turns site kept done panel before) hold)
+    → PanelStands site kept done panel (Turned panel Hold ∷ before) (record parts { hold = hold; findings = findings' })
 after_hold site kept done panel before parts hold findings' outside now h past tick run told taken held =
-    let lag = rw run.1 at (turn_lag site.panels panel Hold before h.member tt run.0) in
-    let may : MayTurn done (hold_turns site kept done panel before) now =
-    record { later = omega (arith, turns_tick site kept done panel before, lag, tick); since = subst (λ t. AreBy t done) (sym tick) (before_by (tick_of before) done past) } in
     let turns = hold_turns site kept done panel before in
-    let first = held h.holds may in
-    let second =
-    subst
-    (λ (l : LaneState Finding).
-    HoldsFor site kept panel done ((let t : HoldTurn = record { tick = now; found = take (turn_count l) l.items; outside = outside } in t) ∷ turns)
-    hold) h.findings first in
-    let third =
-    subst
-    (λ n.
-    HoldsFor site kept panel done
-    ((let t : HoldTurn =
+    let lag = rw run.1 at (turn_lag site.panels panel Hold before h.member tt run.0) in
+    let may : MayTurn done turns now =
     record {
-      tick = n;
-      found = take (turn_count (finding_lane site kept done panel before)) (finding_lane site kept done panel before).items;
-      outside = outside;
-    } in t) ∷ turns) hold) tick second in
-    let fourth =
-    subst
-    (λ o.
-    HoldsFor site kept panel done
-    ((let t : HoldTurn =
-    record {
-      tick = tick_of before;
-      found =
-          take (turn_count (finding_lane site kept done panel before)) (finding_lane site kept done panel before).items;
-      outside = o;
-    } in t) ∷ turns) hold)
-    told third in
+      later = (let last = turns_tick site kept done panel before in omega (arith, last, lag, tick));
+      since = subst (λ t. AreBy t done) (sym tick) (before_by (tick_of before) done past);
+    } in
+    let turn : turn_from now parts.findings outside ≡ hold_turn site kept done panel before =
+    ap (λ t. turn_from t parts.findings outside) tick ∙ ap (λ l. turn_from (tick_of before) l outside) h.findings
+    ∙ ap (turn_from (tick_of before) (finding_lane site kept done panel before)) told in
     record {
       member = h.member;
       polls = h.polls;
       answers = h.answers;
       decides = h.decides;
       findings = taken ∙ ap after_turn h.findings ∙ held_findings site kept done panel before;
-      holds = subst (λ ts. HoldsFor site kept panel done ts hold) (sym (own_turn site kept done panel before)) fourth;
+      holds =
+          subst (λ ts. HoldsFor site kept panel done ts hold) (ap (λ t. t ∷ turns) turn ∙ sym (own_turn site kept done panel before)) (held h.holds may);
       supplies = h.supplies;
+      effects = facts_left site kept done panel before Hold parts.effects (λ e. cc) h.effects;
+      drives = outputs_left site kept done panel before Hold parts.drive (λ e. cc) h.drives;
     }

@@ -30,7 +30,7 @@ use Rattle.panel_core.specs.Applied.{applied, done_so_far}
 use Rattle.panel_core.specs.Entries.{AreLeft, CountsFor, TellsEntries}
 use Rattle.panel_core.specs.Keeping.{KeepsRun, MayKeep, MayMakeBatch, has_failed, store_of}
 use Rattle.panel_core.specs.Stands.{StandsFor}
-use Rattle.panel_core.specs.Turns.{hold_turns}
+use Rattle.hold_calls.specs.Turns.{hold_turns}
 use Rattle.panel_core.proofs.Counts.{counts_stay}
 use Rattle.panel_core.proofs.DeskTurns.{keep_turn}
 use Rattle.panel_core.proofs.EntriesKept.{counted_by_keep, left_to_keep}

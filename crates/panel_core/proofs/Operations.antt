@@ -1,7 +1,7 @@
 -- What an operation makes of a panel that was done in the tick that ends: it changes nothing of the findings and of the
 -- turns that were made, and the parts stand for it too.
 use Rattle.std.proofs.Common.{◌≡◌, ◌≢◌, ℕ, ◌≤◌, ◌==◌, List, [], ◌∷◌, take, drop, refl, sym, ◌∙◌, ap, subst, arith, true, if◌then◌else◌}
-use Rattle.tick_units.specs.Lane.{LaneState, turn_count}
+use Rattle.tick_units.specs.Lane.{LaneState}
 use Rattle.tick_units.specs.declared.task.Task.TheVariants.{Poll, Decide, Supply, Desk, Hold, Link, Effect, Drive, Keep}
 use Rattle.site_types.specs.declared.retained.Retained.{Retained}
 use Rattle.site_types.specs.declared.site.Site.{Site}
@@ -18,8 +18,7 @@ use Rattle.coincidence.specs.Stands.{DecidesFor}
 use Rattle.coincidence.proofs.Elsewhere.{stands_elsewhere}
 use Rattle.panel_conditions.specs.declared.hold.Hold.{Hold as HoldPart}
 use Rattle.panel_conditions.specs.Stands.{HoldsFor, MayApply as HoldMayApply, MayNote}
-use Rattle.panel_conditions.specs.Turns.{HoldTurn, latest_tick}
-use Rattle.panel_rules.specs.Faults.{outside_with}
+use Rattle.panel_conditions.specs.Turns.{latest_tick}
 use Rattle.panel_rules.specs.Moments.{Moment, Began, Happened, Turned, Kept, tick_of}
 use Rattle.panel_rules.specs.Answers.{answers}
 use Rattle.panel_rules.specs.Counts.{taken_by_decide, taken_by_hold}
@@ -28,11 +27,17 @@ use Rattle.panel_rules.proofs.Places.{take_get}
 use Rattle.panel_laws.proofs.LaterDone.{turn_in_time}
 use Rattle.panel_core.specs.declared.parts.Parts.{Parts}
 use Rattle.panel_core.specs.Applied.{MayBeApplied}
-use Rattle.panel_core.specs.Lanes.{decided, finding_lane, found}
+use Rattle.hold_calls.specs.Lanes.{decided, finding_lane, found}
 use Rattle.panel_core.specs.Stands.{PanelStands}
-use Rattle.panel_core.specs.Turns.{hold_turn, hold_turns}
-use Rattle.panel_core.proofs.Holds.{turns_tick}
-use Rattle.panel_core.proofs.Steps.{lane_is}
+use Rattle.hold_calls.specs.Turns.{hold_turn, hold_turns, outside_now}
+use Rattle.hold_calls.proofs.TurnsMade.{turns_tick}
+use Rattle.later_operations.specs.Later.{AreDoneFrom}
+use Rattle.later_operations.proofs.Laws.{outside}
+use Rattle.panel_conditions.specs.Changes.{turn_from}
+use Rattle.panel_rules.specs.Kept.{heard}
+use Rattle.panel_rules.specs.States.{is_up}
+use Rattle.panel_core.proofs.Later.{effects_later, outputs_later}
+use Rattle.hold_calls.proofs.Steps.{lane_is}
 
 module _ (site : Site) (kept : Retained) (done : List Done) (d : Done) (panel : ℕ) where
   -- what Decide has taken is stamped by now
@@ -48,12 +53,18 @@ module _ (site : Site) (kept : Retained) (done : List Done) (d : Done) (panel : 
   pub lane_same : (before : List Moment) → tick_of before ≤ d.tick → finding_lane site kept done panel before ≡ finding_lane site kept (d ∷ done) panel before
   lane_same before late = lane_is _ _ _ _ _ _ (ap (drop (taken_by_hold site panel before)) (found_same before late)) refl refl
 
+  -- as more is done, here this operation
+  one_more : AreDoneFrom d.tick (d ∷ [])
+  one_more = (omega arith, tt)
+
+  outside_same : (before : List Moment) → tick_of before ≤ d.tick → outside_now site kept done panel before ≡ outside_now site kept (d ∷ done) panel before
+  outside_same before late =
+      sym (outside site kept (λ source. heard site.panels panel source before) (λ link. is_up link before) panel d.tick (d ∷ []) done before one_more late)
+
   turn_same : (before : List Moment) → tick_of before ≤ d.tick → hold_turn site kept done panel before ≡ hold_turn site kept (d ∷ done) panel before
   turn_same before late =
-      ap
-      (λ (l : LaneState Finding).
-      (let t : HoldTurn = record { tick = tick_of before; found = take (turn_count l) l.items; outside = outside_with site panel before 0 0 0 } in t))
-      (lane_same before late)
+      ap (λ (l : LaneState Finding). turn_from (tick_of before) l (outside_now site kept done panel before)) (lane_same before late)
+      ∙ ap (turn_from (tick_of before) (finding_lane site kept (d ∷ done) panel before)) (outside_same before late)
 
   pub turns_same : (before : List Moment) → tick_of before ≤ d.tick → hold_turns site kept done panel before ≡ hold_turns site kept (d ∷ done) panel before
   turns_same [] late = refl
@@ -117,6 +128,8 @@ module _ (site : Site) (kept : Retained) (done : List Done) (d : Done) (panel : 
           findings = h.findings ∙ lane_same before late;
           holds = subst (λ ts. HoldsFor site kept panel (d ∷ done) ts hold) (turns_same before late) holds;
           supplies = h.supplies;
+          effects = effects_later site kept done (d ∷ []) panel before d.tick one_more late parts.effects h.effects;
+          drives = outputs_later site kept done (d ∷ []) panel before d.tick one_more late parts.drive h.drives;
         }
 
     -- one of this panel was applied to both

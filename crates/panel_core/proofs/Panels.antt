@@ -1,5 +1,5 @@
 -- What befalls one panel, and what it is to the others.
-use Rattle.std.proofs.Common.{◌≡◌, ℕ, ◌==◌, List, ◌∷◌}
+use Rattle.std.proofs.Common.{◌≡◌, ℕ, ◌==◌, ◌&&◌, true, List, ◌∷◌}
 use Rattle.std.proofs.Common.{◌⊎◌, inl, inr, ◌≢◌, Contains, Bool, false, refl, sym, ◌∙◌, ap}
 use Rattle.std.proofs.Common.{subst}
 use Rattle.tick_units.specs.Lane.{LaneState, with_put}
@@ -13,23 +13,56 @@ use Rattle.loop_poller.specs.Asked.{asked_in}
 use Rattle.loop_poller.specs.Calls.{told_point, told_cable}
 use Rattle.coincidence.specs.Stands.{DecidesFor}
 use Rattle.panel_conditions.specs.Stands.{HoldsFor}
-use Rattle.panel_core.specs.Turns.{hold_turns}
-use Rattle.panel_rules.specs.Moments.{Moment, Began, Turned, Kept, IsPanel, tick_of}
+use Rattle.hold_calls.specs.Turns.{hold_turns}
+use Rattle.panel_rules.specs.Moments.{Moment, Began, Turned, Kept, IsPanel, is_turn, tick_of}
 use Rattle.panel_rules.specs.Answers.{asked}
 use Rattle.panel_core.specs.declared.parts.Parts.{Parts}
 use Rattle.panel_rules.specs.Reports.{reports}
-use Rattle.panel_core.specs.Lanes.{answer_lane, finding_lane, decided}
+use Rattle.hold_calls.specs.Lanes.{answer_lane, finding_lane, decided}
 use Rattle.std.proofs.lemmas.Bool.Decides.{eqb_tells}
 use Rattle.tick_units.specs.declared.task.Task.TheVariants.{Supply, Desk, Link, Effect, Drive, Keep}
 use Rattle.tick_units.specs.declared.seat.Seat.{Seat}
-use Rattle.tick_units.specs.Orders.{canonical_seats, keep_seat}
+use Rattle.tick_units.specs.Orders.{canonical_seats, keep_seat, task_number}
 use Rattle.tick_units.proofs.Canonical.{IsPanelSeat, Contains-canonical_seats-cases}
+use Rattle.panel_effects.specs.declared.effects.Effects.{Effects as EffectsPart}
+use Rattle.panel_effects.specs.Stands.{HasEffects}
+use Rattle.panel_effects.proofs.LatestFacts.{effects_stay}
+use Rattle.output_drive.specs.declared.drive.Drive.{Drive as DrivePart}
+use Rattle.output_drive.specs.Stands.{DrivesFor}
+use Rattle.output_drive.proofs.Alike.{after_kept as drives_kept, after_other_turn as drives_left}
+use Rattle.panel_rules.specs.Run.{facts_of}
 use Rattle.panel_core.specs.Stands.{PanelStands}
 use Rattle.loop_poller.specs.Stands.{StandsFor as PollsFor}
 use Rattle.supply_monitor.specs.Stands.{StandsFor as MonitorsFor}
 use Rattle.panel_rules.specs.Faults.{supply_calls}
 use Rattle.panel_rules.proofs.Reports.{asked_told}
-use Rattle.panel_core.proofs.Steps.{polled, decided_after_poll, findings_after_poll}
+use Rattle.hold_calls.proofs.Steps.{polled, decided_after_poll, findings_after_poll}
+
+-- ---- what a turn leaves of the facts and the outputs of its own panel
+
+module _ (site : Site) (kept : Retained) (done : List Done) (panel : ℕ) (before : List Moment) where
+  abbrev pub HasFacts : List Moment → EffectsPart → Type 0
+  HasFacts moments part = HasEffects site (facts_of site kept done) panel moments part
+
+  abbrev pub HasOutputs : List Moment → DrivePart → Type 0
+  HasOutputs moments part = DrivesFor site (facts_of site kept done) kept done panel moments part
+
+  -- a turn of another task than Effect
+  pub facts_left : (task : Task) (part : EffectsPart) → task ≢ Effect → HasFacts before part → HasFacts (Turned panel task ∷ before) part
+  facts_left task part other h = effects_stay site (facts_of site kept done) panel before part (Turned panel task) (λ e. other (turned_task e)) h
+    where
+      turned_task : Turned panel task ≡ Turned panel Effect → task ≡ Effect
+      turned_task e = cc
+
+  -- and one of another than Drive
+  pub outputs_left : (task : Task) (part : DrivePart) → task ≢ Drive → HasOutputs before part → HasOutputs (Turned panel task ∷ before) part
+  outputs_left task part other h = drives_left site (facts_of site kept done) kept done panel before part h panel task (no_turn task other)
+    where
+      no_turn : (task : Task) → task ≢ Drive → is_turn panel Drive panel task ≡ false
+      no_turn Drive other = absurd (other refl)
+      no_turn task other = refl
+
+-- ---- turns
 
 pub after_poll : (site : Site) (kept : Retained) (done : List Done) (panel : ℕ) (before : List Moment) (parts : Parts) (lane : LaneState Answer) (now : ℕ)
     → PanelStands site kept done panel before parts → now ≡ tick_of before
@@ -51,6 +84,8 @@ after_poll site kept done panel before parts lane now h tick put =
       findings = h.findings ∙ findings_after_poll site kept done panel before;
       holds = h.holds;
       supplies = h.supplies;
+      effects = facts_left site kept done panel before Poll parts.effects (λ e. cc) h.effects;
+      drives = outputs_left site kept done panel before Poll parts.drive (λ e. cc) h.drives;
     }
 
 -- a moment that changes nothing of what a panel stands for
@@ -61,6 +96,10 @@ record LeavesPanel (site : Site) (kept : Retained) (done : List Done) (panel : �
   findings : finding_lane site kept done panel (moment ∷ before) ≡ finding_lane site kept done panel before
   turns : hold_turns site kept done panel (moment ∷ before) ≡ hold_turns site kept done panel before
   supplies : supply_calls panel (moment ∷ before) ≡ supply_calls panel before
+  effects : (part : EffectsPart) → HasEffects site (facts_of site kept done) panel before part
+      → HasEffects site (facts_of site kept done) panel (moment ∷ before) part
+  drives : (part : DrivePart) → DrivesFor site (facts_of site kept done) kept done panel before part
+      → DrivesFor site (facts_of site kept done) kept done panel (moment ∷ before) part
 
 after_nothing : (site : Site) (kept : Retained) (done : List Done) (panel : ℕ) (before : List Moment) (parts : Parts) (moment : Moment)
     → LeavesPanel site kept done panel before moment → PanelStands site kept done panel before parts → PanelStands site kept done panel (moment ∷ before) parts
@@ -72,18 +111,39 @@ after_nothing site kept done panel before parts moment leaves h = record {
   findings = h.findings ∙ sym leaves.findings;
   holds = subst (λ turns. HoldsFor site kept panel done turns parts.hold) (sym leaves.turns) h.holds;
   supplies = subst (λ calls. MonitorsFor site.waits calls parts.supply) (sym leaves.supplies) h.supplies;
+  effects = leaves.effects parts.effects h.effects;
+  drives = leaves.drives parts.drive h.drives;
 }
 
-pub after_begin : (site : Site) (kept : Retained) (done : List Done) (panel : ℕ) (before : List Moment) (parts : Parts) → PanelStands site kept done panel before parts
-    → PanelStands site kept done panel (Began ∷ before) parts
-after_begin site kept done panel before parts h =
-    after_nothing site kept done panel before parts Began (record { told = refl; answers = refl; decided_same = refl; findings = refl; turns = refl; supplies = refl }) h
+-- a tick begins, and the outputs have taken what was done in the one before
+pub after_begin : (site : Site) (kept : Retained) (done : List Done) (panel : ℕ) (before : List Moment) (parts : Parts) (drive : DrivePart)
+    → PanelStands site kept done panel before parts → HasOutputs site kept done panel before (Began ∷ before) drive
+    → PanelStands site kept done panel (Began ∷ before) (record parts { drive = drive })
+after_begin site kept done panel before parts drive h drives = record {
+  member = h.member;
+  polls = h.polls;
+  answers = h.answers;
+  decides = h.decides;
+  findings = h.findings;
+  holds = h.holds;
+  supplies = h.supplies;
+  effects = effects_stay site (facts_of site kept done) panel before parts.effects Began (λ e. cc) h.effects;
+  drives = drives;
+}
 
 pub after_keep : (site : Site) (kept : Retained) (done : List Done) (panel : ℕ) (failed : Bool) (before : List Moment) (parts : Parts)
     → PanelStands site kept done panel before parts → PanelStands site kept done panel (Kept failed ∷ before) parts
 after_keep site kept done panel failed before parts h =
-    after_nothing site kept done panel before parts (Kept failed)
-    (record { told = refl; answers = refl; decided_same = refl; findings = refl; turns = refl; supplies = refl }) h
+    after_nothing site kept done panel before parts (Kept failed) (record {
+      told = refl;
+      answers = refl;
+      decided_same = refl;
+      findings = refl;
+      turns = refl;
+      supplies = refl;
+      effects = λ part e. effects_stay site (facts_of site kept done) panel before part (Kept failed) (λ is. cc) e;
+      drives = λ part d. drives_kept site (facts_of site kept done) kept done panel before part d failed;
+    }) h
 
 -- a seat that is not Keep's is of a panel
 pub seat_panel : (panels : ℕ) (seat : Seat) → Contains (canonical_seats panels) seat → seat.task ≢ Keep → IsPanel panels seat.panel
@@ -133,38 +193,95 @@ others_stay site kept done panel other task before parts n h =
       findings = findings_stay site kept done panel other task before apart;
       turns = turns_stay site kept done panel other task before apart;
       supplies = supplies_stay panel other task before apart;
+      effects = λ part e. effects_stay site (facts_of site kept done) panel before part (Turned other task) (λ is. n (of_panel is)) e;
+      drives = λ part d. drives_left site (facts_of site kept done) kept done panel before part d other task not_own;
     }) h
   where
     apart : (other == panel) ≡ false
     apart = elim (eqb_tells other panel) [ inl t ↦ absurd (n t.1) | inr t ↦ t.0 ]
 
--- a task that has no part here yet
-abbrev IsIdle : Task → Type 0
-IsIdle task = (task ≡ Desk) ⊎ ((task ≡ Link) ⊎ ((task ≡ Effect) ⊎ ((task ≡ Drive) ⊎ (task ≡ Keep))))
+    of_panel : Turned other task ≡ Turned panel Effect → other ≡ panel
+    of_panel is = cc
 
--- its turn changes nothing
-idle_leaves : (site : Site) (kept : Retained) (done : List Done) (panel : ℕ) (before : List Moment) (task : Task) → IsIdle task
-    → LeavesPanel site kept done panel before (Turned panel task)
-idle_leaves site kept done panel before task idle = go idle
+    none : (b : Bool) → (b && false) ≡ false
+    none true = refl
+    none false = refl
+
+    not_own : is_turn panel Drive other task ≡ false
+    not_own = ap (λ b. (task_number task == task_number Drive) && b) apart ∙ none (task_number task == task_number Drive)
+
+-- ---- turns that change nothing of a panel
+
+-- of a task that is none of a panel's parts
+abbrev IsElsewhere : Task → Type 0
+IsElsewhere task = (task ≡ Desk) ⊎ ((task ≡ Link) ⊎ (task ≡ Keep))
+
+-- its turn changes nothing, at whatever panel
+elsewhere_leaves : (site : Site) (kept : Retained) (done : List Done) (panel other : ℕ) (before : List Moment) (task : Task) → IsElsewhere task
+    → LeavesPanel site kept done panel before (Turned other task)
+elsewhere_leaves site kept done panel other before task elsewhere = go elsewhere
   where
-    leaves : {one : Task} → task ≡ one → LeavesPanel site kept done panel before (Turned panel one) → LeavesPanel site kept done panel before (Turned panel task)
-    leaves e h = subst (λ t. LeavesPanel site kept done panel before (Turned panel t)) (sym e) h
+    with_outputs : (one : Task) → one ≢ Effect → is_turn panel Drive other one ≡ false
+        → finding_lane site kept done panel (Turned other one ∷ before) ≡ finding_lane site kept done panel before
+        → answer_lane site panel (Turned other one ∷ before) ≡ answer_lane site panel before
+        → decided site panel (Turned other one ∷ before) ≡ decided site panel before
+        → hold_turns site kept done panel (Turned other one ∷ before) ≡ hold_turns site kept done panel before
+        → supply_calls panel (Turned other one ∷ before) ≡ supply_calls panel before → LeavesPanel site kept done panel before (Turned other one)
+    with_outputs one apart not_drive findings answers taken turns supplies = record {
+      told = refl;
+      answers = answers;
+      decided_same = taken;
+      findings = findings;
+      turns = turns;
+      supplies = supplies;
+      effects = λ part e. effects_stay site (facts_of site kept done) panel before part (Turned other one) (λ is. apart (of_task is)) e;
+      drives = λ part d. drives_left site (facts_of site kept done) kept done panel before part d other one not_drive;
+    }
+      where
+        of_task : Turned other one ≡ Turned panel Effect → one ≡ Effect
+        of_task is = cc
 
-    go : IsIdle task → LeavesPanel site kept done panel before (Turned panel task)
-    go (inl e) = leaves e (record { told = refl; answers = refl; decided_same = refl; findings = refl; turns = refl; supplies = refl })
-    go (inr (inl e)) = leaves e (record { told = refl; answers = refl; decided_same = refl; findings = refl; turns = refl; supplies = refl })
-    go (inr (inr (inl e))) = leaves e (record { told = refl; answers = refl; decided_same = refl; findings = refl; turns = refl; supplies = refl })
-    go (inr (inr (inr (inl e)))) = leaves e (record { told = refl; answers = refl; decided_same = refl; findings = refl; turns = refl; supplies = refl })
-    go (inr (inr (inr (inr e)))) = leaves e (record { told = refl; answers = refl; decided_same = refl; findings = refl; turns = refl; supplies = refl })
+    leaves : {one : Task} → task ≡ one → LeavesPanel site kept done panel before (Turned other one) → LeavesPanel site kept done panel before (Turned other task)
+    leaves e h = subst (λ t. LeavesPanel site kept done panel before (Turned other t)) (sym e) h
 
-pub after_idle : (site : Site) (kept : Retained) (done : List Done) (panel : ℕ) (before : List Moment) (parts : Parts) (task : Task) → IsIdle task
-    → PanelStands site kept done panel before parts → PanelStands site kept done panel (Turned panel task ∷ before) parts
-after_idle site kept done panel before parts task idle h =
-    after_nothing site kept done panel before parts (Turned panel task) (idle_leaves site kept done panel before task idle) h
+    go : IsElsewhere task → LeavesPanel site kept done panel before (Turned other task)
+    go (inl e) = leaves e (with_outputs Desk (λ is. cc) refl refl refl refl refl refl)
+    go (inr (inl e)) = leaves e (with_outputs Link (λ is. cc) refl refl refl refl refl refl)
+    go (inr (inr e)) = leaves e (with_outputs Keep (λ is. cc) refl refl refl refl refl refl)
 
--- Desk's turn at any panel is no panel's here
-pub desk_turned : (site : Site) (kept : Retained) (done : List Done) (panel other : ℕ) (before : List Moment) (parts : Parts)
-    → PanelStands site kept done panel before parts → PanelStands site kept done panel (Turned other Desk ∷ before) parts
-desk_turned site kept done panel other before parts h =
-    after_nothing site kept done panel before parts (Turned other Desk)
-    (record { told = refl; answers = refl; decided_same = refl; findings = refl; turns = refl; supplies = refl }) h
+pub after_elsewhere : (site : Site) (kept : Retained) (done : List Done) (panel other : ℕ) (before : List Moment) (parts : Parts) (task : Task) → IsElsewhere task
+    → PanelStands site kept done panel before parts → PanelStands site kept done panel (Turned other task ∷ before) parts
+after_elsewhere site kept done panel other before parts task elsewhere h =
+    after_nothing site kept done panel before parts (Turned other task) (elsewhere_leaves site kept done panel other before task elsewhere) h
+
+-- ---- turns of Effect and of Drive
+
+pub after_effect : (site : Site) (kept : Retained) (done : List Done) (panel : ℕ) (before : List Moment) (parts : Parts) (effects : EffectsPart)
+    → PanelStands site kept done panel before parts → HasFacts site kept done panel before (Turned panel Effect ∷ before) effects
+    → PanelStands site kept done panel (Turned panel Effect ∷ before) (record parts { effects = effects })
+after_effect site kept done panel before parts effects h turned = record {
+  member = h.member;
+  polls = h.polls;
+  answers = h.answers;
+  decides = h.decides;
+  findings = h.findings;
+  holds = h.holds;
+  supplies = h.supplies;
+  effects = turned;
+  drives = outputs_left site kept done panel before Effect parts.drive (λ e. cc) h.drives;
+}
+
+pub after_drive : (site : Site) (kept : Retained) (done : List Done) (panel : ℕ) (before : List Moment) (parts : Parts) (drive : DrivePart)
+    → PanelStands site kept done panel before parts → HasOutputs site kept done panel before (Turned panel Drive ∷ before) drive
+    → PanelStands site kept done panel (Turned panel Drive ∷ before) (record parts { drive = drive })
+after_drive site kept done panel before parts drive h turned = record {
+  member = h.member;
+  polls = h.polls;
+  answers = h.answers;
+  decides = h.decides;
+  findings = h.findings;
+  holds = h.holds;
+  supplies = h.supplies;
+  effects = facts_left site kept done panel before Drive parts.effects (λ e. cc) h.effects;
+  drives = turned;
+}

@@ -10,8 +10,8 @@ use Rattle.panel_rules.specs.Moments.{Moment, Turned, IsRun, IsPanel, has_turned
 use Rattle.panel_rules.specs.Answers.{answers}
 use Rattle.panel_rules.specs.Counts.{answer_count, taken_by_decide, taken_by_hold}
 use Rattle.panel_rules.proofs.Counts.{Lies, answers_lie, findings_lie, answers_few, decide_behind, owed}
-use Rattle.panel_core.specs.Lanes.{answer_lane, found, finding_lane}
-use Rattle.panel_core.proofs.Steps.{found_length}
+use Rattle.hold_calls.specs.Lanes.{answer_lane, found, finding_lane}
+use Rattle.hold_calls.proofs.Steps.{found_length}
 
 -- where the giver has yet to turn, at most 32 items lie in a lane
 half_full : (put taken now : ℕ) (giver taker : Bool) → giver ≡ false → Lies put taken now giver taker → put ≤ taken + 32

@@ -33,11 +33,11 @@ use Rattle.site_types.specs.declared.word.Word.{Word}
 use Rattle.panel_conditions.specs.Stands.{HoldsFor}
 use Rattle.panel_conditions.specs.Turns.{HoldTurn}
 use Rattle.panel_conditions.specs.Words.{word_after}
-use Rattle.panel_core.specs.Turns.{hold_turns}
+use Rattle.hold_calls.specs.Turns.{hold_turns}
 use Rattle.panel_core.specs.Applied.{applied, done_so_far}
 use Rattle.panel_core.proofs.Applied.{done_after_applied}
 use Rattle.panel_core.proofs.Events.{panel_read}
-use Rattle.panel_core.proofs.ZonesShown.{alarm_shown, first_shown}
+use Rattle.hold_calls.proofs.ZonesHeld.{alarm_shown, first_shown}
 
 module _ (site : Site) (kept : Retained) (done : List Done) (panel : ℕ) (before : List Moment) (valid : IsValid site) (run : IsRun site.panels before) (zone : ℕ) (plan :
     Zone) (is : slice_get site.zones zone ≡ Some plan) (at : plan.panel ≡ panel) where

@@ -15,6 +15,7 @@ use Rattle.panel_rules.proofs.AnswersTell.{eq_true}
 use Rattle.panel_rules.proofs.Turns.{turn_lag}
 use Rattle.panel_core.specs.declared.parts.Parts.{Parts}
 use Rattle.panel_core.specs.Stands.{PanelStands}
+use Rattle.panel_core.proofs.Panels.{facts_left, outputs_left}
 
 -- a report is no turn
 before_report : (panel now : ℕ) (event : Event) (calls : List Call) → AllBefore now calls → AllBefore now (and_supply panel event calls)
@@ -68,4 +69,6 @@ after_supply site kept done panel before parts supply now h tick run turned =
       supplies =
           subst (λ b. MonitorsFor site.waits (if b then TurnMade (tick_of before) ∷ supply_calls panel before else supply_calls panel before) supply)
           (sym (eq_true panel panel refl)) (subst (λ t. MonitorsFor site.waits (TurnMade t ∷ supply_calls panel before) supply) tick made);
+      effects = facts_left site kept done panel before SupplyTask parts.effects (λ e. cc) h.effects;
+      drives = outputs_left site kept done panel before SupplyTask parts.drive (λ e. cc) h.drives;
     }

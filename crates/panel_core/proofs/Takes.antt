@@ -22,10 +22,11 @@ use Rattle.panel_rules.proofs.Lags.{decide_has}
 use Rattle.panel_rules.proofs.Order.{answers_in_order}
 use Rattle.panel_rules.proofs.Turns.{turn_lag}
 use Rattle.panel_core.specs.declared.parts.Parts.{Parts}
-use Rattle.panel_core.specs.Lanes.{answer_lane, decided}
+use Rattle.hold_calls.specs.Lanes.{answer_lane, decided}
 use Rattle.panel_core.specs.Stands.{AreBefore, PanelStands}
-use Rattle.panel_core.proofs.Fronts.{front_more}
-use Rattle.panel_core.proofs.Steps.{decided_answers, decided_more, decided_findings}
+use Rattle.panel_core.proofs.Panels.{facts_left, outputs_left}
+use Rattle.hold_calls.proofs.Fronts.{front_more}
+use Rattle.hold_calls.proofs.Steps.{decided_answers, decided_more, decided_findings}
 
 drop_get : {X : Type 0} (d : ℕ) (xs : List X) (k : ℕ) (x : X) → slice_get (drop d xs) k ≡ Some x → slice_get xs (d + k) ≡ Some x
 drop_get zero xs k x h = let e : k ≡ 0 + k = omega arith in subst (λ n. slice_get xs n ≡ Some x) e h
@@ -109,6 +110,8 @@ pub after_decide : (site : Site) (kept : Retained) (done : List Done) (panel : �
           answers';
       findings = findings';
       supply = parts.supply;
+      effects = parts.effects;
+      drive = parts.drive;
     })
 after_decide site kept done panel before parts decide answers' findings' h run past taken stands found =
     let may =
@@ -130,4 +133,6 @@ after_decide site kept done panel before parts decide answers' findings' h run p
           ∙ decided_findings site kept done panel before;
       holds = h.holds;
       supplies = h.supplies;
+      effects = facts_left site kept done panel before Decide parts.effects (λ e. cc) h.effects;
+      drives = outputs_left site kept done panel before Decide parts.drive (λ e. cc) h.drives;
     }

@@ -1,29 +1,36 @@
 -- What reports, events and turns make of a panel and of the system, whatever they stood for.
-use Rattle.std.specs.Prelude.{◌≡◌, ◌≢◌, ◌≤◌, ℕ, Bool, true, false, List, ◌∷◌, Some, drop, length, slice_get, take}
+use Rattle.std.specs.Prelude.{◌≡◌, ◌≢◌, ◌≤◌, ◌-◌, ℕ, Bool, true, false, List, ◌∷◌, Some, drop, length, slice_get, take}
 use Rattle.std.specs.List.{AllByRecursion}
 use Rattle.tick_units.specs.declared.seat.Seat.{Seat}
 use Rattle.tick_units.specs.declared.task.Task.{Task}
-use Rattle.tick_units.specs.declared.task.Task.TheVariants.{Keep}
+use Rattle.tick_units.specs.declared.task.Task.TheVariants.{Drive, Hold, Keep}
 use Rattle.site_types.specs.declared.event.Event.{Event}
-use Rattle.site_types.specs.declared.event.Event.TheVariants.{Point, Cable, Supply}
+use Rattle.site_types.specs.declared.event.Event.TheVariants.{Point, Cable, Supply, Confirmed}
+use Rattle.site_types.specs.declared.output.Output.{Output}
 use Rattle.site_types.specs.declared.piece_state.PieceState.{PieceState}
 use Rattle.site_types.specs.declared.point_state.PointState.{PointState}
 use Rattle.site_types.specs.declared.retained.Retained.{Retained}
 use Rattle.site_types.specs.declared.site.Site.{Site}
 use Rattle.site_types.specs.declared.supply_kind.SupplyKind.{SupplyKind}
-use Rattle.site_types.specs.Done.{Done}
+use Rattle.site_types.specs.Bits.{has_bit}
+use Rattle.site_types.specs.Done.{Done, OutputOff, in_force}
 use Rattle.face_text.specs.declared.answers.Answers.{Answers}
-use Rattle.loop_poller.specs.Stands.{StandsFor as PollsFor}
-use Rattle.supply_monitor.specs.Stands.{StandsFor as MonitorsFor}
+use Rattle.operation_desk.specs.Stands.{DesksFor}
+use Rattle.output_calls.specs.DoneCalls.{IsLatestFirst}
+use Rattle.cause_effect.specs.Cycles.{HasNoCycle}
 use Rattle.panel_conditions.specs.declared.outside.Outside.{Outside}
-use Rattle.panel_rules.specs.Faults.{outside_with, supply_calls}
+use Rattle.panel_rules.specs.Faults.{is_unconfirmed, links_down, outside_with, silent_panels}
+use Rattle.panel_rules.specs.Kept.{heard}
+use Rattle.panel_rules.specs.Outputs.{outputs_where}
+use Rattle.panel_rules.specs.Run.{facts_of}
+use Rattle.panel_rules.specs.States.{is_up}
 use Rattle.panel_rules.specs.Moments.{Moment, Began, Happened, Turned, IsRun, and_turns, tick_of}
 use Rattle.panel_core.specs.declared.parts.Parts.{Parts}
 use Rattle.panel_core.specs.declared.system.System.{System}
 use Rattle.panel_rules.specs.Timeline.{answers_now, failed_now, told}
-use Rattle.panel_rules.specs.Reports.{is_on_panel, reports}
+use Rattle.panel_rules.specs.Reports.{is_on_panel}
 use Rattle.panel_core.specs.Applied.{MayBeApplied, done_so_far}
-use Rattle.panel_core.specs.Stands.{AreBefore, HasApplied, PanelStands, StandsFor}
+use Rattle.panel_core.specs.Stands.{AreBefore, HasApplied, HasBegunPanels, PanelStands, StandsFor}
 
 -- ---- a panel
 
@@ -48,11 +55,21 @@ HearsSupply old kind bad parts =
     → PanelStands site kept done panel before old
     → PanelStands site kept done panel (Happened (Supply panel kind bad) ∷ before) parts
 
--- what a turn of Hold is told from outside, whatever the poller and the supplies stand for
-abbrev pub TellsHold : Parts → Outside → Type 0
-TellsHold parts outside =
-    (site : Site) (panel : ℕ) (before : List Moment) → PollsFor site panel (reports site panel before) parts.poller
-    → MonitorsFor site.waits (supply_calls panel before) parts.supply → outside ≡ outside_with site panel before 0 0 0
+-- a confirmation came of an output of the panel
+abbrev pub HearsConfirmation : Parts → ℕ → Parts → Type 0
+HearsConfirmation old number parts =
+    (site : Site) (kept : Retained) (done : List Done) (panel output : ℕ) (plan : Output) (before : List Moment)
+    → PanelStands site kept done panel before old → slice_get site.outputs output ≡ Some plan
+    → plan.panel ≡ panel → plan.number ≡ number
+    → PanelStands site kept done panel (Happened (Confirmed output) ∷ before) parts
+
+-- what a turn of Hold is told from outside, with these silent panels and links that are down
+abbrev pub TellsHold : Parts → ℕ → ℕ → Outside → Type 0
+TellsHold parts silent links outside =
+    (site : Site) (kept : Retained) (done : List Done) (panel : ℕ) (before : List Moment)
+    → PanelStands site kept done panel before parts → IsRun site.panels before
+    → outside ≡ outside_with site panel before silent links
+    (outputs_where site panel (λ output. is_unconfirmed site (facts_of site kept done) kept done output before))
 
 -- a task had its turn, in the tick that began last
 abbrev pub MakesTurn : Parts → Task → ℕ → Parts → Type 0
@@ -61,6 +78,30 @@ MakesTurn old task tick parts =
     → PanelStands site kept done panel before old → AreBefore (tick_of before) done → tick ≡ tick_of before
     → IsRun site.panels (Turned panel task ∷ before)
     → PanelStands site kept done panel (Turned panel task ∷ before) parts
+
+-- Hold had its turn, with the panels that are silent and the links that are down
+abbrev pub MakesHoldTurn : Parts → ℕ → ℕ → ℕ → Parts → Type 0
+MakesHoldTurn old tick silent links parts =
+    (site : Site) (kept : Retained) (done : List Done) (panel : ℕ) (before : List Moment)
+    → PanelStands site kept done panel before old → AreBefore (tick_of before) done → tick ≡ tick_of before
+    → IsRun site.panels (Turned panel Hold ∷ before)
+    → silent ≡ silent_panels site (λ source. heard site.panels panel source before) (tick_of before)
+    → links ≡ links_down site panel (λ link. is_up link before)
+    → PanelStands site kept done panel (Turned panel Hold ∷ before) parts
+
+-- a mask has the outputs of a panel that are disabled in a tick; bits of numbers without an output may be any
+abbrev pub AreOff : Site → Retained → List Done → ℕ → ℕ → ℕ → Type 0
+AreOff site kept done panel tick off =
+    (output : ℕ) (plan : Output) → slice_get site.outputs output ≡ Some plan → plan.panel ≡ panel
+    → has_bit off (plan.number - 1) ≡ in_force site kept (OutputOff output) tick done
+
+-- Drive had its turn, with the outputs that are disabled
+abbrev pub MakesDriveTurn : Parts → ℕ → ℕ → Parts → Type 0
+MakesDriveTurn old tick off parts =
+    (site : Site) (kept : Retained) (done : List Done) (panel : ℕ) (before : List Moment)
+    → PanelStands site kept done panel before old → tick ≡ tick_of before → HasNoCycle site → IsLatestFirst done
+    → AreOff site kept done panel (tick_of before) off
+    → PanelStands site kept done panel (Turned panel Drive ∷ before) parts
 
 -- an operation that was done in the tick that ends comes in force
 abbrev pub AppliesDone : Parts → ℕ → Done → Parts → Type 0
@@ -83,6 +124,8 @@ pub record HasSameDesk (old system : System) : Type 0 where
   pub desk : system.desk ≡ old.desk
   pub tick : system.tick ≡ old.tick
   pub counts : system.counts ≡ old.counts
+  pub plan : system.plan ≡ old.plan
+  pub ring : system.ring ≡ old.ring
 
 -- an operation that was done in the tick that ends comes in force at all panels
 abbrev pub AppliesToAll : System → Done → System → Type 0
@@ -97,6 +140,20 @@ AppliesAllDone old system =
     (site : Site) (kept : Retained) (before : List Moment)
     → StandsFor site kept before old → IsRun site.panels (Began ∷ before)
     → HasApplied site kept before (done_so_far site kept before) system
+
+-- the outputs of all panels take what was done in the tick that ends
+abbrev pub BeginsOutputs : System → System → Type 0
+BeginsOutputs old system =
+    (site : Site) (kept : Retained) (before : List Moment)
+    → HasApplied site kept before (done_so_far site kept before) old → DesksFor site kept before old.desk
+    → IsRun site.panels (Began ∷ before) → HasBegunPanels site kept before system
+
+-- a task of a panel had its turn
+abbrev pub MakesTaskTurn : System → ℕ → Task → System → Type 0
+MakesTaskTurn old panel task system =
+    (site : Site) (kept : Retained) (before : List Moment)
+    → StandsFor site kept before old → IsRun site.panels (Turned panel task ∷ before)
+    → StandsFor site kept (Turned panel task ∷ before) system
 
 -- an event happened
 abbrev pub TakesEvent : System → Event → System → Type 0

@@ -1,9 +1,9 @@
-pub mod Lanes
-pub mod Turns
 pub mod Applied
 pub mod Entries
 pub mod Stands
+pub mod Heard
 pub mod Changes
 pub mod Keeping
+pub mod StepCounts
 pub mod ShownZones
-pub mod OwnFaces
+pub mod ShownFaces

@@ -1,25 +1,68 @@
 use crate::system::System;
 use face_text::Face;
+use settings_shown::show_settings;
+use site_types::Word;
 
 impl System {
-    ghost use Rattle.panel_core.specs.OwnFaces.{ShowsOwnFace};
+    ghost use Rattle.panel_core.specs.ShownFaces.{ShowsAlarms, ShowsFace, ShowsFirsts, ShowsWord};
     ghost use Rattle.panel_core.specs.Stands.{HasPanel};
 
-    /// What a panel shows of its own: its zones in alarm and in first state, its faults but for silent panels, links
-    /// and outputs without confirmation, its buzzer and its counter. All else is as in an empty face.
+    /// What a panel shows: its own zones, those of other panels by the words that it keeps of them, its faults, its
+    /// outputs, the settings in force at it, its buzzer and its counter.
     pub fn face(&self, panel: u8) -> Face
         requires { HasPanel panel self.now }
-        ensures { ShowsOwnFace self.now panel result }
+        ensures { ShowsFace self.now panel result }
     {
         let place = panel as usize - 1;
         let parts = &self.panels[place];
-        let word = parts.hold.word();
         let mut face = Face::empty(panel);
-        face.zones[place] = word.alarm;
-        face.firsts[place] = word.first;
+        face.zones = self.alarms_shown(panel);
+        face.firsts = self.firsts_shown(panel);
         face.faults = parts.hold.faults();
+        face.outputs = parts.drive.on();
+        face.confirmed = parts.drive.confirmed();
         face.buzzer = parts.hold.buzzer();
         face.counter = self.counts.counters[place];
+        show_settings(&self.settings, panel, &mut face);
         face
+    }
+
+    // The zones of each panel that a panel shows in alarm.
+    fn alarms_shown(&self, panel: u8) -> [u32; 8]
+        requires { HasPanel panel self.now }
+        ensures { ShowsAlarms self.now panel result }
+    {
+        let mut zones = [0; 8];
+        for source in 1..self.site.panels + 1 {
+            let word = self.word_shown(panel, source);
+            zones[source as usize - 1] = word.alarm;
+        }
+        zones
+    }
+
+    // And those that it shows in first state.
+    fn firsts_shown(&self, panel: u8) -> [u32; 8]
+        requires { HasPanel panel self.now }
+        ensures { ShowsFirsts self.now panel result }
+    {
+        let mut zones = [0; 8];
+        for source in 1..self.site.panels + 1 {
+            let word = self.word_shown(panel, source);
+            zones[source as usize - 1] = word.first;
+        }
+        zones
+    }
+
+    // The word of a panel that another one shows, or the panel itself.
+    fn word_shown(&self, panel: u8, source: u8) -> Word
+        requires panel { HasPanel panel self.now }
+        requires source { HasPanel source self.now }
+        ensures { ShowsWord self.now panel source result }
+    {
+        if source == panel {
+            self.panels[panel as usize - 1].hold.word()
+        } else {
+            self.ring.word(panel, source)
+        }
     }
 }

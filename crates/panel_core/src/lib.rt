@@ -6,19 +6,22 @@
 //! of `panel_rules`, whatever the orders were: how many answers each task has taken, and which zones each
 //! panel shows in alarm and in first state. A zone that is due is shown, and none is shown without a cause.
 //!
-//! So far the tasks Poll, Decide, Supply, Hold, Desk and Keep are at work. An operation is asked for by an event,
-//! gets its one answer from Desk or at Keep's turn, and what was done in a tick comes in force when the next one
-//! begins; [`System::answers`] tells the answers of the tick. [`System::turns`] takes the journal: Keep commits the
+//! All nine tasks are at work. An operation is asked for by an event, gets its one answer from Desk or at Keep's
+//! turn, and what was done in a tick comes in force when the next one begins; [`System::answers`] tells the answers
+//! of the tick. Link gives each panel's latest word to the ring and takes what its neighbours keep;
+//! [`System::heard`] tells how new the word is that a panel keeps of another. Effect goes by the words that its
+//! panel keeps and asks for outputs, and Drive switches them. [`System::turns`] takes the journal: Keep commits the
 //! entries into the fire alarm condition that aren't kept yet and the operations that wait, in one batch, and after a
-//! failure it tries again in the next tick. [`System::face`] tells what a panel shows of its own. What links, markers
-//! and outputs add isn't there yet.
+//! failure it tries again in the next tick. [`System::face`] tells what a panel shows of its own; the zones of other
+//! panels and the settings aren't in it yet.
 //!
 //! Within a panel two lanes join Poll, Decide and Hold; they never hold more than 64 items, so no turn has an
 //! answer for a full lane.
 //!
 //! [`System::open`] alone takes memory. A tick costs a turn of each seat: Poll looks at 32 addresses, Decide and Hold
-//! take at most 32 items, Keep looks once at each panel. A tick behind one in which operations were done applies them,
-//! at most 64, at each panel.
+//! take at most 32 items, Link and Effect look at eight words, Drive at the outputs of its panel that have a delay or a
+//! confirmation, Keep once at each panel. An Effect turn with a changed fact evaluates the markers that depend on it. A
+//! tick behind one in which operations were done applies them, at most 64, at each panel.
 #![tactic(auto)]
 
 mod faces;
@@ -26,6 +29,7 @@ mod keeping;
 mod kept_counts;
 mod parts;
 mod system;
+mod task_turns;
 mod turns;
 
 pub use keep_turn::Store;

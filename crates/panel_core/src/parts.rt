@@ -1,16 +1,20 @@
 ghost use Rattle.std.specs.Prelude.{◌≤◌, [], IfOk};
 ghost use Rattle.site_types.specs.Valid.{IsValid};
+ghost use Rattle.site_types.specs.Changes.{IsNumber};
 ghost use Rattle.loop_poller.specs.Stands.{HasPoint};
 ghost use Rattle.panel_rules.specs.Moments.{IsPanel};
 
+use cause_effect::Plan;
 use coincidence::{Decide, Finding};
 use loop_poller::Poller;
 use operation_desk::DoneOperation;
+use output_drive::Drive;
 use panel_conditions::{Hold, Outside};
+use panel_effects::Effects;
 use site_types::{Answer, PieceState, PointState, Retained, Site, SupplyKind, mask_from_8};
 use std::alloc::Global;
 use supply_monitor::Supply;
-use tick_units::{Lane, NoMemory, Task, Tick};
+use tick_units::{Lane, NoMemory, Tick};
 
 /// The parts of a panel, joined by lanes.
 #[derive(Drop)]
@@ -21,16 +25,27 @@ pub struct Parts {
     pub(crate) answers: Lane<Answer>,
     pub(crate) findings: Lane<Finding>,
     pub(crate) supply: Supply,
+    pub(crate) effects: Effects,
+    pub(crate) drive: Drive,
 }
 
 impl Parts {
-    ghost use Rattle.panel_core.specs.Changes.{AppliesDone, HearsPiece, HearsPoint, HearsSupply, MakesTurn};
-    ghost use Rattle.panel_core.specs.Changes.{TellsHold};
+    ghost use Rattle.panel_core.specs.Changes.{AppliesDone, HearsConfirmation, HearsPiece, HearsPoint, HearsSupply};
+    ghost use Rattle.panel_core.specs.Changes.{MakesDriveTurn, MakesHoldTurn, MakesTurn, TellsHold};
+    ghost use Rattle.tick_units.specs.declared.task.Task.TheVariants.{Decide as DecideTask, Hold as HoldTask};
+    ghost use Rattle.tick_units.specs.declared.task.Task.TheVariants.{Poll, Supply as SupplyTask};
     ghost use Rattle.operation_desk.specs.Requests.{done_from};
-    ghost use Rattle.panel_core.specs.Stands.{MayComeInForce, MayTurn, PanelStands};
+    ghost use Rattle.panel_core.specs.Stands.{HasPlan, MayComeInForce, MayTurn, PanelStands};
 
-    pub fn new(alloc: Global, site: &Site, panel: u8, kept: &Retained) -> Result<Parts, NoMemory>
+    pub fn new(
+        alloc: Global,
+        site: &Site,
+        plan: &Plan,
+        panel: u8,
+        kept: &Retained,
+    ) -> Result<Parts, NoMemory>
         requires valid { IsValid site.now }
+        requires plan { HasPlan site.now plan.now }
         requires member { IsPanel site.now.panels panel }
         ensures { IfOk result (λ parts. PanelStands site.now kept.now [] panel [] parts) }
     {
@@ -46,6 +61,8 @@ impl Parts {
             answers,
             findings,
             supply: Supply::new(&site.waits),
+            effects: Effects::new(panel, plan),
+            drive: Drive::new(site, panel, kept),
         })
     }
 
@@ -72,21 +89,54 @@ impl Parts {
         self.supply.read(kind, bad);
     }
 
-    /// A task has its turn.
-    pub fn turn(&mut self, task: Task, now: Tick)
-        requires { MayTurn task now.0 self.old }
-        ensures { MakesTurn self.old task now.0 self.new }
+    /// A confirmation comes of an output of the panel, by its number.
+    pub fn confirm(&mut self, number: u8)
+        requires { IsNumber number }
+        ensures { HearsConfirmation self.old number self.new }
     {
-        match task {
-            Task::Poll => self.poller.turn(now, &mut self.answers),
-            Task::Decide => self.decide.turn(&mut self.answers, &mut self.findings),
-            Task::Hold => {
-                let outside = self.outside();
-                self.hold.turn(now, &mut self.findings, &outside);
-            }
-            Task::Supply => self.supply.turn(now),
-            Task::Desk | Task::Link | Task::Effect | Task::Drive | Task::Keep => {}
-        }
+        self.drive.confirm(number);
+    }
+
+    /// Poll has its turn.
+    pub fn poll_turn(&mut self, now: Tick)
+        requires { MayTurn Poll now.0 self.old }
+        ensures { MakesTurn self.old Poll now.0 self.new }
+    {
+        self.poller.turn(now, &mut self.answers);
+    }
+
+    /// Decide has its turn.
+    pub fn decide_turn(&mut self, now: Tick)
+        requires { MayTurn DecideTask now.0 self.old }
+        ensures { MakesTurn self.old DecideTask now.0 self.new }
+    {
+        self.decide.turn(&mut self.answers, &mut self.findings);
+    }
+
+    /// Supply has its turn.
+    pub fn supply_turn(&mut self, now: Tick)
+        requires { MayTurn SupplyTask now.0 self.old }
+        ensures { MakesTurn self.old SupplyTask now.0 self.new }
+    {
+        self.supply.turn(now);
+    }
+
+    /// Hold has its turn, with the panels that are silent and the links that are down, a bit each.
+    pub fn hold_turn(&mut self, now: Tick, silent: u8, links: u8)
+        requires { MayTurn HoldTask now.0 self.old }
+        ensures { MakesHoldTurn self.old now.0 silent links self.new }
+    {
+        let outside = self.outside(silent, links);
+        self.hold.turn(now, &mut self.findings, &outside);
+    }
+
+    /// Drive has its turn; `off` has the panel's disabled outputs, bit `number - 1` each.
+    pub fn drive_turn(&mut self, now: Tick, off: u32)
+        ensures { MakesDriveTurn self.old now.0 off self.new }
+    {
+        let requests = self.effects.requests();
+        self.drive
+            .turn(now, &requests, self.effects.released(), off);
     }
 
     /// An operation was done at a panel of the site, in the tick that ends. It is in force from the next one on.
@@ -102,9 +152,9 @@ impl Parts {
         }
     }
 
-    // What the other parts tell Hold.
-    fn outside(&self) -> Outside
-        ensures { TellsHold self.now result }
+    // What the other parts tell Hold, besides silent panels and links that are down.
+    fn outside(&self, silent: u8, links: u8) -> Outside
+        ensures { TellsHold self.now silent links result }
     {
         let first = self.poller.status(1);
         let second = self.poller.status(2);
@@ -114,9 +164,9 @@ impl Parts {
             supply: self.supply.faults(),
             broken: mask_from_8(&[first.broken, second.broken, third.broken, fourth.broken]),
             shorted: mask_from_8(&[first.shorted, second.shorted, third.shorted, fourth.shorted]),
-            silent: 0,
-            links: 0,
-            unconfirmed: 0,
+            silent,
+            links,
+            unconfirmed: self.drive.unconfirmed(),
         }
     }
 }

@@ -7,8 +7,11 @@ ghost use Rattle.panel_rules.specs.Moments.{Moment, tick_of};
 
 use crate::kept_counts::KeptCounts;
 use crate::parts::Parts;
+use cause_effect::Plan;
 use face_text::Answers;
 use operation_desk::{Desk, DoneOperation};
+use panel_links::Ring;
+use settings_shown::settings_at_opening;
 use site_types::{Event, Retained, Site};
 use std::alloc::Global;
 use tick_units::{NoMemory, Task, Tick};
@@ -17,7 +20,10 @@ use tick_units::{NoMemory, Task, Tick};
 #[derive(Drop)]
 pub struct System {
     pub(crate) site: Site,
+    pub(crate) plan: Plan,
     pub(crate) panels: Vec<Parts>,
+    /// What each panel keeps of each other one.
+    pub(crate) ring: Ring,
     pub(crate) tick: Tick,
     pub(crate) desk: Desk,
     /// The settings that are in force.
@@ -27,29 +33,36 @@ pub struct System {
 
 impl System {
     ghost use Rattle.panel_core.specs.Changes.{AppliesAllDone, AppliesToAll, BeginsTick, HasSameDesk};
-    ghost use Rattle.panel_core.specs.Changes.{AnswersAsRuled, TakesEvent};
-    ghost use Rattle.panel_core.specs.Lanes.{taken_by};
+    ghost use Rattle.panel_core.specs.Changes.{AnswersAsRuled, BeginsOutputs, TakesEvent};
+    ghost use Rattle.panel_core.specs.Heard.{HearsOf};
+    ghost use Rattle.hold_calls.specs.Lanes.{taken_by};
     ghost use Rattle.panel_core.specs.ShownZones.{ShowsCausedZones, ShowsDueZones, ShowsLoneSignals};
     ghost use Rattle.panel_core.specs.ShownZones.{ShowsOwnFirsts, ShowsOwnZones};
-    ghost use Rattle.panel_core.specs.Stands.{StandsFor, HasPanel, MayApplyAll, MayBegin, MayHappen};
+    ghost use Rattle.panel_core.specs.Stands.{HasPanel, HasPlan, MayApplyAll, MayBegin, MayBeginOutputs, MayHappen};
+    ghost use Rattle.panel_core.specs.Stands.{StandsFor};
     ghost use Rattle.operation_desk.specs.Requests.{done_from};
 
-    /// The panels of a site before its first tick.
-    pub fn open(alloc: Global, site: Site, kept: &Retained) -> Result<System, NoMemory>
+    /// The panels of a site before its first tick, with the plan of its markers.
+    pub fn open(alloc: Global, site: Site, plan: Plan, kept: &Retained) -> Result<System, NoMemory>
         requires valid { IsValid site }
+        requires plan { HasPlan site plan }
         requires sized { IsSized kept.now }
         ensures { IfOk result (λ system. StandsFor site kept.now [] system) }
     {
         let mut panels = Vec::with_capacity(alloc, site.panels as usize)?;
         for before in 0..site.panels {
-            panels.push(Parts::new(alloc, &site, before + 1, kept)?)?;
+            panels.push(Parts::new(alloc, &site, &plan, before + 1, kept)?)?;
         }
+        let ring = Ring::new(site.panels);
+        let settings = settings_at_opening(&site, kept);
         Ok(System {
             site,
+            plan,
             panels,
+            ring,
             tick: Tick(0),
             desk: Desk::new(),
-            settings: *kept,
+            settings,
             counts: KeptCounts::at_opening(kept),
         })
     }
@@ -60,6 +73,7 @@ impl System {
         ensures { BeginsTick self.old tick.0 self.new }
     {
         self.apply_done();
+        self.begin_outputs();
         self.desk.begin(tick);
         self.tick = tick;
     }
@@ -89,7 +103,13 @@ impl System {
                 let parts = &mut self.panels[panel as usize - 1];
                 parts.set_supply(kind, bad);
             }
-            Event::Link { .. } | Event::Confirmed { .. } | Event::Op { .. } => {}
+            Event::Link { link, up } => self.ring.set_link(link, up),
+            Event::Confirmed { output } => {
+                let plan = self.site.outputs.as_slice()[output as usize];
+                let parts = &mut self.panels[plan.panel as usize - 1];
+                parts.confirm(plan.number);
+            }
+            Event::Op { .. } => {}
         }
     }
 
@@ -102,6 +122,18 @@ impl System {
         for place in 0..self.desk.done().len() {
             let done = self.desk.done()[place];
             self.apply(&done);
+        }
+    }
+
+    // The outputs of each panel take what was done in the tick that began last.
+    fn begin_outputs(&mut self)
+        requires { MayBeginOutputs self.old }
+        ensures begun { BeginsOutputs self.old self.new }
+        ensures same { HasSameDesk self.old self.new }
+    {
+        for before in 0..self.site.panels {
+            let parts = &mut self.panels[before as usize];
+            parts.drive.begin(before + 1, self.desk.done(), self.tick);
         }
     }
 
@@ -159,6 +191,15 @@ impl System {
     {
         let parts = &self.panels[panel as usize - 1];
         parts.hold.word().first
+    }
+
+    /// The tick of the word of a panel that another one, or the panel itself, keeps.
+    pub fn heard(&self, panel: u8, source: u8) -> Tick
+        requires panel { HasPanel panel self.now }
+        requires source { HasPanel source self.now }
+        ensures { HearsOf self.now panel source result.0 }
+    {
+        self.ring.heard(panel, source)
     }
 
     /// What was answered in the tick that began last.

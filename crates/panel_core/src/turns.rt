@@ -4,22 +4,33 @@ ghost use Rattle.retained_journal.specs.Outcomes.{EachMayBeLeft, EachOpens};
 ghost use Rattle.keep_turn.specs.Turns.{FailsByItsDisk, TriesAtMostOnce};
 
 use crate::system::System;
+use cause_effect::Steps;
 use keep_turn::Store;
 use panel_edges::Disk;
 use retained_journal::Journal;
+use std::sync::ledger::Ledger;
 use tick_units::{Order, Seat, Task};
 
 impl System {
     ghost use Rattle.panel_core.specs.Changes.{MakesTurns, MakesTurnsFrom};
     ghost use Rattle.panel_core.specs.Keeping.{LeavesInTurns, MakesAllTurns, MayTurnAll};
     ghost use Rattle.panel_core.specs.Stands.{MayTurnFrom, MayTurnSeat};
+    ghost use Rattle.panel_core.specs.StepCounts.{CountsAllTurns, CountsTurn, CountsTurnsFrom};
 
     /// Each seat has its turn, in this order, with the journal that keeps what the run keeps. The answer is that of
     /// Keep's turn: after any but a failure each file that a power cut may leave opens to what is kept.
-    pub fn turns<D: Disk>(&mut self, order: &Order, journal: &mut Journal, disk: &mut D) -> Store
+    pub fn turns<L: Ledger, D: Disk>(
+        &mut self,
+        order: &Order,
+        journal: &mut Journal,
+        disk: &mut D,
+        steps: &mut Steps<L>,
+    ) -> Store
         requires may { MayTurnAll order.now journal.old self.old }
         requires stands { Stands D.honest D.images disk.old journal.old }
         ensures turns { MakesAllTurns self.old order.now journal.old result journal.new self.new }
+        // The steps are the markers that depend on what changed since each panel's turn of Effect before.
+        ensures steps { CountsAllTurns self.old order.now journal.old result steps.old steps.new }
         ensures stands { Stands D.honest D.images disk.new journal.new }
         ensures same { TriesAtMostOnce journal.old journal.new }
         ensures early { IsEarly journal.old → IsEarly journal.new }
@@ -33,16 +44,17 @@ impl System {
         ensures honest { D.honest disk.new ↔ D.honest disk.old }
         ensures cause { FailsByItsDisk (D.faults disk.old) (D.faults disk.new) result }
     {
-        let place = self.turns_from(order, 0);
+        let place = self.turns_from(order, 0, steps);
         let store = self.keep(journal, disk);
-        self.turns_from(order, place + 1);
+        self.turns_from(order, place + 1, steps);
         store
     }
 
     // The seats from a place on have their turns, up to that of Keep. Tells the place of Keep, or the end.
-    fn turns_from(&mut self, order: &Order, from: usize) -> usize
+    fn turns_from<L: Ledger>(&mut self, order: &Order, from: usize, steps: &mut Steps<L>) -> usize
         requires { MayTurnFrom order.now from self.old }
         ensures turns { MakesTurnsFrom self.old order.now from result self.new }
+        ensures steps { CountsTurnsFrom self.old order.now from result steps.old steps.new }
         ensures few { result ≤ 65 }
     {
         for place in from..order.len() {
@@ -50,22 +62,28 @@ impl System {
             if let Task::Keep = seat.task {
                 return place;
             }
-            self.turn_of(seat);
+            self.turn_of(seat, steps);
         }
         order.len()
     }
 
     // One seat of a panel has its turn.
-    fn turn_of(&mut self, seat: Seat)
+    fn turn_of<L: Ledger>(&mut self, seat: Seat, steps: &mut Steps<L>)
         requires { MayTurnSeat seat self.old }
-        ensures { MakesTurns self.old (seat ∷ []) self.new }
+        ensures turns { MakesTurns self.old (seat ∷ []) self.new }
+        ensures steps { CountsTurn self.old seat.panel seat.task steps.old steps.new }
     {
+        let panel = seat.panel;
         match seat.task {
-            Task::Desk => self.desk.turn(&self.site, &self.settings, seat.panel),
-            task => {
-                let parts = &mut self.panels[seat.panel as usize - 1];
-                parts.turn(task, self.tick);
-            }
+            Task::Poll => self.poll_turn(panel),
+            Task::Decide => self.decide_turn(panel),
+            Task::Supply => self.supply_turn(panel),
+            Task::Desk => self.desk.turn(&self.site, &self.settings, panel),
+            Task::Hold => self.hold_turn(panel),
+            Task::Link => self.link_turn(panel),
+            Task::Effect => self.effect_turn(panel, steps),
+            Task::Drive => self.drive_turn(panel),
+            Task::Keep => {}
         }
     }
 }

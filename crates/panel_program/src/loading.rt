@@ -1,6 +1,7 @@
 //! Fetching and reading a site file.
 
 ghost use Rattle.std.specs.Prelude.{◌≡◌, ◌⊎◌, ℕ, List, Err, IfOk, IfSome, true};
+ghost use Rattle.cause_effect.specs.Cycles.{HasNoCycle};
 ghost use Rattle.cause_effect.specs.Stands.{IsPlanOf};
 ghost use Rattle.panel_edges.specs.Faults.{Rose};
 ghost use Rattle.panel_edges.specs.Shelves.{file_of};
@@ -30,7 +31,8 @@ pub fn load<F: Shelf>(
     ensures told { IfSome (F.files shelf.old)
         (λ held. Loads command (file_of name.now held) (site_of result)) }
     ensures valid { IfOk result (λ loaded. IsValid loaded.site
-        × (is_built_for command loaded.site ≡ true) × IsPlanOf loaded.site loaded.plan) }
+        × (is_built_for command loaded.site ≡ true) × IsPlanOf loaded.site loaded.plan
+        × HasNoCycle loaded.site) }
     ensures read { result ≡ Err ReadFault → Rose (F.faults shelf.old) (F.faults shelf.new) }
 {
     let mut bytes = Vec::new(alloc);
@@ -47,7 +49,8 @@ pub fn load<F: Shelf>(
 fn read_for(alloc: Global, command: Command, bytes: &[u8]) -> Result<Loaded, Stop>
     ensures reads { Reads command bytes.now (site_of result) }
     ensures valid { IfOk result (λ loaded. IsValid loaded.site
-        × (is_built_for command loaded.site ≡ true) × IsPlanOf loaded.site loaded.plan) }
+        × (is_built_for command loaded.site ≡ true) × IsPlanOf loaded.site loaded.plan
+        × HasNoCycle loaded.site) }
     ensures no_fault { result ≡ Err ReadFault → ⊥ }
 {
     match read_site(alloc, bytes) {
@@ -61,7 +64,8 @@ fn plan_for(alloc: Global, command: Command, site: Site) -> Result<Loaded, Stop>
     requires { IsValid site }
     ensures reads { (bytes : List ℕ) → IsSpelled bytes site → Reads command bytes (site_of result) }
     ensures valid { IfOk result (λ loaded. IsValid loaded.site
-        × (is_built_for command loaded.site ≡ true) × IsPlanOf loaded.site loaded.plan) }
+        × (is_built_for command loaded.site ≡ true) × IsPlanOf loaded.site loaded.plan
+        × HasNoCycle loaded.site) }
     ensures no_fault { result ≡ Err ReadFault → ⊥ }
 {
     match compile(alloc, &site) {

@@ -1,10 +1,13 @@
-ghost use Rattle.std.specs.Prelude.{IfOk};
+ghost use Rattle.std.specs.Prelude.{◌≡◌, ◌<◌, IfOk};
 
+use cause_effect::Steps;
 use panel_core::System;
 use panel_edges::{NoMemory, SoundMemoryDisk};
 use retained_journal::Journal;
 use site_types::Site;
 use std::alloc::Global;
+use std::marker::Brand;
+use std::sync::ledger::{Blank, Ledger};
 use tick_units::Order;
 
 /// A journal over a disk in memory. What it keeps is gone when the run ends.
@@ -33,6 +36,18 @@ impl OwnJournal {
         requires { MayTurnOwn order.now self.old system.old }
         ensures { TurnsOwn order.now self.old system.old self.new system.new }
     {
-        system.turns(order, &mut self.journal, &mut self.disk);
+        self.turns_counted::<Brand>(system, order, Blank::new(1));
+    }
+
+    // The same, with a counter of steps that is let go.
+    fn turns_counted<L: Ledger>(&mut self, system: &mut System, order: &Order, blank: Blank)
+        requires may { MayTurnOwn order.now self.old system.old }
+        requires name { blank.name ≡ L.name }
+        requires parts { blank.parts ≡ L.parts }
+        requires some { 0 < blank.parts }
+        ensures { TurnsOwn order.now self.old system.old self.new system.new }
+    {
+        let mut steps: Steps<L> = Steps::new(blank);
+        system.turns(order, &mut self.journal, &mut self.disk, &mut steps);
     }
 }

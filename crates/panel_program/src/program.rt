@@ -120,7 +120,7 @@ fn run<F: Shelf, S: Source, K: Sink>(
     ensures store { result.store_failures ≡ 0 }
 {
     match load(alloc, Command::Run, name, shelf) {
-        Ok(loaded) => run_site(alloc, loaded.site, input, out),
+        Ok(loaded) => run_site(alloc, loaded.site, loaded.plan, input, out),
         Err(stop) => stop_with(&stop, out),
     }
 }

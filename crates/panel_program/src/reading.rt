@@ -1,6 +1,7 @@
 //! Reading a record, tick by tick.
 
 ghost use Rattle.std.specs.Prelude.{◌≡◌, ◌<◌, ◌≤◌, ◌↔◌, [], List, ℕ, IfOk, IfSome, OnErr, Ok, length, take};
+ghost use Rattle.panel_core.specs.Stands.{HasPlan};
 ghost use Rattle.panel_edges.specs.Contents.{Consumes};
 ghost use Rattle.panel_edges.specs.Faults.{HasCause, Rose};
 ghost use Rattle.panel_program.specs.Endings.{last_line as last_text, status_of as status_of_end};
@@ -18,6 +19,7 @@ use crate::last_lines::last_line;
 use crate::run::Run;
 use crate::run_end::{RunEnd, status_of};
 use crate::taken::Taken;
+use cause_effect::Plan;
 use panel_edges::{Failed, MOST_RECORD_BYTES, Sink, Source};
 use program_status::{Outcome, Status, say};
 use record_lines::{LineReader, Step};
@@ -31,10 +33,12 @@ const PIECE_BYTES: usize = 4_096;
 pub fn run_site<S: Source, K: Sink>(
     alloc: Global,
     site: Site,
+    plan: Plan,
     input: &mut S,
     out: &mut K,
 ) -> Outcome
     requires valid { IsValid site }
+    requires plan { HasPlan site plan }
     requires one { site.panels ≡ 1 }
     ensures ran { IfSome (S.left input.old)
         (λ bytes. Ran site bytes (K.written out.old) (K.written out.new) result) }
@@ -43,7 +47,7 @@ pub fn run_site<S: Source, K: Sink>(
     ensures memory { IsSilentWithoutMemory result (K.written out.old) (K.written out.new) }
     ensures store { result.store_failures ≡ 0 }
 {
-    let Ok(mut run) = Run::open(alloc, site) else {
+    let Ok(mut run) = Run::open(alloc, site, plan) else {
         return Outcome::after(Status::NoMemory, 0);
     };
     let Ok(()) = run.write_opening(out) else {

@@ -1,5 +1,5 @@
 ghost use Rattle.std.specs.Prelude.{◌≡◌, ◌+◌, [], List, Option, IfOk, OnErr, OnOk, false, None, Some};
-ghost use Rattle.panel_core.specs.Stands.{HasPanel, StandsFor as SystemStands};
+ghost use Rattle.panel_core.specs.Stands.{HasPanel, HasPlan, StandsFor as SystemStands};
 ghost use Rattle.panel_edges.specs.Contents.{Grows, GrowsByFront};
 ghost use Rattle.panel_edges.specs.Faults.{HasCause};
 ghost use Rattle.panel_program.specs.Records.{Progress, at_beginning, closed, is_built_event};
@@ -21,6 +21,7 @@ use crate::own_journal::OwnJournal;
 use crate::run_end::RunEnd;
 use crate::shown::Shown;
 use crate::writing::{PAGE_BYTES, PANEL, write_opening, write_tick};
+use cause_effect::Plan;
 use panel_core::System;
 use panel_edges::{Failed, NoMemory, Sink, SoundMemorySink};
 use record_lines::Line;
@@ -48,14 +49,15 @@ pub struct Run {
 
 impl Run {
     /// The site before the first tick. All memory of a run is taken here.
-    pub fn open(alloc: Global, site: Site) -> Result<Run, NoMemory>
+    pub fn open(alloc: Global, site: Site, plan: Plan) -> Result<Run, NoMemory>
         requires valid { IsValid site }
+        requires plan { HasPlan site plan }
         requires one { site.panels ≡ 1 }
         ensures { IfOk result (Stands site at_beginning) }
     {
         let canonical = Order::canonical(site.panels);
         let own = OwnJournal::open(alloc, &site)?;
-        let Ok(system) = System::open(alloc, site, &Retained::empty()) else {
+        let Ok(system) = System::open(alloc, site, plan, &Retained::empty()) else {
             return Err(NoMemory);
         };
         let page = SoundMemorySink::new(alloc, PAGE_BYTES)?;

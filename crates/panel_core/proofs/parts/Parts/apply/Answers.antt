@@ -1,8 +1,8 @@
 use Rattle.std.proofs.Common.{refl}
 use Rattle.operation_desk.specs.Requests.{done_from}
 use Rattle.panel_core.proofs.Operations.{decide_may, hold_may, hold_notes, stands_own, stands_noted}
-use Rattle.panel_core.specs.Lanes.{decided}
-use Rattle.panel_core.specs.Turns.{hold_turns}
+use Rattle.hold_calls.specs.Lanes.{decided}
+use Rattle.hold_calls.specs.Turns.{hold_turns}
 use Rattle.panel_core.proofs.parts.Parts.apply.Goals as goal
 
 pub apply-requires : goal.apply-requires

@@ -8,9 +8,10 @@ use Rattle.site_types.specs.Changes.{IsSized, operation_change}
 use Rattle.operation_desk.specs.Replies.{AreInForce}
 use Rattle.operation_desk.specs.Requests.{done_from}
 use Rattle.panel_rules.specs.Moments.{tick_of}
+use Rattle.settings_shown.specs.Shown.{HasNoStrangeBits}
 use Rattle.panel_core.specs.Applied.{MayBeApplied}
 use Rattle.panel_core.specs.Stands.{PanelStands}
-use Rattle.panel_core.proofs.Begun.{applied_more, can_change, partly_more, partly_none, settings_changed, settings_left, sized_changed}
+use Rattle.panel_core.proofs.Begun.{applied_more, can_change, own_changed, partly_more, partly_none, settings_changed, settings_left, sized_changed}
 use Rattle.panel_core.proofs.system.System.apply.Goals as goal
 
 pub loop-before-init : goal.loop-before-init
@@ -20,6 +21,8 @@ loop-before-init c =
       tick = refl;
       desk = refl;
       counts = refl;
+      plan = refl;
+      ring = refl;
       settings = refl;
       count = refl;
       partly = λ site kept before done h may. partly_none site kept before done (done_from c.args.self.now.tick.0 c.args.done.now) c.args.self.now h;
@@ -59,6 +62,8 @@ loop-before-preserved c =
       tick = inv.tick;
       desk = inv.desk;
       counts = inv.counts;
+      plan = inv.plan;
+      ring = inv.ring;
       settings = inv.settings;
       count = length-set items n c.apply.new.self ∙ inv.count;
       partly = λ site kept before done h may.
@@ -92,6 +97,9 @@ returns-in-Some-clause-applied c site kept before done h may =
     (settings_changed site kept before done d h.valid c.loop-before.self.settings sized may kept_so c.in-Some.change is))
     (subst IsSized (sym c.apply-in-Some.ensures)
     (sized_changed site kept before done d h.valid c.loop-before.self.settings sized may kept_so c.in-Some.change is))
+    (subst (HasNoStrangeBits site) (sym c.apply-in-Some.ensures)
+    (own_changed site kept before done d h.valid c.loop-before.self.settings sized may kept_so c.in-Some.change is
+    (subst (HasNoStrangeBits site) (sym inv.settings) h.own)))
 
 pub returns-in_default-clause-applied : goal.returns-in_default-clause-applied
 returns-in_default-clause-applied c site kept before done h may =
@@ -106,3 +114,4 @@ returns-in_default-clause-applied c site kept before done h may =
     (omega (arith, test, panels))
     (settings_left site kept before done d h.valid c.loop-before.self.settings sized may kept_so none)
     sized
+    (subst (HasNoStrangeBits site) (sym inv.settings) h.own)

@@ -17,6 +17,8 @@ invariant-loop-before l =
       tick : l.self.tick ≡ l.fn.self.tick;
       desk : l.self.desk ≡ l.fn.self.desk;
       counts : l.self.counts ≡ l.fn.self.counts;
+      plan : l.self.plan ≡ l.fn.self.plan;
+      ring : l.self.ring ≡ l.fn.self.ring;
       settings : l.self.settings ≡ l.fn.self.settings;
       count : length l.self.panels.items ≡ length l.fn.self.panels.items;
       partly : (site : Site) (kept : Retained) (before : List Moment) (done : List Done) → HasApplied site kept before done l.fn.self

@@ -5,7 +5,10 @@ use Rattle.panel_core.proofs.Applied.{read_done}
 use Rattle.panel_core.proofs.system.System.apply_done.Goals as goal
 
 pub loop-place-init : goal.loop-place-init
-loop-place-init c = record { same = record { desk = refl; tick = refl; counts = refl }; applied = λ site kept before h run. none_applied site kept before c.args.self.now h run }
+loop-place-init c = record {
+  same = record { desk = refl; tick = refl; counts = refl; plan = refl; ring = refl };
+  applied = λ site kept before h run. none_applied site kept before c.args.self.now h run;
+}
 
 pub apply-requires : goal.apply-requires
 apply-requires c =
@@ -36,6 +39,8 @@ loop-place-preserved c =
         desk = c.apply.ensures.same.desk ∙ inv.same.desk;
         tick = c.apply.ensures.same.tick ∙ inv.same.tick;
         counts = c.apply.ensures.same.counts ∙ inv.same.counts;
+        plan = c.apply.ensures.same.plan ∙ inv.same.plan;
+        ring = c.apply.ensures.same.ring ∙ inv.same.ring;
       };
       applied = λ site kept before h run. (
           let now = ap (λ (t : Tick). t.0) inv.same.tick ∙ h.tick in

@@ -1,8 +1,25 @@
+use Rattle.std.proofs.Common.{◌∙◌}
+use Rattle.operation_desk.specs.Stands.{DesksFor}
 use Rattle.panel_core.proofs.Begun.{begun}
 use Rattle.panel_core.proofs.system.System.begin.Goals as goal
 
 pub returns : goal.returns
 returns c site kept before h tick run =
-    begun site kept before c.args.self.now h run c.apply_done.new.self c.begin.new.self c.args.tick tick
-    (c.apply_done.ensures.applied site kept before h run)
-    (c.begin.ensures site kept before (rw c.apply_done.ensures.same.desk h.desk) tick) c.apply_done.ensures.same.counts
+    let same = c.apply_done.ensures.same in
+    let desk : DesksFor site kept before c.apply_done.new.self.desk = rw same.desk h.desk in
+    begun site kept before c.args.self.now h run c.begin_outputs.new.self c.begin.new.self c.args.tick tick
+    (c.begin_outputs.ensures.begun site kept before (c.apply_done.ensures.applied site kept before h run) desk run)
+    (c.begin.ensures site kept before (rw c.begin_outputs.ensures.same.desk desk) tick) (c.begin_outputs.ensures.same.counts ∙ same.counts)
+    (c.begin_outputs.ensures.same.plan ∙ same.plan) (c.begin_outputs.ensures.same.ring ∙ same.ring)
+
+pub begin_outputs-requires : goal.begin_outputs-requires
+begin_outputs-requires c =
+    let r = c.requires in
+    record {
+      site = r.site;
+      kept = r.kept;
+      before = r.before;
+      has = c.apply_done.ensures.applied r.site r.kept r.before r.stands r.run;
+      desk = rw c.apply_done.ensures.same.desk r.stands.desk;
+      run = r.run;
+    }

@@ -1,6 +1,8 @@
-use Rattle.std.proofs.Common.{◌∙◌, inl, inr, sym, ap, arith}
+use Rattle.std.proofs.Common.{◌∙◌, length, refl, sym, ap, arith}
+use Rattle.site_types.specs.declared.site.Site.{Site}
 use Rattle.site_types.specs.Events.{has_event}
-use Rattle.panel_core.proofs.Events.{can_hear, desk_after, point_panel, point_done, piece_read, piece_done, report_done, supply_panel, panel_read, other_done}
+use Rattle.panel_core.proofs.Events.{can_hear, confirmation_done, desk_after, link_within, other_done, output_panel, output_within}
+use Rattle.panel_core.proofs.Events.{panel_read, piece_done, piece_read, point_done, point_panel, report_done, supply_panel}
 use Rattle.panel_core.proofs.system.System.event.Goals as goal
 
 pub event-requires : goal.event-requires
@@ -84,18 +86,34 @@ returns-in-Supply c site kept before h =
     (c.set_supply.ensures site kept _ i.panel before (panel_read site kept before system i.panel c.index_mut-parts-in-Supply.result.now h member
     c.index_mut-parts-in-Supply.ensures.value))
 
+pub set_link-requires : goal.set_link-requires
+set_link-requires c = let r = c.requires in let i = c.in-Link in link_within r.site c.args.event.now i.link i.up r.stands.valid r.has i.is
+
 pub returns-in-Link : goal.returns-in-Link
 returns-in-Link c site kept before h =
     let system = c.args.self.now in
     let event = c.args.event.now in
-    let same = sym h.same ∙ c.requires.stands.same in
-    let has = ap (λ s. has_event s event) same ∙ c.requires.has in
+    let i = c.in-Link in
+    let has = ap (λ s. has_event s event) (sym h.same ∙ c.requires.stands.same) ∙ c.requires.has in
     let after = desk_after site system.site kept before system event c.event.new.self h h.same has (c.event.ensures kept before) in
-    elim c.in-Link.is [
-      | inl a ↦ other_done site kept before system c.event.new.self event _ h after a.2 tt
-      | inr a ↦
-          elim a [
-            | inl b ↦ other_done site kept before system c.event.new.self event _ h after b.1 tt
-            | inr b ↦ other_done site kept before system c.event.new.self event _ h after b.3 tt
-          ]
-    ]
+    other_done site kept before system c.event.new.self c.set_link.new.self event _ h after i.is (c.set_link.ensures.stands site.panels _ h.ring) tt
+
+pub returns-in-Confirmed : goal.returns-in-Confirmed
+returns-in-Confirmed c site kept before h =
+    let system = c.args.self.now in
+    let event = c.args.event.now in
+    let i = c.in-Confirmed in
+    let has = ap (λ s. has_event s event) (sym h.same ∙ c.requires.stands.same) ∙ c.requires.has in
+    let after = desk_after site system.site kept before system event c.event.new.self h h.same has (c.event.ensures kept before) in
+    let p = output_panel site kept before system event i.output c.as_slice-in-Confirmed.result.now c.index-as_slice-output.result c.index_mut-parts-in-Confirmed.result.now
+    h has i.is c.as_slice-in-Confirmed.ensures c.index-as_slice-output.is c.index_mut-parts-in-Confirmed.ensures.value in
+    confirmation_done site kept before system c.event.new.self event i.output c.index-as_slice-output.result c.index_mut-parts-in-Confirmed.result.now
+    c.confirm.new.self h after i.is p (c.confirm.ensures site kept _ _ i.output c.index-as_slice-output.result before p.stands p.is refl refl)
+
+pub returns-in-Op : goal.returns-in-Op
+returns-in-Op c site kept before h =
+    let system = c.args.self.now in
+    let event = c.args.event.now in
+    let has = ap (λ s. has_event s event) (sym h.same ∙ c.requires.stands.same) ∙ c.requires.has in
+    let after = desk_after site system.site kept before system event c.event.new.self h h.same has (c.event.ensures kept before) in
+    other_done site kept before system c.event.new.self system.ring event _ h after c.in-Op.is h.ring tt

@@ -19,12 +19,15 @@ returns c =
     record {
       valid = c.requires.valid;
       same = refl;
+      plan = c.requires.plan;
       tick = refl;
       count = (let count = c.loop-before.invariant.count in omega (arith, count));
       each = c.loop-before.invariant.each;
+      ring = c.new-ring.ensures.stands;
       events = tt;
       desk = c.new-2.ensures c.args.site c.args.kept.now;
-      settings = λ setting is. refl;
-      sized = c.requires.sized;
+      settings = c.settings_at_opening-settings.ensures.in_force;
+      sized = c.settings_at_opening-settings.ensures.sized;
+      own = c.settings_at_opening-settings.ensures.no_strange_bits;
       counts = c.at_opening.ensures c.args.site;
     }

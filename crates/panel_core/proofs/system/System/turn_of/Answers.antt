@@ -1,66 +1,92 @@
-use Rattle.std.proofs.Common.{◌-◌, ◌∷◌, false, subst, sym, arith}
-use Rattle.std.proofs.lemmas.Option.{slice_get_read}
-use Rattle.panel_rules.specs.Moments.{IsRun}
-use Rattle.panel_core.specs.Applied.{applied}
-use Rattle.panel_core.proofs.Applied.{applied_past}
+use Rattle.std.proofs.Common.{arith, refl}
+use Rattle.tick_units.specs.declared.task.Task.TheVariants.{Decide, Drive, Effect, Hold, Link, Poll, Supply}
 use Rattle.panel_core.proofs.DeskTurns.{can_turn, desk_turn}
-use Rattle.panel_core.proofs.Orders.{turn_is}
 use Rattle.panel_core.proofs.Panels.{seat_panel}
-use Rattle.panel_core.proofs.Whole.{panel_at, stands_after_turn}
+use Rattle.panel_core.proofs.TaskTurns.{made_turn, may_turn_task}
 use Rattle.panel_core.proofs.system.System.turn_of.Goals as goal
 
-pub overflow_sub-seat : goal.overflow_sub-seat
-overflow_sub-seat c = (seat_panel c.requires.site.panels c.args.seat c.requires.known c.requires.panels).0
-
-pub index_mut-parts-requires : goal.index_mut-parts-requires
-index_mut-parts-requires c = let p = seat_panel c.requires.site.panels c.args.seat c.requires.known c.requires.panels in let count =
-    c.requires.stands.count in omega (arith, p.0, p.1, count)
-
 pub turn-requires : goal.turn-requires
-turn-requires c =
+turn-requires g c =
     let r = c.requires in
     can_turn r.site r.kept r.before c.args.self.now r.stands c.args.seat.panel
     (seat_panel r.site.panels c.args.seat r.known c.requires.panels) (rw c.in-Desk.is at r.run)
 
-pub returns-in-Desk : goal.returns-in-Desk
-returns-in-Desk c site kept before h =
+pub returns-in-Desk-clause-turns : goal.returns-in-Desk-clause-turns
+returns-in-Desk-clause-turns g c site kept before h =
     let count = c.requires.stands.count in
     let here = h.count in
     let p = seat_panel c.requires.site.panels c.args.seat c.requires.known c.requires.panels in
     rw c.in-Desk.is (λ run. desk_turn site kept before c.args.self.now h c.args.seat.panel c.turn.new.self
     (p.0, omega (arith, p.1, count, here)) run (c.turn.ensures kept before))
 
-pub turn-requires-in_default : goal.turn-requires-in_default
-turn-requires-in_default c =
-    let r = c.requires in
-    let seat = c.args.seat in
-    let system = c.args.self.now in
-    let p = seat_panel r.site.panels seat r.known c.requires.panels in
-    let at =
-    slice_get_read system.panels.items r.site.panels (seat.panel - 1) c.index_mut-parts.result.now (sym r.stands.count) (omega (arith, p.0, p.1))
-    c.index_mut-parts.ensures.value in
-    record {
-      site = r.site;
-      kept = r.kept;
-      done = applied r.site r.kept r.before;
-      panel = seat.panel;
-      before = r.before;
-      stands = panel_at r.site r.kept r.before system seat.panel c.index_mut-parts.result.now r.stands p.0 at;
-      past = applied_past r.site r.kept r.before;
-      run = subst (λ moment. IsRun r.site.panels (moment ∷ r.before)) (turn_is false seat.panel seat.task c.requires.panels) r.run;
-      now = r.stands.tick;
-      few = r.few;
-    }
+pub returns-in-Desk-clause-steps : goal.returns-in-Desk-clause-steps
+returns-in-Desk-clause-steps g c site kept before h = rw c.in-Desk.is refl
 
-pub returns-in_default : goal.returns-in_default
-returns-in_default c site kept before h run =
-    let seat = c.args.seat in
-    let system = c.args.self.now in
-    let p = seat_panel c.requires.site.panels seat c.requires.known c.requires.panels in
-    let at = slice_get_read system.panels.items c.requires.site.panels (seat.panel - 1) c.index_mut-parts.result.now (sym c.requires.stands.count)
-    (omega (arith, p.0, p.1)) c.index_mut-parts.ensures.value in
-    let turned = c.turn-in_default.ensures site kept (applied site kept before) seat.panel before
-    (panel_at site kept before system seat.panel c.index_mut-parts.result.now h p.0 at) (applied_past site kept before) h.tick
-    (subst (λ moment. IsRun site.panels (moment ∷ before)) (turn_is false seat.panel seat.task c.requires.panels) run) in
-    rw (turn_is false seat.panel seat.task c.requires.panels)
-    (stands_after_turn site kept before system seat.panel seat.task c.turn-in_default.new.self h p.0 c.in_default.not-Desk turned)
+pub returns-in-Keep-clause-turns : goal.returns-in-Keep-clause-turns
+returns-in-Keep-clause-turns g c = absurd (c.requires.panels c.in-Keep.is)
+
+pub returns-in-Keep-clause-steps : goal.returns-in-Keep-clause-steps
+returns-in-Keep-clause-steps g c = absurd (c.requires.panels c.in-Keep.is)
+
+pub poll_turn-requires : goal.poll_turn-requires
+poll_turn-requires g c = may_turn_task c.args.seat c.args.self.now Poll c.requires c.in-Poll.is (λ e. cc)
+
+pub returns-in-Poll-clause-turns : goal.returns-in-Poll-clause-turns
+returns-in-Poll-clause-turns g c = made_turn c.args.seat c.args.self.now c.poll_turn.new.self Poll c.in-Poll.is (λ e. cc) c.poll_turn.ensures
+
+pub returns-in-Poll-clause-steps : goal.returns-in-Poll-clause-steps
+returns-in-Poll-clause-steps g c site kept before h = rw c.in-Poll.is refl
+
+pub decide_turn-requires : goal.decide_turn-requires
+decide_turn-requires g c = may_turn_task c.args.seat c.args.self.now Decide c.requires c.in-Decide.is (λ e. cc)
+
+pub returns-in-Decide-clause-turns : goal.returns-in-Decide-clause-turns
+returns-in-Decide-clause-turns g c = made_turn c.args.seat c.args.self.now c.decide_turn.new.self Decide c.in-Decide.is (λ e. cc) c.decide_turn.ensures
+
+pub returns-in-Decide-clause-steps : goal.returns-in-Decide-clause-steps
+returns-in-Decide-clause-steps g c site kept before h = rw c.in-Decide.is refl
+
+pub supply_turn-requires : goal.supply_turn-requires
+supply_turn-requires g c = may_turn_task c.args.seat c.args.self.now Supply c.requires c.in-Supply.is (λ e. cc)
+
+pub returns-in-Supply-clause-turns : goal.returns-in-Supply-clause-turns
+returns-in-Supply-clause-turns g c = made_turn c.args.seat c.args.self.now c.supply_turn.new.self Supply c.in-Supply.is (λ e. cc) c.supply_turn.ensures
+
+pub returns-in-Supply-clause-steps : goal.returns-in-Supply-clause-steps
+returns-in-Supply-clause-steps g c site kept before h = rw c.in-Supply.is refl
+
+pub hold_turn-requires : goal.hold_turn-requires
+hold_turn-requires g c = may_turn_task c.args.seat c.args.self.now Hold c.requires c.in-Hold.is (λ e. cc)
+
+pub returns-in-Hold-clause-turns : goal.returns-in-Hold-clause-turns
+returns-in-Hold-clause-turns g c = made_turn c.args.seat c.args.self.now c.hold_turn.new.self Hold c.in-Hold.is (λ e. cc) c.hold_turn.ensures
+
+pub returns-in-Hold-clause-steps : goal.returns-in-Hold-clause-steps
+returns-in-Hold-clause-steps g c site kept before h = rw c.in-Hold.is refl
+
+pub link_turn-requires : goal.link_turn-requires
+link_turn-requires g c = may_turn_task c.args.seat c.args.self.now Link c.requires c.in-Link.is (λ e. cc)
+
+pub returns-in-Link-clause-turns : goal.returns-in-Link-clause-turns
+returns-in-Link-clause-turns g c = made_turn c.args.seat c.args.self.now c.link_turn.new.self Link c.in-Link.is (λ e. cc) c.link_turn.ensures
+
+pub returns-in-Link-clause-steps : goal.returns-in-Link-clause-steps
+returns-in-Link-clause-steps g c site kept before h = rw c.in-Link.is refl
+
+pub effect_turn-requires : goal.effect_turn-requires
+effect_turn-requires g c = may_turn_task c.args.seat c.args.self.now Effect c.requires c.in-Effect.is (λ e. cc)
+
+pub returns-in-Effect-clause-turns : goal.returns-in-Effect-clause-turns
+returns-in-Effect-clause-turns g c = made_turn c.args.seat c.args.self.now c.effect_turn.new.self Effect c.in-Effect.is (λ e. cc) c.effect_turn.ensures.turn
+
+pub returns-in-Effect-clause-steps : goal.returns-in-Effect-clause-steps
+returns-in-Effect-clause-steps g c site kept before h = rw c.in-Effect.is (c.effect_turn.ensures.steps site kept before h)
+
+pub drive_turn-requires : goal.drive_turn-requires
+drive_turn-requires g c = may_turn_task c.args.seat c.args.self.now Drive c.requires c.in-Drive.is (λ e. cc)
+
+pub returns-in-Drive-clause-turns : goal.returns-in-Drive-clause-turns
+returns-in-Drive-clause-turns g c = made_turn c.args.seat c.args.self.now c.drive_turn.new.self Drive c.in-Drive.is (λ e. cc) c.drive_turn.ensures
+
+pub returns-in-Drive-clause-steps : goal.returns-in-Drive-clause-steps
+returns-in-Drive-clause-steps g c site kept before h = rw c.in-Drive.is refl

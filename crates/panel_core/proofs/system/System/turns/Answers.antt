@@ -2,7 +2,7 @@ use Rattle.std.proofs.Common.{subst}
 use Rattle.panel_edges.specs.Crashes.{LeavesOnly}
 use Rattle.retained_journal.specs.Images.{MayLeaveOr}
 use Rattle.panel_rules.specs.Batches.{batch}
-use Rattle.panel_core.proofs.AllTurns.{all_turned, few_between, keep_run, keeps_between, may_begin, may_keep, may_rest, same_order, stands_between, then_is}
+use Rattle.panel_core.proofs.AllTurns.{all_counted, all_turned, few_between, keep_run, keeps_between, may_begin, may_keep, may_rest, same_order, stands_between, then_is}
 use Rattle.panel_core.proofs.system.System.turns.Goals as goal
 
 pub turns_from-place-requires : goal.turns_from-place-requires
@@ -45,6 +45,23 @@ returns-clause-turns g c site kept before h keeps run few =
     (few_between site kept before c.args.self.now c.turns_from-place.new.self c.args.journal.now order place h keeps ordered run few first) in
     all_turned site kept before c.args.self.now c.turns_from-place.new.self c.args.journal.now order place h keeps ordered run few first
     c.keep-store.result c.keep-store.new.journal c.keep-store.new.self turned c.turns_from.result c.turns_from.new.self c.turns_from.ensures.turns
+
+pub returns-clause-steps : goal.returns-clause-steps
+returns-clause-steps g c site kept before h keeps run few =
+    let r = c.requires.may in
+    let order = c.args.order.now in
+    let place = c.turns_from-place.result in
+    let ordered = same_order site r.site kept r.kept before r.before c.args.self.now order h r.stands r.ordered in
+    let first = c.turns_from-place.ensures.turns in
+    let stands = stands_between site kept before c.args.self.now c.turns_from-place.new.self c.args.journal.now order place h keeps ordered run few first in
+    let kept_so = keeps_between site kept before c.args.self.now c.turns_from-place.new.self c.args.journal.now order place h keeps ordered run few first in
+    let turned =
+    c.keep-store.ensures.kept site kept _ stands kept_so
+    (keep_run site kept before c.args.self.now c.turns_from-place.new.self c.args.journal.now order place h keeps ordered run few first)
+    (few_between site kept before c.args.self.now c.turns_from-place.new.self c.args.journal.now order place h keeps ordered run few first) in
+    all_counted site kept before c.args.self.now c.turns_from-place.new.self c.args.journal.now order place h keeps ordered run few first
+    c.keep-store.result c.keep-store.new.journal c.keep-store.new.self turned c.turns_from.result c.turns_from.new.self c.turns_from.ensures.turns
+    c.args.steps.now c.turns_from-place.new.steps c.turns_from.new.steps c.turns_from-place.ensures.steps c.turns_from.ensures.steps
 
 pub returns-clause-moments : goal.returns-clause-moments
 returns-clause-moments g c honest site kept before h keeps run few room =

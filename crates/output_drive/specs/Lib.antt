@@ -1,0 +1,4 @@
+pub mod Sounders
+pub mod Stands
+pub mod Changes
+pub mod Told

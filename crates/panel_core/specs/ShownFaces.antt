@@ -1,0 +1,43 @@
+-- What a panel shows is the face of the rules.
+use Rattle.std.specs.Prelude.{◌≡◌, ℕ, List, map}
+use Rattle.std.specs.List.{range_with_len}
+use Rattle.site_types.specs.declared.retained.Retained.{Retained}
+use Rattle.site_types.specs.declared.site.Site.{Site}
+use Rattle.site_types.specs.declared.word.Word.{Word}
+use Rattle.site_types.specs.Limits.{most_panels}
+use Rattle.face_text.specs.declared.face.Face.{Face}
+use Rattle.panel_rules.specs.Batches.{kept_after}
+use Rattle.panel_rules.specs.Faces.{face_with, shown_word}
+use Rattle.panel_rules.specs.Moments.{Moment, IsRun}
+use Rattle.panel_core.specs.declared.system.System.{System}
+use Rattle.panel_core.specs.Applied.{done_so_far}
+use Rattle.panel_core.specs.Stands.{StandsFor}
+
+-- for whatever run the system stands for, with the operations of the run and with what is kept after it
+abbrev pub ShowsFace : System → ℕ → Face → Type 0
+ShowsFace system panel face =
+    (site : Site) (kept : Retained) (before : List Moment)
+    → StandsFor site kept before system → IsRun site.panels before
+    → face ≡ face_with site kept (done_so_far site kept before) (kept_after site kept before) panel before
+
+-- the word of a panel that another one shows
+abbrev pub ShowsWord : System → ℕ → ℕ → Word → Type 0
+ShowsWord system panel source word =
+    (site : Site) (kept : Retained) (before : List Moment)
+    → StandsFor site kept before system → IsRun site.panels before
+    → word ≡ shown_word site kept (done_so_far site kept before) panel before source
+
+-- the zones of each panel in alarm, and in first state, by the words that are shown
+abbrev pub ShowsAlarms : System → ℕ → List ℕ → Type 0
+ShowsAlarms system panel zones =
+    (site : Site) (kept : Retained) (before : List Moment)
+    → StandsFor site kept before system → IsRun site.panels before
+    → zones ≡ map (λ source. (shown_word site kept (done_so_far site kept before) panel before source).alarm)
+    (range_with_len 1 most_panels)
+
+abbrev pub ShowsFirsts : System → ℕ → List ℕ → Type 0
+ShowsFirsts system panel zones =
+    (site : Site) (kept : Retained) (before : List Moment)
+    → StandsFor site kept before system → IsRun site.panels before
+    → zones ≡ map (λ source. (shown_word site kept (done_so_far site kept before) panel before source).first)
+    (range_with_len 1 most_panels)

@@ -1,0 +1,2 @@
+pub mod OnFaces
+pub mod Shown
