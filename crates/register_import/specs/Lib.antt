@@ -1,0 +1,6 @@
+pub mod Answers
+pub mod Judged
+pub mod Puts
+pub mod Refused
+pub mod Rows
+pub mod Views
