@@ -4,3 +4,7 @@ pub mod Spelled
 pub mod RowByRow
 -- rows that are put one behind the other
 pub mod PutInTurn
+-- what is found after visits and tests are put
+pub mod Found
+-- a file that is imported again
+pub mod Again

@@ -1,5 +1,6 @@
 pub mod Answers
 pub mod Judged
+pub mod Laws
 pub mod Puts
 pub mod Refused
 pub mod Rows
