@@ -2,18 +2,22 @@
 
 ghost use Rattle.site_types.specs.Valid.{IsValid};
 
-use crate::telling::{say_points, say_refusal, say_table};
-use anyhow::{Result, bail};
+use crate::telling::{say_import_refusal, say_points, say_refusal, say_table};
+use anyhow::{Context, Result, bail};
+use register_import::import_csv;
 use service_keepers::{Keeper, MemoryKeeper, Visit};
 use service_register::{Register, RegisterRefusal};
 use site_types::{Site, read_name};
 use std::alloc::Global;
+use std::fs;
 use trial_cases::{Lines, Words};
 
-/// What each call answers over a keeper whose first steps say which of its calls fail: `fails 3, visit 7 20000 kim`.
-pub(crate) fn make_calls(alloc: Global, site: &Site, line: &str) -> Result<String>
+/// What each call answers over a keeper of which steps say which of its calls fail: `fails 3, visit 7 20000 kim`. A
+/// step `import FILE` imports a file.
+pub(crate) fn make_calls(rt: &HostRuntime, site: &Site, line: &str) -> Result<String>
     requires { IsValid site.now }
 {
+    let alloc = rt.alloc();
     let Ok(register) = Register::new(alloc, site) else {
         bail!("no memory");
     };
@@ -28,7 +32,10 @@ pub(crate) fn make_calls(alloc: Global, site: &Site, line: &str) -> Result<Strin
                 lines.say("    ");
                 lines.say(step);
                 lines.say(": ");
-                make_call(alloc, site, &register, &mut keeper, step, &mut lines)?;
+                match step.strip_prefix("import ") {
+                    Some(name) => import(rt, site, &mut keeper, name, &mut lines)?,
+                    None => make_call(alloc, site, &register, &mut keeper, step, &mut lines)?,
+                }
                 lines.say("\n");
             }
         }
@@ -61,6 +68,27 @@ pub(crate) fn make_call<R: Keeper>(
             Err(refusal) => say_refusal(lines, refusal),
         },
         _ => bail!("no such call: {step}"),
+    }
+    Ok(())
+}
+
+// Imports a file, and says how much it has or why it is refused.
+fn import<R: Keeper>(
+    rt: &HostRuntime,
+    site: &Site,
+    keeper: &mut R,
+    name: &str,
+    lines: &mut Lines,
+) -> Result<()>
+    requires { IsValid site.now }
+{
+    let bytes = fs::read(rt, name).context(format_args!("reading {name}"))?;
+    match import_csv(rt.alloc(), site, keeper, &bytes) {
+        Ok(imported) => {
+            lines.count("imported visits ", imported.visits as u64);
+            lines.count(" tests ", imported.tests as u64);
+        }
+        Err(refusal) => say_import_refusal(lines, refusal),
     }
     Ok(())
 }

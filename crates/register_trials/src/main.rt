@@ -1,4 +1,4 @@
-//! Trials of the service register over keepers in memory.
+//! Trials of the service register and of imports over keepers in memory.
 //!
 //! `Kind` of src/kind has the kinds of cases, and the head of trial_cases how a list of cases is written.
 #![tactic(auto)]
@@ -23,7 +23,7 @@ fn answer(rt: &HostRuntime, kind: Kind, case: &Case) -> Result<String> {
     let alloc = rt.alloc();
     let site = site_at(rt, case.subject)?;
     match kind {
-        Kind::Calls => make_calls(alloc, &site, case.rest),
+        Kind::Calls => make_calls(rt, &site, case.rest),
         Kind::DrawnCalls => try_calls(alloc, &site, case.rest),
     }
 }

@@ -1,5 +1,6 @@
 //! What a call answers, in words.
 
+use register_import::ImportRefusal;
 use service_register::RegisterRefusal;
 use site_types::Site;
 use trial_cases::{Lines, say_point};
@@ -17,6 +18,18 @@ pub(crate) fn say_refusal(lines: &mut Lines, refusal: RegisterRefusal) {
         RegisterRefusal::NoSuchVisit => lines.say("no such visit"),
         RegisterRefusal::KeeperFault => lines.say("keeper fault"),
         RegisterRefusal::NoMemory => lines.say("no memory"),
+    }
+}
+
+/// Why a file isn't imported.
+pub(crate) fn say_import_refusal(lines: &mut Lines, refusal: ImportRefusal) {
+    match refusal {
+        ImportRefusal::Row { row, why } => {
+            lines.count("refused row ", row);
+            lines.count(" ", why as u64);
+        }
+        ImportRefusal::KeeperFault => lines.say("keeper fault"),
+        ImportRefusal::NoMemory => lines.say("no memory"),
     }
 }
 
