@@ -1,0 +1,126 @@
+//! Calls of a register, one behind the other, and what each answers.
+
+ghost use Rattle.site_types.specs.Valid.{IsValid};
+
+use crate::telling::{say_import_refusal, say_points, say_refusal, say_table};
+use anyhow::{Context, Result, bail};
+use register_import::import_csv;
+use service_keepers::{Keeper, MemoryKeeper, Visit};
+use service_register::{Register, RegisterRefusal};
+use site_types::{Site, read_name};
+use std::alloc::Global;
+use std::fs;
+use trial_cases::{Lines, Words};
+
+/// What each call answers over a keeper of which steps say which of its calls fail: `fails 3, visit 7 20000 kim`. A
+/// step `import FILE` imports a file.
+pub(crate) fn make_calls(rt: &HostRuntime, site: &Site, line: &str) -> Result<String>
+    requires { IsValid site.now }
+{
+    let alloc = rt.alloc();
+    let Ok(register) = Register::new(alloc, site) else {
+        bail!("no memory");
+    };
+    let Ok(mut keeper) = MemoryKeeper::new(alloc, Vec::new(alloc)) else {
+        bail!("no memory");
+    };
+    let mut lines = Lines::new(alloc);
+    for step in line.split(", ") {
+        match step.strip_prefix("fails ") {
+            Some(number) => keeper.fails.push(number.parse::<u64>()?)?,
+            None => {
+                lines.say("    ");
+                lines.say(step);
+                lines.say(": ");
+                match step.strip_prefix("import ") {
+                    Some(name) => import(rt, site, &mut keeper, name, &mut lines)?,
+                    None => make_call(alloc, site, &register, &mut keeper, step, &mut lines)?,
+                }
+                lines.say("\n");
+            }
+        }
+    }
+    lines.done()
+}
+
+/// Makes the call that a step spells, and says what it answers.
+pub(crate) fn make_call<R: Keeper>(
+    alloc: Global,
+    site: &Site,
+    register: &Register,
+    keeper: &mut R,
+    step: &str,
+    lines: &mut Lines,
+) -> Result<()> {
+    let mut words = Words::of(step);
+    match words.next() {
+        "visit" => say_done(lines, register.visit(alloc, keeper, &visit_of(&mut words)?)),
+        "tested" => {
+            let visit = words.next().parse::<u32>()?;
+            say_done(lines, register.tested(alloc, keeper, visit, words.next()));
+        }
+        "untested" => match register.untested_since(alloc, keeper, words.next().parse::<u32>()?) {
+            Ok(places) => say_points(lines, site, &places),
+            Err(refusal) => say_refusal(lines, refusal),
+        },
+        "export" => match export_since(alloc, register, keeper, words.next().parse::<u32>()?) {
+            Ok(table) => say_table(lines, &table),
+            Err(refusal) => say_refusal(lines, refusal),
+        },
+        _ => bail!("no such call: {step}"),
+    }
+    Ok(())
+}
+
+// Imports a file, and says how much it has or why it is refused.
+fn import<R: Keeper>(
+    rt: &HostRuntime,
+    site: &Site,
+    keeper: &mut R,
+    name: &str,
+    lines: &mut Lines,
+) -> Result<()>
+    requires { IsValid site.now }
+{
+    let bytes = fs::read(rt, name).context(format_args!("reading {name}"))?;
+    match import_csv(rt.alloc(), site, keeper, &bytes) {
+        Ok(imported) => {
+            lines.count("imported visits ", imported.visits as u64);
+            lines.count(" tests ", imported.tests as u64);
+        }
+        Err(refusal) => say_import_refusal(lines, refusal),
+    }
+    Ok(())
+}
+
+// The visit that words spell: its number, its day and the engineer.
+fn visit_of(words: &mut Words) -> Result<Visit> {
+    let number = words.next().parse::<u32>()?;
+    let day = words.next().parse::<u32>()?;
+    match read_name(words.next().as_bytes()) {
+        Some(engineer) => Ok(Visit {
+            number,
+            day,
+            engineer,
+        }),
+        None => bail!("no engineer"),
+    }
+}
+
+// The table of the points that haven't been tested since a day.
+fn export_since<R: Keeper>(
+    alloc: Global,
+    register: &Register,
+    keeper: &mut R,
+    day: u32,
+) -> Result<Vec<u8>, RegisterRefusal> {
+    let places = register.untested_since(alloc, keeper, day)?;
+    register.export_csv(alloc, keeper, &places)
+}
+
+fn say_done(lines: &mut Lines, done: Result<(), RegisterRefusal>) {
+    match done {
+        Ok(()) => lines.say("ok"),
+        Err(refusal) => say_refusal(lines, refusal),
+    }
+}

@@ -1,0 +1,14 @@
+/// What a case tries.
+#[derive(Clone, Copy)]
+pub(crate) enum Kind {
+    /// What the register answers to calls, where some calls of its keeper fail.
+    Calls,
+    /// Drawn calls of which some fail and are made again, against a keeper that never fails.
+    DrawnCalls,
+}
+
+/// The kinds by name.
+pub(crate) const KINDS: [(&str, Kind); 2] = [
+    ("calls", Kind::Calls),
+    ("drawn-calls", Kind::DrawnCalls),
+];

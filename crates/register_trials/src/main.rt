@@ -1,0 +1,29 @@
+//! Trials of the service register and of imports over keepers in memory.
+//!
+//! `Kind` of src/kind has the kinds of cases, and the head of trial_cases how a list of cases is written.
+#![tactic(auto)]
+
+mod calls;
+mod drawn_calls;
+mod kind;
+mod telling;
+
+use anyhow::Result;
+use calls::make_calls;
+use drawn_calls::try_calls;
+use kind::{KINDS, Kind};
+use std::process::ExitCode;
+use trial_cases::{Case, answer_cases, site_at};
+
+fn main(rt: HostRuntime) -> Result<ExitCode> {
+    answer_cases(&rt, &KINDS, |kind, case| answer(&rt, kind, case))
+}
+
+fn answer(rt: &HostRuntime, kind: Kind, case: &Case) -> Result<String> {
+    let alloc = rt.alloc();
+    let site = site_at(rt, case.subject)?;
+    match kind {
+        Kind::Calls => make_calls(rt, &site, case.rest),
+        Kind::DrawnCalls => try_calls(alloc, &site, case.rest),
+    }
+}

@@ -1,0 +1,2 @@
+-- what a row behind the others makes of a table, and the days of a point
+pub mod TableLaws

@@ -1,0 +1,5 @@
+pub mod Keeping
+pub mod MemoryCalls
+pub mod MemoryRows
+pub mod Rows
+pub mod Tables
