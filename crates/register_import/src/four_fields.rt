@@ -17,17 +17,17 @@ impl<'a> FourFields<'a> {
     ghost use Rattle.register_import.specs.Views.{four_view};
 
     // The fields of a record, if there are four.
-    pub(crate) fn of(record: &'a ByteRecord) -> Option<FourFields<'a>>
-        ensures { option_map four_view result ≡ four (fields_of record.now) }
+    pub(crate) fn of(line: &'a ByteRecord) -> Option<FourFields<'a>>
+        ensures { option_map four_view result ≡ four (fields_of line.now) }
     {
-        if record.len() != 4 {
+        if line.len() != 4 {
             return None;
         }
         Some(FourFields {
-            visit: record.get(0)?,
-            day: record.get(1)?,
-            engineer: record.get(2)?,
-            point: record.get(3)?,
+            visit: line.get(0)?,
+            day: line.get(1)?,
+            engineer: line.get(2)?,
+            point: line.get(3)?,
         })
     }
 

@@ -21,11 +21,11 @@ impl ImportRow {
     ghost use Rattle.register_import.specs.Views.{four_view, read_view};
 
     // The row that a record spells, or why it is refused.
-    pub(crate) fn read(site: &Site, record: &ByteRecord) -> Result<ImportRow, u8>
+    pub(crate) fn read(site: &Site, line: &ByteRecord) -> Result<ImportRow, u8>
         requires { IsValid site.now }
-        ensures { read_view result ≡ row_spelled site.now (four (fields_of record.now)) }
+        ensures { read_view result ≡ row_spelled site.now (four (fields_of line.now)) }
     {
-        match FourFields::of(record) {
+        match FourFields::of(line) {
             Some(fields) => ImportRow::spelled(site, &fields),
             None => Err(BAD_FORM),
         }

@@ -48,10 +48,10 @@ pub(crate) fn judge_file<R: Keeper>(
 }
 
 // Whether a record is the header.
-fn is_header(record: &ByteRecord) -> bool
-    ensures { result ≡ has_header (four (fields_of record.now)) }
+fn is_header(line: &ByteRecord) -> bool
+    ensures { result ≡ has_header (four (fields_of line.now)) }
 {
-    match FourFields::of(record) {
+    match FourFields::of(line) {
         Some(fields) => fields.are(b"visit", b"day", b"engineer", b"point"),
         None => false,
     }
@@ -89,21 +89,21 @@ fn judge_row<R: Keeper>(
     site: &Site,
     keeper: &mut R,
     before: &mut SoundMemoryKeeper,
-    record: &ByteRecord,
+    line: &ByteRecord,
     number: u64,
 ) -> Result<ImportRow, ImportRefusal>
     requires { IsValid site.now }
     ensures ok { IfOk result (λ row. IfSome (R.tables keeper.old)
         (λ kept. judged_by kept (tables_of before.old.tables)
-        (row_spelled site.now (four (fields_of record.now))) ≡ Ok (row_view row))) }
+        (row_spelled site.now (four (fields_of line.now))) ≡ Ok (row_view row))) }
     ensures err { IfErr result (λ refusal. IfSome (R.tables keeper.old)
         (λ kept. RefusesRow number (judged_by kept (tables_of before.old.tables)
-        (row_spelled site.now (four (fields_of record.now)))) refusal)) }
+        (row_spelled site.now (four (fields_of line.now)))) refusal)) }
     ensures same { R.tables keeper.new ≡ R.tables keeper.old }
     ensures before { tables_of before.new.tables ≡ tables_of before.old.tables }
     ensures cause { HasImportCause (R.faults keeper.old) (R.faults keeper.new) result }
 {
-    match ImportRow::read(site, record) {
+    match ImportRow::read(site, line) {
         Ok(row) => {
             if differs(&row.visit, before.find_visit(row.visit.number)?)
                 || differs(&row.visit, keeper.find_visit(row.visit.number)?)
