@@ -12,8 +12,8 @@
 //! [`System::heard`] tells how new the word is that a panel keeps of another. Effect goes by the words that its
 //! panel keeps and asks for outputs, and Drive switches them. [`System::turns`] takes the journal: Keep commits the
 //! entries into the fire alarm condition that aren't kept yet and the operations that wait, in one batch, and after a
-//! failure it tries again in the next tick. [`System::face`] tells what a panel shows of its own; the zones of other
-//! panels and the settings aren't in it yet.
+//! failure it tries again in the next tick. [`System::face`] is all that a panel shows, the zones of other panels by
+//! the words that it keeps of them.
 //!
 //! Within a panel two lanes join Poll, Decide and Hold; they never hold more than 64 items, so no turn has an
 //! answer for a full lane.
