@@ -3,22 +3,23 @@ ghost use Rattle.panel_edges.specs.Faults.{HasCause};
 
 use crate::disks::Disk;
 use crate::failed::Failed;
-use std::fs::{OpenFile, OpenOptions};
+use std::fs::{File, OpenFile, OpenOptions};
 use std::io;
-use std::io::{Read, Seek, SeekFrom, Write};
+use std::io::{ErrorKind, Read, Seek, SeekFrom, Write};
 use std::rt::Files;
 
-/// A file of the system, by its path. It is opened at the first call, and made where there is none. It tells nothing of
-/// its bytes nor of what a crash may leave.
+/// A file of the system, by its path. It is opened at the first call and locked against every other open of it; a lock
+/// that another one holds counts as a fault. Where there is no such file it is made, and its folder synced. It tells
+/// nothing of its bytes nor of what a crash may leave.
 #[derive(Drop)]
-pub struct FileDisk<R: Files + Drop> {
+pub struct FileDisk<R: Files<File = File> + Drop> {
     rt: R,
     path: String,
-    file: Option<R::File>,
+    file: Option<File>,
     faults: u64,
 }
 
-impl<R: Files + Drop> FileDisk<R> {
+impl<R: Files<File = File> + Drop> FileDisk<R> {
     pub fn at(rt: R, path: String) -> FileDisk<R>
         ensures { result.faults ≡ 0 }
     {
@@ -61,22 +62,51 @@ impl<R: Files + Drop> FileDisk<R> {
 }
 
 // The open file, which the first call opens.
-fn opened<'a, R: Files>(
+fn opened<'a, R: Files<File = File>>(
     rt: &R,
     path: &str,
-    file: &'a mut Option<R::File>,
-) -> io::Result<&'a mut R::File> {
+    file: &'a mut Option<File>,
+) -> io::Result<&'a mut File> {
     if file.is_none() {
-        let made = OpenOptions::new()
-            .read(true)
-            .write(true)
-            .create(true)
-            .open(rt, path)?;
-        *file = Some(made);
+        *file = Some(locked(rt, path)?);
     }
     match file {
         Some(file) => Ok(file),
         None => unreachable!(),
+    }
+}
+
+// The file of that path, which nobody else has locked.
+fn locked<R: Files<File = File>>(rt: &R, path: &str) -> io::Result<File> {
+    let file = match OpenOptions::new().read(true).write(true).open(rt, path) {
+        Ok(file) => file,
+        Err(error) if error.kind() == ErrorKind::NotFound => made(rt, path)?,
+        Err(error) => return Err(error),
+    };
+    file.try_lock()?;
+    Ok(file)
+}
+
+// A new file of that path. Its folder is synced where the system lets it be opened, so that the file is found after a
+// power cut.
+fn made<R: Files<File = File>>(rt: &R, path: &str) -> io::Result<File> {
+    let file = OpenOptions::new()
+        .read(true)
+        .write(true)
+        .create(true)
+        .open(rt, path)?;
+    if let Ok(folder) = OpenOptions::new().read(true).open(rt, folder_of(path)) {
+        let _ = folder.sync_all();
+    }
+    Ok(file)
+}
+
+// The folder in which a path lies.
+fn folder_of(path: &str) -> &str {
+    match path.rsplit_once('/') {
+        Some(("", _)) => "/",
+        Some((folder, _)) => folder,
+        None => ".",
     }
 }
 
@@ -93,7 +123,7 @@ fn told<T: Drop>(faults: &mut u64, done: io::Result<T>) -> Result<T, Failed>
     }
 }
 
-impl<R: Files + Drop> Disk for FileDisk<R> {
+impl<R: Files<File = File> + Drop> Disk for FileDisk<R> {
     ghost seen = { λ d. None };
 
     ghost honest = { λ d. ⊥ };

@@ -66,9 +66,11 @@ fn a_real_file_is_written_synced_and_read_back(rt: HostRuntime) -> Result<(), Fa
     assert_eq!(rt; sound.bytes.as_slice(), b"dfddbbcceeee".as_slice());
     // Past the end.
     assert_eq!(rt; real.read_at(1, &mut bytes), Err(Failed));
-    // What another disk over the same file reads.
+    // Another disk over the same file finds it locked, and reads it once the first one is gone.
     let mut again = FileDisk::at(&rt, path.clone()?);
     let mut four = [0u8; 4];
+    assert_eq!(rt; again.read_at(8, &mut four), Err(Failed));
+    drop(real);
     assert_eq!(rt; again.read_at(8, &mut four), Ok(()));
     assert_eq!(rt; four.as_slice(), b"eeee".as_slice());
     fs::remove_file(&rt, path.as_str())?;
