@@ -1,4 +1,6 @@
 -- the ticks of a record, and what had befallen up to one
 pub mod TickTimes
--- the text
+-- the laws
 pub mod WholeTexts
+pub mod PromisesHold
+pub mod FailuresCounted

@@ -38,7 +38,7 @@ tick_moments (tick ∷ ticks) =
 
 -- ---- what had befallen before is past
 
-turns_past : (failed : Bool) (seats : List Seat) (before : List Moment) → IsPast before (and_turns failed seats before)
+pub turns_past : (failed : Bool) (seats : List Seat) (before : List Moment) → IsPast before (and_turns failed seats before)
 turns_past failed [] before = present
 turns_past failed (seat ∷ seats) before =
     let turn = turn_of failed seat.panel seat.task in
