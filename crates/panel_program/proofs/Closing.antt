@@ -1,53 +1,69 @@
 -- What is written when a tick is closed.
-use Rattle.std.proofs.Common.{◌≡◌, ◌∙◌, ◌+◌, ◌++◌, ℕ, true, List, ◌∷◌, length, Option, Some, None, sym, ap, arith, subst}
+use Rattle.std.proofs.Common.{◌≡◌, ◌∙◌, ◌+◌, ◌-◌, ◌^◌, ◌<◌, ◌++◌, ℕ, Bool, true, false, List, [], ◌∷◌, length, Option, Some, None, refl, sym, ap, arith, subst}
 use Rattle.site_types.specs.declared.site.Site.{Site}
-use Rattle.panel_rules.specs.Moments.{TickBlock, moments}
+use Rattle.site_types.specs.declared.retained.Retained.{Retained}
+use Rattle.face_text.specs.declared.answers.Answers.{Answers}
+use Rattle.panel_core.specs.Changes.{AnswersAsRuled}
+use Rattle.panel_rules.specs.Moments.{Moment, TickBlock, moments, tick_of}
+use Rattle.panel_rules.specs.Timeline.{answers_now, failed_now, faces_of, told}
+use Rattle.panel_rules.proofs.RecordRuns.{records_are_runs}
+use Rattle.panel_laws.specs.FormLaws.{CanBeTold}
+use Rattle.panel_laws.proofs.EventsOfSite.{of_site}
 use Rattle.panel_program.specs.declared.run.Run.{Run}
+use Rattle.panel_program.specs.Acting.{Closes, MakesTick}
+use Rattle.panel_program.specs.Pages.{written_text}
 use Rattle.panel_program.specs.Records.{Block, Progress, ticked, closed, closed_by}
-use Rattle.panel_program.specs.Stands.{Stands, ClosesBy, after_close}
-use Rattle.panel_program.specs.Ticks.{text_of, tick_text}
-use Rattle.panel_program.specs.Zones.{shown_after}
+use Rattle.panel_program.specs.Stands.{Stands, after_close}
+use Rattle.run_text.specs.SoFar.{text_so_far, tick_text}
+use Rattle.panel_program.proofs.Answered.{same_answers}
+use Rattle.run_text.proofs.TickTimes.{tick_moments}
 use Rattle.panel_program.proofs.Stood.{not_open}
 
-closes_open_by : (site : Site) (ticks : List TickBlock) (o : Option Block) (old run : Run) → Stands site (record { run = ticks; block = o }) old
-    → old.is_open ≡ true → ClosesBy site (record { run = ticks; block = o }) o run
-    → Stands site (record { run = closed_by o ticks; block = None }) run
-closes_open_by site ticks None old run h open_is closes = not_open (sym open_is ∙ h.open_is)
-closes_open_by site ticks (Some block) old run h open_is closes = closes
+module _ (site : Site) (kept : Retained) (run : Run) (answers : Answers) (told_so : AnswersAsRuled run.system answers) (after : List TickBlock) (h :
+    Stands site kept (record { run = after; block = None }) run) where
+  can_be_told : CanBeTold site kept (moments after)
+  can_be_told =
+      let short = h.short in
+      record {
+        valid = h.valid;
+        run = (records_are_runs site.panels after h.ordered).0;
+        of_site = of_site site (moments after) h.system.events;
+        counters = h.counters;
+        few = omega (arith, short);
+      }
 
--- an open tick was closed
-pub closes_open : (site : Site) (p : Progress) (old run : Run) → Stands site p old → old.is_open ≡ true → ClosesBy site p p.block run
-    → Stands site (after_close p) run
-closes_open site p old run h open_is closes = closes_open_by site p.run p.block old run h open_is closes
-
--- the text of a tick is what the text of all ticks has more
-pub record More (site : Site) (before after : List TickBlock) (text : List ℕ) : Type 0 where
-  pub is : text_of site after ≡ text_of site before ++ text
-
-closed_more_by : (site : Site) (ticks : List TickBlock) (o : Option Block) (old run : Run) → Stands site (record { run = ticks; block = o }) old
-    → old.is_open ≡ true → ClosesBy site (record { run = ticks; block = o }) o run
-    → More site ticks (closed_by o ticks) (tick_text site run.ticks old.shown run.shown)
-closed_more_by site ticks None old run h open_is closes = not_open (sym open_is ∙ h.open_is)
-closed_more_by site ticks (Some block) old run h open_is closes =
-    let count = closes.count in
-    let number : run.ticks ≡ length ticks + 1 = omega (arith, count) in
-    let text : tick_text site run.ticks old.shown run.shown ≡ tick_text site (length ticks + 1) (shown_after site (moments ticks))
-    (shown_after site (moments (ticked block ∷ ticks))) =
-    ap (λ n. tick_text site n old.shown run.shown) number ∙ ap (λ s. tick_text site (length ticks + 1) s run.shown) h.shown ∙ ap
-    (λ s. tick_text site (length ticks + 1) (shown_after site (moments ticks)) s) closes.shown
-    in
-    record { is = ap (λ xs. text_of site ticks ++ xs) (sym text) }
-
-pub closed_more : (site : Site) (p : Progress) (old run : Run) → Stands site p old → old.is_open ≡ true → ClosesBy site p p.block run
-    → More site p.run (closed p) (tick_text site run.ticks old.shown run.shown)
-closed_more site p old run h open_is closes = closed_more_by site p.run p.block old run h open_is closes
+  -- what is written of a tick is the text of the rules
+  text_is : (before : List TickBlock) → run.next.items ≡ faces_of site kept (moments before)
+      → written_text site run.ticks run.next.items run.shown.items answers ≡ tick_text site kept (moments before) (moments after)
+  text_is before shown_before =
+      let number = h.count ∙ sym (tick_moments after) in
+      let is = told_so site kept (moments after) h.system in
+      ap (λ n. written_text site n run.next.items run.shown.items answers) number
+      ∙ ap (λ fs. written_text site (tick_of (moments after)) fs run.shown.items answers) shown_before
+      ∙ ap (λ fs. written_text site (tick_of (moments after)) (faces_of site kept (moments before)) fs answers) h.shown
+      ∙ ap (λ a. written_text site (tick_of (moments after)) (faces_of site kept (moments before)) (faces_of site kept (moments after)) a) is
+      ∙ same_answers site kept (moments before) (moments after) can_be_told
 
 -- what was written of a tick is what the text of all ticks has more
-pub told_more : (Wrote : List ℕ → Type 0) (site there : Site) (p : Progress) (old run : Run) → Stands site p old → old.is_open ≡ true
-    → ClosesBy site p p.block run → there ≡ site → Wrote (tick_text there run.ticks old.shown run.shown)
-    → (more : List ℕ) × (text_of site (closed p) ≡ text_of site p.run ++ more) × Wrote more
-told_more Wrote site there p old run h open_is closes same wrote = (
-  tick_text site run.ticks old.shown run.shown,
-  (closed_more site p old run h open_is closes).is,
-  subst (λ s. Wrote (tick_text s run.ticks old.shown run.shown)) same wrote,
-)
+abbrev pub Told : (List ℕ → Type 0) → Site → Retained → List TickBlock → List TickBlock → Type 0
+Told Wrote site kept before after = (more : List ℕ) × (text_so_far site kept after ≡ text_so_far site kept before ++ more) × Wrote more
+
+module _ (Wrote : List ℕ → Type 0) (site there : Site) (kept : Retained) (old run : Run) (answers : Answers) (told_so :
+    AnswersAsRuled run.system answers) (same : there ≡ site) (wrote :
+    Wrote (written_text there run.ticks run.next.items run.shown.items answers)) where
+  told_by : (ticks : List TickBlock) (o : Option Block) → Stands site kept (record { run = ticks; block = o }) old → old.is_open ≡ true
+      → (made : MakesTick site kept (record { run = ticks; block = o }) old run) → Told Wrote site kept ticks (closed_by made.failed o ticks)
+  told_by ticks None h open_is made = not_open (sym open_is ∙ h.open_is)
+  told_by ticks (Some block) h open_is made =
+      let after = ticked made.failed block ∷ ticks in (
+        tick_text site kept (moments ticks) (moments after),
+        refl,
+        subst Wrote
+            (ap (λ s. written_text s run.ticks run.next.items run.shown.items answers) same
+            ∙ text_is site kept run answers told_so after made.stands ticks (made.before ∙ h.shown)) wrote,
+      )
+
+  pub told_more : (p : Progress) → Stands site kept p old → old.is_open ≡ true → MakesTick site kept p old run
+      → Closes (λ failed. Told Wrote site kept p.run (closed failed p)) site kept p run
+  told_more p h open_is made =
+      record { failed = made.failed; stands = made.stands; wrote = told_by p.run p.block h open_is made }

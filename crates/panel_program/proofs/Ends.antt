@@ -1,7 +1,6 @@
 -- How bytes end a run, by those that were read.
 use Rattle.std.proofs.Common.{◌≡◌, ◌∙◌, ◌+◌, ◌-◌, ◌<◌, ◌≤◌, ◌++◌, ℕ, true, false, List, [], length, take, Some, if◌then◌else◌, refl, sym, ap, subst, arith, append-nil}
 use Rattle.std.specs.Prelude.{nat_lt}
-use Rattle.std.specs.List.{list_all}
 use Rattle.std.proofs.Math.Seq.{take-append-add}
 use Rattle.std.proofs.lemmas.List.{take_all, take-append-le}
 use Rattle.std.proofs.lemmas.Bool.Decides.{nat_tests}
@@ -12,13 +11,12 @@ use Rattle.record_lines.specs.declared.over.Over.{Over}
 use Rattle.record_lines.specs.declared.over.Over.TheVariants.{Ended as OverEnded, Refused as OverRefused}
 use Rattle.record_lines.specs.declared.why.Why.TheVariants.{Truncated}
 use Rattle.panel_program.specs.declared.run_end.RunEnd.{RunEnd}
-use Rattle.panel_program.specs.declared.run_end.RunEnd.TheVariants.{Ended, Refused, NotBuilt, TooManyBytes, ReadFault}
-use Rattle.panel_program.specs.Records.{is_built, built_lines, progress_of, ticks_run}
-use Rattle.panel_program.specs.Endings.{end_of, end_in, end_by, end_without, number_behind, within_limit}
+use Rattle.panel_program.specs.declared.run_end.RunEnd.TheVariants.{Ended, Refused, TooManyBytes, ReadFault}
+use Rattle.panel_program.specs.Records.{progress_of, ticks_run}
+use Rattle.panel_program.specs.Endings.{end_of, end_in, end_by, end_without, within_limit}
 use Rattle.panel_program.specs.Stands.{EndsAt, IsGoing}
 use Rattle.panel_program.specs.Runs.{EndsRun}
 use Rattle.panel_program.proofs.Growths.{Grown, grown}
-use Rattle.panel_program.proofs.Progresses.{built_stays}
 
 -- within the limit these bytes go on with some of the rest
 pub record Within (bytes consumed : List ℕ) : Type 0 where
@@ -48,39 +46,20 @@ module _ (site : Site) (bytes consumed rest : List ℕ) (whole : bytes ≡ consu
 
   -- the reading was over
   over_whole : (over : Over) (end : RunEnd) → ((count number : ℕ) → end_by count number (Some over) ≡ end)
-      → (reading_of site consumed).ending ≡ Some over → list_all is_built (reading_of site consumed).lines ≡ true
+      → (reading_of site consumed).ending ≡ Some over
       → (end ≡ end_of site bytes) × (ticks_run site consumed ≡ ticks_run site (within_limit bytes))
-  over_whole over end by is all =
+  over_whole over end by is =
       let same : reading_of site (within_limit bytes) ≡ reading_of site consumed = behind.stays over is in
       let count = length (within_limit bytes) in
       let number = (reading_of site consumed).number in (
-        sym (by count number)
-            ∙ ap (end_by count number) (sym is)
-            ∙ sym (ap (λ b. if b then end_by count number (reading_of site consumed).ending else NotBuilt (number_behind (built_lines (reading_of site consumed).lines))) all)
-            ∙ ap (end_in count) (sym same),
-        ap (λ (r : Reading). (progress_of site (built_lines r.lines)).run) (sym same),
-      )
-
-  -- a line came that no part takes
-  stopped_whole : (line : ℕ) → list_all is_built (reading_of site consumed).lines ≡ false
-      → line ≡ number_behind (built_lines (reading_of site consumed).lines) → (NotBuilt line ≡ end_of site bytes)
-      × (ticks_run site consumed ≡ ticks_run site (within_limit bytes))
-  stopped_whole line not_all is =
-      let lines = (reading_of site consumed).lines in
-      let stays = built_stays lines behind.more not_all in
-      let all : list_all is_built (reading_of site (within_limit bytes)).lines ≡ false = ap (list_all is_built) behind.lines ∙ stays.0 in
-      let built : built_lines (reading_of site (within_limit bytes)).lines ≡ built_lines lines = ap built_lines behind.lines ∙ stays.1 in
-      let r = reading_of site (within_limit bytes) in (
-        ap NotBuilt is ∙ ap (λ ls. NotBuilt (number_behind ls)) (sym built) ∙ sym
-            (ap (λ b. if b then end_by (length (within_limit bytes)) r.number r.ending else NotBuilt (number_behind (built_lines r.lines))) all),
-        ap (λ ls. (progress_of site ls).run) (sym built),
+        sym (by count number) ∙ ap (end_by count number) (sym is) ∙ ap (end_in count) (sym same),
+        ap (λ (r : Reading). (progress_of site r.lines).run) (sym same),
       )
 
   -- these bytes end a run, and so do all that there are
   pub ends_whole : (end : RunEnd) → EndsAt site consumed end → EndsRun site bytes consumed end
-  ends_whole Ended h = over_whole OverEnded Ended (λ count number. refl) h.0 h.1
-  ends_whole (Refused refusal) h = over_whole (OverRefused refusal) (Refused refusal) (λ count number. refl) h.0 h.1
-  ends_whole (NotBuilt line) h = stopped_whole line h.0 h.1
+  ends_whole Ended h = over_whole OverEnded Ended (λ count number. refl) h
+  ends_whole (Refused refusal) h = over_whole (OverRefused refusal) (Refused refusal) (λ count number. refl) h
   ends_whole TooManyBytes h = absurd h
   ends_whole ReadFault h = absurd h
 
@@ -90,9 +69,7 @@ going_whole : (site : Site) (bytes consumed : List ℕ) → within_limit bytes �
     × (ticks_run site consumed ≡ ticks_run site (within_limit bytes))
 going_whole site bytes consumed is going =
     let r = reading_of site consumed in (
-      ap (end_by (length consumed) r.number) (sym going.going)
-          ∙ sym (ap (λ b. if b then end_by (length consumed) r.number r.ending else NotBuilt (number_behind (built_lines r.lines))) going.built)
-          ∙ ap (λ xs. end_in (length xs) (reading_of site xs)) (sym is),
+      ap (end_by (length consumed) r.number) (sym going) ∙ ap (λ xs. end_in (length xs) (reading_of site xs)) (sym is),
       ap (ticks_run site) (sym is),
     )
 

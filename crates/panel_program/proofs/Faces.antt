@@ -1,13 +1,36 @@
--- The lines of what changed, from the faces that show it.
-use Rattle.std.proofs.Common.{◌≡◌, ◌∙◌, ap}
+-- The lines of what changed, panel by panel.
+use Rattle.std.proofs.Common.{◌≡◌, ◌∙◌, ◌+◌, ◌++◌, ℕ, zero, suc, List, [], ◌∷◌, length, take, drop, Some, None, slice_get, refl, sym, ap, append_assoc, append-nil}
 use Rattle.site_types.specs.declared.site.Site.{Site}
 use Rattle.face_text.specs.declared.face.Face.{Face}
-use Rattle.face_text.specs.Changes.{changes_text as lines_of_changes}
-use Rattle.panel_program.specs.declared.shown.Shown.{Shown}
-use Rattle.panel_program.specs.Zones.{changes_text, face_of}
+use Rattle.face_text.specs.Changes.{changes_text}
+use Rattle.face_text.specs.Timelines.{faces_text}
 
-pub changes_are : (site : Site) (before after : Shown) (old new : Face) → old ≡ face_of before → new ≡ face_of after
-    → lines_of_changes site old new ≡ changes_text site before after
-unfolding changes_text
-changes_are site before after old new b a =
-    ap (λ (face : Face). lines_of_changes site face new) b ∙ ap (λ (face : Face). lines_of_changes site (face_of before) face) a
+some_is : (a b : Face) → Some a ≡ Some b → a ≡ b
+some_is a b e = cc
+
+-- one panel more
+pub faces_next : (site : Site) (before after : List Face) (k : ℕ) (old new : Face) → slice_get before k ≡ Some old → slice_get after k ≡ Some new
+    → faces_text site (take (k + 1) before) (take (k + 1) after) ≡ faces_text site (take k before) (take k after) ++ changes_text site old new
+faces_next site [] after k old new b a = absurd (let e = b in cc)
+faces_next site (x ∷ before) [] k old new b a = absurd (let e = a in cc)
+faces_next site (x ∷ before) (y ∷ after) zero old new b a =
+    let one = some_is x old b in
+    let other = some_is y new a in
+    append-nil (changes_text site x y) ∙ ap (λ f. changes_text site f y) one ∙ ap (λ f. changes_text site old f) other
+faces_next site (x ∷ before) (y ∷ after) (suc k) old new b a =
+    ap (λ xs. changes_text site x y ++ xs) (faces_next site before after k old new b a)
+    ∙ sym (append_assoc (changes_text site x y) (faces_text site (take k before) (take k after)) (changes_text site old new))
+
+none_left : (site : Site) (faces : List Face) → faces_text site faces [] ≡ []
+none_left site [] = refl
+none_left site (x ∷ faces) = refl
+
+-- those of some panels, and of the others
+pub faces_split : (site : Site) (before after : List Face) (k : ℕ)
+    → faces_text site before after ≡ faces_text site (take k before) (take k after) ++ faces_text site (drop k before) (drop k after)
+faces_split site before after zero = refl
+faces_split site [] after (suc k) = refl
+faces_split site (x ∷ before) [] (suc k) = sym (none_left site (drop k before))
+faces_split site (x ∷ before) (y ∷ after) (suc k) =
+    ap (λ xs. changes_text site x y ++ xs) (faces_split site before after k)
+    ∙ sym (append_assoc (changes_text site x y) (faces_text site (take k before) (take k after)) (faces_text site (drop k before) (drop k after)))

@@ -1,5 +1,5 @@
 -- The numbers of lines and ticks of what is read.
-use Rattle.std.proofs.Common.{◌≡◌, ◌∙◌, ◌+◌, ◌-◌, ◌++◌, ◌==◌, ◌^◌, ℕ, Bool, true, false, min, List, [], ◌∷◌, length}
+use Rattle.std.proofs.Common.{◌≡◌, ◌∙◌, ◌+◌, ◌-◌, ◌++◌, ◌==◌, ◌^◌, ◌≤◌, ℕ, Bool, true, false, min, List, [], ◌∷◌, length}
 use Rattle.std.proofs.Common.{Option, Some, None, Result, Ok, Err, if◌then◌else◌, refl, sym, ap, subst, arith}
 use Rattle.std.proofs.Common.{length-append}
 use Rattle.std.specs.Prelude.{nat_le}
@@ -17,14 +17,17 @@ use Rattle.record_lines.specs.Forms.{Form, TickForm, OfEvent, OrderForm, EndForm
 use Rattle.record_lines.specs.Seats.{order_of, seats_of}
 use Rattle.site_types.specs.Numbers.{number_of}
 use Rattle.record_lines.specs.Judged.{judged, judged_as, content_of, may_stand, tick_as, ordered, event_in}
-use Rattle.record_lines.specs.Lines.{Reading, at_start, by_bytes, by_ending, byte_refusal, cut, lines_read, next_line, next_number, reading_of, refused_rest, rest_by_ending, stands_behind, verdict}
+use Rattle.record_lines.specs.Lines.{Cut, Reading, at_start, begun, by_bytes, by_ending, byte_refusal, cut, lines_read, next_line, next_number, reading_of, refused_rest, rest_by_ending, stands_behind, verdict, with_byte}
 use Rattle.record_lines.specs.declared.line.Line.{Line}
 use Rattle.record_lines.specs.declared.line.Line.TheVariants.{Tick, Event as EventLine, Order, End}
 use Rattle.record_lines.specs.declared.over.Over.{Over}
 use Rattle.record_lines.specs.declared.ticks_so_far.TicksSoFar.{TicksSoFar}
 use Rattle.record_lines.specs.declared.why.Why.{Why}
-use Rattle.panel_program.specs.Endings.{number_behind}
 use Rattle.panel_program.specs.Stands.{IsNext}
+
+-- the number of the line behind so many; it stays at the greatest of 64 bits
+abbrev pub number_behind : List Line → ℕ
+number_behind lines = min (length lines + 1) (2 ^ 64 - 1)
 
 -- how many ticks begin in some lines
 abbrev pub tick_count : List Line → ℕ
@@ -165,3 +168,62 @@ counted site bytes =
 -- the line behind those of a reading is the next one
 pub next_of : (lines more : List Line) (line : Line) → more ≡ lines ++ line ∷ [] → AreNumbered 0 more → IsNext line (tick_count lines)
 next_of lines more line e h = subst (IsNext line) (omega arith) (numbered_last 0 lines line (subst (AreNumbered 0) e h))
+
+-- ---- at least a byte a line
+
+abbrev pub all_bytes : List (List ℕ) → ℕ
+all_bytes [] = 0
+all_bytes (line ∷ lines) = length line + 1 + all_bytes lines
+
+verdict_few : (r : Reading) (v : Result Line Why) → length (verdict r v).lines ≤ length r.lines + 1
+verdict_few r (Ok line) = let e = length-append r.lines (line ∷ []) in omega (arith, e)
+verdict_few r (Err why) = omega arith
+
+bytes_few : (site : Site) (r : Reading) (text : List ℕ) (o : Option Why) → length (by_bytes site r text o).lines ≤ length r.lines + 1
+bytes_few site r text None = verdict_few r (judged site r.so_far text)
+bytes_few site r text (Some why) = omega arith
+
+line_few : (site : Site) (r : Reading) (text : List ℕ) (o : Option Over) → length (by_ending site r text o).lines ≤ length r.lines + 1
+line_few site r text None = bytes_few site r text (byte_refusal text)
+line_few site r text (Some over) = omega arith
+
+lines_few : (site : Site) (lines : List (List ℕ)) (r : Reading) → length (fold (next_line site) r lines).lines ≤ length r.lines + all_bytes lines
+lines_few site [] r = omega arith
+lines_few site (line ∷ lines) r =
+    let ih = lines_few site lines (next_line site r line) in
+    let one = line_few site r line r.ending in
+    omega (arith, ih, one)
+
+rest_few : (r : Reading) (text : List ℕ) (o : Option Over) → length (rest_by_ending r text o).lines ≤ length r.lines
+rest_few r text None = refused_few r (byte_refusal text)
+  where
+    refused_few : (r : Reading) (o : Option Why) → length (refused_rest r o).lines ≤ length r.lines
+    refused_few r None = omega arith
+    refused_few r (Some why) = omega arith
+rest_few r text (Some over) = omega arith
+
+begun_few : (byte : ℕ) (whole : List (List ℕ)) (rest : List ℕ) → all_bytes (begun byte whole rest).whole + length (begun byte whole rest).rest
+    ≤ all_bytes whole + length rest + 1
+begun_few byte [] rest = omega arith
+begun_few byte (line ∷ lines) rest = omega arith
+
+with_few : (end : Bool) (byte : ℕ) (behind : Cut) → all_bytes (with_byte end byte behind).whole + length (with_byte end byte behind).rest
+    ≤ all_bytes behind.whole + length behind.rest + 1
+with_few true byte behind = omega arith
+with_few false byte behind = begun_few byte behind.whole behind.rest
+
+cut_few : (bytes : List ℕ) → all_bytes (cut bytes).whole + length (cut bytes).rest ≤ length bytes
+cut_few [] = omega arith
+cut_few (byte ∷ bytes) =
+    let ih = cut_few bytes in
+    let one = with_few (byte == 10) byte (cut bytes) in
+    omega (arith, ih, one)
+
+-- a record has at most as many lines as bytes
+pub few_lines : (site : Site) (bytes : List ℕ) → length (reading_of site bytes).lines ≤ length bytes
+few_lines site bytes =
+    let whole = lines_read site (cut bytes).whole in
+    let read = lines_few site (cut bytes).whole at_start in
+    let rest = rest_few whole (cut bytes).rest whole.ending in
+    let cuts = cut_few bytes in
+    omega (arith, read, rest, cuts)

@@ -1,94 +1,86 @@
 -- What a run came to.
-use Rattle.std.proofs.Common.{◌≡◌, ◌∙◌, ◌≤◌, ◌++◌, ℕ, List, [], length, Option, refl, sym, ap, subst, arith, append_assoc, inl, inr}
+use Rattle.std.proofs.Common.{◌≡◌, ◌∙◌, ◌++◌, ℕ, List, [], Option, refl, sym, subst, inl, inr}
 use Rattle.panel_edges.specs.Contents.{Grows, GrowsByFront}
-use Rattle.panel_edges.specs.Limits.{most_record_bytes}
-use Rattle.panel_edges.proofs.Growing.{front_longer}
+use Rattle.panel_edges.specs.Faults.{Rose}
+use Rattle.site_types.specs.declared.retained.Retained.{Retained}
 use Rattle.site_types.specs.declared.site.Site.{Site}
-use Rattle.site_types.specs.Valid.{IsValid}
 use Rattle.program_status.specs.declared.outcome.Outcome.{Outcome}
+use Rattle.panel_rules.specs.Moments.{TickBlock}
 use Rattle.panel_program.specs.declared.run.Run.{Run}
 use Rattle.panel_program.specs.declared.run_end.RunEnd.{RunEnd}
+use Rattle.panel_program.specs.declared.run_end.RunEnd.TheVariants.{ReadFault}
 use Rattle.program_status.specs.declared.status.Status.TheVariants.{NoMemory, WriteFault}
 use Rattle.program_status.specs.Statuses.{number_of}
-use Rattle.panel_program.specs.Endings.{end_of, within_limit, status_of, last_line}
-use Rattle.panel_program.specs.Records.{ticks_run}
-use Rattle.panel_program.specs.Runs.{Ran, ReadsTo, ReadsUntil, run_text}
-use Rattle.panel_program.specs.Stands.{text_at}
-use Rattle.panel_program.specs.Ticks.{text_of}
+use Rattle.panel_program.specs.Endings.{status_of, last_line}
+use Rattle.panel_program.specs.Runs.{HasMade, Input, RanOn, RanTo, RanUntil, ReadsTo, ReadsUntil}
+use Rattle.panel_program.specs.Stands.{AreTicksOf, HasRun}
+use Rattle.run_text.specs.SoFar.{opening_text, text_so_far}
 use Rattle.program_status.specs.Sayings.{Says}
-use Rattle.panel_program.proofs.Ends.{within_rest}
-use Rattle.panel_program.proofs.Promises.{keeps}
-use Rattle.panel_program.proofs.Texts.{text_behind}
 use Rattle.panel_program.proofs.Written.{grows_then, front_then, says_then}
 
--- a front of the text of what was read is a front of the whole text
-front_whole : (site : Site) (bytes consumed rest : List ℕ) (old new : Option (List ℕ)) → bytes ≡ consumed ++ rest
-    → length consumed ≤ most_record_bytes → GrowsByFront old new (text_at site consumed) → GrowsByFront old new (run_text site bytes)
-front_whole site bytes consumed rest old new whole few g =
-    let last = last_line (length (ticks_run site (within_limit bytes))) (end_of site bytes) in
-    let within = within_rest bytes consumed rest whole few in
-    let behind = text_behind site consumed within.more in
-    let text : run_text site bytes ≡ text_at site consumed ++ (behind.rest ++ last) =
-    ap (λ xs. text_at site xs ++ last) within.is ∙ ap (λ xs. xs ++ last) behind.is ∙ append_assoc (text_at site consumed) behind.rest last
-    in
-    subst (GrowsByFront old new) (sym text) (front_longer old new (text_at site consumed) (behind.rest ++ last) g)
+-- what a run has made is what its outcome tells
+made_by : (site : Site) (kept : Retained) (consumed : List ℕ) (ticks : List TickBlock) (run : Run) (outcome : Outcome) → AreTicksOf site consumed ticks
+    → HasRun site kept ticks run → outcome.ticks ≡ run.ticks → outcome.store_failures ≡ run.store_failures → HasMade site consumed ticks outcome
+made_by site kept consumed ticks run outcome of ran count failed =
+    record { of = of; ticks = count ∙ ran.count; failed = failed ∙ ran.failed }
 
--- memory ran out
-pub ran_nothing : (site : Site) (bytes : List ℕ) (old : Option (List ℕ)) (outcome : Outcome) → outcome.status ≡ number_of NoMemory → outcome.ticks ≡ 0
-    → Ran site bytes old old outcome
-ran_nothing site bytes old outcome status ticks = inl (record { status = status; ticks = ticks; same = refl })
+module _ (site : Site) (kept : Retained) (input : Input) (bytes : List ℕ) (outcome : Outcome) where
+  -- memory ran out
+  pub ran_nothing : (old : Option (List ℕ)) → outcome.status ≡ number_of NoMemory → outcome.ticks ≡ 0 → outcome.store_failures ≡ 0
+      → RanOn site kept input bytes old old outcome
+  ran_nothing old status ticks failed = inl (record { status = status; ticks = ticks; failures = failed; same = refl })
 
--- the first write failed
-pub ran_opening : (site : Site) (bytes : List ℕ) (old new : Option (List ℕ)) (outcome : Outcome) → IsValid site → outcome.status ≡ number_of WriteFault
-    → outcome.ticks ≡ 0 → GrowsByFront old new (text_of site []) → Ran site bytes old new outcome
-ran_opening site bytes old new outcome valid status ticks broke =
-    inr (inr (record {
-      consumed = [];
-      rest = bytes;
-      whole = refl;
-      ticks = ticks;
-      promises = keeps site [] valid tt;
-      status = status;
-      broke =
-          front_whole site bytes [] bytes old new refl (omega arith) broke;
-    }))
+  -- the first write failed
+  pub ran_opening : (old new : Option (List ℕ)) → outcome.status ≡ number_of WriteFault → outcome.ticks ≡ 0 → outcome.store_failures ≡ 0
+      → GrowsByFront old new (opening_text site kept) → RanOn site kept input bytes old new outcome
+  ran_opening old new status ticks failed broke =
+      inr (inr (record {
+        consumed = [];
+        rest = bytes;
+        run = [];
+        whole = refl;
+        made = record { of = refl; ticks = ticks; failed = failed };
+        status = status;
+        broke = broke;
+      }))
 
--- a later write failed
-pub ran_until : (site : Site) (bytes : List ℕ) (old mid new : Option (List ℕ)) (run : Run) (outcome : Outcome) → IsValid site → outcome.status ≡ number_of WriteFault
-    → outcome.ticks ≡ run.ticks → Grows old mid (text_of site []) → ReadsUntil site bytes mid new run → Ran site bytes old new outcome
-ran_until site bytes old mid new run outcome valid status ticks opened r =
-    inr
-    (inr
-    (record {
-      consumed = r.consumed;
-      rest = r.rest;
-      whole = r.whole;
-      ticks = ticks ∙ r.ran.count;
-      promises = keeps site (ticks_run site r.consumed) valid r.ran.ordered;
-      status = status;
-      broke =
-          front_whole site bytes r.consumed r.rest old new r.whole r.few
-          (front_then old mid new (text_at site []) (text_at site r.consumed) opened r.broke);
-    }))
-
--- the run ended
-pub ran_to : (site : Site) (bytes : List ℕ) (old mid last new : Option (List ℕ)) (run : Run) (end : RunEnd) (outcome : Outcome) → IsValid site
-    → outcome.ticks ≡ run.ticks → Grows old mid (text_of site []) → ReadsTo site bytes mid last run end →
-    Says (status_of end) (last_line run.ticks end) last new outcome.status → Ran site bytes old new outcome
-ran_to site bytes old mid last new run end outcome valid ticks opened r says =
-    inr
-    (inl (
-      end,
-      record {
+  -- a later write failed
+  pub ran_until : (old mid new : Option (List ℕ)) (run : Run) → outcome.status ≡ number_of WriteFault → outcome.ticks ≡ run.ticks
+      → outcome.store_failures ≡ run.store_failures → Grows old mid (opening_text site kept) → ReadsUntil site kept bytes input.after mid new run
+      → RanOn site kept input bytes old new outcome
+  ran_until old mid new run status ticks failed opened r =
+      inr
+      (inr
+      (record {
         consumed = r.consumed;
         rest = r.rest;
+        run = r.ticks;
         whole = r.whole;
-        ended = r.ended;
-        ticks = ticks ∙ r.ran.count;
-        promises = keeps site (ticks_run site r.consumed) valid r.ran.ordered;
-        says =
-            subst (λ n. Says (status_of end) (text_at site r.consumed ++ last_line n end) old new outcome.status) (sym ticks)
-            (says_then (status_of end) outcome.status old last new (text_at site r.consumed) (last_line run.ticks end)
-            (grows_then old mid last (text_at site []) (text_at site r.consumed) opened r.wrote) says);
-      },
-    ))
+        made = made_by site kept r.consumed r.ticks run outcome r.of r.ran ticks failed;
+        status = status;
+        broke = front_then old mid new (text_so_far site kept []) (text_so_far site kept r.ticks) opened r.broke;
+      }))
+
+  -- the run ended
+  pub ran_to : (old mid last new : Option (List ℕ)) (run : Run) (end : RunEnd) → outcome.ticks ≡ run.ticks → outcome.store_failures ≡ run.store_failures
+      → (end ≡ ReadFault → Rose input.faults_before input.faults_after) → Grows old mid (opening_text site kept)
+      → ReadsTo site kept bytes input.after mid last run end → Says (status_of end) (last_line run.ticks end) last new outcome.status
+      → RanOn site kept input bytes old new outcome
+  ran_to old mid last new run end ticks failed rose opened r says =
+      inr
+      (inl (
+        end,
+        record {
+          consumed = r.consumed;
+          rest = r.rest;
+          run = r.ticks;
+          whole = r.whole;
+          ended = r.ended;
+          fault = λ e. (rose e, r.unread e);
+          made = made_by site kept r.consumed r.ticks run outcome r.of r.ran ticks failed;
+          says =
+              subst (λ n. Says (status_of end) (text_so_far site kept r.ticks ++ last_line n end) old new outcome.status) (sym ticks)
+              (says_then (status_of end) outcome.status old last new (text_so_far site kept r.ticks) (last_line run.ticks end)
+              (grows_then old mid last (text_so_far site kept []) (text_so_far site kept r.ticks) opened r.wrote) says);
+        },
+      ))

@@ -1,100 +1,130 @@
 -- What a run has read and written so far.
-use Rattle.std.proofs.Common.{◌≡◌, ◌∙◌, ◌++◌, ℕ, List, [], length, take, drop, Option, Some, None, refl, sym, ap, subst, append_assoc, append-nil}
+use Rattle.std.proofs.Common.{◌≡◌, ◌∙◌, ◌++◌, ℕ, List, [], take, drop, take-append-drop, Option, Some, None, refl, sym, ap, subst}
+use Rattle.std.proofs.Common.{append_assoc, append-nil}
+use Rattle.site_types.specs.declared.retained.Retained.{Retained}
 use Rattle.site_types.specs.declared.site.Site.{Site}
 use Rattle.record_lines.specs.declared.reader.LineReader.{LineReader}
+use Rattle.panel_rules.specs.Moments.{TickBlock}
 use Rattle.panel_program.specs.declared.run.Run.{Run}
 use Rattle.panel_program.specs.declared.run_end.RunEnd.{RunEnd}
 use Rattle.panel_edges.proofs.Growing.{split_more}
-use Rattle.panel_program.specs.Records.{ticks_run}
-use Rattle.panel_program.specs.Stands.{IsAt, GoesOn, BreaksOff, EndsAt, HasRun, text_at}
-use Rattle.panel_program.specs.Writings.{Advances, Breaks}
+use Rattle.panel_program.specs.Records.{Progress}
+use Rattle.panel_program.specs.Stands.{AreTicksOf, AreWithin, BreaksOff, EndsIn, GoesOnAt, HasEnded, IsAt, MayPiece, Writes, WritesPart}
+use Rattle.run_text.specs.SoFar.{text_so_far}
 use Rattle.panel_program.proofs.Written.{stays, advances_more, breaks_more}
 
--- a front of a piece was taken
-pub record Taking (site : Site) (before piece rest : List ℕ) (old new : Option (List ℕ)) (reader : LineReader) (run : Run) : Type 0 where
-  pub front : List ℕ
-  pub is : piece ≡ front ++ rest
-  pub is_at : IsAt site (before ++ front) reader run
-  pub wrote : Advances old new (text_at site before) (text_at site (before ++ front))
+module _ (site : Site) (kept : Retained) where
+  pub writes_more : (a b c : Option (List ℕ)) (x y z : List TickBlock) → Writes site kept a b x y → Writes site kept b c y z → Writes site kept a c x z
+  writes_more a b c x y z g h = advances_more a b c (text_so_far site kept x) (text_so_far site kept y) (text_so_far site kept z) g h
 
--- a front of all bytes was read and taken
-pub record SoFar (site : Site) (bytes : List ℕ) (left old new : Option (List ℕ)) (reader : LineReader) (run : Run) (read : ℕ) : Type 0 where
-  pub consumed : List ℕ
-  pub rest : List ℕ
-  pub whole : bytes ≡ consumed ++ rest
-  pub left_is : left ≡ Some rest
-  pub count : read ≡ length consumed
-  pub is_at : IsAt site consumed reader run
-  pub wrote : Advances old new (text_at site []) (text_at site consumed)
+  pub writes_part : (a b c : Option (List ℕ)) (x y z : List TickBlock) → Writes site kept a b x y → WritesPart site kept b c y z
+      → WritesPart site kept a c x z
+  writes_part a b c x y z g h = breaks_more a b c (text_so_far site kept x) (text_so_far site kept y) (text_so_far site kept z) g h
 
--- ---- a piece
+  -- a front of a piece was taken
+  pub record Taking (p : Progress) (before piece rest : List ℕ) (old new : Option (List ℕ)) (reader : LineReader) (run : Run) : Type 0 where
+    pub front : List ℕ
+    pub now : Progress
+    pub is : piece ≡ front ++ rest
+    pub is_at : IsAt site kept (before ++ front) now reader run
+    pub wrote : Writes site kept old new p.run now.run
 
-pub taking_none : (site : Site) (before piece : List ℕ) (out : Option (List ℕ)) (reader : LineReader) (run : Run) → IsAt site before reader run
-    → Taking site before piece piece out out reader run
-taking_none site before piece out reader run h =
+  -- a front of all bytes was read and taken
+  pub record SoFar (bytes : List ℕ) (left old new : Option (List ℕ)) (reader : LineReader) (run : Run) (read : ℕ) : Type 0 where
+    pub consumed : List ℕ
+    pub rest : List ℕ
+    pub now : Progress
+    pub whole : bytes ≡ consumed ++ rest
+    pub left_is : left ≡ Some rest
+    pub count : read ≡ length consumed
+    pub is_at : IsAt site kept consumed now reader run
+    pub wrote : Writes site kept old new [] now.run
+
+  -- ---- a piece
+
+  pub taking_none : (p : Progress) (before piece : List ℕ) (out : Option (List ℕ)) (reader : LineReader) (run : Run) → IsAt site kept before p reader run
+      → Taking p before piece piece out out reader run
+  taking_none p before piece out reader run h =
+      record {
+        front = [];
+        now = p;
+        is = refl;
+        is_at = subst (λ xs. IsAt site kept xs p reader run) (sym (append-nil before)) h;
+        wrote = stays out (text_so_far site kept p.run);
+      }
+
+  module _ (p : Progress) (before piece rest : List ℕ) (old mid new : Option (List ℕ)) (reader : LineReader) (run : Run) (t :
+      Taking p before piece rest old mid reader run) where
+    -- what is left of the piece is within what may be read
+    pub rest_within : AreWithin (before ++ piece) → AreWithin ((before ++ t.front) ++ rest)
+    rest_within within = subst AreWithin (ap (λ xs. before ++ xs) t.is ∙ sym (append_assoc before t.front rest)) within
+
+    -- the next line of it was taken
+    pub taking_more : (used : ℕ) (back : List ℕ) (new_reader : LineReader) (new_run : Run) → back ≡ drop used rest
+        → GoesOnAt site kept t.now ((before ++ t.front) ++ take used rest) mid new new_reader new_run
+        → Taking p before piece back old new new_reader new_run
+    taking_more used back new_reader new_run behind g =
+        let whole = append_assoc before t.front (take used rest) in
+        record {
+          front = t.front ++ take used rest;
+          now = g.p';
+          is = split_more piece t.front rest back used t.is behind;
+          is_at = subst (λ xs. IsAt site kept xs g.p' new_reader new_run) whole g.is_at;
+          wrote = writes_more old mid new p.run t.now.run g.p'.run t.wrote g.wrote;
+        }
+
+    -- the run ended in it
+    pub taking_ends : (used : ℕ) (end : RunEnd) (new_run : Run) → HasEnded site kept t.now ((before ++ t.front) ++ take used rest) end mid new new_run
+        → EndsIn site kept p before piece end old new new_run
+    taking_ends used end new_run g =
+        let whole = append_assoc before t.front (take used rest) in
+        record {
+          front = t.front ++ take used rest;
+          rest = drop used rest;
+          is = split_more piece t.front rest (drop used rest) used t.is refl;
+          has = subst (λ xs. HasEnded site kept p xs end old new new_run) whole (record {
+            ticks = g.ticks;
+            ended = g.ended;
+            of = g.of;
+            ran = g.ran;
+            wrote = writes_more old mid new p.run t.now.run g.ticks t.wrote g.wrote;
+          });
+        }
+
+    -- a write failed in it
+    pub taking_breaks : (new_run : Run) → BreaksOff site kept t.now (before ++ t.front) rest mid new new_run → BreaksOff site kept p before piece old new new_run
+    taking_breaks new_run b =
+        let whole = append_assoc before t.front b.front in
+        record {
+          front = t.front ++ b.front;
+          rest = b.rest;
+          ticks = b.ticks;
+          is = t.is ∙ ap (λ xs. t.front ++ xs) b.is ∙ sym (append_assoc t.front b.front b.rest);
+          of = subst (λ xs. AreTicksOf site xs b.ticks) whole b.of;
+          ran = b.ran;
+          broke = writes_part old mid new p.run t.now.run b.ticks t.wrote b.broke;
+        }
+
+  -- the whole piece was taken
+  pub taking_whole : (p : Progress) (before piece rest : List ℕ) (old new : Option (List ℕ)) (reader : LineReader) (run : Run)
+      → Taking p before piece rest old new reader run → rest ≡ [] → GoesOnAt site kept p (before ++ piece) old new reader run
+  taking_whole p before piece rest old new reader run t none =
+      let same : t.front ≡ piece = sym (t.is ∙ ap (λ xs. t.front ++ xs) none ∙ append-nil t.front) in
+      record {
+        p' = t.now;
+        is_at = subst (λ xs. IsAt site kept (before ++ xs) t.now reader run) same t.is_at;
+        wrote = t.wrote;
+      }
+
+-- what is left of a piece may be taken behind its front
+pub may_rest : (rest back : List ℕ) (used : ℕ) (old new : Option (List ℕ)) (reader reader' : LineReader) (run run' : Run) (r : MayPiece rest reader run)
+    → back ≡ drop used rest → GoesOnAt r.at.site r.at.kept r.at.p (r.at.bytes ++ take used rest) old new reader' run' → MayPiece back reader' run'
+may_rest rest back used old new reader reader' run run' r is g =
+    let whole : (r.at.bytes ++ take used rest) ++ back ≡ r.at.bytes ++ rest =
+    append_assoc r.at.bytes (take used rest) back
+    ∙ ap (λ xs. r.at.bytes ++ xs) (ap (λ xs. take used rest ++ xs) is ∙ take-append-drop used rest)
+    in
     record {
-      front = [];
-      is = refl;
-      is_at = subst (λ xs. IsAt site xs reader run) (sym (append-nil before)) h;
-      wrote = subst (λ xs. Advances out out (text_at site before) (text_at site xs)) (sym (append-nil before)) (stays out (text_at site before));
+      at = record { site = r.at.site; kept = r.at.kept; bytes = r.at.bytes ++ take used rest; p = g.p'; is_at = g.is_at };
+      within = subst AreWithin (sym whole) r.within;
     }
-
-module _ (site : Site) (before piece rest : List ℕ) (old mid new : Option (List ℕ)) (reader : LineReader) (run : Run) (t :
-    Taking site before piece rest old mid reader run) where
-  -- the next line of it was taken
-  pub taking_more : (used : ℕ) (back : List ℕ) (new_reader : LineReader) (new_run : Run) → back ≡ drop used rest
-      → GoesOn site (before ++ t.front) ((before ++ t.front) ++ take used rest) mid new new_reader new_run None
-      → Taking site before piece back old new new_reader new_run
-  taking_more used back new_reader new_run behind g =
-      let whole = append_assoc before t.front (take used rest) in
-      record {
-        front = t.front ++ take used rest;
-        is = split_more piece t.front rest back used t.is behind;
-        is_at = subst (λ xs. IsAt site xs new_reader new_run) whole g.0;
-        wrote =
-            subst (λ xs. Advances old new (text_at site before) (text_at site xs)) whole
-            (advances_more old mid new (text_at site before) (text_at site (before ++ t.front)) (text_at site ((before ++ t.front) ++ take used rest))
-            t.wrote g.1);
-      }
-
-  -- the run ended in it
-  pub taking_ends : (used : ℕ) (end : RunEnd) (new_reader : LineReader) (new_run : Run)
-      → GoesOn site (before ++ t.front) ((before ++ t.front) ++ take used rest) mid new new_reader new_run (Some end) →
-      (front : List ℕ) × (behind : List ℕ) × (piece ≡ front ++ behind) × GoesOn site before (before ++ front) old new new_reader new_run (Some end)
-  taking_ends used end new_reader new_run g =
-      let whole = append_assoc before t.front (take used rest) in (
-        t.front ++ take used rest,
-        drop used rest,
-        split_more piece t.front rest (drop used rest) used t.is refl,
-        (
-          subst (λ xs. EndsAt site xs end) whole g.0,
-          subst (λ xs. HasRun site (ticks_run site xs) new_run) whole g.1,
-          subst (λ xs. Advances old new (text_at site before) (text_at site xs)) whole
-              (advances_more old mid new (text_at site before) (text_at site (before ++ t.front))
-              (text_at site ((before ++ t.front) ++ take used rest)) t.wrote g.2),
-        ),
-      )
-
-  -- a write failed in it
-  pub taking_breaks : (new_run : Run) → BreaksOff site (before ++ t.front) rest mid new new_run → BreaksOff site before piece old new new_run
-  taking_breaks new_run b =
-      let whole = append_assoc before t.front b.front in
-      record {
-        front = t.front ++ b.front;
-        rest = b.rest;
-        is = t.is ∙ ap (λ xs. t.front ++ xs) b.is ∙ sym (append_assoc t.front b.front b.rest);
-        ran = subst (λ xs. HasRun site (ticks_run site xs) new_run) whole b.ran;
-        broke =
-            subst (λ xs. Breaks old new (text_at site before) (text_at site xs)) whole
-            (breaks_more old mid new (text_at site before) (text_at site (before ++ t.front)) (text_at site ((before ++ t.front) ++ b.front)) t.wrote
-            b.broke);
-      }
-
--- the whole piece was taken
-pub taking_whole : (site : Site) (before piece rest : List ℕ) (old new : Option (List ℕ)) (reader : LineReader) (run : Run)
-    → Taking site before piece rest old new reader run → rest ≡ [] → GoesOn site before (before ++ piece) old new reader run None
-taking_whole site before piece rest old new reader run t none =
-    let same : t.front ≡ piece = sym (t.is ∙ ap (λ xs. t.front ++ xs) none ∙ append-nil t.front) in (
-      subst (λ xs. IsAt site (before ++ xs) reader run) same t.is_at,
-      subst (λ xs. Advances old new (text_at site before) (text_at site (before ++ xs))) same t.wrote,
-    )

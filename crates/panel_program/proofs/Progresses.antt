@@ -1,38 +1,75 @@
 -- What lines make, one line more.
-use Rattle.std.proofs.Common.{◌≡◌, ◌+◌, ◌++◌, ◌&&◌, ℕ, Bool, true, false, List, [], ◌∷◌, length, Option, Some, None, if◌then◌else◌, refl, ap, arith}
-use Rattle.std.specs.List.{fold, list_all}
+use Rattle.std.proofs.Common.{◌≡◌, ◌∙◌, ◌+◌, ◌*◌, ◌≤◌, ◌++◌, ℕ, Bool, true, false, List, [], ◌∷◌, length, map, Option, Some, None, if◌then◌else◌}
+use Rattle.std.proofs.Common.{refl, sym, ap, subst, arith, length-map}
+use Rattle.std.specs.List.{fold}
 use Rattle.std.proofs.lemmas.List.Sums.{fold_push}
 use Rattle.tick_units.specs.declared.seat.Seat.{Seat}
+use Rattle.tick_units.specs.declared.task.Task.{Task}
+use Rattle.tick_units.specs.declared.task.Task.TheVariants.{Keep}
+use Rattle.tick_units.specs.Orders.{IsOrder}
+use Rattle.tick_units.proofs.OrderLaws.{length-order}
 use Rattle.site_types.specs.declared.site.Site.{Site}
 use Rattle.site_types.specs.declared.event.Event.{Event}
-use Rattle.site_types.specs.declared.event.Event.TheVariants.{Point, Cable, Supply, Link, Confirmed, Op}
-use Rattle.record_lines.specs.Events.{event_view}
-use Rattle.record_lines.specs.Judged.{line_view}
-use Rattle.record_lines.specs.Lines.{reading_of}
 use Rattle.record_lines.specs.declared.line.Line.{Line}
 use Rattle.record_lines.specs.declared.line.Line.TheVariants.{Tick, Event as EventLine, Order, End}
-use Rattle.panel_rules.specs.Moments.{TickBlock}
+use Rattle.panel_rules.specs.Moments.{Moment, Began, Happened, TickBlock, and_events, and_turns, moments, turn_of}
 use Rattle.panel_rules.specs.Records.{AreOrdered}
-use Rattle.panel_program.specs.Records.{Block, Progress, at_beginning, closed_by, closed, with_event, with_order, after_line, progress_of, is_built, is_built_event, built_lines, ticks_run}
+use Rattle.panel_program.specs.Records.{Block, Progress, after_line, at_beginning, closed, closed_by, moments_by, moments_in, progress_of, recorded, ticked, with_event, with_order}
+use Rattle.run_text.specs.Failures.{as_recorded, without_failure}
 use Rattle.panel_program.proofs.Numbers.{tick_count}
 
 pub progress_more : (site : Site) (lines : List Line) (line : Line)
-    → progress_of site (lines ++ line ∷ []) ≡ after_line site (progress_of site lines) line
-progress_more site lines line = fold_push (after_line site) at_beginning lines line
+    → progress_of site (lines ++ line ∷ []) ≡ after_line site false (progress_of site lines) line
+progress_more site lines line = fold_push (after_line site false) at_beginning lines line
+
+-- ---- what a record says of ticks in which Keep's turn may have failed
+
+pub recorded_closed : (failed : Bool) (o : Option Block) (ticks : List TickBlock) → as_recorded (closed_by failed o ticks) ≡ closed_by false o (as_recorded ticks)
+recorded_closed failed None ticks = refl
+recorded_closed failed (Some block) ticks = refl
+
+pub recorded_line : (site : Site) (failed : Bool) (p : Progress) (line : Line)
+    → recorded (after_line site failed p line) ≡ after_line site false (recorded p) line
+recorded_line site failed p (Tick tick) = let e = recorded_closed failed p.block p.run in rw e refl
+recorded_line site failed p (EventLine event) = refl
+recorded_line site failed p (Order seats) = refl
+recorded_line site failed p End = let e = recorded_closed failed p.block p.run in rw e refl
+
+pub closed_length : (failed : Bool) (o : Option Block) (ticks : List TickBlock) → length (closed_by failed o ticks) ≡ length (closed_by false o ticks)
+closed_length failed None ticks = refl
+closed_length failed (Some block) ticks = refl
+
+-- as many ticks as the record has
+pub recorded_length : (p : Progress) → length (closed false (recorded p)) ≡ length (closed false p)
+recorded_length p = go p.block
+  where
+    go : (o : Option Block) → length (closed_by false o (as_recorded p.run)) ≡ length (closed_by false o p.run)
+    go None = length-map without_failure p.run
+    go (Some block) = let e = length-map without_failure p.run in omega (arith, e)
+
+pub closed_ordered : (panels : ℕ) (failed : Bool) (o : Option Block) (ticks : List TickBlock) → AreOrdered panels (closed_by false o ticks)
+    → AreOrdered panels (closed_by failed o ticks)
+closed_ordered panels failed None ticks h = h
+closed_ordered panels failed (Some block) ticks h = h
+
+pub ordered_run : (panels : ℕ) (o : Option Block) (ticks : List TickBlock) → AreOrdered panels (closed_by false o ticks) → AreOrdered panels ticks
+ordered_run panels None ticks h = h
+ordered_run panels (Some block) ticks h = h.0
 
 -- ---- how many ticks
 
 event_length : (event : Event) (o : Option Block) (ticks : List TickBlock)
-    → length (closed_by (with_event event o) ticks) ≡ length (closed_by o ticks)
+    → length (closed_by false (with_event event o) ticks) ≡ length (closed_by false o ticks)
 event_length event None ticks = refl
 event_length event (Some block) ticks = refl
 
 order_length : (seats : List Seat) (o : Option Block) (ticks : List TickBlock)
-    → length (closed_by (with_order seats o) ticks) ≡ length (closed_by o ticks)
+    → length (closed_by false (with_order seats o) ticks) ≡ length (closed_by false o ticks)
 order_length seats None ticks = refl
 order_length seats (Some block) ticks = refl
 
-line_length : (site : Site) (p : Progress) (line : Line) → length (closed (after_line site p line)) ≡ length (closed p) + tick_count (line ∷ [])
+line_length : (site : Site) (p : Progress) (line : Line)
+    → length (closed false (after_line site false p line)) ≡ length (closed false p) + tick_count (line ∷ [])
 line_length site p (Tick tick) = omega arith
 line_length site p (EventLine event) = let e = event_length event p.block p.run in omega (arith, e)
 line_length site p (Order seats) = let e = order_length seats p.block p.run in omega (arith, e)
@@ -45,119 +82,68 @@ count_rest (Order seats) lines = omega arith
 count_rest End lines = omega arith
 
 lines_length : (site : Site) (p : Progress) (lines : List Line)
-    → length (closed (fold (after_line site) p lines)) ≡ length (closed p) + tick_count lines
+    → length (closed false (fold (after_line site false) p lines)) ≡ length (closed false p) + tick_count lines
 lines_length site p [] = omega arith
 lines_length site p (line ∷ lines) =
-    let ih = lines_length site (after_line site p line) lines in
+    let ih = lines_length site (after_line site false p line) lines in
     let one = line_length site p line in
     let rest = count_rest line lines in
     omega (arith, ih, one, rest)
 
 -- as many ticks are closed or open as began
-pub progress_length : (site : Site) (lines : List Line) → length (closed (progress_of site lines)) ≡ tick_count lines
+pub progress_length : (site : Site) (lines : List Line) → length (closed false (progress_of site lines)) ≡ tick_count lines
 progress_length site lines = let e = lines_length site at_beginning lines in omega (arith, e)
 
--- ---- lines that parts take
+-- ---- how many moments
 
-pub view_built : (line : Line) → is_built (line_view line) ≡ is_built line
-view_built (Tick tick) = refl
-view_built (EventLine event) = go event
-  where
-    go : (event : Event) → is_built_event (event_view event) ≡ is_built_event event
-    go (Point point state) = refl
-    go (Cable panel line piece state) = refl
-    go (Supply panel kind bad) = refl
-    go (Link link up) = refl
-    go (Confirmed output) = refl
-    go (Op panel code operation) = refl
-view_built (Order seats) = refl
-view_built End = refl
+turns_length : (failed : Bool) (seats : List Seat) (before : List Moment) → length (and_turns failed seats before) ≡ length seats + length before
+turns_length failed [] before = omega arith
+turns_length failed (seat ∷ seats) before =
+    let ih = turns_length failed seats (turn_of failed seat.panel seat.task ∷ before) in
+    omega (arith, ih)
 
--- an event that a part takes has no code
-pub view_event : (event : Event) → is_built_event event ≡ true → event_view event ≡ event
-view_event (Point point state) h = refl
-view_event (Cable panel line piece state) h = refl
-view_event (Supply panel kind bad) h = absurd (false_true h)
-  where
-    false_true : false ≡ true → ⊥
-    false_true e = cc
-view_event (Link link up) h = absurd (false_true h)
-  where
-    false_true : false ≡ true → ⊥
-    false_true e = cc
-view_event (Confirmed output) h = refl
-view_event (Op panel code operation) h = absurd (false_true h)
-  where
-    false_true : false ≡ true → ⊥
-    false_true e = cc
+events_length : (events : List Event) (before : List Moment) → length (and_events events before) ≡ length events + length before
+events_length [] before = omega arith
+events_length (event ∷ events) before = let ih = events_length events (Happened event ∷ before) in omega (arith, ih)
 
-pub built_all : (lines : List Line) → list_all is_built lines ≡ true → built_lines lines ≡ lines
-built_all [] h = refl
-built_all (line ∷ lines) h = go (is_built line) h (built_all lines)
-  where
-    go : (b : Bool) → (b && list_all is_built lines) ≡ true → (list_all is_built lines ≡ true → built_lines lines ≡ lines)
-        → (if b then line ∷ built_lines lines else []) ≡ line ∷ lines
-    go true h f = ap (λ ls. line ∷ ls) (f h)
-    go false h f = absurd (false_true h)
-      where
-        false_true : false ≡ true → ⊥
-        false_true e = cc
+more_length : (events : List Event) (event : Event) → length (events ++ event ∷ []) ≡ length events + 1
+more_length [] event = omega arith
+more_length (x ∷ events) event = let ih = more_length events event in omega (arith, ih)
 
--- more lines behind those that parts take
-pub all_more : (lines : List Line) (line : Line) → list_all is_built lines ≡ true → list_all is_built (lines ++ line ∷ []) ≡ is_built line
-all_more [] line h = go (is_built line)
-  where
-    go : (b : Bool) → (b && true) ≡ b
-    go true = refl
-    go false = refl
-all_more (x ∷ lines) line h = go (is_built x) h (all_more lines line)
-  where
-    go : (b : Bool) → (b && list_all is_built lines) ≡ true
-        → (list_all is_built lines ≡ true → list_all is_built (lines ++ line ∷ []) ≡ is_built line)
-        → (b && list_all is_built (lines ++ line ∷ [])) ≡ is_built line
-    go true h f = f h
-    go false h f = absurd (false_true h)
-      where
-        false_true : false ≡ true → ⊥
-        false_true e = cc
+-- whether Keep's turn failed or not, and at most 65 seats have their turns
+pub closed_moments : (panels : ℕ) (failed : Bool) (o : Option Block) (ticks : List TickBlock) → panels ≤ 8
+    → AreOrdered panels (closed_by false o ticks)
+    → length (moments (closed_by failed o ticks)) ≤ length (moments_by o ticks) + 65
+closed_moments panels failed None ticks few ordered = omega arith
+closed_moments panels failed (Some block) ticks few ordered =
+    let turns = turns_length failed block.order (and_events block.events (Began ∷ moments ticks)) in
+    let seats = length-order panels block.order ordered.1 in
+    omega (arith, turns, seats, few)
 
--- a line that no part takes ends those that are
-pub built_stop : (lines : List Line) (line : Line) → list_all is_built lines ≡ true → is_built line ≡ false → built_lines (lines ++ line ∷ []) ≡ lines
-built_stop [] line h no_part = ap (λ b. if b then line ∷ [] else []) no_part
-built_stop (x ∷ lines) line h no_part = go (is_built x) h (built_stop lines line)
-  where
-    go : (b : Bool) → (b && list_all is_built lines) ≡ true
-        → (list_all is_built lines ≡ true → is_built line ≡ false → built_lines (lines ++ line ∷ []) ≡ lines)
-        → (if b then x ∷ built_lines (lines ++ line ∷ []) else []) ≡ x ∷ lines
-    go true h f = ap (λ ls. x ∷ ls) (f h no_part)
-    go false h f = absurd (false_true h)
-      where
-        false_true : false ≡ true → ⊥
-        false_true e = cc
+pub same_moments : (failed : Bool) (o : Option Block) (ticks : List TickBlock)
+    → length (moments (closed_by failed o ticks)) ≡ length (moments (closed_by false o ticks))
+same_moments failed None ticks = refl
+same_moments failed (Some block) ticks =
+    let one = turns_length failed block.order (and_events block.events (Began ∷ moments ticks)) in
+    let other = turns_length false block.order (and_events block.events (Began ∷ moments ticks)) in
+    omega (arith, one, other)
 
--- nothing behind it matters
-pub built_stays : (lines more : List Line) → list_all is_built lines ≡ false → (list_all is_built (lines ++ more) ≡ false)
-    × (built_lines (lines ++ more) ≡ built_lines lines)
-built_stays [] more h = absurd (true_false h)
-  where
-    true_false : true ≡ false → ⊥
-    true_false e = cc
-built_stays (x ∷ lines) more h = go (is_built x) h (built_stays lines more)
-  where
-    go : (b : Bool) → (b && list_all is_built lines) ≡ false
-        → (list_all is_built lines ≡ false → (list_all is_built (lines ++ more) ≡ false) × (built_lines (lines ++ more) ≡ built_lines lines))
-        → ((b && list_all is_built (lines ++ more)) ≡ false)
-        × ((if b then x ∷ built_lines (lines ++ more) else []) ≡ (if b then x ∷ built_lines lines else []))
-    go true h f = let g = f h in (g.0, ap (λ ls. x ∷ ls) g.1)
-    go false h f = (refl, refl)
+event_moments : (event : Event) (o : Option Block) (ticks : List TickBlock) → length (moments_by (with_event event o) ticks) ≤ length (moments_by o ticks) + 1
+event_moments event None ticks = omega arith
+event_moments event (Some block) ticks =
+    let one = events_length block.events (Began ∷ moments ticks) in
+    let other = events_length (block.events ++ event ∷ []) (Began ∷ moments ticks) in
+    let more = more_length block.events event in
+    omega (arith, one, other, more)
 
--- ---- ticks and texts
+order_moments : (seats : List Seat) (o : Option Block) (ticks : List TickBlock) → length (moments_by (with_order seats o) ticks) ≡ length (moments_by o ticks)
+order_moments seats None ticks = refl
+order_moments seats (Some block) ticks = refl
 
--- where all lines are taken, the ticks that bytes run are those of their lines
-pub ticks_at : (site : Site) (bytes : List ℕ) → list_all is_built (reading_of site bytes).lines ≡ true
-    → ticks_run site bytes ≡ (progress_of site (reading_of site bytes).lines).run
-ticks_at site bytes all = ap (λ ls. (progress_of site ls).run) (built_all (reading_of site bytes).lines all)
-
-pub ordered_run : (panels : ℕ) (o : Option Block) (ticks : List TickBlock) → AreOrdered panels (closed_by o ticks) → AreOrdered panels ticks
-ordered_run panels None ticks h = h
-ordered_run panels (Some block) ticks h = h.0
+-- a line brings at most 66
+pub line_moments : (site : Site) (failed : Bool) (p : Progress) (line : Line) → site.panels ≤ 8 → AreOrdered site.panels (closed false p)
+    → length (moments_in (after_line site failed p line)) ≤ length (moments_in p) + 66
+line_moments site failed p (Tick tick) few ordered = let l = closed_moments site.panels failed p.block p.run few ordered in omega (arith, l)
+line_moments site failed p (EventLine event) few ordered = let l = event_moments event p.block p.run in omega (arith, l)
+line_moments site failed p (Order seats) few ordered = let l = order_moments seats p.block p.run in omega (arith, l)
+line_moments site failed p End few ordered = let l = closed_moments site.panels failed p.block p.run few ordered in omega (arith, l)

@@ -1,9 +1,12 @@
 -- What a reader's answer makes of a run.
-use Rattle.std.proofs.Common.{◌≡◌, ◌∙◌, ◌<◌, ◌≤◌, ◌++◌, ℕ, true, List, [], ◌∷◌, length, take, drop, take-append-drop, Option, Some, None, Result, Ok, Err, sym, ap, subst, arith, append-nil}
-use Rattle.std.specs.List.{list_all}
+use Rattle.std.proofs.Common.{◌≡◌, ◌∙◌, ◌+◌, ◌-◌, ◌*◌, ◌^◌, ◌<◌, ◌≤◌, ◌++◌, ℕ, true, false, List, [], ◌∷◌, length, take, drop, take-append-drop, Option, Some, None}
+use Rattle.std.proofs.Common.{Bool, Result, Ok, Err, refl, sym, ap, subst, arith, lit<, append-nil, length-append}
+use Rattle.panel_edges.specs.Limits.{most_record_bytes}
+use Rattle.site_types.specs.declared.retained.Retained.{Retained}
 use Rattle.site_types.specs.declared.site.Site.{Site}
 use Rattle.panel_edges.specs.declared.failed.Failed.{Failed}
 use Rattle.panel_edges.proofs.Growing.{grows_same, grows_none}
+use Rattle.panel_rules.specs.Moments.{Moment, TickBlock}
 use Rattle.record_lines.specs.Belongs.{StepBelongs}
 use Rattle.record_lines.specs.Judged.{line_view}
 use Rattle.record_lines.specs.Lines.{ends_with, reading_of}
@@ -16,14 +19,13 @@ use Rattle.record_lines.specs.declared.step.Step.{Step}
 use Rattle.record_lines.specs.declared.step.Step.TheVariants.{Need, Line as LineStep, Refused as RefusedStep}
 use Rattle.panel_program.specs.declared.run.Run.{Run}
 use Rattle.panel_program.specs.declared.run_end.RunEnd.{RunEnd}
-use Rattle.panel_program.specs.declared.run_end.RunEnd.TheVariants.{Ended, Refused, NotBuilt, TooManyBytes, ReadFault}
-use Rattle.panel_program.specs.Endings.{number_behind}
-use Rattle.panel_program.specs.Records.{Progress, after_line, closed, progress_of, is_built, built_lines, ticks_run}
-use Rattle.panel_program.specs.Stands.{IsAt, IsNext, MayStep, Stands, Takes, TakesStep, HasRun, GoesOn, BreaksOff, text_at}
-use Rattle.panel_program.specs.Ticks.{text_of}
-use Rattle.panel_program.specs.Writings.{Advances, Breaks}
-use Rattle.panel_program.proofs.Numbers.{counted, next_of}
-use Rattle.panel_program.proofs.Progresses.{progress_more, progress_length, view_built, built_all, all_more, built_stop}
+use Rattle.panel_program.specs.declared.run_end.RunEnd.TheVariants.{Ended, Refused, TooManyBytes, ReadFault}
+use Rattle.panel_program.specs.Records.{Progress, after_line, closed, moments_in, progress_of, recorded}
+use Rattle.run_text.specs.Failures.{as_recorded}
+use Rattle.panel_program.specs.Stands.{AreFew, AreTicksOf, AreWithin, BreaksOff, GoesOn, HasRun, IsAt, IsGoing, IsNext, IsSmall, MayStep, Stands, Takes, TakesStep, Writes}
+use Rattle.run_text.specs.SoFar.{text_so_far}
+use Rattle.panel_program.proofs.Numbers.{counted, few_lines, next_of}
+use Rattle.panel_program.proofs.Progresses.{line_moments, progress_length, progress_more, recorded_length, recorded_line}
 use Rattle.panel_program.proofs.Stood.{has_run}
 
 -- ---- what may come
@@ -40,24 +42,52 @@ pub told_now : (site : Site) (before piece : List ℕ) (fed : Fed) (reader : Lin
     Tells (reading_of site before) (reading_of site (before ++ take fed.used piece)) fed.step × Uses site before piece fed.used fed.step
 told_now site before piece fed reader feeds going = subst (Answers site before piece fed) going feeds.answers
 
-may_step_by : (site : Site) (before after : List ℕ) (step : Step) → Tells (reading_of site before) (reading_of site after) step
-    → StepBelongs site step → MayStep site (progress_of site (reading_of site before).lines) step
-may_step_by site before after Need tells belongs = tt
-may_step_by site before after (LineStep line) tells belongs =
-    let lines = (reading_of site before).lines in
-    record {
-      belongs = belongs;
-      next =
-          subst (IsNext line) (sym (progress_length site lines))
-          (next_view line _ (next_of lines (reading_of site after).lines (line_view line) tells.0 (counted site after).numbered));
-    }
-may_step_by site before after (RefusedStep refusal) tells belongs = tt
+take_few : (used : ℕ) (piece : List ℕ) → length (take used piece) ≤ length piece
+take_few used piece = let e = ap (λ (xs : List ℕ). length xs) (take-append-drop used piece) in
+    let sum = length-append (take used piece) (drop used piece) in
+    omega (arith, e, sum)
 
-pub may_step : (site : Site) (before piece : List ℕ) (fed : Fed) (reader new_reader : LineReader) (run : Run) → IsAt site before reader run
-    → Feeds site before piece fed new_reader → StepBelongs site fed.step →
-    MayStep site (progress_of site (reading_of site before).lines) fed.step
-may_step site before piece fed reader new_reader run is_at feeds belongs =
-    may_step_by site before (before ++ take fed.used piece) fed.step (told_now site before piece fed new_reader feeds is_at.going.going).0 belongs
+module _ (site : Site) (kept : Retained) (before piece : List ℕ) (p : Progress) (run : Run) (used : ℕ) (stands : Stands site kept p run) (made :
+    recorded p ≡ progress_of site (reading_of site before).lines) (small : IsSmall site before p) (within : AreWithin (before ++ piece)) where
+  -- a line more brings few
+  small_more : (failed : Bool) (line : Line) → (reading_of site (before ++ take used piece)).lines ≡ (reading_of site before).lines ++ line_view line ∷ []
+      → IsSmall site (before ++ take used piece) (after_line site failed p (line_view line))
+  small_more failed line e =
+      let more = line_moments site failed p (line_view line) stands.valid.forms.panels.1 stands.ordered in
+      let count = ap (λ (ls : List Line). length ls) e ∙ length-append (reading_of site before).lines (line_view line ∷ []) in
+      omega (arith, more, small, count)
+
+  few_now : (q : Progress) → IsSmall site (before ++ take used piece) q → AreFew (moments_in q)
+  few_now q h =
+      let lines = few_lines site (before ++ take used piece) in
+      let front = length-append before (take used piece) in
+      let whole = length-append before piece in
+      let part = take_few used piece in
+      let top : 66 * most_record_bytes < 2 ^ 64 - 1 = lit< tt in
+      omega (arith, h, lines, front, whole, part, within, top)
+
+  may_step_by : (step : Step) → Tells (reading_of site before) (reading_of site (before ++ take used piece)) step → StepBelongs site step → MayStep site p step
+  may_step_by Need tells belongs = tt
+  may_step_by (LineStep line) tells belongs =
+      let lines = (reading_of site before).lines in
+      let after = before ++ take used piece in
+      let count : length (closed false p) ≡ length (closed false (progress_of site lines)) =
+      sym (recorded_length p) ∙ ap (λ q. length (closed false q)) made in
+      record {
+        belongs = belongs;
+        next =
+            subst (IsNext line) (sym (count ∙ progress_length site lines))
+            (next_view line _ (next_of lines (reading_of site after).lines (line_view line) tells.0 (counted site after).numbered));
+        short = few_now (after_line site false p (line_view line)) (small_more false line tells.0);
+      }
+  may_step_by (RefusedStep refusal) tells belongs = tt
+
+pub may_step : (site : Site) (kept : Retained) (before piece : List ℕ) (p : Progress) (fed : Fed) (reader new_reader : LineReader) (run : Run)
+    → IsAt site kept before p reader run → AreWithin (before ++ piece) → Feeds site before piece fed new_reader → StepBelongs site fed.step
+    → MayStep site p fed.step
+may_step site kept before piece p fed reader new_reader run is_at within feeds belongs =
+    may_step_by site kept before piece p run fed.used is_at.stands is_at.made is_at.small within fed.step
+    (told_now site before piece fed new_reader feeds is_at.going).0 belongs
 
 used_by : (site : Site) (before piece : List ℕ) (used : ℕ) (step : Step) → 0 < length piece → Uses site before piece used step
     → (0 < used) × (used ≤ length piece)
@@ -68,25 +98,26 @@ used_by site before piece used (RefusedStep refusal) some uses = let last = uses
     (omega (arith, last), omega (arith, last, within))
 
 -- something of a piece was used
-pub used_some : (site : Site) (before piece : List ℕ) (fed : Fed) (reader new_reader : LineReader) (run : Run) → IsAt site before reader run
+pub used_some : (site : Site) (before piece : List ℕ) (fed : Fed) (new_reader : LineReader) → IsGoing site before
     → Feeds site before piece fed new_reader → 0 < length piece → (0 < fed.used) × (fed.used ≤ length piece)
-used_some site before piece fed reader new_reader run is_at feeds some =
-    used_by site before piece fed.used fed.step some (told_now site before piece fed new_reader feeds is_at.going.going).1
+used_some site before piece fed new_reader going feeds some =
+    used_by site before piece fed.used fed.step some (told_now site before piece fed new_reader feeds going).1
 
 -- ---- what was taken
 
-abbrev pub NextBy : Site → List ℕ → List ℕ → ℕ → Option (List ℕ) → Option (List ℕ) → LineReader → Run → Result (Option RunEnd) Failed → Type 0
-NextBy site before piece used old new reader run (Ok end) = GoesOn site before (before ++ take used piece) old new reader run end
-NextBy site before piece used old new reader run (Err failed) = BreaksOff site before piece old new run
+abbrev pub NextBy : Site → Retained → Progress → List ℕ → List ℕ → ℕ → Option (List ℕ) → Option (List ℕ) → LineReader → Run
+    → Result (Option RunEnd) Failed → Type 0
+NextBy site kept p before piece used old new reader run (Ok end) = GoesOn site kept p (before ++ take used piece) old new reader run end
+NextBy site kept p before piece used old new reader run (Err failed) = BreaksOff site kept p before piece old new run
 
-same_text : (site : Site) (before after : List ℕ) (old new : Option (List ℕ)) → new ≡ old → ticks_run site after ≡ ticks_run site before
-    → Advances old new (text_at site before) (text_at site after)
-same_text site before after old new same ticks =
-    ([], ap (text_of site) ticks ∙ sym (append-nil (text_at site before)), grows_same old old new [] same (grows_none old))
+-- nothing was written of ticks
+same_text : (site : Site) (kept : Retained) (ticks : List TickBlock) (old new : Option (List ℕ)) → new ≡ old → Writes site kept old new ticks ticks
+same_text site kept ticks old new same =
+    ([], sym (append-nil (text_so_far site kept ticks)), grows_same old old new [] same (grows_none old))
 
-module _ (site : Site) (before piece : List ℕ) (used : ℕ) (number : ℕ) (old new : Option (List ℕ)) (reader new_reader : LineReader) (run new_run :
-    Run) (h : IsAt site before reader run) (reads : ReadsFor site (before ++ take used piece) new_reader) (is_number :
-    number ≡ (reading_of site before).number) where
+module _ (site : Site) (kept : Retained) (before piece : List ℕ) (p : Progress) (used : ℕ) (old new : Option (List ℕ)) (reader new_reader :
+    LineReader) (run new_run : Run) (h : IsAt site kept before p reader run) (within : AreWithin (before ++ piece)) (reads :
+    ReadsFor site (before ++ take used piece) new_reader) where
   abbrev after : List ℕ
   after = before ++ take used piece
 
@@ -96,55 +127,48 @@ module _ (site : Site) (before piece : List ℕ) (used : ℕ) (number : ℕ) (ol
   abbrev more : List Line
   more = (reading_of site after).lines
 
-  abbrev p : Progress
-  p = progress_of site lines
+  made_after : (failed : Bool) (line : Line) → more ≡ lines ++ line_view line ∷ []
+      → recorded (after_line site failed p (line_view line)) ≡ progress_of site more
+  made_after failed line e =
+      recorded_line site failed p (line_view line)
+      ∙ ap (λ q. after_line site false q (line_view line)) h.made
+      ∙ sym (ap (progress_of site) e ∙ progress_more site lines (line_view line))
 
-  -- the ticks before and after
-  ticks_before : ticks_run site before ≡ p.run
-  ticks_before = ap (λ (ls : List Line). (progress_of site ls).run) (built_all lines h.going.built)
+  ticks_after : (failed : Bool) (line : Line) → more ≡ lines ++ line_view line ∷ []
+      → AreTicksOf site after (after_line site failed p (line_view line)).run
+  ticks_after failed line e = ap (λ (q : Progress). q.run) (made_after failed line e)
 
-  same_ticks : more ≡ lines → ticks_run site after ≡ ticks_run site before
-  same_ticks e = ap (λ (ls : List Line). (progress_of site (built_lines ls)).run) e
+  made_still : more ≡ lines → recorded p ≡ progress_of site more
+  made_still e = h.made ∙ ap (progress_of site) (sym e)
 
-  built_after : (line : Line) → more ≡ lines ++ line_view line ∷ [] → list_all is_built more ≡ is_built line
-  built_after line e = ap (list_all is_built) e ∙ all_more lines (line_view line) h.going.built ∙ view_built line
-
-  progress_after : (line : Line) → more ≡ lines ++ line_view line ∷ [] → progress_of site more ≡ after_line site p (line_view line)
-  progress_after line e = ap (progress_of site) e ∙ progress_more site lines (line_view line)
-
-  ticks_after : (line : Line) → more ≡ lines ++ line_view line ∷ [] → is_built line ≡ true
-      → ticks_run site after ≡ (after_line site p (line_view line)).run
-  ticks_after line e built =
-      ap (λ (ls : List Line). (progress_of site ls).run) (built_all more (built_after line e ∙ built)) ∙ ap (λ (q : Progress). q.run)
-      (progress_after line e)
+  small_still : more ≡ lines → IsSmall site after p
+  small_still e = let small = h.small in let count = ap (λ (ls : List Line). length ls) e in omega (arith, small, count)
 
   next_line_by : (line : Line) (result : Result (Option RunEnd) Failed) → more ≡ lines ++ line_view line ∷ []
-      → (reading_of site after).ending ≡ ends_with line → Takes site p line number old new new_run result
-      → NextBy site before piece used old new new_reader new_run result
-  next_line_by line (Ok None) e ending t = (
-    record {
-      reads = reads;
-      going = record { going = ending ∙ t.1; built = built_after line e ∙ t.0 };
-      stands = subst (λ q. Stands site q new_run) (sym (progress_after line e)) t.2;
-    },
-    subst (λ ticks. Advances old new (text_of site ticks) (text_at site after)) (sym ticks_before)
-        (subst (λ ticks. Advances old new (text_of site p.run) (text_of site ticks)) (sym (ticks_after line e t.0)) t.3),
-  )
+      → (reading_of site after).ending ≡ ends_with line → Takes site kept p line old new new_run result
+      → NextBy site kept p before piece used old new new_reader new_run result
+  next_line_by line (Ok None) e ending t =
+      let acts = t.1 in
+      record {
+        p' = after_line site acts.failed p (line_view line);
+        is_at = record {
+          reads = reads;
+          going = ending ∙ t.0;
+          made = made_after acts.failed line e;
+          small = small_more site kept before piece p run used h.stands h.made h.small within acts.failed line e;
+          stands = acts.stands;
+        };
+        wrote = acts.wrote;
+      }
   next_line_by line (Ok (Some Ended)) e ending t =
-      let built : is_built line ≡ true = ap is_built t.0 in
-      let ticks : ticks_run site after ≡ closed p = ticks_after line e built ∙ ap (λ l. (after_line site p (line_view l)).run) t.0 in (
-        (ending ∙ ap ends_with t.0, built_after line e ∙ built),
-        subst (λ ts. HasRun site ts new_run) (sym ticks) t.1,
-        subst (λ ts. Advances old new (text_of site ts) (text_at site after)) (sym ticks_before)
-            (subst (λ ts. Advances old new (text_of site p.run) (text_of site ts)) (sym ticks) t.2),
-      )
-  next_line_by line (Ok (Some (NotBuilt told))) e ending t =
-      let stop : built_lines more ≡ lines = ap built_lines e ∙ built_stop lines (line_view line) h.going.built (view_built line ∙ t.1) in
-      let ticks : ticks_run site after ≡ p.run = ap (λ (ls : List Line). (progress_of site ls).run) stop in (
-        (built_after line e ∙ t.1, t.0 ∙ is_number ∙ (counted site before).number ∙ sym (ap number_behind stop)),
-        subst (λ ts. HasRun site ts new_run) (sym ticks) t.2,
-        same_text site before after old new t.3 (ticks ∙ sym ticks_before),
-      )
+      let ends = t.1 in
+      record {
+        ticks = closed ends.failed p;
+        ended = ending ∙ ap ends_with t.0;
+        of = ap (λ l. as_recorded (after_line site ends.failed p (line_view l)).run) (sym t.0) ∙ ticks_after ends.failed line e;
+        ran = ends.ran;
+        wrote = ends.wrote;
+      }
   next_line_by line (Ok (Some (Refused refusal))) e ending t = absurd t
   next_line_by line (Ok (Some TooManyBytes)) e ending t = absurd t
   next_line_by line (Ok (Some ReadFault)) e ending t = absurd t
@@ -152,53 +176,46 @@ module _ (site : Site) (before piece : List ℕ) (used : ℕ) (number : ℕ) (ol
       record {
         front = take used piece;
         rest = drop used piece;
+        ticks = (after_line site t.failed p (line_view line)).run;
         is = sym (take-append-drop used piece);
-        ran = subst (λ ts. HasRun site ts new_run) (sym (ticks_after line e t.0)) t.1;
-        broke =
-            subst (λ ts. Breaks old new (text_of site ts) (text_at site after)) (sym ticks_before)
-            (subst (λ ts. Breaks old new (text_of site p.run) (text_of site ts)) (sym (ticks_after line e t.0)) t.2);
+        of = ticks_after t.failed line e;
+        ran = t.ran;
+        broke = t.broke;
       }
 
   next_by : (step : Step) (result : Result (Option RunEnd) Failed) → Tells (reading_of site before) (reading_of site after) step
-      → TakesStep site p step number old new run new_run result → NextBy site before piece used old new new_reader new_run result
+      → TakesStep site kept p step old new run new_run result → NextBy site kept p before piece used old new new_reader new_run result
   next_by Need result tells t =
-      subst (NextBy site before piece used old new new_reader new_run) (sym t.0) (
-        record {
+      subst (NextBy site kept p before piece used old new new_reader new_run) (sym t.0) (record {
+        p' = p;
+        is_at = record {
           reads = reads;
-          going = record { going = tells.1; built = ap (list_all is_built) tells.0 ∙ h.going.built };
-          stands = subst (λ (ls : List Line). Stands site (progress_of site ls) new_run) (sym tells.0) (subst (Stands site p) (sym t.2) h.stands);
-        },
-        same_text site before after old new t.1 (same_ticks tells.0),
-      )
+          going = tells.1;
+          made = made_still tells.0;
+          small = small_still tells.0;
+          stands = subst (Stands site kept p) (sym t.2) h.stands;
+        };
+        wrote = same_text site kept p.run old new t.1;
+      })
   next_by (LineStep line) result tells t = next_line_by line result tells.0 tells.1 t
   next_by (RefusedStep refusal) result tells t =
-      subst (NextBy site before piece used old new new_reader new_run) (sym t.0) (
-        (tells.1, ap (list_all is_built) tells.0 ∙ h.going.built),
-        subst (λ ts. HasRun site ts new_run) (sym (same_ticks tells.0 ∙ ticks_before))
-            (subst (HasRun site p.run) (sym t.2) (has_run site p.run p.block run h.stands)),
-        same_text site before after old new t.1 (same_ticks tells.0),
-      )
+      subst (NextBy site kept p before piece used old new new_reader new_run) (sym t.0) (record {
+        ticks = p.run;
+        ended = tells.1;
+        of = ap (λ (q : Progress). q.run) (made_still tells.0);
+        ran = subst (HasRun site kept p.run) (sym t.2) (has_run site kept p.run p.block run h.stands);
+        wrote = same_text site kept p.run old new t.1;
+      })
 
--- the answer to a piece was taken
-pub next_taken : (site : Site) (before piece : List ℕ) (fed : Fed) (number : ℕ) (old new : Option (List ℕ)) (reader new_reader : LineReader)
-    (run new_run : Run) (result : Result (Option RunEnd) Failed) → IsAt site before reader run → Feeds site before piece fed new_reader
-    → number ≡ (reading_of site before).number →
-    TakesStep site (progress_of site (reading_of site before).lines) fed.step number old new run new_run result
-    → NextBy site before piece fed.used old new new_reader new_run result
-next_taken site before piece fed number old new reader new_reader run new_run result h feeds is_number t =
-    next_by site before piece fed.used number old new reader new_reader run new_run h feeds.stands is_number fed.step result
-    (told_now site before piece fed new_reader feeds h.going.going).0 t
-
--- the same by what the reader of the run's site and the run answered
-pub fed_next : (site there : Site) (before piece : List ℕ) (fed : Fed) (number : ℕ) (old new : Option (List ℕ)) (reader new_reader : LineReader)
-    (run new_run : Run) (result : Result (Option RunEnd) Failed) → IsAt site before reader run → there ≡ site
-    → ((bytes : List ℕ) → ReadsFor there bytes reader → Feeds there bytes piece fed new_reader) → StepBelongs there fed.step
-    → number ≡ (reading_of site before).number
-    → (MayStep site (progress_of site (reading_of site before).lines) fed.step
-    → TakesStep site (progress_of site (reading_of site before).lines) fed.step number old new run new_run result)
-    → NextBy site before piece fed.used old new new_reader new_run result
-fed_next site there before piece fed number old new reader new_reader run new_run result h same feeds belongs is_number takes =
+-- the answer to a piece was taken, by what the reader of the run's site and the run answered
+pub fed_next : (site there : Site) (kept : Retained) (before piece : List ℕ) (p : Progress) (fed : Fed) (old new : Option (List ℕ)) (reader new_reader :
+    LineReader) (run new_run : Run) (result : Result (Option RunEnd) Failed) → IsAt site kept before p reader run → AreWithin (before ++ piece)
+    → there ≡ site → ((bytes : List ℕ) → ReadsFor there bytes reader → Feeds there bytes piece fed new_reader) → StepBelongs there fed.step
+    → (MayStep site p fed.step → TakesStep site kept p fed.step old new run new_run result)
+    → NextBy site kept p before piece fed.used old new new_reader new_run result
+fed_next site there kept before piece p fed old new reader new_reader run new_run result h within same feeds belongs takes =
     let fed_so =
     subst (λ s. Feeds s before piece fed new_reader) same (feeds before (subst (λ s. ReadsFor s before reader) (sym same) h.reads)) in
-    next_taken site before piece fed number old new reader new_reader run new_run result h fed_so is_number
-    (takes (may_step site before piece fed reader new_reader run h fed_so (subst (λ s. StepBelongs s fed.step) same belongs)))
+    let may = may_step site kept before piece p fed reader new_reader run h within fed_so (subst (λ s. StepBelongs s fed.step) same belongs) in
+    next_by site kept before piece p fed.used old new reader new_reader run new_run h within fed_so.stands fed.step result
+    (told_now site before piece fed new_reader fed_so h.going).0 (takes may)

@@ -1,56 +1,41 @@
 -- What a run stands for after each of its steps.
-use Rattle.std.proofs.Common.{◌≡◌, ◌∙◌, ◌+◌, ◌-◌, ◌^◌, ◌<◌, ◌≤◌, ◌++◌, ℕ, Bool, true, false, List, [], ◌∷◌, length, Option, Some, None, refl, sym, ap, subst, arith, lit<, lit≤}
+use Rattle.std.proofs.Common.{◌≡◌, ◌∙◌, ◌+◌, ◌-◌, ◌^◌, ◌<◌, ◌≤◌, ◌++◌, ℕ, Bool, true, false, List, [], ◌∷◌, length, map, Option, Some, None}
+use Rattle.std.proofs.Common.{if◌then◌else◌, refl, sym, ap, subst, arith, lit<, lit≤, length-map-range_with_len}
+use Rattle.std.specs.List.{range_with_len}
 use Rattle.std.proofs.lemmas.List.Sorted.{IsPermutation-refl}
 use Rattle.tick_units.specs.declared.seat.Seat.{Seat}
-use Rattle.tick_units.specs.declared.task.Task.{Task}
-use Rattle.tick_units.specs.declared.task.Task.TheVariants.{Keep}
 use Rattle.tick_units.specs.Orders.{IsOrder, canonical_seats}
 use Rattle.tick_units.specs.Ticks.{last_tick}
 use Rattle.site_types.specs.declared.event.Event.{Event}
-use Rattle.site_types.specs.declared.event.Event.TheVariants.{Point, Cable, Supply, Link, Confirmed, Op}
 use Rattle.site_types.specs.declared.retained.Retained.{Retained}
 use Rattle.site_types.specs.declared.site.Site.{Site}
-use Rattle.site_types.specs.Changes.{nothing_retained}
+use Rattle.site_types.specs.Changes.{AreCounters}
 use Rattle.site_types.specs.Valid.{IsValid}
-use Rattle.panel_rules.specs.Moments.{Moment, Began, Happened, TickBlock, IsRun, moments, and_events, and_turns, turn_of, tick_of}
-use Rattle.panel_rules.specs.Operations.{Request, and_request, requests}
+use Rattle.face_text.specs.declared.face.Face.{Face}
+use Rattle.keep_turn.specs.declared.store.Store.{Store}
+use Rattle.panel_rules.specs.Moments.{Moment, Began, Happened, TickBlock, IsRun, moments, and_events, and_turns, tick_of}
+use Rattle.panel_rules.specs.Operations.{requests}
 use Rattle.panel_rules.specs.Records.{AreOrdered}
+use Rattle.panel_rules.specs.Timeline.{face_of, faces_of}
 use Rattle.panel_rules.proofs.RecordRuns.{records_are_runs}
 use Rattle.panel_core.specs.declared.system.System.{System}
-use Rattle.panel_core.proofs.Orders.{turns_ask}
-use Rattle.panel_core.specs.Stands.{StandsFor as SystemStands, HasPanel}
-use Rattle.panel_program.specs.declared.own_journal.OwnJournal.{OwnJournal}
+use Rattle.panel_core.specs.Keeping.{HasTurned, KeepsRun, MayTurnAll, has_failed}
+use Rattle.panel_core.specs.Stands.{StandsFor as SystemStands}
+use Rattle.retained_journal.specs.declared.journal.Journal.{Journal}
 use Rattle.panel_program.specs.declared.run.Run.{Run}
-use Rattle.panel_program.specs.declared.shown.Shown.{Shown}
-use Rattle.panel_program.specs.Records.{Block, Progress, at_beginning, ticked, closed_by, is_built_event, with_event, new_block, moments_by}
-use Rattle.panel_program.specs.Stands.{Stands, MayClose, ClosesBy, HasRun, after_close, order_by}
-use Rattle.panel_program.specs.OwnJournals.{KeepsOwn, MayTurnOwn}
-use Rattle.panel_program.specs.Zones.{shown_after}
+use Rattle.panel_program.specs.Acting.{MakesTick, TurnsAll}
+use Rattle.panel_program.specs.Journals.{IsOpenFor}
+use Rattle.panel_program.specs.Records.{Block, Progress, at_beginning, closed, closed_by, moments_by, new_block, ticked, with_event}
+use Rattle.panel_program.specs.Stands.{AreFew, HasRun, MayClose, Stands, after_close, order_by}
+use Rattle.run_text.specs.Failures.{failures}
+use Rattle.run_text.proofs.TickTimes.{tick_moments}
+use Rattle.panel_program.proofs.Progresses.{closed_ordered, same_moments}
 
 -- ---- the tick of a record's moments
-
-turn_tick : (failed : Bool) (panel : ℕ) (task : Task) (before : List Moment) → tick_of (turn_of failed panel task ∷ before) ≡ tick_of before
-turn_tick failed panel Keep before = refl
-turn_tick failed panel task before = refl
-
-turns_tick : (failed : Bool) (seats : List Seat) (before : List Moment) → tick_of (and_turns failed seats before) ≡ tick_of before
-turns_tick failed [] before = refl
-turns_tick failed (seat ∷ seats) before =
-    turns_tick failed seats (turn_of failed seat.panel seat.task ∷ before) ∙ turn_tick failed seat.panel seat.task before
 
 events_tick : (events : List Event) (before : List Moment) → tick_of (and_events events before) ≡ tick_of before
 events_tick [] before = refl
 events_tick (event ∷ events) before = events_tick events (Happened event ∷ before)
-
--- it is how many ticks there are
-pub tick_moments : (ticks : List TickBlock) → tick_of (moments ticks) ≡ length ticks
-tick_moments [] = refl
-tick_moments (tick ∷ ticks) =
-    let before = Began ∷ moments ticks in
-    let e = tick_moments ticks in
-    let turned = turns_tick tick.failed tick.order (and_events tick.events before) in
-    let told = events_tick tick.events before in
-    omega (arith, e, turned, told)
 
 block_tick : (block : Block) (ticks : List TickBlock) → tick_of (and_events block.events (Began ∷ moments ticks)) ≡ length ticks + 1
 block_tick block ticks = let e = tick_moments ticks in let told = events_tick block.events (Began ∷ moments ticks) in omega (arith, e, told)
@@ -63,45 +48,51 @@ events_more (x ∷ events) event before = events_more events event (Happened x �
 -- ---- steps
 
 -- before the first tick
-pub opened : (site : Site) (kept : Retained) (run : Run) → IsValid site → site.panels ≡ 1 → kept ≡ nothing_retained
-    → SystemStands site kept [] run.system → KeepsOwn site [] 0 run.own → run.is_open ≡ false → run.canonical ≡ canonical_seats site.panels → run.ticks ≡ 0
-    → ((before : List Moment) → SystemStands site nothing_retained before run.system → IsRun site.panels before
-    → run.shown ≡ shown_after site before) → Stands site at_beginning run
-opened site kept run valid one nothing stands own shut canonical none shows =
-    let system = subst (λ k. SystemStands site k [] run.system) nothing stands in
+pub opened : (site : Site) (kept : Retained) (run : Run) → IsValid site → AreCounters kept.counters → IsOpenFor site kept run.journal
+    → SystemStands site kept [] run.system → run.is_open ≡ false → run.canonical ≡ canonical_seats site.panels → run.ticks ≡ 0
+    → run.store_failures ≡ 0 → run.shown.items ≡ faces_of site kept [] → length run.next.items ≡ site.panels
+    → Stands site kept at_beginning run
+opened site kept run valid counters opens stands shut canonical none fine shown room =
+    let tried = opens.tried in
     record {
       valid = valid;
-      one = one;
-      system = system;
-      own = subst (λ n. KeepsOwn site [] n run.own) (sym none) own;
+      counters = counters;
+      system = stands;
+      journal = opens.keeps;
+      tried = omega (arith, tried, none);
       open_is = shut;
       canonical = canonical;
       order_is = tt;
       ordered = tt;
-      shown = shows [] system tt;
+      shown = shown;
+      room = room;
       count = none;
+      failed = fine;
       few = (let start : 0 ≤ last_tick = lit≤ tt in start);
-      unasked = refl;
+      short = (let start : 0 < 2 ^ 64 - 1 = lit< tt in start);
     }
 
 -- a tick begins
-pub begun : (site : Site) (ticks : List TickBlock) (old : Run) (system : System) → Stands site (record { run = ticks; block = None }) old →
-    SystemStands site nothing_retained (Began ∷ moments ticks) system → length ticks + 1 ≤ last_tick →
-    Stands site (record { run = ticks; block = Some (new_block site) }) (record old { system = system; is_open = true; order = None })
-begun site ticks old system h stands few =
+pub begun : (site : Site) (kept : Retained) (ticks : List TickBlock) (old : Run) (system : System) → Stands site kept (record { run = ticks; block = None }) old
+    → SystemStands site kept (Began ∷ moments ticks) system → length ticks + 1 ≤ last_tick → AreFew (Began ∷ moments ticks)
+    → Stands site kept (record { run = ticks; block = Some (new_block site) }) (record old { system = system; is_open = true; order = None })
+begun site kept ticks old system h stands few short =
     record {
       valid = h.valid;
-      one = h.one;
+      counters = h.counters;
       system = stands;
-      own = record { keeps = record { keeps = h.own.keeps.keeps; wide = h.own.keeps.wide }; sound = h.own.sound; tried = h.own.tried };
+      journal = record { keeps = h.journal.keeps; wide = h.journal.wide };
+      tried = h.tried;
       open_is = refl;
       canonical = h.canonical;
       order_is = sym h.canonical;
       ordered = (h.ordered, IsPermutation-refl (canonical_seats site.panels));
       shown = h.shown;
+      room = h.room;
       count = h.count;
+      failed = h.failed;
       few = omega (arith, few);
-      unasked = h.unasked;
+      short = short;
     }
 
 pub not_open : {X : Type 0} → true ≡ false → X
@@ -110,195 +101,204 @@ not_open e = absurd (go e)
     go : true ≡ false → ⊥
     go e = cc
 
--- what parts take is no operation
-not_asked : (site : Site) (tick : ℕ) (event : Event) (before : List Request) → is_built_event event ≡ true → and_request site tick event before ≡ before
-not_asked site tick (Point point state) before built = refl
-not_asked site tick (Cable panel line piece state) before built = refl
-not_asked site tick (Supply panel kind bad) before built = refl
-not_asked site tick (Link link up) before built = refl
-not_asked site tick (Confirmed output) before built = refl
-not_asked site tick (Op panel code operation) before built = absurd cc
-
-told_by : (site : Site) (ticks : List TickBlock) (o : Option Block) (old : Run) (event : Event) (system : System)
-    → Stands site (record { run = ticks; block = o }) old → is_built_event event ≡ true → old.is_open ≡ true →
-    SystemStands site nothing_retained (Happened event ∷ moments_by o ticks) system
-    → Stands site (record { run = ticks; block = with_event event o }) (record old { system = system })
-told_by site ticks None old event system h built open_is stands = not_open (sym open_is ∙ h.open_is)
-told_by site ticks (Some block) old event system h built open_is stands =
+told_by : (site : Site) (kept : Retained) (ticks : List TickBlock) (o : Option Block) (old : Run) (event : Event) (system : System)
+    → Stands site kept (record { run = ticks; block = o }) old → old.is_open ≡ true → SystemStands site kept (Happened event ∷ moments_by o ticks) system
+    → AreFew (moments_by (with_event event o) ticks)
+    → Stands site kept (record { run = ticks; block = with_event event o }) (record old { system = system })
+told_by site kept ticks None old event system h open_is stands short = not_open (sym open_is ∙ h.open_is)
+told_by site kept ticks (Some block) old event system h open_is stands short =
+    let more = sym (events_more block.events event (Began ∷ moments ticks)) in
     record {
       valid = h.valid;
-      one = h.one;
-      system = subst (λ ms. SystemStands site nothing_retained ms system) (sym (events_more block.events event (Began ∷ moments ticks))) stands;
-      own =
-          subst (λ ms. KeepsOwn site ms old.ticks old.own) (sym (events_more block.events event (Began ∷ moments ticks))) (record {
-            keeps = record { keeps = h.own.keeps.keeps; wide = h.own.keeps.wide };
-            sound = h.own.sound;
-            tried = h.own.tried;
-          });
+      counters = h.counters;
+      system = subst (λ ms. SystemStands site kept ms system) more stands;
+      journal = subst (λ ms. KeepsRun site kept ms old.journal) more (record { keeps = h.journal.keeps; wide = h.journal.wide });
+      tried = h.tried;
       open_is = h.open_is;
       canonical = h.canonical;
       order_is = h.order_is;
       ordered = h.ordered;
       shown = h.shown;
+      room = h.room;
       count = h.count;
+      failed = h.failed;
       few = h.few;
-      unasked =
-          ap (requests site) (events_more block.events event (Began ∷ moments ticks))
-          ∙ not_asked site (tick_of (and_events block.events (Began ∷ moments ticks))) event _ built
-          ∙ h.unasked;
+      short = short;
     }
 
 -- an event comes in an open tick
-pub told : (site : Site) (p : Progress) (old : Run) (event : Event) (system : System) → Stands site p old → is_built_event event ≡ true
-    → old.is_open ≡ true →
-    SystemStands site nothing_retained (Happened event ∷ moments_by p.block p.run) system
-    → Stands site (record { run = p.run; block = with_event event p.block }) (record old { system = system })
-told site p old event system h built open_is stands = told_by site p.run p.block old event system h built open_is stands
+pub told : (site : Site) (kept : Retained) (p : Progress) (old : Run) (event : Event) (system : System) → Stands site kept p old
+    → old.is_open ≡ true → SystemStands site kept (Happened event ∷ moments_by p.block p.run) system
+    → AreFew (moments_by (with_event event p.block) p.run)
+    → Stands site kept (record { run = p.run; block = with_event event p.block }) (record old { system = system })
+told site kept p old event system h open_is stands short = told_by site kept p.run p.block old event system h open_is stands short
 
-untold_by : (site : Site) (ticks : List TickBlock) (o : Option Block) (run : Run) (event : Event)
-    → Stands site (record { run = ticks; block = o }) run → run.is_open ≡ false → Stands site (record { run = ticks; block = with_event event o }) run
-untold_by site ticks None run event h shut = h
-untold_by site ticks (Some block) run event h shut = not_open (sym h.open_is ∙ shut)
+untold_by : (site : Site) (kept : Retained) (ticks : List TickBlock) (o : Option Block) (run : Run) (event : Event)
+    → Stands site kept (record { run = ticks; block = o }) run → run.is_open ≡ false
+    → Stands site kept (record { run = ticks; block = with_event event o }) run
+untold_by site kept ticks None run event h shut = h
+untold_by site kept ticks (Some block) run event h shut = not_open (sym h.open_is ∙ shut)
 
 -- where no tick has begun it changes nothing
-pub untold : (site : Site) (p : Progress) (run : Run) (event : Event) → Stands site p run → run.is_open ≡ false
-    → Stands site (record { run = p.run; block = with_event event p.block }) run
-untold site p run event h shut = untold_by site p.run p.block run event h shut
-
--- fewer than 2 ^ 64 operations were asked for
-pub few_asked : (site : Site) (p : Progress) (run : Run) → Stands site p run → length (requests site (moments_by p.block p.run)) < 2 ^ 64 - 1
-few_asked site p run h = let none = ap length h.unasked in let top : 0 < 2 ^ 64 - 1 = lit< tt in omega (arith, none, top)
+pub untold : (site : Site) (kept : Retained) (p : Progress) (run : Run) (event : Event) → Stands site kept p run → run.is_open ≡ false
+    → Stands site kept (record { run = p.run; block = with_event event p.block }) run
+untold site kept p run event h shut = untold_by site kept p.run p.block run event h shut
 
 -- ---- the turns of a tick
 
--- turns in this order lead a system and its journal from any history to the longer one
-abbrev pub Turning : Site → Run → System → OwnJournal → Type 0
-Turning site run system own =
-    (before : List Moment) (most : ℕ) → SystemStands site nothing_retained before run.system → KeepsOwn site before most run.own
-    → IsRun site.panels (and_turns false (order_by run.order run.canonical) before) → tick_of before ≤ last_tick
-    → SystemStands site nothing_retained (and_turns false (order_by run.order run.canonical) before) system
-    × KeepsOwn site (and_turns false (order_by run.order run.canonical) before) (most + 1) own
-
-module _ (site : Site) (ticks : List TickBlock) (block : Block) (run : Run) (h : Stands site (record { run = ticks; block = Some block }) run) where
+module _ (site : Site) (kept : Retained) (ticks : List TickBlock) (block : Block) (run : Run) (h :
+    Stands site kept (record { run = ticks; block = Some block }) run) where
   abbrev before : List Moment
   before = and_events block.events (Began ∷ moments ticks)
 
   order_run : IsRun site.panels (and_turns false (order_by run.order run.canonical) before)
   order_run =
-      subst (λ order. IsRun site.panels (and_turns false order before)) h.order_is (records_are_runs site.panels (ticked block ∷ ticks) h.ordered).0
+      subst (λ order. IsRun site.panels (and_turns false order before)) h.order_is (records_are_runs site.panels (ticked false block ∷ ticks) h.ordered).0
 
   in_time : tick_of before ≤ last_tick
   in_time = let tick = block_tick block ticks in let few = h.few in omega (arith, tick, few)
 
-  pub may_turn_block : MayTurnOwn (order_by run.order run.canonical) run.own run.system
+  pub may_turn_block : MayTurnAll (order_by run.order run.canonical) run.journal run.system
   may_turn_block =
       let few = h.few in
       let count = h.count in
-      let tried = h.own.tried in
+      let tried = h.tried in
       record {
-        turns = record {
-          site = site;
-          kept = nothing_retained;
-          before = before;
-          stands = h.system;
-          keeps = h.own.keeps;
-          ordered = subst (IsOrder site.panels) h.order_is h.ordered.1;
-          run = order_run;
-          few = in_time;
-          tried = omega (arith, few, count, tried);
-        };
-        sound = h.own.sound;
+        site = site;
+        kept = kept;
+        before = before;
+        stands = h.system;
+        keeps = h.journal;
+        ordered = subst (IsOrder site.panels) h.order_is h.ordered.1;
+        run = order_run;
+        few = in_time;
+        tried = omega (arith, few, count, tried);
       }
 
   -- after its turns the system and its journal stand for one tick more
-  pub turned_block : (system : System) (own : OwnJournal) → Turning site run system own
-      → SystemStands site nothing_retained (moments (ticked block ∷ ticks)) system × KeepsOwn site (moments (ticked block ∷ ticks)) (run.ticks + 1) own
-  turned_block system own turns =
-      subst (λ order. SystemStands site nothing_retained (and_turns false order before) system × KeepsOwn site (and_turns false order before) (run.ticks + 1) own)
-      (sym h.order_is) (turns before run.ticks h.system h.own order_run in_time)
+  pub turned_block : (store : Store) (turned : Run) → TurnsAll run store turned
+      → HasTurned site kept (moments (ticked (has_failed store) block ∷ ticks)) store turned.journal turned.system
+  turned_block store turned turns =
+      subst (λ order. HasTurned site kept (and_turns (has_failed store) order before) store turned.journal turned.system)
+      (sym h.order_is) (turns.turns site kept before h.system h.journal order_run in_time)
 
-pub shows_one : (site : Site) (ticks : List TickBlock) (system : System) → site.panels ≡ 1 → SystemStands site nothing_retained (moments ticks) system
-    → HasPanel 1 system
-shows_one site ticks system one stands = record {
-  site = site;
-  kept = nothing_retained;
-  before = moments ticks;
-  stands = stands;
-  member =
-      (omega arith, omega (arith, one));
-}
-
-may_turn_by : (site : Site) (ticks : List TickBlock) (o : Option Block) (run : Run) → Stands site (record { run = ticks; block = o }) run
-    → run.is_open ≡ true → MayTurnOwn (order_by run.order run.canonical) run.own run.system
-may_turn_by site ticks None run h open_is = not_open (sym open_is ∙ h.open_is)
-may_turn_by site ticks (Some block) run h open_is = may_turn_block site ticks block run h
+may_turn_by : (site : Site) (kept : Retained) (ticks : List TickBlock) (o : Option Block) (run : Run)
+    → Stands site kept (record { run = ticks; block = o }) run → run.is_open ≡ true
+    → MayTurnAll (order_by run.order run.canonical) run.journal run.system
+may_turn_by site kept ticks None run h open_is = not_open (sym open_is ∙ h.open_is)
+may_turn_by site kept ticks (Some block) run h open_is = may_turn_block site kept ticks block run h
 
 -- an open tick may have its turns
-pub may_turn : (run : Run) (r : MayClose run) → MayTurnOwn (order_by run.order run.canonical) run.own run.system
-may_turn run r = may_turn_by r.site r.p.run r.p.block run r.stands r.open_is
+pub may_turn : (run : Run) (r : MayClose run) → MayTurnAll (order_by run.order run.canonical) run.journal run.system
+may_turn run r = may_turn_by r.site r.kept r.p.run r.p.block run r.stands r.open_is
 
-may_show_by : (site : Site) (ticks : List TickBlock) (o : Option Block) (run : Run) (system : System) (own : OwnJournal)
-    → Stands site (record { run = ticks; block = o }) run → run.is_open ≡ true → Turning site run system own → HasPanel 1 system
-may_show_by site ticks None run system own h open_is turns = not_open (sym open_is ∙ h.open_is)
-may_show_by site ticks (Some block) run system own h open_is turns =
-    shows_one site (ticked block ∷ ticks) system h.one (turned_block site ticks block run h system own turns).0
+-- the number of failed ticks with one more
+abbrev pub failures_with : Bool → ℕ → ℕ
+failures_with failed n = if failed then n + 1 else n
 
--- and then be asked what is shown
-pub may_show : (run : Run) (system : System) (own : OwnJournal) (r : MayClose run) → Turning r.site run system own → HasPanel 1 system
-may_show run system own r turns = may_show_by r.site r.p.run r.p.block run system own r.stands r.open_is turns
+-- the tick of a run was made, after the turns of its seats
+pub record TickMade (store : Store) (turned run : Run) : Type 0 where
+  pub system : run.system ≡ turned.system
+  pub journal : run.journal ≡ turned.journal
+  pub shut : run.is_open ≡ false
+  pub canonical : run.canonical ≡ turned.canonical
+  pub ticks : run.ticks ≡ turned.ticks + 1
+  pub failed : run.store_failures ≡ failures_with (has_failed store) turned.store_failures
+  pub before : run.next.items ≡ turned.shown.items
 
-closes_by : (site : Site) (ticks : List TickBlock) (o : Option Block) (run : Run) (system : System) (own : OwnJournal) (shown : Shown)
-    → Stands site (record { run = ticks; block = o }) run → Turning site run system own →
-    ((before : List Moment) → SystemStands site nothing_retained before system → IsRun site.panels before → shown ≡ shown_after site before) →
-    ClosesBy site (record { run = ticks; block = o }) o
-    (record run { system = system; own = own; is_open = false; ticks = run.ticks + 1; shown = shown })
-closes_by site ticks None run system own shown h turns shows = tt
-closes_by site ticks (Some block) run system own shown h turns shows =
-    let turned = turned_block site ticks block run h system own turns in
-    let count = h.count in
-    record {
-      valid = h.valid;
-      one = h.one;
-      system = turned.0;
-      own = turned.1;
-      open_is = refl;
-      canonical = h.canonical;
-      order_is = tt;
-      ordered = h.ordered;
-      shown = shows (moments (ticked block ∷ ticks)) turned.0 (records_are_runs site.panels (ticked block ∷ ticks) h.ordered).0;
-      count = omega (arith, count);
-      few = h.few;
-      unasked = turns_ask site false block.order (and_events block.events (Began ∷ moments ticks)) ∙ h.unasked;
-    }
+module _ (site : Site) (kept : Retained) (store : Store) (old turned run : Run) (turns : TurnsAll old store turned) (made :
+    TickMade store turned run) (shows : (before : List Moment) → SystemStands site kept before turned.system → IsRun site.panels before
+    → run.shown.items ≡ faces_of site kept before) where
+  made_block : (ticks : List TickBlock) (block : Block) → Stands site kept (record { run = ticks; block = Some block }) old
+      → AreFew (moments (ticked false block ∷ ticks)) → MakesTick site kept (record { run = ticks; block = Some block }) old run
+  made_block ticks block h short =
+      let failed = has_failed store in
+      let all = ticked failed block ∷ ticks in
+      let turned_so = turned_block site kept ticks block old h store turned turns in
+      let ordered = closed_ordered site.panels failed (Some block) ticks h.ordered in
+      let runs = records_are_runs site.panels all ordered in
+      let count = h.count in
+      let ticked_more = made.ticks in
+      let ticks_were = ap (λ (r : Run). r.ticks) turns.rest in
+      let tried = turns.tried in
+      let tried_were = h.tried in
+      let tried_now = ap (λ (j : Journal). j.tried) made.journal in
+      let shown_were = made.before ∙ ap (λ (r : Run). r.shown.items) turns.rest in
+      let few = h.few in
+      let same = same_moments failed (Some block) ticks in
+      record {
+        failed = failed;
+        stands = record {
+          valid = h.valid;
+          counters = h.counters;
+          system = subst (SystemStands site kept (moments all)) (sym made.system) turned_so.stands;
+          journal = subst (KeepsRun site kept (moments all)) (sym made.journal) turned_so.keeps;
+          tried = omega (arith, ticked_more, ticks_were, tried, tried_were, tried_now);
+          open_is = made.shut;
+          canonical = made.canonical ∙ ap (λ (r : Run). r.canonical) turns.rest ∙ h.canonical;
+          order_is = tt;
+          ordered = ordered;
+          shown = shows (moments all) turned_so.stands runs.0;
+          room =
+              ap (λ (fs : List Face). length fs) (shown_were ∙ h.shown)
+              ∙ length-map-range_with_len (λ panel. face_of site kept panel (moments ticks)) 1 site.panels;
+          count = omega (arith, ticked_more, ticks_were, count);
+          failed = made.failed ∙ ap (failures_with failed) (ap (λ (r : Run). r.store_failures) turns.rest ∙ h.failed);
+          few = omega (arith, few);
+          short = omega (arith, short, same);
+        };
+        before = shown_were;
+      }
 
--- the turns were made
-pub closes : (site : Site) (p : Progress) (run : Run) (system : System) (own : OwnJournal) (shown : Shown) → Stands site p run → Turning site run system own →
-    ((before : List Moment) → SystemStands site nothing_retained before system → IsRun site.panels before → shown ≡ shown_after site before) →
-    ClosesBy site p p.block (record run { system = system; own = own; is_open = false; ticks = run.ticks + 1; shown = shown })
-closes site p run system own shown h turns shows = closes_by site p.run p.block run system own shown h turns shows
+  made_by : (ticks : List TickBlock) (o : Option Block) → Stands site kept (record { run = ticks; block = o }) old → old.is_open ≡ true
+      → AreFew (moments (closed_by false o ticks)) → MakesTick site kept (record { run = ticks; block = o }) old run
+  made_by ticks None h open_is short = not_open (sym open_is ∙ h.open_is)
+  made_by ticks (Some block) h open_is short = made_block ticks block h short
 
-run_few : (o : Option Block) (ticks : List TickBlock) → length ticks ≤ length (closed_by o ticks)
+  -- the turns were made
+  pub makes : (p : Progress) → Stands site kept p old → old.is_open ≡ true → AreFew (moments (closed false p)) → MakesTick site kept p old run
+  makes p h open_is short = made_by p.run p.block h open_is short
+
+run_few : (o : Option Block) (ticks : List TickBlock) → length ticks ≤ length (closed_by false o ticks)
 run_few None ticks = omega arith
 run_few (Some block) ticks = omega arith
 
 -- the count of ticks stays far below its type's end
-pub ticks_few : (run : Run) (r : MayClose run) → run.ticks ≤ last_tick
-ticks_few run r = let few = r.stands.few in let count = r.stands.count in let le = run_few r.p.block r.p.run in omega (arith, few, count, le)
+pub ticks_few : (site : Site) (kept : Retained) (p : Progress) (run : Run) → Stands site kept p run → run.ticks ≤ last_tick
+ticks_few site kept p run h = let few = h.few in let count = h.count in let le = run_few p.block p.run in omega (arith, few, count, le)
 
-shut_by : (site : Site) (ticks : List TickBlock) (o : Option Block) (run : Run) → Stands site (record { run = ticks; block = o }) run
-    → run.is_open ≡ false → (o ≡ None) × Stands site (record { run = closed_by o ticks; block = None }) run
-shut_by site ticks None run h shut = (refl, h)
-shut_by site ticks (Some block) run h shut = not_open (sym h.open_is ∙ shut)
+failures_few : (ticks : List TickBlock) → failures ticks ≤ length ticks
+failures_few [] = omega arith
+failures_few (tick ∷ ticks) = go tick.failed
+  where
+    go : (b : Bool) → (if b then failures ticks + 1 else failures ticks) ≤ length ticks + 1
+    go true = let ih = failures_few ticks in omega (arith, ih)
+    go false = let ih = failures_few ticks in omega (arith, ih)
+
+-- and so does that of the failed ones
+pub failed_few : (site : Site) (kept : Retained) (p : Progress) (run : Run) → Stands site kept p run → run.store_failures ≤ last_tick
+failed_few site kept p run h =
+    let failed = h.failed in
+    let le = failures_few p.run in
+    let ticks = ticks_few site kept p run h in
+    let count = h.count in
+    omega (arith, failed, le, ticks, count)
+
+shut_by : (site : Site) (kept : Retained) (ticks : List TickBlock) (o : Option Block) (run : Run) → Stands site kept (record { run = ticks; block = o }) run
+    → run.is_open ≡ false → (o ≡ None) × Stands site kept (record { run = closed_by false o ticks; block = None }) run
+shut_by site kept ticks None run h shut = (refl, h)
+shut_by site kept ticks (Some block) run h shut = not_open (sym h.open_is ∙ shut)
 
 -- where no tick is open there is nothing to close
-pub shut : (site : Site) (p : Progress) (run : Run) → Stands site p run → run.is_open ≡ false → (p.block ≡ None) × Stands site (after_close p) run
-shut site p run h is = shut_by site p.run p.block run h is
+pub shut : (site : Site) (kept : Retained) (p : Progress) (run : Run) → Stands site kept p run → run.is_open ≡ false
+    → (p.block ≡ None) × Stands site kept (after_close false p) run
+shut site kept p run h is = shut_by site kept p.run p.block run h is
 
 -- what has been run
-pub has_run : (site : Site) (ticks : List TickBlock) (o : Option Block) (run : Run) → Stands site (record { run = ticks; block = o }) run
-    → HasRun site ticks run
-has_run site ticks o run h = record { count = h.count; ordered = ordered_by o h.ordered }
+pub has_run : (site : Site) (kept : Retained) (ticks : List TickBlock) (o : Option Block) (run : Run)
+    → Stands site kept (record { run = ticks; block = o }) run → HasRun site kept ticks run
+has_run site kept ticks o run h = record { counters = h.counters; count = h.count; failed = h.failed; ordered = ordered_by o h.ordered }
   where
-    ordered_by : (o : Option Block) → AreOrdered site.panels (closed_by o ticks) → AreOrdered site.panels ticks
+    ordered_by : (o : Option Block) → AreOrdered site.panels (closed_by false o ticks) → AreOrdered site.panels ticks
     ordered_by None g = g
     ordered_by (Some block) g = g.0

@@ -11,8 +11,8 @@ use Rattle.panel_program.specs.declared.stop.Stop.{Stop}
 use Rattle.panel_program.specs.Lines.{counts_line, usage_line}
 use Rattle.panel_program.specs.Refusals.{stop_status, stop_text}
 use Rattle.panel_program.specs.Matrix.{IsMatrix}
-use Rattle.panel_program.specs.Runs.{Ran, RanNothing}
-use Rattle.panel_program.specs.Sites.{Loads}
+use Rattle.panel_program.specs.Runs.{Input, Ran, RanNothing}
+use Rattle.panel_program.specs.Sites.{Loads, file_digest}
 use Rattle.program_status.specs.Sayings.{Says}
 
 -- the word that names the site
@@ -24,16 +24,12 @@ site_word _ = []
 pub record Tells (status : Status) (text : List ℕ) (old new : Option (List ℕ)) (outcome : Outcome) : Type 0 where
   pub says : Says status text old new outcome.status
   pub ticks : outcome.ticks ≡ 0
+  pub failures : outcome.store_failures ≡ 0
 
 -- a check tells the counts of the site, or why there is none
 abbrev pub Checks : Option (List ℕ) → Option (List ℕ) → Outcome → Result Site Stop → Type 0
 Checks old new outcome (Ok site) = Tells exit.Done (counts_line site) old new outcome
 Checks old new outcome (Err stop) = Tells (stop_status stop) (stop_text stop) old new outcome
-
--- a run runs the site over the record, or tells why there is none
-abbrev pub Runs : List ℕ → Option (List ℕ) → Option (List ℕ) → Outcome → Result Site Stop → Type 0
-Runs bytes old new outcome (Ok site) = Ran site bytes old new outcome
-Runs bytes old new outcome (Err stop) = Tells (stop_status stop) (stop_text stop) old new outcome
 
 -- The matrix tells which outputs each zone asks for, or why there is no site. Where memory ran out it ends so
 -- and has written nothing. When memory is ample no clause can say, so this alone allows such an answer for
@@ -43,18 +39,27 @@ Draws old new outcome (Ok site) =
     RanNothing old new outcome ⊎ ((text : List ℕ) × IsMatrix site text × Tells exit.Done text old new outcome)
 Draws old new outcome (Err stop) = Tells (stop_status stop) (stop_text stop) old new outcome
 
--- what a command answers, by the file under the site's name and the bytes of the record
-abbrev pub Answers : Command → Option (List ℕ) → List ℕ → Option (List ℕ) → Option (List ℕ) → Outcome → Type 0
-Answers Usage file bytes old new outcome = Tells exit.Usage usage_line old new outcome
-Answers Check file bytes old new outcome = (result : Result Site Stop) × Loads Check file result
-    × Checks old new outcome result
-Answers Run file bytes old new outcome = (result : Result Site Stop) × Loads Run file result
-    × Runs bytes old new outcome result
-Answers Matrix file bytes old new outcome = (result : Result Site Stop) × Loads Matrix file result
-    × Draws old new outcome result
+-- a run runs the site over the record where the input tells its bytes, or tells why there is no site
+abbrev pub Runs : List ℕ → Input → Option (List ℕ) → Option (List ℕ) → Option (List ℕ) → Outcome
+    → Result Site Stop → Type 0
+Runs digest input seen old new outcome (Ok site) =
+    IfSome input.before (λ bytes. Ran site digest input bytes seen old new outcome)
+Runs digest input seen old new outcome (Err stop) = Tells (stop_status stop) (stop_text stop) old new outcome
 
--- the same where the shelf tells its files and the input its bytes
-abbrev pub AnswersTold : Command → List ℕ → Option (List (List ℕ × List ℕ)) → Option (List ℕ)
+-- what a command that has a site answers, by the file under the site's name
+pub record AnswersBy (rose : Type 0) (file : Option (List ℕ)) (does : Result Site Stop → Type 0) : Type 0 where
+  pub result : Result Site Stop
+  pub loads : Loads rose file result
+  pub did : does result
+
+-- what a command answers: on its words alone, or by the files where the shelf tells them; a run by the bytes of the
+-- record, where the input tells them, and by what the journal's disk holds
+abbrev pub Answers : Command → List ℕ → Type 0 → Option (List (List ℕ × List ℕ)) → Input → Option (List ℕ)
     → Option (List ℕ) → Option (List ℕ) → Outcome → Type 0
-AnswersTold command name files left old new outcome =
-    IfSome files (λ held. IfSome left (λ bytes. Answers command (file_of name held) bytes old new outcome))
+Answers Usage name rose files input seen old new outcome = Tells exit.Usage usage_line old new outcome
+Answers Check name rose files input seen old new outcome =
+    IfSome files (λ held. AnswersBy rose (file_of name held) (Checks old new outcome))
+Answers Matrix name rose files input seen old new outcome =
+    IfSome files (λ held. AnswersBy rose (file_of name held) (Draws old new outcome))
+Answers Run name rose files input seen old new outcome = IfSome files (λ held. AnswersBy rose (file_of name held)
+    (Runs (file_digest (file_of name held)) input seen old new outcome))

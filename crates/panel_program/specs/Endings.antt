@@ -1,7 +1,6 @@
 -- How a run ends, its status and its last line.
-use Rattle.std.specs.Prelude.{◌+◌, ◌-◌, ◌^◌, ℕ, nat_lt, min, List, ◌++◌, length, take, Option, Some, None, codes}
+use Rattle.std.specs.Prelude.{ℕ, nat_lt, List, ◌++◌, length, take, Option, Some, None, codes}
 use Rattle.std.specs.Prelude.{decimal, if◌then◌else◌}
-use Rattle.std.specs.List.{list_all}
 use Rattle.panel_edges.specs.Limits.{most_record_bytes}
 use Rattle.site_types.specs.declared.site.Site.{Site}
 use Rattle.record_lines.specs.declared.why.Why.{Why}
@@ -10,19 +9,13 @@ use Rattle.record_lines.specs.declared.why.Why.TheVariants.{LineTooLong, NotAsci
 use Rattle.record_lines.specs.declared.why.Why.TheVariants.{TickLimit}
 use Rattle.record_lines.specs.declared.over.Over.{Over}
 use Rattle.record_lines.specs.declared.over.Over.TheVariants.{Ended as OverEnded, Refused as OverRefused}
-use Rattle.record_lines.specs.declared.line.Line.{Line}
 use Rattle.record_lines.specs.Lines.{Reading, reading_of}
 use Rattle.panel_program.specs.declared.run_end.RunEnd.{RunEnd}
-use Rattle.panel_program.specs.declared.run_end.RunEnd.TheVariants.{Ended, Refused, NotBuilt, TooManyBytes, ReadFault}
+use Rattle.panel_program.specs.declared.run_end.RunEnd.TheVariants.{Ended, Refused, TooManyBytes, ReadFault}
 use Rattle.program_status.specs.declared.status.Status.{Status}
 use Rattle.program_status.specs.declared.status.Status.TheVariants as exit
-use Rattle.panel_program.specs.Records.{is_built, built_lines}
 
 -- ---- how the bytes of a record end a run
-
--- the number of the line behind so many; it stays at the greatest of 64 bits
-abbrev pub number_behind : List Line → ℕ
-number_behind lines = min (length lines + 1) (2 ^ 64 - 1)
 
 -- where the bytes are over without the end: they are as many as a record may have, or too few
 abbrev pub end_without : ℕ → ℕ → RunEnd
@@ -36,16 +29,13 @@ end_by count number (Some OverEnded) = Ended
 end_by count number (Some (OverRefused refusal)) = Refused refusal
 
 abbrev pub end_in : ℕ → Reading → RunEnd
-end_in count reading =
-    if list_all is_built reading.lines then end_by count reading.number reading.ending else NotBuilt
-    (number_behind (built_lines reading.lines))
+end_in count reading = end_by count reading.number reading.ending
 
 -- the bytes of a record that are read at most
 abbrev pub within_limit : List ℕ → List ℕ
 within_limit bytes = take most_record_bytes bytes
 
--- the end of a run over these bytes, where no read fails: the first line that no part takes, the line `end`,
--- the first refusal, or the end of the bytes
+-- the end of a run over these bytes, where no read fails: the line `end`, the first refusal, or the end of the bytes
 abbrev pub end_of : Site → List ℕ → RunEnd
 end_of site bytes = end_in (length (within_limit bytes)) (reading_of site (within_limit bytes))
 
@@ -66,7 +56,6 @@ status_by TickLimit = exit.Limit
 abbrev pub status_of : RunEnd → Status
 status_of Ended = exit.Done
 status_of (Refused refusal) = status_by refusal.why
-status_of (NotBuilt line) = exit.BadRecord
 status_of TooManyBytes = exit.Limit
 status_of ReadFault = exit.ReadFault
 
@@ -91,6 +80,5 @@ why_text line TickLimit = codes "limit ticks\n"
 abbrev pub last_line : ℕ → RunEnd → List ℕ
 last_line ticks Ended = codes "end " ++ decimal ticks ++ codes "\n"
 last_line ticks (Refused refusal) = why_text refusal.line refusal.why
-last_line ticks (NotBuilt line) = refused_text line (codes " 11")
 last_line ticks TooManyBytes = codes "limit bytes\n"
 last_line ticks ReadFault = codes "fault read\n"

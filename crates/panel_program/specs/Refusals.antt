@@ -6,7 +6,7 @@ use Rattle.site_document.specs.declared.refusal.SiteRefusal.TheVariants as code
 use Rattle.program_status.specs.declared.status.Status.{Status}
 use Rattle.program_status.specs.declared.status.Status.TheVariants as exit
 use Rattle.panel_program.specs.declared.stop.Stop.{Stop}
-use Rattle.panel_program.specs.declared.stop.Stop.TheVariants.{Absent, Refused, Cycle, NotBuilt, ReadFault, NoMemory}
+use Rattle.panel_program.specs.declared.stop.Stop.TheVariants.{Absent, Refused, Cycle, ReadFault, NoMemory}
 
 -- a refusal with a key or a name
 abbrev pub named_text : List ℕ → List ℕ → List ℕ → List ℕ
@@ -51,7 +51,6 @@ abbrev pub stop_text : Stop → List ℕ
 stop_text Absent = codes "refused site 0\n"
 stop_text (Refused refusal) = refusal_text refusal
 stop_text (Cycle line) = line
-stop_text NotBuilt = codes "refused site 12\n"
 stop_text ReadFault = codes "fault read\n"
 stop_text NoMemory = []
 
@@ -59,6 +58,5 @@ abbrev pub stop_status : Stop → Status
 stop_status Absent = exit.BadSite
 stop_status (Refused refusal) = refusal_status refusal
 stop_status (Cycle line) = exit.BadSite
-stop_status NotBuilt = exit.BadSite
 stop_status ReadFault = exit.ReadFault
 stop_status NoMemory = exit.NoMemory

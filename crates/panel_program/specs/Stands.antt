@@ -1,13 +1,13 @@
 -- What a run stands for, after some lines of its record.
-use Rattle.std.specs.Prelude.{◌≡◌, ◌+◌, ◌≤◌, ℕ, true, false, List, [], ◌++◌, length, take, Option, Some, None}
-use Rattle.std.specs.Prelude.{Result, Ok, Err, is_some}
-use Rattle.std.specs.List.{list_all}
+use Rattle.std.specs.Prelude.{◌≡◌, ◌+◌, ◌-◌, ◌*◌, ◌^◌, ◌<◌, ◌≤◌, ℕ, Bool, true, false, List, [], ◌++◌, length, take, Option}
+use Rattle.std.specs.Prelude.{Some, None, Result, Ok, Err, is_some}
 use Rattle.tick_units.specs.declared.seat.Seat.{Seat}
 use Rattle.tick_units.specs.Orders.{canonical_seats}
 use Rattle.tick_units.specs.Ticks.{last_tick}
 use Rattle.site_types.specs.declared.event.Event.{Event}
+use Rattle.site_types.specs.declared.retained.Retained.{Retained}
 use Rattle.site_types.specs.declared.site.Site.{Site}
-use Rattle.site_types.specs.Changes.{nothing_retained}
+use Rattle.site_types.specs.Changes.{AreCounters}
 use Rattle.site_types.specs.Events.{has_event}
 use Rattle.site_types.specs.Valid.{IsValid}
 use Rattle.record_lines.specs.declared.line.Line.{Line}
@@ -20,22 +20,22 @@ use Rattle.record_lines.specs.Belongs.{Belongs}
 use Rattle.record_lines.specs.Judged.{line_view}
 use Rattle.record_lines.specs.Lines.{ends_with, reading_of}
 use Rattle.record_lines.specs.Stands.{StandsFor as ReadsFor}
+use Rattle.panel_edges.specs.Limits.{most_record_bytes}
 use Rattle.panel_edges.specs.declared.failed.Failed.{Failed}
-use Rattle.panel_rules.specs.Moments.{TickBlock, moments}
-use Rattle.panel_rules.specs.Operations.{requests}
+use Rattle.panel_rules.specs.Moments.{Moment, TickBlock, moments}
 use Rattle.panel_rules.specs.Records.{AreOrdered}
+use Rattle.panel_rules.specs.Timeline.{faces_of}
+use Rattle.panel_core.specs.Keeping.{KeepsRun}
 use Rattle.panel_core.specs.Stands.{StandsFor as SystemStands}
 use Rattle.panel_program.specs.declared.run.Run.{Run}
 use Rattle.panel_program.specs.declared.run_end.RunEnd.{RunEnd}
-use Rattle.panel_program.specs.declared.run_end.RunEnd.TheVariants.{Ended, Refused, NotBuilt, TooManyBytes, ReadFault}
+use Rattle.panel_program.specs.declared.run_end.RunEnd.TheVariants.{Ended, Refused, TooManyBytes, ReadFault}
 use Rattle.panel_program.specs.Records.{Block, Progress, at_beginning, closed, after_line, new_block, progress_of}
-use Rattle.panel_program.specs.Records.{moments_in}
-use Rattle.panel_program.specs.Records.{is_built, is_built_event, built_lines, ticks_run}
+use Rattle.panel_program.specs.Records.{moments_in, recorded, ticks_run}
+use Rattle.run_text.specs.Failures.{as_recorded}
 use Rattle.panel_program.specs.declared.taken.Taken.{Taken}
-use Rattle.panel_program.specs.Endings.{number_behind}
-use Rattle.panel_program.specs.OwnJournals.{KeepsOwn}
-use Rattle.panel_program.specs.Ticks.{text_of}
-use Rattle.panel_program.specs.Zones.{shown_after}
+use Rattle.run_text.specs.SoFar.{text_so_far}
+use Rattle.run_text.specs.Failures.{failures}
 use Rattle.panel_program.specs.Writings.{Advances, Breaks}
 
 -- the order of a tick's turns: the one that was given, else the canonical one
@@ -47,42 +47,52 @@ abbrev pub OrderIs : Option Block → List Seat → Type 0
 OrderIs None order = Unit {0}
 OrderIs (Some block) order = block.order ≡ order
 
+-- so few moments befell that each number of them has 64 bits
+abbrev pub AreFew : List Moment → Type 0
+AreFew moments = length moments < 2 ^ 64 - 1
+
 -- the run has taken lines that made this
-pub record Stands (site : Site) (p : Progress) (run : Run) : Type 0 where
+pub record Stands (site : Site) (kept : Retained) (p : Progress) (run : Run) : Type 0 where
   pub valid : IsValid site
-  pub one : site.panels ≡ 1
-  pub system : SystemStands site nothing_retained (moments_in p) run.system
-  pub own : KeepsOwn site (moments_in p) run.ticks run.own
+  pub counters : AreCounters kept.counters
+  pub system : SystemStands site kept (moments_in p) run.system
+  pub journal : KeepsRun site kept (moments_in p) run.journal
+  pub tried : run.journal.tried ≤ run.ticks
   pub open_is : run.is_open ≡ is_some p.block
   pub canonical : run.canonical ≡ canonical_seats site.panels
   pub order_is : OrderIs p.block (order_by run.order run.canonical)
-  pub ordered : AreOrdered site.panels (closed p)
-  pub shown : run.shown ≡ shown_after site (moments p.run)
+  pub ordered : AreOrdered site.panels (closed false p)
+  pub shown : run.shown.items ≡ faces_of site kept (moments p.run)
+  pub room : length run.next.items ≡ site.panels
   pub count : run.ticks ≡ length p.run
-  pub few : length (closed p) ≤ last_tick
-  -- no part takes an operation yet
-  pub unasked : requests site (moments_in p) ≡ []
+  pub failed : run.store_failures ≡ failures p.run
+  pub few : length (closed false p) ≤ last_tick
+  pub short : AreFew (moments_in p)
 
 abbrev pub StandsAtBeginning : Run → Type 0
-StandsAtBeginning run = (site : Site) × Stands site at_beginning run
+StandsAtBeginning run = (site : Site) × (kept : Retained) × Stands site kept at_beginning run
 
 pub record StandsSome (run : Run) : Type 0 where
   pub site : Site
+  pub kept : Retained
   pub p : Progress
-  pub stands : Stands site p run
+  pub stands : Stands site kept p run
 
 -- it stands for ticks of which none is open
 pub record StandsClosed (run : Run) : Type 0 where
   pub site : Site
+  pub kept : Retained
   pub ticks : List TickBlock
-  pub stands : Stands site (record { run = ticks; block = None }) run
+  pub stands : Stands site kept (record { run = ticks; block = None }) run
 
 -- a tick began behind those that were run, of which none was open
 abbrev pub OpensTick : ℕ → Run → Run → Type 0
 OpensTick tick old new =
-    (site : Site) (ticks : List TickBlock) → Stands site (record { run = ticks; block = None }) old
+    (site : Site) (kept : Retained) (ticks : List TickBlock)
+    → Stands site kept (record { run = ticks; block = None }) old
     → tick ≡ length ticks + 1 → tick ≤ last_tick
-    → Stands site (record { run = ticks; block = Some (new_block site) }) new
+    → AreFew (moments_in (record { run = ticks; block = Some (new_block site) }))
+    → Stands site kept (record { run = ticks; block = Some (new_block site) }) new
 
 -- a tick is the next one
 abbrev pub IsNext : Line → ℕ → Type 0
@@ -94,70 +104,79 @@ IsNext End ticks = Unit {0}
 -- a line may come behind what was taken
 pub record MayCome (site : Site) (p : Progress) (line : Line) : Type 0 where
   pub belongs : Belongs site line
-  pub next : IsNext line (length (closed p))
+  pub next : IsNext line (length (closed false p))
+  pub short : AreFew (moments_in (after_line site false p (line_view line)))
 
 -- it may come to a run that stands for something
 pub record MayTake (line : Line) (run : Run) : Type 0 where
   pub site : Site
+  pub kept : Retained
   pub p : Progress
-  pub stands : Stands site p run
+  pub stands : Stands site kept p run
   pub comes : MayCome site p line
 
 -- the tick whose block is open may be closed
 pub record MayClose (run : Run) : Type 0 where
   pub site : Site
+  pub kept : Retained
   pub p : Progress
-  pub stands : Stands site p run
+  pub stands : Stands site kept p run
   pub open_is : run.is_open ≡ true
 
 -- an event may come
 pub record MayHappen (event : Event) (run : Run) : Type 0 where
   pub site : Site
+  pub kept : Retained
   pub p : Progress
-  pub stands : Stands site p run
+  pub stands : Stands site kept p run
   pub has : has_event site event ≡ true
 
--- what was made when the open block is closed
-abbrev pub after_close : Progress → Progress
-after_close p = record { run = closed p; block = None }
-
--- the open block was closed, where there was one
-abbrev pub ClosesBy : Site → Progress → Option Block → Run → Type 0
-ClosesBy site p None run = Unit {0}
-ClosesBy site p (Some block) run = Stands site (after_close p) run
-
-abbrev pub Closes : Site → Progress → Run → Type 0
-Closes site p run = ClosesBy site p p.block run
+-- what was made when the open block is closed, and Keep's turn failed or not
+abbrev pub after_close : Bool → Progress → Progress
+after_close failed p = record { run = closed failed p; block = None }
 
 -- the run has run these ticks
-pub record HasRun (site : Site) (ticks : List TickBlock) (run : Run) : Type 0 where
+pub record HasRun (site : Site) (kept : Retained) (ticks : List TickBlock) (run : Run) : Type 0 where
+  pub counters : AreCounters kept.counters
   pub count : run.ticks ≡ length ticks
+  pub failed : run.store_failures ≡ failures ticks
   pub ordered : AreOrdered site.panels ticks
 
--- how a line was taken: it acts and its tick's text is written, it ends the run, no part takes it, or a write
--- failed
-abbrev pub Takes : Site → Progress → Line → ℕ → Option (List ℕ) → Option (List ℕ) → Run
-    → Result (Option RunEnd) Failed → Type 0
-Takes site p line number old new run (Ok None) =
-    (is_built line ≡ true) × (ends_with line ≡ None) × Stands site (after_line site p (line_view line)) run
-    × Advances old new (text_of site p.run) (text_of site (after_line site p (line_view line)).run)
-Takes site p line number old new run (Ok (Some Ended)) = (line ≡ End) × HasRun site (closed p) run
-    × Advances old new (text_of site p.run) (text_of site (closed p))
-Takes site p line number old new run (Ok (Some (NotBuilt told))) = (told ≡ number) × (is_built line ≡ false)
-    × HasRun site p.run run × (new ≡ old)
-Takes site p line number old new run (Ok (Some (Refused refusal))) = ⊥
-Takes site p line number old new run (Ok (Some TooManyBytes)) = ⊥
-Takes site p line number old new run (Ok (Some ReadFault)) = ⊥
-Takes site p line number old new run (Err failed) =
-    (is_built line ≡ true) × HasRun site (after_line site p (line_view line)).run run
-    × Breaks old new (text_of site p.run) (text_of site (after_line site p (line_view line)).run)
+module _ (site : Site) (kept : Retained) where
+  -- the text of the ticks of one state grew to that of another
+  abbrev pub Writes : Option (List ℕ) → Option (List ℕ) → List TickBlock → List TickBlock → Type 0
+  Writes old new before after = Advances old new (text_so_far site kept before) (text_so_far site kept after)
 
--- an event was told, or no part takes it
-abbrev pub TellsEvent : Site → Progress → Event → ℕ → Run → Option RunEnd → Type 0
-TellsEvent site p event number run None =
-    (is_built_event event ≡ true) × Stands site (after_line site p (EventLine event)) run
-TellsEvent site p event number run (Some end) = (end ≡ NotBuilt number) × (is_built_event event ≡ false)
-    × Stands site p run
+  abbrev pub WritesPart : Option (List ℕ) → Option (List ℕ) → List TickBlock → List TickBlock → Type 0
+  WritesPart old new before after = Breaks old new (text_so_far site kept before) (text_so_far site kept after)
+
+  -- a line acted, and the text of the tick that it closed was written
+  pub record Acts (p : Progress) (line : Line) (old new : Option (List ℕ)) (run : Run) : Type 0 where
+    pub failed : Bool
+    pub stands : Stands site kept (after_line site failed p (line_view line)) run
+    pub wrote : Writes old new p.run (after_line site failed p (line_view line)).run
+
+  -- the line `end` closed the last tick
+  pub record Finishes (p : Progress) (old new : Option (List ℕ)) (run : Run) : Type 0 where
+    pub failed : Bool
+    pub ran : HasRun site kept (closed failed p) run
+    pub wrote : Writes old new p.run (closed failed p)
+
+  -- a write failed in the text of the tick that the line closed
+  pub record Fails (p : Progress) (line : Line) (old new : Option (List ℕ)) (run : Run) : Type 0 where
+    pub failed : Bool
+    pub ran : HasRun site kept (after_line site failed p (line_view line)).run run
+    pub broke : WritesPart old new p.run (after_line site failed p (line_view line)).run
+
+  -- how a line was taken: it acts, it ends the run, or a write failed
+  abbrev pub Takes : Progress → Line → Option (List ℕ) → Option (List ℕ) → Run → Result (Option RunEnd) Failed
+      → Type 0
+  Takes p line old new run (Ok None) = (ends_with line ≡ None) × Acts p line old new run
+  Takes p line old new run (Ok (Some Ended)) = (line ≡ End) × Finishes p old new run
+  Takes p line old new run (Ok (Some (Refused refusal))) = ⊥
+  Takes p line old new run (Ok (Some TooManyBytes)) = ⊥
+  Takes p line old new run (Ok (Some ReadFault)) = ⊥
+  Takes p line old new run (Err failed) = Fails p line old new run
 
 -- what a reader answered may come
 abbrev pub MayStep : Site → Progress → Step → Type 0
@@ -167,83 +186,111 @@ MayStep site p (RefusedStep refusal) = Unit {0}
 
 pub record MayStepSome (step : Step) (run : Run) : Type 0 where
   pub site : Site
+  pub kept : Retained
   pub p : Progress
-  pub stands : Stands site p run
+  pub stands : Stands site kept p run
   pub comes : MayStep site p step
 
 -- how it was taken
-abbrev pub TakesStep : Site → Progress → Step → ℕ → Option (List ℕ) → Option (List ℕ) → Run → Run
+abbrev pub TakesStep : Site → Retained → Progress → Step → Option (List ℕ) → Option (List ℕ) → Run → Run
     → Result (Option RunEnd) Failed → Type 0
-TakesStep site p Need number old new before run result = (result ≡ Ok None) × (new ≡ old) × (run ≡ before)
-TakesStep site p (LineStep line) number old new before run result =
-    Takes site p line number old new run result
-TakesStep site p (RefusedStep refusal) number old new before run result =
+TakesStep site kept p Need old new before run result = (result ≡ Ok None) × (new ≡ old) × (run ≡ before)
+TakesStep site kept p (LineStep line) old new before run result = Takes site kept p line old new run result
+TakesStep site kept p (RefusedStep refusal) old new before run result =
     (result ≡ Ok (Some (Refused refusal))) × (new ≡ old) × (run ≡ before)
 
 -- ---- bytes
 
--- the text of the ticks that these bytes run
-abbrev pub text_at : Site → List ℕ → List ℕ
-text_at site bytes = text_of site (ticks_run site bytes)
+-- neither the end nor a refusal has come yet
+abbrev pub IsGoing : Site → List ℕ → Type 0
+IsGoing site bytes = (reading_of site bytes).ending ≡ None
 
--- neither the end nor a refusal nor a line that no part takes has come yet
-pub record IsGoing (site : Site) (bytes : List ℕ) : Type 0 where
-  pub going : (reading_of site bytes).ending ≡ None
-  pub built : list_all is_built (reading_of site bytes).lines ≡ true
+-- so many bytes may be read of a record
+abbrev pub AreWithin : List ℕ → Type 0
+AreWithin bytes = length bytes ≤ most_record_bytes
 
--- a reader and a run have taken these bytes
-pub record IsAt (site : Site) (bytes : List ℕ) (reader : LineReader) (run : Run) : Type 0 where
+-- the moments of a run are at most 66 for each line of its record
+abbrev pub IsSmall : Site → List ℕ → Progress → Type 0
+IsSmall site bytes p = length (moments_in p) ≤ 66 * length (reading_of site bytes).lines
+
+-- a reader and a run have taken these bytes, whose lines made this
+pub record IsAt (site : Site) (kept : Retained) (bytes : List ℕ) (p : Progress) (reader : LineReader) (run : Run)
+    : Type 0 where
   pub reads : ReadsFor site bytes reader
   pub going : IsGoing site bytes
-  pub stands : Stands site (progress_of site (reading_of site bytes).lines) run
+  pub made : recorded p ≡ progress_of site (reading_of site bytes).lines
+  pub small : IsSmall site bytes p
+  pub stands : Stands site kept p run
 
 pub record IsAtSome (reader : LineReader) (run : Run) : Type 0 where
   pub site : Site
+  pub kept : Retained
   pub bytes : List ℕ
-  pub is_at : IsAt site bytes reader run
+  pub p : Progress
+  pub is_at : IsAt site kept bytes p reader run
+
+-- a piece may be taken behind these bytes
+pub record MayPiece (piece : List ℕ) (reader : LineReader) (run : Run) : Type 0 where
+  pub at : IsAtSome reader run
+  pub within : AreWithin (at.bytes ++ piece)
 
 -- these bytes end a run so
 abbrev pub EndsAt : Site → List ℕ → RunEnd → Type 0
-EndsAt site bytes Ended = ((reading_of site bytes).ending ≡ Some OverEnded)
-    × (list_all is_built (reading_of site bytes).lines ≡ true)
-EndsAt site bytes (Refused refusal) = ((reading_of site bytes).ending ≡ Some (OverRefused refusal))
-    × (list_all is_built (reading_of site bytes).lines ≡ true)
-EndsAt site bytes (NotBuilt line) = (list_all is_built (reading_of site bytes).lines ≡ false)
-    × (line ≡ number_behind (built_lines (reading_of site bytes).lines))
+EndsAt site bytes Ended = (reading_of site bytes).ending ≡ Some OverEnded
+EndsAt site bytes (Refused refusal) = (reading_of site bytes).ending ≡ Some (OverRefused refusal)
 EndsAt site bytes TooManyBytes = ⊥
 EndsAt site bytes ReadFault = ⊥
 
--- bytes more were taken: the run goes on, it has ended, or a write failed
-abbrev pub GoesOn : Site → List ℕ → List ℕ → Option (List ℕ) → Option (List ℕ) → LineReader → Run
-    → Option RunEnd → Type 0
-GoesOn site before after old new reader run None =
-    IsAt site after reader run × Advances old new (text_at site before) (text_at site after)
-GoesOn site before after old new reader run (Some end) =
-    EndsAt site after end × HasRun site (ticks_run site after) run
-    × Advances old new (text_at site before) (text_at site after)
+-- the ticks that were run are those of these bytes
+abbrev pub AreTicksOf : Site → List ℕ → List TickBlock → Type 0
+AreTicksOf site bytes ticks = as_recorded ticks ≡ ticks_run site bytes
 
--- a write failed when so much of a piece was taken
-pub record BreaksOff (site : Site) (before piece : List ℕ) (old new : Option (List ℕ)) (run : Run) :
-    Type 0 where
-  pub front : List ℕ
-  pub rest : List ℕ
-  pub is : piece ≡ front ++ rest
-  pub ran : HasRun site (ticks_run site (before ++ front)) run
-  pub broke : Breaks old new (text_at site before) (text_at site (before ++ front))
+module _ (site : Site) (kept : Retained) (p : Progress) where
+  -- bytes more were taken, and the run goes on
+  pub record GoesOnAt (after : List ℕ) (old new : Option (List ℕ)) (reader : LineReader) (run : Run) : Type 0 where
+    pub p' : Progress
+    pub is_at : IsAt site kept after p' reader run
+    pub wrote : Writes site kept old new p.run p'.run
 
--- the next line of a piece was taken, or the whole of it where no line ends in it
-abbrev pub TakesNext : Site → List ℕ → List ℕ → Option (List ℕ) → Option (List ℕ) → LineReader → Run
-    → Result Taken Failed → Type 0
-TakesNext site before piece old new reader run (Ok taken) =
-    GoesOn site before (before ++ take taken.used piece) old new reader run taken.end
-TakesNext site before piece old new reader run (Err failed) = BreaksOff site before piece old new run
+  -- or it has ended
+  pub record HasEnded (after : List ℕ) (end : RunEnd) (old new : Option (List ℕ)) (run : Run) : Type 0 where
+    pub ticks : List TickBlock
+    pub ended : EndsAt site after end
+    pub of : AreTicksOf site after ticks
+    pub ran : HasRun site kept ticks run
+    pub wrote : Writes site kept old new p.run ticks
 
--- a whole piece was taken, or so much of it as the run needed to its end
-abbrev pub TakesPiece : Site → List ℕ → List ℕ → Option (List ℕ) → Option (List ℕ) → LineReader → Run
-    → Result (Option RunEnd) Failed → Type 0
-TakesPiece site before piece old new reader run (Ok None) =
-    GoesOn site before (before ++ piece) old new reader run None
-TakesPiece site before piece old new reader run (Ok (Some end)) =
-    (front : List ℕ) × (rest : List ℕ) × (piece ≡ front ++ rest)
-    × GoesOn site before (before ++ front) old new reader run (Some end)
-TakesPiece site before piece old new reader run (Err failed) = BreaksOff site before piece old new run
+  abbrev pub GoesOn : List ℕ → Option (List ℕ) → Option (List ℕ) → LineReader → Run → Option RunEnd → Type 0
+  GoesOn after old new reader run None = GoesOnAt after old new reader run
+  GoesOn after old new reader run (Some end) = HasEnded after end old new run
+
+  -- a write failed when so much of a piece was taken
+  pub record BreaksOff (before piece : List ℕ) (old new : Option (List ℕ)) (run : Run) : Type 0 where
+    pub front : List ℕ
+    pub rest : List ℕ
+    pub ticks : List TickBlock
+    pub is : piece ≡ front ++ rest
+    pub of : AreTicksOf site (before ++ front) ticks
+    pub ran : HasRun site kept ticks run
+    pub broke : WritesPart site kept old new p.run ticks
+
+  -- the next line of a piece was taken, or the whole of it where no line ends in it
+  abbrev pub TakesNext : List ℕ → List ℕ → Option (List ℕ) → Option (List ℕ) → LineReader → Run
+      → Result Taken Failed → Type 0
+  TakesNext before piece old new reader run (Ok taken) =
+      GoesOn (before ++ take taken.used piece) old new reader run taken.end
+  TakesNext before piece old new reader run (Err failed) = BreaksOff before piece old new run
+
+  -- a run ended in a piece
+  pub record EndsIn (before piece : List ℕ) (end : RunEnd) (old new : Option (List ℕ)) (run : Run) : Type 0 where
+    pub front : List ℕ
+    pub rest : List ℕ
+    pub is : piece ≡ front ++ rest
+    pub has : HasEnded (before ++ front) end old new run
+
+  -- a whole piece was taken, or so much of it as the run needed to its end
+  abbrev pub TakesPiece : List ℕ → List ℕ → Option (List ℕ) → Option (List ℕ) → LineReader → Run
+      → Result (Option RunEnd) Failed → Type 0
+  TakesPiece before piece old new reader run (Ok None) = GoesOnAt (before ++ piece) old new reader run
+  TakesPiece before piece old new reader run (Ok (Some end)) = EndsIn before piece end old new run
+  TakesPiece before piece old new reader run (Err failed) = BreaksOff before piece old new run

@@ -15,7 +15,6 @@ pub fn last_line(end: RunEnd, ticks: u64) -> ArrayString<128>
     match end {
         RunEnd::Ended => end_line(ticks),
         RunEnd::Refused(refusal) => why_line(refusal.line, refusal.why),
-        RunEnd::NotBuilt { line } => refused_line(line, " 11"),
         RunEnd::TooManyBytes => fixed_line("limit bytes\n"),
         RunEnd::ReadFault => fixed_line("fault read\n"),
     }

@@ -1,13 +1,13 @@
-ghost use Rattle.std.specs.Prelude.{◌≡◌, ◌≢◌, ◌⊎◌, [], IfSome, Ok, map, string_bytes};
+ghost use Rattle.std.specs.Prelude.{◌≡◌, ◌≢◌, ◌⊎◌, IfSome, Ok, map, string_bytes};
 ghost use Rattle.cause_effect.specs.Stands.{IsPlanOf};
 ghost use Rattle.panel_edges.specs.Faults.{Rose};
 ghost use Rattle.panel_edges.specs.Shelves.{file_of};
-ghost use Rattle.panel_program.specs.Commands.{Answers, AnswersTold, Draws, site_word};
-ghost use Rattle.program_status.specs.Statuses.{BlamesReads, BlamesWrites, IsSilentWithoutMemory, number_of};
+ghost use Rattle.panel_program.specs.Commands.{Answers, AnswersBy, Checks, Draws, Runs, site_word};
+ghost use Rattle.panel_program.specs.Runs.{BlamesStores, input_of};
+ghost use Rattle.panel_program.specs.Sites.{file_digest};
+ghost use Rattle.program_status.specs.Statuses.{BlamesDisk, BlamesReads, BlamesWrites, IsSilentWithoutMemory};
+ghost use Rattle.program_status.specs.Statuses.{number_of};
 ghost use Rattle.panel_program.specs.Words.{command_of as command_by};
-ghost use Rattle.panel_program.specs.declared.command.Command.TheVariants.{Check as CheckCommand};
-ghost use Rattle.panel_program.specs.declared.command.Command.TheVariants.{Matrix as MatrixCommand};
-ghost use Rattle.panel_program.specs.declared.command.Command.TheVariants.{Run as RunCommand};
 ghost use Rattle.site_types.specs.Valid.{IsValid};
 
 use crate::command::{Command, command_of};
@@ -18,50 +18,54 @@ use crate::reading::run_site;
 use crate::site_lines::stop_with;
 use crate::usage::USAGE;
 use cause_effect::Plan;
-use panel_edges::{Shelf, Sink, Source};
+use panel_edges::{Disk, Shelf, Sink, Source};
 use program_status::{Outcome, Status, say};
 use site_types::Site;
 use std::alloc::Global;
 
-/// Does what the words ask for. All that is said goes to `out`, refusals too.
+/// Does what the words ask for. All that is said goes to `out`, refusals too. A run keeps its journal on `disk`.
 ///
 /// The status of the outcome is the number of a [`Status`]. Where memory ran out nothing was written.
-pub fn panel<F: Shelf, S: Source, K: Sink>(
+pub fn panel<F: Shelf, S: Source, K: Sink, D: Disk>(
     alloc: Global,
     words: &[String],
     shelf: &mut F,
     input: &mut S,
     out: &mut K,
+    disk: &mut D,
 ) -> Outcome
-    ensures answers { AnswersTold (command_by (map string_bytes words.now))
-        (site_word (map string_bytes words.now)) (F.files shelf.old) (S.left input.old)
-        (K.written out.old) (K.written out.new) result }
+    ensures answers { Answers (command_by (map string_bytes words.now))
+        (site_word (map string_bytes words.now)) (Rose (F.faults shelf.old) (F.faults shelf.new))
+        (F.files shelf.old) (input_of S.left S.read_faults input.old input.new)
+        (D.seen disk.old) (K.written out.old) (K.written out.new) result }
     ensures read { result.status ≡ number_of Status.ReadFault
         → Rose (F.faults shelf.old) (F.faults shelf.new)
         ⊎ Rose (S.read_faults input.old) (S.read_faults input.new) }
     ensures write { BlamesWrites result (K.write_faults out.old) (K.write_faults out.new) }
     ensures memory { IsSilentWithoutMemory result (K.written out.old) (K.written out.new) }
-    ensures store { result.store_failures ≡ 0 }
+    ensures disk { BlamesDisk result (D.faults disk.old) (D.faults disk.new) }
+    ensures stores { BlamesStores result (D.faults disk.old) (D.faults disk.new) }
 {
     match command_of(words) {
         Command::Usage => say(USAGE, Status::Usage, 0, out),
         Command::Check => check(alloc, words[1].as_str(), shelf, out),
-        Command::Run => run(alloc, words[1].as_str(), shelf, input, out),
+        Command::Run => run(alloc, words[1].as_str(), shelf, input, out, disk),
         Command::Matrix => matrix(alloc, words[1].as_str(), shelf, out),
     }
 }
 
 // Tells the counts of a site.
 fn check<F: Shelf, K: Sink>(alloc: Global, name: &str, shelf: &mut F, out: &mut K) -> Outcome
-    ensures answers { IfSome (F.files shelf.old)
-        (λ held. Answers CheckCommand (file_of name.now held) [] (K.written out.old)
-        (K.written out.new) result) }
+    ensures answers { IfSome (F.files shelf.old) (λ held. AnswersBy
+        (Rose (F.faults shelf.old) (F.faults shelf.new)) (file_of name.now held)
+        (Checks (K.written out.old) (K.written out.new) result)) }
     ensures read { BlamesReads result (F.faults shelf.old) (F.faults shelf.new) }
     ensures write { BlamesWrites result (K.write_faults out.old) (K.write_faults out.new) }
     ensures memory { IsSilentWithoutMemory result (K.written out.old) (K.written out.new) }
+    ensures disk { result.status ≢ number_of Status.DiskFault }
     ensures store { result.store_failures ≡ 0 }
 {
-    match load(alloc, Command::Check, name, shelf) {
+    match load(alloc, name, shelf) {
         Ok(loaded) => {
             let line = counts_line(&loaded.site);
             say(line.as_str().as_bytes(), Status::Done, 0, out)
@@ -72,15 +76,16 @@ fn check<F: Shelf, K: Sink>(alloc: Global, name: &str, shelf: &mut F, out: &mut 
 
 // Tells which outputs each zone asks for.
 fn matrix<F: Shelf, K: Sink>(alloc: Global, name: &str, shelf: &mut F, out: &mut K) -> Outcome
-    ensures answers { IfSome (F.files shelf.old)
-        (λ held. Answers MatrixCommand (file_of name.now held) [] (K.written out.old)
-        (K.written out.new) result) }
+    ensures answers { IfSome (F.files shelf.old) (λ held. AnswersBy
+        (Rose (F.faults shelf.old) (F.faults shelf.new)) (file_of name.now held)
+        (Draws (K.written out.old) (K.written out.new) result)) }
     ensures read { BlamesReads result (F.faults shelf.old) (F.faults shelf.new) }
     ensures write { BlamesWrites result (K.write_faults out.old) (K.write_faults out.new) }
     ensures memory { IsSilentWithoutMemory result (K.written out.old) (K.written out.new) }
+    ensures disk { result.status ≢ number_of Status.DiskFault }
     ensures store { result.store_failures ≡ 0 }
 {
-    match load(alloc, Command::Matrix, name, shelf) {
+    match load(alloc, name, shelf) {
         Ok(loaded) => draw(alloc, &loaded.site, &loaded.plan, out),
         Err(stop) => stop_with(&stop, out),
     }
@@ -94,6 +99,7 @@ fn draw<K: Sink>(alloc: Global, site: &Site, plan: &Plan, out: &mut K) -> Outcom
     ensures read { result.status ≢ number_of Status.ReadFault }
     ensures write { BlamesWrites result (K.write_faults out.old) (K.write_faults out.new) }
     ensures memory { IsSilentWithoutMemory result (K.written out.old) (K.written out.new) }
+    ensures disk { result.status ≢ number_of Status.DiskFault }
     ensures store { result.store_failures ≡ 0 }
 {
     match matrix_of(alloc, site, plan) {
@@ -103,24 +109,29 @@ fn draw<K: Sink>(alloc: Global, site: &Site, plan: &Plan, out: &mut K) -> Outcom
 }
 
 // Runs a site over the record that is read.
-fn run<F: Shelf, S: Source, K: Sink>(
+fn run<F: Shelf, S: Source, K: Sink, D: Disk>(
     alloc: Global,
     name: &str,
     shelf: &mut F,
     input: &mut S,
     out: &mut K,
+    disk: &mut D,
 ) -> Outcome
-    ensures answers { AnswersTold RunCommand name.now (F.files shelf.old) (S.left input.old)
-        (K.written out.old) (K.written out.new) result }
+    ensures answers { IfSome (F.files shelf.old) (λ held. AnswersBy
+        (Rose (F.faults shelf.old) (F.faults shelf.new)) (file_of name.now held)
+        (Runs (file_digest (file_of name.now held))
+        (input_of S.left S.read_faults input.old input.new) (D.seen disk.old)
+        (K.written out.old) (K.written out.new) result)) }
     ensures read { result.status ≡ number_of Status.ReadFault
         → Rose (F.faults shelf.old) (F.faults shelf.new)
         ⊎ Rose (S.read_faults input.old) (S.read_faults input.new) }
     ensures write { BlamesWrites result (K.write_faults out.old) (K.write_faults out.new) }
     ensures memory { IsSilentWithoutMemory result (K.written out.old) (K.written out.new) }
-    ensures store { result.store_failures ≡ 0 }
+    ensures disk { BlamesDisk result (D.faults disk.old) (D.faults disk.new) }
+    ensures stores { BlamesStores result (D.faults disk.old) (D.faults disk.new) }
 {
-    match load(alloc, Command::Run, name, shelf) {
-        Ok(loaded) => run_site(alloc, loaded.site, loaded.plan, input, out),
+    match load(alloc, name, shelf) {
+        Ok(loaded) => run_site(alloc, loaded, input, out, disk),
         Err(stop) => stop_with(&stop, out),
     }
 }

@@ -1,76 +1,129 @@
 //! Reading a record, tick by tick.
 
-ghost use Rattle.std.specs.Prelude.{◌≡◌, ◌<◌, ◌≤◌, ◌↔◌, [], List, ℕ, IfOk, IfSome, OnErr, Ok, length, take};
+ghost use Rattle.std.specs.Prelude.{◌≡◌, ◌≢◌, ◌<◌, ◌≤◌, ◌↔◌, [], List, ℕ, IfOk, IfSome, OnErr, Ok, length, take};
+ghost use Rattle.std.specs.Prelude.{◌++◌};
 ghost use Rattle.panel_core.specs.Stands.{HasPlan};
 ghost use Rattle.panel_edges.specs.Contents.{Consumes};
 ghost use Rattle.panel_edges.specs.Faults.{HasCause, Rose};
+ghost use Rattle.panel_program.specs.Disks.{KeepsOn};
 ghost use Rattle.panel_program.specs.Endings.{last_line as last_text, status_of as status_of_end};
+ghost use Rattle.panel_program.specs.Journals.{IsOpenFor};
 ghost use Rattle.panel_program.specs.Records.{Progress, at_beginning};
-ghost use Rattle.panel_program.specs.Runs.{Ran, ReadsRecord};
-ghost use Rattle.panel_program.specs.Stands.{IsAt, IsAtSome, MayStep, MayStepSome, Stands, StandsAtBeginning};
-ghost use Rattle.panel_program.specs.Stands.{TakesNext, TakesPiece, TakesStep};
-ghost use Rattle.program_status.specs.Statuses.{BlamesReads, BlamesWrites, IsSilentWithoutMemory};
+ghost use Rattle.panel_program.specs.Runs.{BlamesStores, Ran, RanOn, ReadsRecord, input_of};
+ghost use Rattle.panel_program.specs.Sites.{IsLoaded};
+ghost use Rattle.panel_program.specs.Stands.{AreWithin, IsAt, MayPiece, MayStep, MayStepSome, Stands};
+ghost use Rattle.panel_program.specs.Stands.{StandsAtBeginning, TakesNext, TakesPiece, TakesStep};
+ghost use Rattle.program_status.specs.Statuses.{BlamesDisk, BlamesReads, BlamesWrites, IsSilentWithoutMemory};
+ghost use Rattle.program_status.specs.Statuses.{number_of};
 ghost use Rattle.program_status.specs.Sayings.{Says};
 ghost use Rattle.panel_program.specs.declared.run_end.RunEnd.TheVariants.{ReadFault as ReadFaultEnd};
+ghost use Rattle.retained_journal.specs.Images.{Stands as StandsOn};
 ghost use Rattle.site_types.specs.Valid.{IsValid};
+ghost use Rattle.site_types.specs.declared.retained.Retained.{Retained as RetainedOf};
 ghost use Rattle.site_types.specs.declared.site.Site.{Site as SiteOf};
 
+use crate::journal_lines::stop_at_journal;
 use crate::last_lines::last_line;
+use crate::loaded::Loaded;
 use crate::run::Run;
 use crate::run_end::{RunEnd, status_of};
 use crate::taken::Taken;
 use cause_effect::Plan;
-use panel_edges::{Failed, MOST_RECORD_BYTES, Sink, Source};
+use panel_edges::{Disk, Failed, MOST_RECORD_BYTES, Sink, Source};
 use program_status::{Outcome, Status, say};
 use record_lines::{LineReader, Step};
+use retained_journal::Journal;
 use site_types::Site;
 use std::alloc::Global;
 
 /// Bytes that are read at a time.
 const PIECE_BYTES: usize = 4_096;
 
-/// Runs a site over a record, and writes its text.
-pub fn run_site<S: Source, K: Sink>(
+/// Runs a site over a record with the journal on a disk, and writes its text.
+pub fn run_site<S: Source, K: Sink, D: Disk>(
     alloc: Global,
-    site: Site,
-    plan: Plan,
+    loaded: Loaded,
     input: &mut S,
     out: &mut K,
+    disk: &mut D,
 ) -> Outcome
-    requires valid { IsValid site }
-    requires plan { HasPlan site plan }
-    requires one { site.panels ≡ 1 }
-    ensures ran { IfSome (S.left input.old)
-        (λ bytes. Ran site bytes (K.written out.old) (K.written out.new) result) }
+    requires { IsLoaded loaded }
+    ensures ran { IfSome (S.left input.old) (λ bytes. Ran loaded.site loaded.digest
+        (input_of S.left S.read_faults input.old input.new) bytes
+        (D.seen disk.old) (K.written out.old) (K.written out.new) result) }
     ensures read { BlamesReads result (S.read_faults input.old) (S.read_faults input.new) }
     ensures write { BlamesWrites result (K.write_faults out.old) (K.write_faults out.new) }
     ensures memory { IsSilentWithoutMemory result (K.written out.old) (K.written out.new) }
-    ensures store { result.store_failures ≡ 0 }
+    ensures disk { BlamesDisk result (D.faults disk.old) (D.faults disk.new) }
+    ensures stores { BlamesStores result (D.faults disk.old) (D.faults disk.new) }
 {
-    let Ok(mut run) = Run::open(alloc, site, plan) else {
+    let Loaded { site, plan, digest } = loaded;
+    match Journal::open(disk, digest, site.format == 2) {
+        Ok((journal, _)) => run_with(alloc, site, plan, journal, input, out, disk),
+        Err(refusal) => stop_at_journal(&refusal, out),
+    }
+}
+
+// Runs a site with the journal that was opened for it.
+fn run_with<S: Source, K: Sink, D: Disk>(
+    alloc: Global,
+    site: Site,
+    plan: Plan,
+    journal: Journal,
+    input: &mut S,
+    out: &mut K,
+    disk: &mut D,
+) -> Outcome
+    requires valid { IsValid site }
+    requires plan { HasPlan site plan }
+    requires journal { IsOpenFor site journal.kept journal }
+    requires stands { StandsOn D.honest D.images disk.old journal }
+    ensures ran { IfSome (S.left input.old) (λ bytes. RanOn site journal.kept
+        (input_of S.left S.read_faults input.old input.new) bytes
+        (K.written out.old) (K.written out.new) result) }
+    ensures read { BlamesReads result (S.read_faults input.old) (S.read_faults input.new) }
+    ensures write { BlamesWrites result (K.write_faults out.old) (K.write_faults out.new) }
+    ensures memory { IsSilentWithoutMemory result (K.written out.old) (K.written out.new) }
+    ensures disk { result.status ≢ number_of Status.DiskFault }
+    ensures stores { BlamesStores result (D.faults disk.old) (D.faults disk.new) }
+{
+    let Ok(mut run) = Run::open(alloc, site, plan, journal) else {
         return Outcome::after(Status::NoMemory, 0);
     };
     let Ok(()) = run.write_opening(out) else {
         return Outcome::after(Status::WriteFault, 0);
     };
-    match read_record(&mut run, input, out) {
-        Ok(end) => finish(end, run.ticks(), out),
-        Err(Failed) => Outcome::after(Status::WriteFault, run.ticks()),
+    match read_record(&mut run, input, out, disk) {
+        Ok(end) => finish(end, &run, out),
+        Err(Failed) => run_outcome(Outcome::after(Status::WriteFault, run.ticks()), &run),
+    }
+}
+
+// An outcome of a run, with the ticks in which Keep's turn failed.
+fn run_outcome(outcome: Outcome, run: &Run) -> Outcome
+    ensures { result ≡ record outcome { store_failures = run.now.store_failures } }
+{
+    Outcome {
+        store_failures: run.store_failures(),
+        ..outcome
     }
 }
 
 // Reads a record to its end.
-fn read_record<S: Source, K: Sink>(
+fn read_record<S: Source, K: Sink, D: Disk>(
     run: &mut Run,
     input: &mut S,
     out: &mut K,
+    disk: &mut D,
 ) -> Result<RunEnd, Failed>
-    requires { StandsAtBeginning run.old }
-    ensures reads { (site : SiteOf) → Stands site at_beginning run.old
-        → IfSome (S.left input.old)
-        (λ bytes. ReadsRecord site bytes (K.written out.old) (K.written out.new) run.new result) }
+    requires begins { StandsAtBeginning run.old }
+    requires stands { StandsOn D.honest D.images disk.old run.old.journal }
+    ensures reads { (site : SiteOf) (kept : RetainedOf) → Stands site kept at_beginning run.old
+        → IfSome (S.left input.old) (λ bytes. ReadsRecord site kept bytes (S.left input.new)
+        (K.written out.old) (K.written out.new) run.new result) }
     ensures read { result ≡ Ok ReadFaultEnd
         → Rose (S.read_faults input.old) (S.read_faults input.new) }
+    ensures disk { KeepsOn D.honest D.images D.faults disk.old disk.new run.old run.new }
     ensures cause { HasCause (K.write_faults out.old) (K.write_faults out.new) result }
 {
     let mut reader = LineReader::new();
@@ -84,7 +137,7 @@ fn read_record<S: Source, K: Sink>(
         if count == 0 {
             return Ok(RunEnd::Refused(reader.finish()));
         }
-        match take_piece(run, &mut reader, &buffer[..count], out)? {
+        match take_piece(run, &mut reader, &buffer[..count], out, disk)? {
             Some(end) => return Ok(end),
             None => read += count as u64,
         }
@@ -108,21 +161,25 @@ fn read_piece<S: Source>(input: &mut S, buffer: &mut [u8], most: usize) -> Resul
 }
 
 // Takes a piece of a record.
-fn take_piece<K: Sink>(
+fn take_piece<K: Sink, D: Disk>(
     run: &mut Run,
     reader: &mut LineReader,
     piece: &[u8],
     out: &mut K,
+    disk: &mut D,
 ) -> Result<Option<RunEnd>, Failed>
-    requires { IsAtSome reader.old run.old }
-    ensures takes { (site : SiteOf) (before : List ℕ) → IsAt site before reader.old run.old
-        → TakesPiece site before piece.now (K.written out.old) (K.written out.new) reader.new
-        run.new result }
+    requires may { MayPiece piece.now reader.old run.old }
+    requires stands { StandsOn D.honest D.images disk.old run.old.journal }
+    ensures takes { (site : SiteOf) (kept : RetainedOf) (before : List ℕ) (p : Progress)
+        → IsAt site kept before p reader.old run.old → AreWithin (before ++ piece.now)
+        → TakesPiece site kept p before piece.now (K.written out.old) (K.written out.new)
+        reader.new run.new result }
+    ensures disk { KeepsOn D.honest D.images D.faults disk.old disk.new run.old run.new }
     ensures cause { HasCause (K.write_faults out.old) (K.write_faults out.new) result }
 {
     let mut rest = piece;
     while !rest.is_empty() {
-        let taken = take_next(run, reader, rest, out)?;
+        let taken = take_next(run, reader, rest, out, disk)?;
         match taken.end {
             Some(end) => return Ok(Some(end)),
             None => rest = rest.split_at(taken.used).1,
@@ -132,55 +189,65 @@ fn take_piece<K: Sink>(
 }
 
 // Takes the next line of a piece, or the whole of it where no line ends in it.
-fn take_next<K: Sink>(
+fn take_next<K: Sink, D: Disk>(
     run: &mut Run,
     reader: &mut LineReader,
     piece: &[u8],
     out: &mut K,
+    disk: &mut D,
 ) -> Result<Taken, Failed>
-    requires at { IsAtSome reader.old run.old }
+    requires may { MayPiece piece.now reader.old run.old }
     requires some { 0 < length piece.now }
-    ensures takes { (site : SiteOf) (before : List ℕ) → IsAt site before reader.old run.old
-        → TakesNext site before piece.now (K.written out.old) (K.written out.new) reader.new run.new
-        result }
+    requires stands { StandsOn D.honest D.images disk.old run.old.journal }
+    ensures takes { (site : SiteOf) (kept : RetainedOf) (before : List ℕ) (p : Progress)
+        → IsAt site kept before p reader.old run.old → AreWithin (before ++ piece.now)
+        → TakesNext site kept p before piece.now (K.written out.old) (K.written out.new) reader.new
+        run.new result }
     ensures used { IfOk result (λ taken. (0 < taken.used) × (taken.used ≤ length piece.now)) }
+    ensures disk { KeepsOn D.honest D.images D.faults disk.old disk.new run.old run.new }
     ensures cause { HasCause (K.write_faults out.old) (K.write_faults out.new) result }
 {
-    let number = reader.finish().line;
     let fed = reader.feed(run.site(), piece);
     let used = fed.used;
-    let end = take_step(run, fed.step, number, out)?;
+    let end = take_step(run, fed.step, out, disk)?;
     Ok(Taken { used, end })
 }
 
-// Takes what a reader answered. A line has this number.
-fn take_step<K: Sink>(
+// Takes what a reader answered.
+fn take_step<K: Sink, D: Disk>(
     run: &mut Run,
     step: Step,
-    number: u64,
     out: &mut K,
+    disk: &mut D,
 ) -> Result<Option<RunEnd>, Failed>
-    requires { MayStepSome step run.old }
-    ensures takes { (site : SiteOf) (p : Progress) → Stands site p run.old → MayStep site p step
-        → TakesStep site p step number (K.written out.old) (K.written out.new) run.old run.new
+    requires may { MayStepSome step run.old }
+    requires stands { StandsOn D.honest D.images disk.old run.old.journal }
+    ensures takes { (site : SiteOf) (kept : RetainedOf) (p : Progress) → Stands site kept p run.old
+        → MayStep site p step
+        → TakesStep site kept p step (K.written out.old) (K.written out.new) run.old run.new
         result }
+    ensures disk { KeepsOn D.honest D.images D.faults disk.old disk.new run.old run.new }
     ensures cause { HasCause (K.write_faults out.old) (K.write_faults out.new) result }
 {
     match step {
         Step::Need => Ok(None),
-        Step::Line(line) => run.take(line, number, out),
+        Step::Line(line) => run.take(line, disk, out),
         Step::Refused(refusal) => Ok(Some(RunEnd::Refused(refusal))),
     }
 }
 
 // Writes the last line of a run.
-fn finish<K: Sink>(end: RunEnd, ticks: u64, out: &mut K) -> Outcome
-    ensures says { Says (status_of_end end) (last_text ticks end) (K.written out.old)
+fn finish<K: Sink>(end: RunEnd, run: &Run, out: &mut K) -> Outcome
+    ensures says { Says (status_of_end end) (last_text run.now.ticks end) (K.written out.old)
         (K.written out.new) result.status }
-    ensures ticks { (result.ticks ≡ ticks) × (result.store_failures ≡ 0) }
+    ensures ticks { (result.ticks ≡ run.now.ticks)
+        × (result.store_failures ≡ run.now.store_failures) }
     ensures write { BlamesWrites result (K.write_faults out.old) (K.write_faults out.new) }
     ensures later { K.write_faults out.old ≤ K.write_faults out.new }
 {
-    let line = last_line(end, ticks);
-    say(line.as_str().as_bytes(), status_of(end), ticks, out)
+    let line = last_line(end, run.ticks());
+    run_outcome(
+        say(line.as_str().as_bytes(), status_of(end), run.ticks(), out),
+        run,
+    )
 }

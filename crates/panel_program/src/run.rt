@@ -1,82 +1,103 @@
-ghost use Rattle.std.specs.Prelude.{◌≡◌, ◌+◌, [], List, Option, IfOk, OnErr, OnOk, false, None, Some};
-ghost use Rattle.panel_core.specs.Stands.{HasPanel, HasPlan, StandsFor as SystemStands};
+ghost use Rattle.std.specs.Prelude.{◌≡◌, ◌<◌, IfOk, OnErr, OnOk, length, map};
+ghost use Rattle.std.specs.List.{range_with_len};
+ghost use Rattle.face_text.specs.Faces.{empty_face};
+ghost use Rattle.face_text.specs.Timelines.{empty_faces};
+ghost use Rattle.panel_core.specs.Stands.{HasPlan};
 ghost use Rattle.panel_edges.specs.Contents.{Grows, GrowsByFront};
 ghost use Rattle.panel_edges.specs.Faults.{HasCause};
-ghost use Rattle.panel_program.specs.Records.{Progress, at_beginning, closed, is_built_event};
-ghost use Rattle.panel_program.specs.Records.{with_order};
-ghost use Rattle.panel_program.specs.Stands.{MayClose, MayHappen as MayTell, MayTake, MayCome, Stands, StandsClosed};
-ghost use Rattle.panel_program.specs.Stands.{StandsSome};
-ghost use Rattle.panel_program.specs.Stands.{Closes, OpensTick, Takes, TellsEvent, after_close, order_by};
-ghost use Rattle.panel_program.specs.OwnJournals.{MayTurnOwn, TurnsOwn};
-ghost use Rattle.panel_program.specs.Ticks.{text_of};
-ghost use Rattle.panel_program.specs.Writings.{Advances, Breaks};
-ghost use Rattle.panel_program.specs.Zones.{shown_after};
-ghost use Rattle.panel_rules.specs.Moments.{Moment, IsRun};
+ghost use Rattle.panel_program.specs.Acting.{ClosesBadly, ClosesWell, MakesTicks, MayShow, ShowsFaces, TellsEvent};
+ghost use Rattle.panel_program.specs.Acting.{TurnsAll};
+ghost use Rattle.panel_program.specs.Disks.{KeepsOn, TurnsOn};
+ghost use Rattle.panel_program.specs.Journals.{IsOpenFor};
+ghost use Rattle.panel_program.specs.Records.{Progress, at_beginning, with_order};
+ghost use Rattle.panel_program.specs.Stands.{MayClose, MayHappen as MayTell, MayTake, MayCome, OpensTick, Stands};
+ghost use Rattle.panel_program.specs.Stands.{StandsClosed, StandsSome, Takes};
+ghost use Rattle.run_text.specs.SoFar.{opening_text};
+ghost use Rattle.retained_journal.specs.Images.{Stands as StandsOn};
 ghost use Rattle.tick_units.specs.Orders.{IsOrder};
-ghost use Rattle.site_types.specs.Changes.{nothing_retained};
 ghost use Rattle.site_types.specs.Valid.{IsValid};
+ghost use Rattle.site_types.specs.declared.retained.Retained.{Retained as RetainedOf};
 ghost use Rattle.site_types.specs.declared.site.Site.{Site as SiteOf};
 
-use crate::own_journal::OwnJournal;
 use crate::run_end::RunEnd;
-use crate::shown::Shown;
-use crate::writing::{PAGE_BYTES, PANEL, write_opening, write_tick};
-use cause_effect::Plan;
-use panel_core::System;
-use panel_edges::{Failed, NoMemory, Sink, SoundMemorySink};
+use crate::sized::note_sized;
+use crate::writing::{PAGE_BYTES, TickPage, write_opening};
+use cause_effect::{Plan, Steps};
+use face_text::Face;
+use panel_core::{Store, System};
+use panel_edges::{Disk, Failed, NoMemory, Sink, SoundMemorySink};
 use record_lines::Line;
-use site_types::{Event, Retained, Site};
+use retained_journal::Journal;
+use site_types::{Event, Site};
 use std::alloc::Global;
+use std::marker::Brand;
+use std::mem;
+use std::sync::ledger::{Blank, Ledger};
 use tick_units::{Order, Tick};
 
 /// A site at work, line by line of its record.
 #[derive(Drop)]
 pub struct Run {
     pub(crate) system: System,
-    pub(crate) own: OwnJournal,
-    // What was shown after the tick that was run last.
-    pub(crate) shown: Shown,
+    pub(crate) journal: Journal,
+    // What the panels showed after the tick that was run last.
+    pub(crate) shown: Vec<Face>,
+    // Where what they show next is put.
+    pub(crate) next: Vec<Face>,
     // Whether the block of a tick is being read, whose turns are yet to be made.
     pub(crate) is_open: bool,
     // The order of its turns, where the record gives one.
     pub(crate) order: Option<Order>,
     pub(crate) canonical: Order,
-    // How many ticks were run.
+    // How many ticks were run, and in how many of them Keep's turn failed.
     pub(crate) ticks: u64,
+    pub(crate) store_failures: u64,
     // Where the text of a tick is put together before it is written.
     pub(crate) page: SoundMemorySink,
 }
 
 impl Run {
-    /// The site before the first tick. All memory of a run is taken here.
-    pub fn open(alloc: Global, site: Site, plan: Plan) -> Result<Run, NoMemory>
+    /// The site before the first tick, with the journal that was opened for it. All memory of a run is taken here.
+    pub fn open(alloc: Global, site: Site, plan: Plan, journal: Journal) -> Result<Run, NoMemory>
         requires valid { IsValid site }
         requires plan { HasPlan site plan }
-        requires one { site.panels ≡ 1 }
-        ensures { IfOk result (Stands site at_beginning) }
+        requires journal { IsOpenFor site journal.kept journal }
+        ensures stands { IfOk result (Stands site journal.kept at_beginning) }
+        ensures empty { IfOk result (λ run. run.next.items ≡ empty_faces site) }
+        ensures same { IfOk result (λ run. run.journal ≡ journal) }
     {
         let canonical = Order::canonical(site.panels);
-        let own = OwnJournal::open(alloc, &site)?;
-        let Ok(system) = System::open(alloc, site, plan, &Retained::empty()) else {
+        let panels = site.panels;
+        note_sized(journal.kept());
+        let Ok(system) = System::open(alloc, site, plan, journal.kept()) else {
+            return Err(NoMemory);
+        };
+        let Ok(mut shown) = empty_faces_of(alloc, panels) else {
+            return Err(NoMemory);
+        };
+        let Ok(next) = empty_faces_of(alloc, panels) else {
             return Err(NoMemory);
         };
         let page = SoundMemorySink::new(alloc, PAGE_BYTES)?;
-        let shown = show(&system);
+        show(&system, &mut shown);
         Ok(Run {
             system,
-            own,
+            journal,
             shown,
+            next,
             is_open: false,
             order: None,
             canonical,
             ticks: 0,
+            store_failures: 0,
             page,
         })
     }
 
     /// The site that is run.
     pub fn site(&self) -> &Site
-        ensures { (site : SiteOf) (p : Progress) → Stands site p self.now → result.now ≡ site }
+        ensures { (site : SiteOf) (kept : RetainedOf) (p : Progress)
+            → Stands site kept p self.now → result.now ≡ site }
     {
         self.system.site()
     }
@@ -88,46 +109,64 @@ impl Run {
         self.ticks
     }
 
-    /// Writes what is told before the first tick.
-    pub fn write_opening<K: Sink>(&mut self, out: &mut K) -> Result<(), Failed>
-        ensures stands { (site : SiteOf) → Stands site at_beginning self.old
-            → Stands site at_beginning self.new }
-        ensures ok { OnOk result ((site : SiteOf) → Stands site at_beginning self.old
-            → Grows (K.written out.old) (K.written out.new) (text_of site [])) }
-        ensures err { OnErr result ((site : SiteOf) → Stands site at_beginning self.old
-            → GrowsByFront (K.written out.old) (K.written out.new) (text_of site [])) }
-        ensures cause { HasCause (K.write_faults out.old) (K.write_faults out.new) result }
+    /// In how many of them Keep's turn failed.
+    pub fn store_failures(&self) -> u64
+        ensures { result ≡ self.now.store_failures }
     {
-        write_opening(&mut self.page, self.system.site(), self.shown, out)
+        self.store_failures
     }
 
-    /// Takes a line of the record, which has this number. The turns of a tick are made when the line behind
-    /// its block comes, and what changed in it is written then.
-    pub fn take<K: Sink>(
+    /// Writes what is told before the first tick.
+    pub fn write_opening<K: Sink>(&self, out: &mut K) -> Result<(), Failed>
+        requires { length self.now.next.items ≡ length self.now.shown.items }
+        ensures ok { OnOk result ((site : SiteOf) (kept : RetainedOf)
+            → Stands site kept at_beginning self.now → self.now.next.items ≡ empty_faces site
+            → Grows (K.written out.old) (K.written out.new) (opening_text site kept)) }
+        ensures err { OnErr result ((site : SiteOf) (kept : RetainedOf)
+            → Stands site kept at_beginning self.now → self.now.next.items ≡ empty_faces site
+            → GrowsByFront (K.written out.old) (K.written out.new) (opening_text site kept)) }
+        ensures cause { HasCause (K.write_faults out.old) (K.write_faults out.new) result }
+    {
+        write_opening(
+            self.system.site(),
+            self.next.as_slice(),
+            self.shown.as_slice(),
+            out,
+        )
+    }
+
+    /// Takes a line of the record. The turns of a tick are made when the line behind its block comes, and what
+    /// changed in it is written then.
+    pub fn take<D: Disk, K: Sink>(
         &mut self,
         line: Line,
-        number: u64,
+        disk: &mut D,
         out: &mut K,
     ) -> Result<Option<RunEnd>, Failed>
-        requires { MayTake line self.old }
-        ensures takes { (site : SiteOf) (p : Progress) → Stands site p self.old
+        requires may { MayTake line self.old }
+        requires stands { StandsOn D.honest D.images disk.old self.old.journal }
+        ensures takes { (site : SiteOf) (kept : RetainedOf) (p : Progress) → Stands site kept p self.old
             → MayCome site p line
-            → Takes site p line number (K.written out.old) (K.written out.new) self.new result }
+            → Takes site kept p line (K.written out.old) (K.written out.new) self.new result }
+        ensures disk { KeepsOn D.honest D.images D.faults disk.old disk.new self.old self.new }
         ensures cause { HasCause (K.write_faults out.old) (K.write_faults out.new) result }
     {
         match line {
             Line::Tick(tick) => {
-                self.close(out)?;
+                self.close(disk, out)?;
                 self.begin(tick);
                 Ok(None)
             }
-            Line::Event(event) => Ok(self.tell(event, number)),
+            Line::Event(event) => {
+                self.tell(event);
+                Ok(None)
+            }
             Line::Order(order) => {
                 self.set_order(order);
                 Ok(None)
             }
             Line::End => {
-                self.close(out)?;
+                self.close(disk, out)?;
                 Ok(Some(RunEnd::Ended))
             }
         }
@@ -135,7 +174,9 @@ impl Run {
 
     fn begin(&mut self, tick: Tick)
         requires { StandsClosed self.old }
-        ensures { OpensTick tick.0 self.old self.new }
+        ensures opens { OpensTick tick.0 self.old self.new }
+        ensures same { self.new.journal ≡ self.old.journal }
+        ensures failures { self.new.store_failures ≡ self.old.store_failures }
     {
         self.system.begin(tick);
         self.is_open = true;
@@ -143,103 +184,119 @@ impl Run {
     }
 
     fn set_order(&mut self, order: Order)
-        ensures { (site : SiteOf) (p : Progress) → Stands site p self.old
+        ensures stands { (site : SiteOf) (kept : RetainedOf) (p : Progress) → Stands site kept p self.old
             → IsOrder site.panels order
-            → Stands site (record { run = p.run; block = with_order order p.block }) self.new }
+            → Stands site kept (record { run = p.run; block = with_order order p.block }) self.new }
+        ensures same { self.new.journal ≡ self.old.journal }
+        ensures failures { self.new.store_failures ≡ self.old.store_failures }
     {
         self.order = Some(order);
     }
 
-    // Tells an event to the site, if a tick has begun, or ends the run where no part takes it.
-    fn tell(&mut self, event: Event, number: u64) -> Option<RunEnd>
+    // Tells an event to the site, if a tick has begun.
+    fn tell(&mut self, event: Event)
         requires { MayTell event self.old }
-        ensures { (site : SiteOf) (p : Progress) → Stands site p self.old
-            → TellsEvent site p event number self.new result }
+        ensures tells { TellsEvent event self.old self.new }
+        ensures same { self.new.journal ≡ self.old.journal }
+        ensures failures { self.new.store_failures ≡ self.old.store_failures }
     {
-        if !is_built(&event) {
-            return Some(RunEnd::NotBuilt { line: number });
-        }
         if self.is_open {
             self.system.event(&event);
         }
-        None
     }
 
     // Makes the turns of the tick whose block was read, if there is one, and writes what changed.
-    fn close<K: Sink>(&mut self, out: &mut K) -> Result<(), Failed>
-        requires { StandsSome self.old }
-        ensures stands { (site : SiteOf) (p : Progress) → Stands site p self.old
-            → Stands site (after_close p) self.new }
-        ensures ok { OnOk result ((site : SiteOf) (p : Progress) → Stands site p self.old
-            → Advances (K.written out.old) (K.written out.new) (text_of site p.run)
-            (text_of site (closed p))) }
-        ensures err { OnErr result ((site : SiteOf) (p : Progress) → Stands site p self.old
-            → Breaks (K.written out.old) (K.written out.new) (text_of site p.run)
-            (text_of site (closed p))) }
+    fn close<D: Disk, K: Sink>(&mut self, disk: &mut D, out: &mut K) -> Result<(), Failed>
+        requires some { StandsSome self.old }
+        requires stands { StandsOn D.honest D.images disk.old self.old.journal }
+        ensures ok { OnOk result (ClosesWell (K.written out.old) (K.written out.new) self.old self.new) }
+        ensures err { OnErr result
+            (ClosesBadly (K.written out.old) (K.written out.new) self.old self.new) }
+        ensures disk { KeepsOn D.honest D.images D.faults disk.old disk.new self.old self.new }
         ensures cause { HasCause (K.write_faults out.old) (K.write_faults out.new) result }
     {
         if !self.is_open {
             return Ok(());
         }
-        let before = self.shown;
-        self.make_turns();
-        write_tick(
-            &mut self.page,
-            self.system.site(),
-            self.ticks,
-            before,
-            self.shown,
-            out,
-        )
+        self.make_turns(disk);
+        let page = TickPage {
+            site: self.system.site(),
+            tick: self.ticks,
+            before: self.next.as_slice(),
+            after: self.shown.as_slice(),
+            answers: self.system.answers(),
+        };
+        page.write(&mut self.page, out)
     }
 
-    // Makes the turns of the tick whose block was read.
-    fn make_turns(&mut self)
-        requires { MayClose self.old }
-        ensures { (site : SiteOf) (p : Progress) → Stands site p self.old → Closes site p self.new }
+    // Makes the turns of the tick whose block was read. What was shown before it stands in `next` then.
+    fn make_turns<D: Disk>(&mut self, disk: &mut D)
+        requires may { MayClose self.old }
+        requires stands { StandsOn D.honest D.images disk.old self.old.journal }
+        ensures makes { MakesTicks self.old self.new }
+        ensures room { length self.new.next.items ≡ length self.new.shown.items }
+        ensures disk { KeepsOn D.honest D.images D.faults disk.old disk.new self.old self.new }
     {
-        turn_all(
-            &mut self.own,
-            &mut self.system,
-            &self.order,
-            &self.canonical,
-        );
+        let store = self.turn_all(disk);
+        if store == Store::Failed {
+            self.store_failures += 1;
+        }
         self.is_open = false;
         self.ticks += 1;
-        self.shown = show(&self.system);
+        show(&self.system, &mut self.next);
+        mem::swap(&mut self.shown, &mut self.next);
+    }
+
+    // Each seat has its turn, in the order that was given, else in the canonical one.
+    fn turn_all<D: Disk>(&mut self, disk: &mut D) -> Store
+        requires may { MayClose self.old }
+        requires stands { StandsOn D.honest D.images disk.old self.old.journal }
+        ensures turns { TurnsAll self.old result self.new }
+        ensures disk { TurnsOn D.honest D.images D.faults disk.old disk.new self.new.journal result }
+    {
+        self.turn_counted::<Brand, D>(disk, Blank::new(1))
+    }
+
+    // The same, with a counter of steps that is let go.
+    fn turn_counted<L: Ledger, D: Disk>(&mut self, disk: &mut D, blank: Blank) -> Store
+        requires may { MayClose self.old }
+        requires stands { StandsOn D.honest D.images disk.old self.old.journal }
+        requires name { blank.name ≡ L.name }
+        requires parts { blank.parts ≡ L.parts }
+        requires some { 0 < blank.parts }
+        ensures turns { TurnsAll self.old result self.new }
+        ensures disk { TurnsOn D.honest D.images D.faults disk.old disk.new self.new.journal result }
+    {
+        let mut steps: Steps<L> = Steps::new(blank);
+        match &self.order {
+            Some(order) => self
+                .system
+                .turns(order, &mut self.journal, disk, &mut steps),
+            None => self
+                .system
+                .turns(&self.canonical, &mut self.journal, disk, &mut steps),
+        }
     }
 }
 
-// Whether a part takes such events.
-fn is_built(event: &Event) -> bool
-    ensures { result ≡ is_built_event event.now }
+// The empty faces of so many panels.
+fn empty_faces_of(alloc: Global, panels: u8) -> Result<Vec<Face>, tick_units::NoMemory>
+    ensures { IfOk result (λ faces. faces.items ≡ map empty_face (range_with_len 1 panels)) }
 {
-    match event {
-        Event::Supply { .. } | Event::Link { .. } | Event::Op { .. } => false,
-        Event::Point { .. } | Event::Cable { .. } | Event::Confirmed { .. } => true,
+    let mut faces = Vec::with_capacity(alloc, panels as usize)?;
+    for before in 0..panels {
+        faces.push(Face::empty(before + 1))?;
     }
+    Ok(faces)
 }
 
-// Each seat has its turn, in the order that was given, else in the canonical one.
-fn turn_all(own: &mut OwnJournal, system: &mut System, given: &Option<Order>, canonical: &Order)
-    requires { MayTurnOwn (order_by given.now canonical.now) own.old system.old }
-    ensures { TurnsOwn (order_by given.now canonical.now) own.old system.old own.new system.new }
+// What the panels show.
+fn show(system: &System, faces: &mut Vec<Face>)
+    requires { MayShow system.now faces.old.items }
+    ensures shows { ShowsFaces system.now faces.old.items faces.new.items }
+    ensures room { length faces.new.items ≡ length faces.old.items }
 {
-    match given {
-        Some(order) => own.turns(system, order),
-        None => own.turns(system, canonical),
-    }
-}
-
-// What the panel shows.
-fn show(system: &System) -> Shown
-    requires { HasPanel 1 system.now }
-    ensures { (site : SiteOf) (before : List Moment)
-        → SystemStands site nothing_retained before system.now → IsRun site.panels before
-        → result ≡ shown_after site before }
-{
-    Shown {
-        alarm: system.zones(PANEL),
-        first: system.first(PANEL),
+    for place in 0..faces.len() {
+        faces[place] = system.face(place as u8 + 1);
     }
 }

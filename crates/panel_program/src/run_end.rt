@@ -11,8 +11,6 @@ pub enum RunEnd {
     Ended,
     /// At a line that is refused, or where the input ended without the line `end`.
     Refused(Refusal),
-    /// At an accepted line of a kind that no part takes yet.
-    NotBuilt { line: u64 },
     /// When so many bytes had been read as a record may have.
     TooManyBytes,
     /// At a read that failed.
@@ -26,7 +24,6 @@ pub fn status_of(end: RunEnd) -> Status
     match end {
         RunEnd::Ended => Status::Done,
         RunEnd::Refused(refusal) => status_by(refusal.why),
-        RunEnd::NotBuilt { .. } => Status::BadRecord,
         RunEnd::TooManyBytes => Status::Limit,
         RunEnd::ReadFault => Status::ReadFault,
     }

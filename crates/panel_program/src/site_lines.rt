@@ -42,7 +42,6 @@ fn status_of_stop(stop: &Stop) -> Status
         Stop::Absent => Status::BadSite,
         Stop::Refused(refusal) => status_of_refusal(refusal),
         Stop::Cycle(_) => Status::BadSite,
-        Stop::NotBuilt => Status::BadSite,
         Stop::ReadFault => Status::ReadFault,
         Stop::NoMemory => Status::NoMemory,
     }
@@ -76,7 +75,6 @@ fn write_stop<K: Sink>(stop: &Stop, out: &mut K) -> Result<(), Failed>
         Stop::Absent => write_all(out, b"refused site 0\n"),
         Stop::Refused(refusal) => write_refusal(refusal, out),
         Stop::Cycle(line) => write_all(out, line.as_slice()),
-        Stop::NotBuilt => write_all(out, b"refused site 12\n"),
         Stop::ReadFault => write_all(out, b"fault read\n"),
         Stop::NoMemory => Ok(()),
     }

@@ -10,8 +10,6 @@ pub enum Stop {
     Refused(SiteRefusal),
     /// Markers depend on themselves: the line that names them.
     Cycle(Items<u8>),
-    /// The site has something for which no part is built yet.
-    NotBuilt,
     /// The file could not be read.
     ReadFault,
     /// Memory ran out.

@@ -1,126 +1,132 @@
-//! Writing what is shown at opening, and what changed in a tick.
+//! Writing what is shown at opening, and what changed and was answered in a tick.
 
 ghost use Rattle.std.specs.Prelude.{◌≡◌, ◌≤◌, ◌++◌, length, OnErr, OnOk};
+ghost use Rattle.std.specs.List.{list_any};
+ghost use Rattle.face_text.specs.Faces.{has_some, same_faces};
 ghost use Rattle.face_text.specs.Holding.{Puts};
+ghost use Rattle.face_text.specs.Timelines.{faces_text, opening_line as opening_words};
 ghost use Rattle.panel_edges.specs.Contents.{Grows, GrowsByFront};
 ghost use Rattle.panel_edges.specs.Faults.{HasCause};
-ghost use Rattle.face_text.specs.Timelines.{opening_line as opening_words};
-ghost use Rattle.panel_program.specs.Ticks.{tick_text};
-ghost use Rattle.panel_program.specs.Zones.{changes_text, nothing_shown};
+ghost use Rattle.panel_program.specs.Pages.{has_answers as has_answers_told, page_text, written_text};
 
 use crate::lines::{opening_line, tick_line};
-use crate::shown::Shown;
-use arrayvec::ArrayString;
-use face_text::{Held, push_changes};
+use face_text::{Answers, Face, Held, push_answers, push_changes};
 use panel_edges::{Failed, Sink, SoundMemorySink, write_all};
 use site_types::Site;
-
-/// The one panel of a run.
-pub const PANEL: u8 = 1;
 
 /// The bytes of the page on which the text of a tick is put together.
 pub const PAGE_BYTES: usize = 65_536;
 
-/// Writes the first lines of a run, in one piece where they fit the page.
+/// Writes the first lines of a run: the site, and what its panels show otherwise than before.
 pub fn write_opening<K: Sink>(
-    page: &mut SoundMemorySink,
     site: &Site,
-    shown: Shown,
+    before: &[Face],
+    after: &[Face],
     out: &mut K,
 ) -> Result<(), Failed>
+    requires { length before.now ≡ length after.now }
     ensures ok { OnOk result (Grows (K.written out.old) (K.written out.new) (opening_words site.now
-        ++ changes_text site.now nothing_shown shown)) }
+        ++ faces_text site.now before.now after.now)) }
     ensures err { OnErr result
         (GrowsByFront (K.written out.old) (K.written out.new) (opening_words site.now
-        ++ changes_text site.now nothing_shown shown)) }
-    ensures cause { HasCause (K.write_faults out.old) (K.write_faults out.new) result }
-{
-    let nothing = Shown { alarm: 0, first: 0 };
-    write_under(page, &opening_line(site), site, nothing, shown, out)
-}
-
-/// Writes what the panel shows otherwise than before the tick, in one piece where it fits the page. Where it
-/// shows the same, nothing is written.
-pub fn write_tick<K: Sink>(
-    page: &mut SoundMemorySink,
-    site: &Site,
-    tick: u64,
-    before: Shown,
-    after: Shown,
-    out: &mut K,
-) -> Result<(), Failed>
-    ensures ok { OnOk result
-        (Grows (K.written out.old) (K.written out.new) (tick_text site.now tick before after)) }
-    ensures err { OnErr result
-        (GrowsByFront (K.written out.old) (K.written out.new)
-        (tick_text site.now tick before after)) }
-    ensures cause { HasCause (K.write_faults out.old) (K.write_faults out.new) result }
-{
-    if before == after {
-        return Ok(());
-    }
-    write_under(page, &tick_line(tick), site, before, after, out)
-}
-
-// Writes a line and the lines of what changed below it, in one piece where they fit the page.
-fn write_under<K: Sink>(
-    page: &mut SoundMemorySink,
-    line: &ArrayString<64>,
-    site: &Site,
-    before: Shown,
-    after: Shown,
-    out: &mut K,
-) -> Result<(), Failed>
-    requires { length line.now.bytes ≤ 64 }
-    ensures ok { OnOk result
-        (Grows (K.written out.old) (K.written out.new) (line.now.bytes
-        ++ changes_text site.now before after)) }
-    ensures err { OnErr result (GrowsByFront (K.written out.old) (K.written out.new) (line.now.bytes
-        ++ changes_text site.now before after)) }
-    ensures cause { HasCause (K.write_faults out.old) (K.write_faults out.new) result }
-{
-    page.bytes.clear();
-    page.passed = false;
-    let put = put_under(line, site, before, after, page);
-    if put.is_err() || page.passed {
-        return put_under(line, site, before, after, out);
-    }
-    write_all(out, page.bytes.as_slice())
-}
-
-// Puts a line and the lines of what changed below it, in as few pieces as the room for lines allows.
-fn put_under<K: Sink>(
-    line: &ArrayString<64>,
-    site: &Site,
-    before: Shown,
-    after: Shown,
-    out: &mut K,
-) -> Result<(), Failed>
-    requires { length line.now.bytes ≤ 64 }
-    ensures ok { OnOk result
-        (Grows (K.written out.old) (K.written out.new) (line.now.bytes
-        ++ changes_text site.now before after)) }
-    ensures err { OnErr result (GrowsByFront (K.written out.old) (K.written out.new) (line.now.bytes
-        ++ changes_text site.now before after)) }
+        ++ faces_text site.now before.now after.now)) }
     ensures cause { HasCause (K.write_faults out.old) (K.write_faults out.new) result }
 {
     let mut held = Held::new();
-    held.push(line.as_str().as_bytes(), out)?;
-    put_changes(site, before, after, &mut held, out)?;
+    held.push(opening_line(site).as_str().as_bytes(), out)?;
+    push_faces(site, before, after, &mut held, out)?;
     held.flush(out)
 }
 
-// Puts the lines of what changed.
-fn put_changes<K: Sink>(
+/// What changed in a tick and was answered in it.
+#[derive(Clone, Copy)]
+pub struct TickPage<'a> {
+    pub site: &'a Site,
+    pub tick: u64,
+    pub before: &'a [Face],
+    pub after: &'a [Face],
+    pub answers: &'a Answers,
+}
+
+impl TickPage<'_> {
+    /// Writes it, in one piece where it fits the page. Where there is nothing to tell nothing is written.
+    pub fn write<K: Sink>(&self, page: &mut SoundMemorySink, out: &mut K) -> Result<(), Failed>
+        requires { length self.now.before.now ≡ length self.now.after.now }
+        ensures ok { OnOk result (Grows (K.written out.old) (K.written out.new)
+            (written_text self.now.site.now self.now.tick self.now.before.now self.now.after.now
+            self.now.answers.now)) }
+        ensures err { OnErr result (GrowsByFront (K.written out.old) (K.written out.new)
+            (written_text self.now.site.now self.now.tick self.now.before.now self.now.after.now
+            self.now.answers.now)) }
+        ensures cause { HasCause (K.write_faults out.old) (K.write_faults out.new) result }
+    {
+        let is_told = !are_same(self.after, self.before) || has_answers(self.answers);
+        if !is_told {
+            return Ok(());
+        }
+        page.bytes.clear();
+        page.passed = false;
+        let put = self.put(page);
+        if put.is_err() || page.passed {
+            return self.put(out);
+        }
+        write_all(out, page.bytes.as_slice())
+    }
+
+    // Puts its lines, in as few pieces as the room for lines allows.
+    fn put<K: Sink>(&self, out: &mut K) -> Result<(), Failed>
+        requires { length self.now.before.now ≡ length self.now.after.now }
+        ensures ok { OnOk result (Grows (K.written out.old) (K.written out.new)
+            (page_text self.now.site.now self.now.tick self.now.before.now self.now.after.now
+            self.now.answers.now)) }
+        ensures err { OnErr result (GrowsByFront (K.written out.old) (K.written out.new)
+            (page_text self.now.site.now self.now.tick self.now.before.now self.now.after.now
+            self.now.answers.now)) }
+        ensures cause { HasCause (K.write_faults out.old) (K.write_faults out.new) result }
+    {
+        let mut held = Held::new();
+        held.push(tick_line(self.tick).as_str().as_bytes(), out)?;
+        push_faces(self.site, self.before, self.after, &mut held, out)?;
+        push_answers(self.answers, &mut held, out)?;
+        held.flush(out)
+    }
+}
+
+// Puts the lines of what changed, panel by panel.
+fn push_faces<K: Sink>(
     site: &Site,
-    before: Shown,
-    after: Shown,
+    before: &[Face],
+    after: &[Face],
     held: &mut Held,
     out: &mut K,
 ) -> Result<(), Failed>
+    requires { length before.now ≡ length after.now }
     ensures text { Puts held.old held.new (K.written out.old) (K.written out.new)
-        (changes_text site.now before after) result }
+        (faces_text site.now before.now after.now) result }
     ensures cause { HasCause (K.write_faults out.old) (K.write_faults out.new) result }
 {
-    push_changes(site, &before.face(), &after.face(), held, out)
+    for place in 0..after.len() {
+        push_changes(site, &before[place], &after[place], held, out)?;
+    }
+    Ok(())
+}
+
+// Whether the faces of all panels show the same.
+fn are_same(one: &[Face], other: &[Face]) -> bool
+    ensures { result ≡ same_faces one.now other.now }
+{
+    one == other
+}
+
+fn has_answers(answers: &Answers) -> bool
+    ensures { result ≡ has_answers_told answers.now }
+{
+    !answers.ops.as_slice().is_empty() || has_busy(&answers.busy) || answers.failed
+}
+
+// Whether an operation found its panel busy.
+fn has_busy(busy: &[u64; 8]) -> bool
+    ensures { result ≡ list_any has_some busy.now }
+{
+    busy.iter().any(|count| *count != 0)
 }

@@ -11,8 +11,10 @@ number_of exit.Done = 0
 number_of exit.Usage = 2
 number_of exit.BadSite = 3
 number_of exit.BadRecord = 4
+number_of exit.BadJournal = 5
 number_of exit.ReadFault = 6
 number_of exit.WriteFault = 7
+number_of exit.DiskFault = 8
 number_of exit.NoMemory = 9
 number_of exit.Limit = 11
 
@@ -23,6 +25,10 @@ BlamesReads outcome before after = outcome.status ≡ number_of exit.ReadFault �
 -- and with a write fault only where that of the output has
 abbrev pub BlamesWrites : Outcome → ℕ → ℕ → Type 0
 BlamesWrites outcome before after = outcome.status ≡ number_of exit.WriteFault → Rose before after
+
+-- and with a disk fault only where that of the disk has
+abbrev pub BlamesDisk : Outcome → ℕ → ℕ → Type 0
+BlamesDisk outcome before after = outcome.status ≡ number_of exit.DiskFault → Rose before after
 
 -- where memory ran out nothing was written
 abbrev pub IsSilentWithoutMemory : Outcome → Option (List ℕ) → Option (List ℕ) → Type 0

@@ -12,10 +12,14 @@ pub enum Status {
     BadSite,
     /// A line of the record is refused, or the record ends too soon.
     BadRecord,
+    /// The journal is of another site, damaged or no journal at all.
+    BadJournal,
     /// The site file or the record can't be read.
     ReadFault,
     /// The text can't be written.
     WriteFault,
+    /// The journal's disk failed while the journal was opened.
+    DiskFault,
     /// Memory ran out before anything was written.
     NoMemory,
     /// The record passes a limit.
@@ -32,8 +36,10 @@ impl Status {
             Status::Usage => 2,
             Status::BadSite => 3,
             Status::BadRecord => 4,
+            Status::BadJournal => 5,
             Status::ReadFault => 6,
             Status::WriteFault => 7,
+            Status::DiskFault => 8,
             Status::NoMemory => 9,
             Status::Limit => 11,
         }

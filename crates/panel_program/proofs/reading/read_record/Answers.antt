@@ -1,11 +1,13 @@
-use Rattle.std.proofs.Common.{◌≡◌, ◌<◌, ◌≤◌, ◌+◌, ◌-◌, ◌++◌, ℕ, List, [], length, min, take, Ok, Option, sym, subst, arith}
+use Rattle.std.proofs.Common.{◌≡◌, ◌<◌, ◌≤◌, ◌+◌, ◌-◌, ◌++◌, ℕ, List, [], length, min, take, Ok, Option, refl, sym, subst, arith}
 use Rattle.panel_edges.specs.Limits.{most_record_bytes}
 use Rattle.std.proofs.lemmas.Result.{err_from_is_err_and}
 use Rattle.panel_program.specs.declared.run_end.RunEnd.{RunEnd}
+use Rattle.panel_program.specs.Records.{at_beginning}
 use Rattle.panel_program.specs.Runs.{ReadsRecord}
 use Rattle.panel_program.specs.Stands.{TakesPiece}
+use Rattle.panel_program.proofs.Disks.{keeps_more, keeps_same}
 use Rattle.panel_program.proofs.Pieces.{SoFar}
-use Rattle.panel_program.proofs.Readings.{begins_at, so_far_none, fault_ends, input_ends, limit_ends, piece_ends, piece_breaks, piece_more}
+use Rattle.panel_program.proofs.Readings.{begins_at, fault_ends, input_ends, limit_ends, may_piece, piece_breaks, piece_ends, piece_more, piece_within, reads_on, so_far_none}
 use Rattle.panel_program.proofs.Written.{some_weaker}
 use Rattle.panel_program.proofs.reading.read_record.Goals as goal
 
@@ -16,71 +18,104 @@ piece_fits read most count piece less most_is bound is = omega (arith, less, mos
 
 pub loop-read-init : goal.loop-read-init
 loop-read-init g c =
+    let begins = c.requires.begins in
+    let reads = c.new-reader.ensures in
     record {
-      at = record { site = c.requires.0; bytes = []; is_at = begins_at c.requires.0 c.new-reader.result c.args.run.now (c.new-reader.ensures c.requires.0) c.requires.1 };
+      at = record {
+        site = begins.0;
+        kept = begins.1;
+        bytes = [];
+        p = at_beginning;
+        is_at = begins_at begins.0 begins.1 c.new-reader.result c.args.run.now (reads begins.0) begins.2;
+        count = refl;
+      };
       few = omega arith;
       reads = omega arith;
       writes = omega arith;
-      so_far = λ site h. so_far_none site (g.S.Stream.left c.args.input.now) (g.K.Stream.written c.args.out.now) c.new-reader.result c.args.run.now
-          (begins_at site c.new-reader.result c.args.run.now (c.new-reader.ensures site) h);
+      disk = keeps_same g.D.Disk.honest g.D.Disk.images g.D.Disk.faults c.args.disk.now c.args.run.now c.args.run.now refl refl c.requires.stands;
+      so_far = λ site kept h. so_far_none site kept (g.S.Stream.left c.args.input.now) (g.K.Stream.written c.args.out.now) c.new-reader.result c.args.run.now
+          (begins_at site kept c.new-reader.result c.args.run.now (reads site) h);
     }
 
 pub returns-in_default-clause-reads : goal.returns-in_default-clause-reads
-returns-in_default-clause-reads g c site h =
+returns-in_default-clause-reads g c site kept h =
     let left = g.S.Stream.left c.loop-read.input in
     let old = g.K.Stream.written c.args.out.now in
     let mid = g.K.Stream.written c.loop-read.out in
     some_weaker (g.S.Stream.left c.args.input.now)
-    (λ bytes (s : SoFar site bytes left old mid c.loop-read.reader c.loop-read.run c.loop-read.read).
-    fault_ends site bytes left old mid c.loop-read.reader c.loop-read.run c.loop-read.read s)
-    (c.loop-read.invariant.so_far site h)
+    (λ bytes (s : SoFar site kept bytes left old mid c.loop-read.reader c.loop-read.run c.loop-read.read).
+    fault_ends site kept bytes left old mid c.loop-read.reader c.loop-read.run c.loop-read.read s (g.S.Stream.left c.read_piece.new.input)
+    c.in_default.ensures.err)
+    (c.loop-read.invariant.so_far site kept h)
 
 pub returns-then-count-eq0-clause-reads : goal.returns-then-count-eq0-clause-reads
-returns-then-count-eq0-clause-reads g c site h =
+returns-then-count-eq0-clause-reads g c site kept h =
     let left = g.S.Stream.left c.loop-read.input in
     let old = g.K.Stream.written c.args.out.now in
     let mid = g.K.Stream.written c.loop-read.out in
     let lt = c.loop-read-test.true in
     some_weaker (g.S.Stream.left c.args.input.now)
-    (λ bytes (s : SoFar site bytes left old mid c.loop-read.reader c.loop-read.run c.loop-read.read).
-    input_ends site bytes left old mid c.loop-read.reader c.loop-read.run c.loop-read.read s c.finish.result c.in-Ok.count (omega (arith, lt))
-    c.in-Ok.ensures.ends c.if-count-eq0.true (c.finish.ensures site s.consumed s.is_at.reads s.is_at.going.going))
-    (c.loop-read.invariant.so_far site h)
+    (λ bytes (s : SoFar site kept bytes left old mid c.loop-read.reader c.loop-read.run c.loop-read.read).
+    input_ends site kept bytes left old mid c.loop-read.reader c.loop-read.run c.loop-read.read s c.finish.result c.in-Ok.count
+    (g.S.Stream.left c.read_piece.new.input) (omega (arith, lt)) c.in-Ok.ensures.ends c.if-count-eq0.true
+    (c.finish.ensures site s.consumed s.is_at.reads s.is_at.going))
+    (c.loop-read.invariant.so_far site kept h)
+
+pub take_piece-requires-clause-may : goal.take_piece-requires-clause-may
+take_piece-requires-clause-may g c =
+    let piece = take c.in-Ok.count c.read_piece.new.buffer in
+    let fits = piece_fits c.loop-read.read c.min-most.result c.in-Ok.count piece c.loop-read-test.true c.min-most.ensures c.in-Ok.ensures.bound
+    c.in-Ok.ensures.count in
+    may_piece c.loop-read.read piece c.loop-read.reader c.loop-read.run c.loop-read.invariant.at fits
 
 pub returns-in_err-end-clause-reads : goal.returns-in_err-end-clause-reads
-returns-in_err-end-clause-reads g c site h =
+returns-in_err-end-clause-reads g c site kept h =
     let left = g.S.Stream.left c.loop-read.input in
     let old = g.K.Stream.written c.args.out.now in
     let mid = g.K.Stream.written c.loop-read.out in
     let new = g.K.Stream.written c.take_piece.new.out in
+    let left' = g.S.Stream.left c.read_piece.new.input in
     let piece = take c.in-Ok.count c.read_piece.new.buffer in
     let q = err_from_is_err_and c.from_residual.result c.from_residual.ensures.1 in
     let fits = piece_fits c.loop-read.read c.min-most.result c.in-Ok.count piece c.loop-read-test.true c.min-most.ensures c.in-Ok.ensures.bound
     c.in-Ok.ensures.count in
     some_weaker (g.S.Stream.left c.args.input.now)
-    (λ bytes (s : SoFar site bytes left old mid c.loop-read.reader c.loop-read.run c.loop-read.read).
-    subst (ReadsRecord site bytes old new c.take_piece.new.run) (sym q.1)
-    (piece_breaks site bytes left old mid c.loop-read.reader c.loop-read.run c.loop-read.read s piece (g.S.Stream.left c.read_piece.new.input) new
-    c.take_piece.new.run c.in-Ok.ensures.bytes fits (c.in_err-end.ensures.takes site s.consumed s.is_at)))
-    (c.loop-read.invariant.so_far site h)
+    (λ bytes (s : SoFar site kept bytes left old mid c.loop-read.reader c.loop-read.run c.loop-read.read).
+    let within = piece_within site kept bytes left old mid c.loop-read.reader c.loop-read.run c.loop-read.read s piece fits in
+    subst (ReadsRecord site kept bytes left' old new c.take_piece.new.run) (sym q.1)
+    (piece_breaks site kept bytes left old mid c.loop-read.reader c.loop-read.run c.loop-read.read s piece left' new
+    c.take_piece.new.run c.in-Ok.ensures.bytes fits (c.in_err-end.ensures.takes site kept s.consumed s.now s.is_at within)))
+    (c.loop-read.invariant.so_far site kept h)
 
 pub returns-in-Some-clause-reads : goal.returns-in-Some-clause-reads
-returns-in-Some-clause-reads g c site h =
+returns-in-Some-clause-reads g c site kept h =
     let left = g.S.Stream.left c.loop-read.input in
     let old = g.K.Stream.written c.args.out.now in
     let mid = g.K.Stream.written c.loop-read.out in
     let new = g.K.Stream.written c.take_piece.new.out in
+    let left' = g.S.Stream.left c.read_piece.new.input in
     let piece = take c.in-Ok.count c.read_piece.new.buffer in
     let fits = piece_fits c.loop-read.read c.min-most.result c.in-Ok.count piece c.loop-read-test.true c.min-most.ensures c.in-Ok.ensures.bound
     c.in-Ok.ensures.count in
     some_weaker (g.S.Stream.left c.args.input.now)
-    (λ bytes (s : SoFar site bytes left old mid c.loop-read.reader c.loop-read.run c.loop-read.read).
+    (λ bytes (s : SoFar site kept bytes left old mid c.loop-read.reader c.loop-read.run c.loop-read.read).
+    let within = piece_within site kept bytes left old mid c.loop-read.reader c.loop-read.run c.loop-read.read s piece fits in
     let ended =
-    subst (λ (o : Option RunEnd). TakesPiece site s.consumed piece mid new c.take_piece.new.reader c.take_piece.new.run (Ok o)) c.in-Some.is
-    (c.in_ok-end.ensures.takes site s.consumed s.is_at) in
-    piece_ends site bytes left old mid c.loop-read.reader c.loop-read.run c.loop-read.read s piece ended.0 ended.1
-    (g.S.Stream.left c.read_piece.new.input) new c.take_piece.new.reader c.take_piece.new.run c.in-Some.end c.in-Ok.ensures.bytes ended.2 fits ended.3)
-    (c.loop-read.invariant.so_far site h)
+    subst (λ (o : Option RunEnd). TakesPiece site kept s.now s.consumed piece mid new c.take_piece.new.reader c.take_piece.new.run (Ok o)) c.in-Some.is
+    (c.in_ok-end.ensures.takes site kept s.consumed s.now s.is_at within) in
+    piece_ends site kept bytes left old mid c.loop-read.reader c.loop-read.run c.loop-read.read s piece left' new c.take_piece.new.run c.in-Some.end
+    c.in-Ok.ensures.bytes fits ended)
+    (c.loop-read.invariant.so_far site kept h)
+
+pub returns-in_err-end-clause-disk : goal.returns-in_err-end-clause-disk
+returns-in_err-end-clause-disk g c =
+    keeps_more g.D.Disk.honest g.D.Disk.images g.D.Disk.faults c.args.disk.now c.loop-read.disk c.take_piece.new.disk c.args.run.now c.loop-read.run
+    c.take_piece.new.run c.loop-read.invariant.disk c.in_err-end.ensures.disk
+
+pub returns-in-Some-clause-disk : goal.returns-in-Some-clause-disk
+returns-in-Some-clause-disk g c =
+    keeps_more g.D.Disk.honest g.D.Disk.images g.D.Disk.faults c.args.disk.now c.loop-read.disk c.take_piece.new.disk c.args.run.now c.loop-read.run
+    c.take_piece.new.run c.loop-read.invariant.disk c.in_ok-end.ensures.disk
 
 pub loop-read-preserved : goal.loop-read-preserved
 loop-read-preserved g c =
@@ -98,36 +133,39 @@ loop-read-preserved g c =
     let writes = c.loop-read.invariant.writes in
     let writes_still = c.take_piece.ensures.cause.later in
     let r = c.loop-read.invariant.at in
+    let fits = piece_fits c.loop-read.read c.min-most.result c.in-Ok.count piece lt most bound count in
+    let may = may_piece c.loop-read.read piece c.loop-read.reader c.loop-read.run r fits in
     record {
       at =
-          record {
-            site = r.site;
-            bytes = r.bytes ++ piece;
-            is_at =
-                (subst (λ (o : Option RunEnd). TakesPiece r.site r.bytes piece mid new c.take_piece.new.reader c.take_piece.new.run (Ok o))
-                c.in-None.is (c.in_ok-end.ensures.takes r.site r.bytes r.is_at)).0;
-          };
+          reads_on c.loop-read.read (c.loop-read.read + c.in-Ok.count) piece c.loop-read.reader c.take_piece.new.reader c.loop-read.run c.take_piece.new.run
+          mid new r (omega (arith, count))
+          (subst (λ (o : Option RunEnd). TakesPiece r.site r.kept r.p r.bytes piece mid new c.take_piece.new.reader c.take_piece.new.run (Ok o))
+          c.in-None.is (c.in_ok-end.ensures.takes r.site r.kept r.bytes r.p r.is_at may.within));
       few = omega (arith, lt, most, bound);
       reads = omega (arith, reads, reads_still);
       writes = omega (arith, writes, writes_still);
-      so_far = λ site h.
+      disk =
+          keeps_more g.D.Disk.honest g.D.Disk.images g.D.Disk.faults c.args.disk.now c.loop-read.disk c.take_piece.new.disk c.args.run.now
+          c.loop-read.run c.take_piece.new.run c.loop-read.invariant.disk c.in_ok-end.ensures.disk;
+      so_far = λ site kept h.
           some_weaker (g.S.Stream.left c.args.input.now)
-          (λ bytes (s : SoFar site bytes left old mid c.loop-read.reader c.loop-read.run c.loop-read.read).
-          piece_more site bytes left old mid c.loop-read.reader c.loop-read.run c.loop-read.read s piece (g.S.Stream.left c.read_piece.new.input) new
+          (λ bytes (s : SoFar site kept bytes left old mid c.loop-read.reader c.loop-read.run c.loop-read.read).
+          let within = piece_within site kept bytes left old mid c.loop-read.reader c.loop-read.run c.loop-read.read s piece fits in
+          piece_more site kept bytes left old mid c.loop-read.reader c.loop-read.run c.loop-read.read s piece (g.S.Stream.left c.read_piece.new.input) new
           c.take_piece.new.reader c.take_piece.new.run (c.loop-read.read + c.in-Ok.count) c.in-Ok.ensures.bytes (omega (arith, count))
-          (subst (λ (o : Option RunEnd). TakesPiece site s.consumed piece mid new c.take_piece.new.reader c.take_piece.new.run (Ok o)) c.in-None.is
-          (c.in_ok-end.ensures.takes site s.consumed s.is_at)))
-          (c.loop-read.invariant.so_far site h);
+          (subst (λ (o : Option RunEnd). TakesPiece site kept s.now s.consumed piece mid new c.take_piece.new.reader c.take_piece.new.run (Ok o)) c.in-None.is
+          (c.in_ok-end.ensures.takes site kept s.consumed s.now s.is_at within)))
+          (c.loop-read.invariant.so_far site kept h);
     }
 
 pub returns-clause-reads : goal.returns-clause-reads
-returns-clause-reads g c site h =
+returns-clause-reads g c site kept h =
     let left = g.S.Stream.left c.loop-read.input in
     let old = g.K.Stream.written c.args.out.now in
     let mid = g.K.Stream.written c.loop-read.out in
     let full = c.loop-read-test.false in
     let few = c.loop-read.invariant.few in
     some_weaker (g.S.Stream.left c.args.input.now)
-    (λ bytes (s : SoFar site bytes left old mid c.loop-read.reader c.loop-read.run c.loop-read.read).
-    limit_ends site bytes left old mid c.loop-read.reader c.loop-read.run c.loop-read.read s (omega (arith, full, few)))
-    (c.loop-read.invariant.so_far site h)
+    (λ bytes (s : SoFar site kept bytes left old mid c.loop-read.reader c.loop-read.run c.loop-read.read).
+    limit_ends site kept bytes left old mid c.loop-read.reader c.loop-read.run c.loop-read.read s left (omega (arith, full, few)))
+    (c.loop-read.invariant.so_far site kept h)

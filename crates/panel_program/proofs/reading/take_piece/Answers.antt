@@ -1,40 +1,61 @@
-use Rattle.std.proofs.Common.{◌++◌, take, sym, subst, arith}
+use Rattle.std.proofs.Common.{◌++◌, take, refl, sym, subst, arith}
 use Rattle.std.proofs.lemmas.Result.{err_from_is_err_and}
 use Rattle.panel_program.specs.Stands.{GoesOn, TakesPiece}
-use Rattle.panel_program.proofs.Pieces.{taking_none, taking_more, taking_ends, taking_breaks}
+use Rattle.panel_program.proofs.Disks.{keeps_more, keeps_same}
+use Rattle.panel_program.proofs.Pieces.{may_rest, rest_within, taking_none, taking_more, taking_ends, taking_breaks}
 use Rattle.panel_program.proofs.reading.take_piece.Goals as goal
 
 pub loop-rest-init : goal.loop-rest-init
 loop-rest-init g c =
     record {
-      at = c.requires;
+      at = c.requires.may;
       later = omega arith;
-      so_far = λ site before h. taking_none site before c.args.piece.now (g.K.Stream.written c.args.out.now) c.args.reader.now c.args.run.now h;
+      disk = keeps_same g.D.Disk.honest g.D.Disk.images g.D.Disk.faults c.args.disk.now c.args.run.now c.args.run.now refl refl c.requires.stands;
+      so_far = λ site kept before p h within. taking_none site kept p before c.args.piece.now (g.K.Stream.written c.args.out.now) c.args.reader.now
+          c.args.run.now h;
     }
 
 pub returns-in_err-taken-clause-takes : goal.returns-in_err-taken-clause-takes
-returns-in_err-taken-clause-takes g c site before h =
-    let p = err_from_is_err_and c.from_residual.result c.from_residual.ensures.1 in
-    let t = c.loop-rest.invariant.so_far site before h in
-    subst (TakesPiece site before c.args.piece.now (g.K.Stream.written c.args.out.now) (g.K.Stream.written c.take_next.new.out) c.take_next.new.reader
-    c.take_next.new.run) (sym p.1)
-    (taking_breaks site before c.args.piece.now c.loop-rest.rest.now (g.K.Stream.written c.args.out.now) (g.K.Stream.written c.loop-rest.out)
-    (g.K.Stream.written c.take_next.new.out) c.loop-rest.reader c.loop-rest.run t c.take_next.new.run
-    (c.in_err-taken.ensures.takes site (before ++ t.front) t.is_at))
+returns-in_err-taken-clause-takes g c site kept before p h within =
+    let q = err_from_is_err_and c.from_residual.result c.from_residual.ensures.1 in
+    let old = g.K.Stream.written c.args.out.now in
+    let mid = g.K.Stream.written c.loop-rest.out in
+    let new = g.K.Stream.written c.take_next.new.out in
+    let rest = c.loop-rest.rest.now in
+    let t = c.loop-rest.invariant.so_far site kept before p h within in
+    let within_rest = rest_within site kept p before c.args.piece.now rest old mid new c.loop-rest.reader c.loop-rest.run t within in
+    subst (TakesPiece site kept p before c.args.piece.now old new c.take_next.new.reader c.take_next.new.run) (sym q.1)
+    (taking_breaks site kept p before c.args.piece.now rest old mid new c.loop-rest.reader c.loop-rest.run t c.take_next.new.run
+    (c.in_err-taken.ensures.takes site kept (before ++ t.front) t.now t.is_at within_rest))
+
+pub returns-in_err-taken-clause-disk : goal.returns-in_err-taken-clause-disk
+returns-in_err-taken-clause-disk g c =
+    keeps_more g.D.Disk.honest g.D.Disk.images g.D.Disk.faults c.args.disk.now c.loop-rest.disk c.take_next.new.disk c.args.run.now c.loop-rest.run
+    c.take_next.new.run c.loop-rest.invariant.disk c.in_err-taken.ensures.disk
 
 pub returns-in-Some-clause-takes : goal.returns-in-Some-clause-takes
-returns-in-Some-clause-takes g c site before h =
-    let t = c.loop-rest.invariant.so_far site before h in
+returns-in-Some-clause-takes g c site kept before p h within =
+    let old = g.K.Stream.written c.args.out.now in
+    let mid = g.K.Stream.written c.loop-rest.out in
+    let new = g.K.Stream.written c.take_next.new.out in
     let rest = c.loop-rest.rest.now in
     let used = c.in_ok-taken.taken.used in
-    taking_ends site before c.args.piece.now rest (g.K.Stream.written c.args.out.now) (g.K.Stream.written c.loop-rest.out)
-    (g.K.Stream.written c.take_next.new.out) c.loop-rest.reader c.loop-rest.run t used c.in-Some.end c.take_next.new.reader c.take_next.new.run
-    (subst (GoesOn site (before ++ t.front) ((before ++ t.front) ++ take used rest) (g.K.Stream.written c.loop-rest.out)
-    (g.K.Stream.written c.take_next.new.out) c.take_next.new.reader c.take_next.new.run) c.in-Some.is
-    (c.in_ok-taken.ensures.takes site (before ++ t.front) t.is_at))
+    let t = c.loop-rest.invariant.so_far site kept before p h within in
+    let within_rest = rest_within site kept p before c.args.piece.now rest old mid new c.loop-rest.reader c.loop-rest.run t within in
+    taking_ends site kept p before c.args.piece.now rest old mid new c.loop-rest.reader c.loop-rest.run t used c.in-Some.end c.take_next.new.run
+    (subst (GoesOn site kept t.now ((before ++ t.front) ++ take used rest) mid new c.take_next.new.reader c.take_next.new.run) c.in-Some.is
+    (c.in_ok-taken.ensures.takes site kept (before ++ t.front) t.now t.is_at within_rest))
+
+pub returns-in-Some-clause-disk : goal.returns-in-Some-clause-disk
+returns-in-Some-clause-disk g c =
+    keeps_more g.D.Disk.honest g.D.Disk.images g.D.Disk.faults c.args.disk.now c.loop-rest.disk c.take_next.new.disk c.args.run.now c.loop-rest.run
+    c.take_next.new.run c.loop-rest.invariant.disk c.in_ok-taken.ensures.disk
 
 pub loop-rest-preserved : goal.loop-rest-preserved
 loop-rest-preserved g c =
+    let old = g.K.Stream.written c.args.out.now in
+    let mid = g.K.Stream.written c.loop-rest.out in
+    let new = g.K.Stream.written c.take_next.new.out in
     let rest = c.loop-rest.rest.now in
     let used = c.in_ok-taken.taken.used in
     let r = c.loop-rest.invariant.at in
@@ -42,22 +63,19 @@ loop-rest-preserved g c =
     let later_still = c.take_next.ensures.cause.later in
     record {
       at =
-          record {
-            site = r.site;
-            bytes = r.bytes ++ take used rest;
-            is_at =
-                (subst
-                (GoesOn r.site r.bytes (r.bytes ++ take used rest) (g.K.Stream.written c.loop-rest.out) (g.K.Stream.written c.take_next.new.out)
-                c.take_next.new.reader c.take_next.new.run) c.in-None.is
-                (c.in_ok-taken.ensures.takes r.site r.bytes r.is_at)).0;
-          };
+          may_rest rest c.split_at.result.1.now used mid new c.loop-rest.reader c.take_next.new.reader c.loop-rest.run c.take_next.new.run r
+          c.split_at.ensures.back
+          (subst (GoesOn r.at.site r.at.kept r.at.p (r.at.bytes ++ take used rest) mid new c.take_next.new.reader c.take_next.new.run) c.in-None.is
+          (c.in_ok-taken.ensures.takes r.at.site r.at.kept r.at.bytes r.at.p r.at.is_at r.within));
       later = omega (arith, later, later_still);
-      so_far = λ site before h.
-          let t = c.loop-rest.invariant.so_far site before h in
-          taking_more site before c.args.piece.now rest (g.K.Stream.written c.args.out.now) (g.K.Stream.written c.loop-rest.out)
-          (g.K.Stream.written c.take_next.new.out) c.loop-rest.reader c.loop-rest.run t used c.split_at.result.1.now c.take_next.new.reader
-          c.take_next.new.run c.split_at.ensures.back
-          (subst (GoesOn site (before ++ t.front) ((before ++ t.front) ++ take used rest) (g.K.Stream.written c.loop-rest.out)
-          (g.K.Stream.written c.take_next.new.out) c.take_next.new.reader c.take_next.new.run) c.in-None.is
-          (c.in_ok-taken.ensures.takes site (before ++ t.front) t.is_at));
+      disk =
+          keeps_more g.D.Disk.honest g.D.Disk.images g.D.Disk.faults c.args.disk.now c.loop-rest.disk c.take_next.new.disk c.args.run.now c.loop-rest.run
+          c.take_next.new.run c.loop-rest.invariant.disk c.in_ok-taken.ensures.disk;
+      so_far = λ site kept before p h within.
+          let t = c.loop-rest.invariant.so_far site kept before p h within in
+          let within_rest = rest_within site kept p before c.args.piece.now rest old mid new c.loop-rest.reader c.loop-rest.run t within in
+          taking_more site kept p before c.args.piece.now rest old mid new c.loop-rest.reader c.loop-rest.run t used
+          c.split_at.result.1.now c.take_next.new.reader c.take_next.new.run c.split_at.ensures.back
+          (subst (GoesOn site kept t.now ((before ++ t.front) ++ take used rest) mid new c.take_next.new.reader c.take_next.new.run) c.in-None.is
+          (c.in_ok-taken.ensures.takes site kept (before ++ t.front) t.now t.is_at within_rest));
     }

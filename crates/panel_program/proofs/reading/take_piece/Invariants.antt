@@ -1,6 +1,9 @@
-use Rattle.std.proofs.Common.{◌≤◌, List, ℕ, length}
+use Rattle.std.proofs.Common.{◌≤◌, ◌++◌, List, ℕ, length}
+use Rattle.site_types.specs.declared.retained.Retained.{Retained}
 use Rattle.site_types.specs.declared.site.Site.{Site}
-use Rattle.panel_program.specs.Stands.{IsAt, IsAtSome}
+use Rattle.panel_program.specs.Disks.{KeepsOn}
+use Rattle.panel_program.specs.Records.{Progress}
+use Rattle.panel_program.specs.Stands.{AreWithin, IsAt, MayPiece}
 use Rattle.panel_program.proofs.Pieces.{Taking}
 use Rattle.panel_program.proofs.reading.take_piece.Given as goal
 
@@ -8,10 +11,12 @@ use Rattle.panel_program.proofs.reading.take_piece.Given as goal
 abbrev pub invariant-loop-rest : goal.invariant-loop-rest
 invariant-loop-rest g l =
     record {
-      at : IsAtSome l.reader l.run;
+      at : MayPiece l.rest l.reader l.run;
       later : g.K.Stream.write_faults l.fn.out ≤ g.K.Stream.write_faults l.out;
-      so_far : (site : Site) (before : List ℕ) → IsAt site before l.fn.reader l.fn.run
-          → Taking site before l.piece l.rest (g.K.Stream.written l.fn.out) (g.K.Stream.written l.out) l.reader l.run;
+      disk : KeepsOn g.D.Disk.honest g.D.Disk.images g.D.Disk.faults l.fn.disk l.disk l.fn.run l.run;
+      so_far : (site : Site) (kept : Retained) (before : List ℕ) (p : Progress) → IsAt site kept before p l.fn.reader l.fn.run
+          → AreWithin (before ++ l.piece)
+          → Taking site kept p before l.piece l.rest (g.K.Stream.written l.fn.out) (g.K.Stream.written l.out) l.reader l.run;
     }
 
 abbrev pub decreases-loop-rest : goal.decreases-loop-rest

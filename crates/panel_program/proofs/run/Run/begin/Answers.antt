@@ -1,8 +1,8 @@
 use Rattle.std.proofs.Common.{arith}
-use Rattle.site_types.specs.Changes.{nothing_retained}
 use Rattle.panel_rules.specs.Moments.{moments}
 use Rattle.panel_rules.proofs.RecordRuns.{records_are_runs}
-use Rattle.panel_program.proofs.Stood.{begun, tick_moments}
+use Rattle.run_text.proofs.TickTimes.{tick_moments}
+use Rattle.panel_program.proofs.Stood.{begun}
 use Rattle.panel_program.proofs.run.Run.begin.Goals as goal
 
 pub begin-requires : goal.begin-requires
@@ -10,15 +10,15 @@ begin-requires c =
     let r = c.requires in
     record {
       site = r.site;
-      kept = nothing_retained;
+      kept = r.kept;
       before = moments r.ticks;
       stands = r.stands.system;
       run = records_are_runs r.site.panels r.ticks r.stands.ordered;
     }
 
-pub returns : goal.returns
-returns c site ticks h tick few =
+pub returns-clause-opens : goal.returns-clause-opens
+returns-clause-opens c site kept ticks h tick few short =
     let count = tick_moments ticks in
-    begun site ticks c.args.self.now c.begin.new.self h
-    (c.begin.ensures site nothing_retained (moments ticks) h.system (omega (arith, tick, count)) (records_are_runs site.panels ticks h.ordered))
-    (omega (arith, tick, few))
+    begun site kept ticks c.args.self.now c.begin.new.self h
+    (c.begin.ensures site kept (moments ticks) h.system (omega (arith, tick, count)) (records_are_runs site.panels ticks h.ordered))
+    (omega (arith, tick, few)) short

@@ -1,22 +1,29 @@
-use Rattle.std.proofs.Common.{◌∙◌, sym}
-use Rattle.site_types.specs.Changes.{nothing_retained}
+use Rattle.std.proofs.Common.{◌∙◌, ap, arith, sym}
+use Rattle.panel_rules.proofs.FaultsTold.{requests_short}
+use Rattle.record_lines.specs.Events.{event_view}
 use Rattle.panel_program.specs.Records.{moments_in}
-use Rattle.panel_program.proofs.Stood.{few_asked, told}
+use Rattle.panel_program.proofs.Codes.{stands_for_view}
+use Rattle.panel_program.proofs.Stood.{told, untold}
 use Rattle.panel_program.proofs.run.Run.tell.Goals as goal
-
-pub returns-then-self : goal.returns-then-self
-returns-then-self c site p h =
-    let built = sym c.is_built.ensures ∙ c.if-not-is_built.false in
-    (built, told site p c.args.self.now c.args.event c.event.new.self h built c.if-self.true (c.event.ensures site nothing_retained (moments_in p) h.system))
 
 pub event-requires : goal.event-requires
 event-requires c =
     let r = c.requires in
+    let short = r.stands.short in
+    let asked = requests_short r.site (moments_in r.p) in
     record {
       site = r.site;
-      kept = nothing_retained;
+      kept = r.kept;
       before = moments_in r.p;
       stands = r.stands.system;
       has = r.has;
-      few = few_asked r.site r.p c.args.self.now r.stands;
+      few = omega (arith, short, asked);
     }
+
+pub returns-then-self-clause-tells : goal.returns-then-self-clause-tells
+returns-then-self-clause-tells c site kept p h short =
+    told site kept p c.args.self.now (event_view c.args.event) c.event.new.self h c.if-self.true
+    (stands_for_view site kept c.args.event (moments_in p) c.event.new.self (c.event.ensures site kept (moments_in p) h.system)) short
+
+pub returns-clause-tells : goal.returns-clause-tells
+returns-clause-tells c site kept p h short = untold site kept p c.args.self.now (event_view c.args.event) h c.if-self.false

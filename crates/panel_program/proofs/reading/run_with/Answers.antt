@@ -1,0 +1,45 @@
+use Rattle.std.proofs.Common.{◌∙◌, ap, subst}
+use Rattle.program_status.specs.declared.outcome.Outcome.{Outcome}
+use Rattle.program_status.specs.Sayings.{Says}
+use Rattle.panel_program.specs.Endings.{status_of, last_line}
+use Rattle.panel_program.proofs.Outcomes.{ran_nothing, ran_opening, ran_until, ran_to}
+use Rattle.panel_program.proofs.Written.{some_always, some_weaker}
+use Rattle.panel_program.proofs.reading.run_with.Goals as goal
+
+pub returns-in_default-write_opening-clause-ran : goal.returns-in_default-write_opening-clause-ran
+returns-in_default-write_opening-clause-ran g c =
+    let old = g.K.Stream.written c.args.out.now in
+    let new = g.K.Stream.written c.write_opening.new.out in
+    let outcome = c.after-in_default-write_opening.result in
+    let told = c.after-in_default-write_opening.ensures in
+    some_always (g.S.Stream.left c.args.input.now)
+    (λ bytes. ran_opening c.args.site c.args.journal.kept _ bytes outcome old new (ap (λ (o : Outcome). o.status) told)
+    (ap (λ (o : Outcome). o.ticks) told) (ap (λ (o : Outcome). o.store_failures) told)
+    (c.in_default-write_opening.ensures.err c.args.site c.args.journal.kept c.in-Ok.ensures.stands c.in-Ok.ensures.empty))
+
+pub read_record-requires-clause-begins : goal.read_record-requires-clause-begins
+read_record-requires-clause-begins g c = (c.args.site, c.args.journal.kept, c.in-Ok.ensures.stands)
+
+pub returns-in-Ok-read_record-clause-ran : goal.returns-in-Ok-read_record-clause-ran
+returns-in-Ok-read_record-clause-ran g c =
+    let old = g.K.Stream.written c.args.out.now in
+    let mid = g.K.Stream.written c.write_opening.new.out in
+    let last = g.K.Stream.written c.read_record.new.out in
+    let new = g.K.Stream.written c.finish.new.out in
+    let end = c.in-Ok-read_record.end in
+    some_weaker (g.S.Stream.left c.args.input.now)
+    (λ bytes r. ran_to c.args.site c.args.journal.kept _ bytes c.finish.result old mid last new c.read_record.new.run end c.finish.ensures.ticks.0
+    c.finish.ensures.ticks.1 (λ e. c.read_record.ensures.read (c.in-Ok-read_record.is ∙ ap _ e))
+    (c.in-Ok-write_opening.ensures.ok c.args.site c.args.journal.kept c.in-Ok.ensures.stands c.in-Ok.ensures.empty) r c.finish.ensures.says)
+    (c.in-Ok-read_record.ensures.reads c.args.site c.args.journal.kept c.in-Ok.ensures.stands)
+
+pub returns-clause-ran : goal.returns-clause-ran
+returns-clause-ran g c =
+    let old = g.K.Stream.written c.args.out.now in
+    let mid = g.K.Stream.written c.write_opening.new.out in
+    let new = g.K.Stream.written c.read_record.new.out in
+    let outcome = c.run_outcome.result in
+    some_weaker (g.S.Stream.left c.args.input.now)
+    (λ bytes r. ran_until c.args.site c.args.journal.kept _ bytes outcome old mid new c.read_record.new.run _ _ _
+    (c.in-Ok-write_opening.ensures.ok c.args.site c.args.journal.kept c.in-Ok.ensures.stands c.in-Ok.ensures.empty) r)
+    (c.in-Err.ensures.reads c.args.site c.args.journal.kept c.in-Ok.ensures.stands)

@@ -1,0 +1,74 @@
+-- What each step makes of a run.
+use Rattle.std.specs.Prelude.{◌≡◌, ◌+◌, ◌≤◌, ℕ, Bool, false, List, length, Option}
+use Rattle.site_types.specs.declared.event.Event.{Event}
+use Rattle.site_types.specs.declared.retained.Retained.{Retained}
+use Rattle.site_types.specs.declared.site.Site.{Site}
+use Rattle.face_text.specs.declared.face.Face.{Face}
+use Rattle.keep_turn.specs.declared.store.Store.{Store}
+use Rattle.panel_core.specs.declared.system.System.{System}
+use Rattle.panel_core.specs.Keeping.{MakesAllTurns}
+use Rattle.panel_core.specs.Stands.{StandsFor as SystemStands}
+use Rattle.panel_rules.specs.Moments.{Moment, IsRun, moments}
+use Rattle.panel_rules.specs.Timeline.{faces_of}
+use Rattle.record_lines.specs.Events.{event_view}
+use Rattle.record_lines.specs.declared.line.Line.TheVariants.{Event as EventLine}
+use Rattle.panel_program.specs.declared.run.Run.{Run}
+use Rattle.panel_program.specs.Records.{Progress, after_line, closed, moments_in}
+use Rattle.panel_program.specs.Stands.{AreFew, Stands, Writes, WritesPart, after_close, order_by}
+
+-- the system stands for some history, and there is room for a face of each panel
+pub record MayShow (system : System) (faces : List Face) : Type 0 where
+  pub site : Site
+  pub kept : Retained
+  pub before : List Moment
+  pub stands : SystemStands site kept before system
+  pub room : length faces ≡ site.panels
+
+-- the faces are those of the rules
+abbrev pub ShowsFaces : System → List Face → List Face → Type 0
+ShowsFaces system old faces =
+    (site : Site) (kept : Retained) (before : List Moment)
+    → SystemStands site kept before system → IsRun site.panels before → length old ≡ site.panels
+    → faces ≡ faces_of site kept before
+
+-- an event was told, with the bytes of its code alone
+abbrev pub TellsEvent : Event → Run → Run → Type 0
+TellsEvent event old run =
+    (site : Site) (kept : Retained) (p : Progress) → Stands site kept p old
+    → AreFew (moments_in (after_line site false p (EventLine (event_view event))))
+    → Stands site kept (after_line site false p (EventLine (event_view event))) run
+
+-- each seat had its turn, and Keep's answered so
+pub record TurnsAll (old : Run) (store : Store) (run : Run) : Type 0 where
+  pub rest : run ≡ record old { system = run.system; journal = run.journal }
+  pub turns : MakesAllTurns old.system (order_by old.order old.canonical) old.journal store run.journal run.system
+  pub tried : run.journal.tried ≤ old.journal.tried + 1
+
+-- the turns of the open tick were made, and what was shown before it is still at hand
+pub record MakesTick (site : Site) (kept : Retained) (p : Progress) (old run : Run) : Type 0 where
+  pub failed : Bool
+  pub stands : Stands site kept (after_close failed p) run
+  pub before : run.next.items ≡ old.shown.items
+
+abbrev pub MakesTicks : Run → Run → Type 0
+MakesTicks old run =
+    (site : Site) (kept : Retained) (p : Progress) → Stands site kept p old
+    → AreFew (moments (closed false p)) → MakesTick site kept p old run
+
+-- the open tick was closed, where there was one, and what it told was written, or a front of that
+pub record Closes (W : Bool → Type 0) (site : Site) (kept : Retained) (p : Progress) (run : Run) : Type 0 where
+  pub failed : Bool
+  pub stands : Stands site kept (after_close failed p) run
+  pub wrote : W failed
+
+abbrev pub ClosesWell : Option (List ℕ) → Option (List ℕ) → Run → Run → Type 0
+ClosesWell written written' old run =
+    (site : Site) (kept : Retained) (p : Progress) → Stands site kept p old
+    → AreFew (moments (closed false p))
+    → Closes (λ failed. Writes site kept written written' p.run (closed failed p)) site kept p run
+
+abbrev pub ClosesBadly : Option (List ℕ) → Option (List ℕ) → Run → Run → Type 0
+ClosesBadly written written' old run =
+    (site : Site) (kept : Retained) (p : Progress) → Stands site kept p old
+    → AreFew (moments (closed false p))
+    → Closes (λ failed. WritesPart site kept written written' p.run (closed failed p)) site kept p run
