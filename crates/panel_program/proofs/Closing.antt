@@ -6,9 +6,6 @@ use Rattle.face_text.specs.declared.answers.Answers.{Answers}
 use Rattle.panel_core.specs.Changes.{AnswersAsRuled}
 use Rattle.panel_rules.specs.Moments.{Moment, TickBlock, moments, tick_of}
 use Rattle.panel_rules.specs.Timeline.{answers_now, failed_now, faces_of, told}
-use Rattle.panel_rules.proofs.RecordRuns.{records_are_runs}
-use Rattle.panel_laws.specs.FormLaws.{CanBeTold}
-use Rattle.panel_laws.proofs.EventsOfSite.{of_site}
 use Rattle.panel_program.specs.declared.run.Run.{Run}
 use Rattle.panel_program.specs.Acting.{Closes, MakesTick}
 use Rattle.panel_program.specs.Pages.{written_text}
@@ -17,21 +14,10 @@ use Rattle.panel_program.specs.Stands.{Stands, after_close}
 use Rattle.run_text.specs.SoFar.{text_so_far, tick_text}
 use Rattle.panel_program.proofs.Answered.{same_answers}
 use Rattle.run_text.proofs.TickTimes.{tick_moments}
-use Rattle.panel_program.proofs.Stood.{not_open}
+use Rattle.panel_program.proofs.Stood.{has_run, not_open}
 
 module _ (site : Site) (kept : Retained) (run : Run) (answers : Answers) (told_so : AnswersAsRuled run.system answers) (after : List TickBlock) (h :
     Stands site kept (record { run = after; block = None }) run) where
-  can_be_told : CanBeTold site kept (moments after)
-  can_be_told =
-      let short = h.short in
-      record {
-        valid = h.valid;
-        run = (records_are_runs site.panels after h.ordered).0;
-        of_site = of_site site (moments after) h.system.events;
-        counters = h.counters;
-        few = omega (arith, short);
-      }
-
   -- what is written of a tick is the text of the rules
   text_is : (before : List TickBlock) → run.next.items ≡ faces_of site kept (moments before)
       → written_text site run.ticks run.next.items run.shown.items answers ≡ tick_text site kept (moments before) (moments after)
@@ -42,7 +28,7 @@ module _ (site : Site) (kept : Retained) (run : Run) (answers : Answers) (told_s
       ∙ ap (λ fs. written_text site (tick_of (moments after)) fs run.shown.items answers) shown_before
       ∙ ap (λ fs. written_text site (tick_of (moments after)) (faces_of site kept (moments before)) fs answers) h.shown
       ∙ ap (λ a. written_text site (tick_of (moments after)) (faces_of site kept (moments before)) (faces_of site kept (moments after)) a) is
-      ∙ same_answers site kept (moments before) (moments after) can_be_told
+      ∙ same_answers site kept (moments before) (moments after) (has_run site kept after None run h).can
 
 -- what was written of a tick is what the text of all ticks has more
 abbrev pub Told : (List ℕ → Type 0) → Site → Retained → List TickBlock → List TickBlock → Type 0

@@ -29,7 +29,9 @@ use Rattle.panel_program.specs.Records.{Block, Progress, at_beginning, closed, c
 use Rattle.panel_program.specs.Stands.{AreFew, HasRun, MayClose, Stands, after_close, order_by}
 use Rattle.run_text.specs.Failures.{failures}
 use Rattle.run_text.proofs.TickTimes.{tick_moments}
-use Rattle.panel_program.proofs.Progresses.{closed_ordered, same_moments}
+use Rattle.panel_laws.specs.OperationLaws.{AreEventsOf}
+use Rattle.panel_laws.proofs.EventsOfSite.{of_site}
+use Rattle.panel_program.proofs.Progresses.{closed_ordered, events_length, same_moments}
 
 -- ---- the tick of a record's moments
 
@@ -294,11 +296,39 @@ pub shut : (site : Site) (kept : Retained) (p : Progress) (run : Run) → Stands
     → (p.block ≡ None) × Stands site kept (after_close false p) run
 shut site kept p run h is = shut_by site kept p.run p.block run h is
 
--- what has been run
+-- ---- what has been run
+
+events_behind : (site : Site) (events : List Event) (before : List Moment) → AreEventsOf site (and_events events before) → AreEventsOf site before
+events_behind site [] before h = h
+events_behind site (event ∷ events) before h = (events_behind site events (Happened event ∷ before) h).0
+
+run_events : (site : Site) (o : Option Block) (ticks : List TickBlock) → AreEventsOf site (moments_by o ticks) → AreEventsOf site (moments ticks)
+run_events site None ticks h = h
+run_events site (Some block) ticks h = events_behind site block.events (Began ∷ moments ticks) h
+
+run_moments : (o : Option Block) (ticks : List TickBlock) → length (moments ticks) ≤ length (moments_by o ticks)
+run_moments None ticks = omega arith
+run_moments (Some block) ticks = let e = events_length block.events (Began ∷ moments ticks) in omega (arith, e)
+
+run_ordered : (site : Site) (o : Option Block) (ticks : List TickBlock) → AreOrdered site.panels (closed_by false o ticks) → AreOrdered site.panels ticks
+run_ordered site None ticks h = h
+run_ordered site (Some block) ticks h = h.0
+
 pub has_run : (site : Site) (kept : Retained) (ticks : List TickBlock) (o : Option Block) (run : Run)
     → Stands site kept (record { run = ticks; block = o }) run → HasRun site kept ticks run
-has_run site kept ticks o run h = record { counters = h.counters; count = h.count; failed = h.failed; ordered = ordered_by o h.ordered }
-  where
-    ordered_by : (o : Option Block) → AreOrdered site.panels (closed_by false o ticks) → AreOrdered site.panels ticks
-    ordered_by None g = g
-    ordered_by (Some block) g = g.0
+has_run site kept ticks o run h =
+    let ordered = run_ordered site o ticks h.ordered in
+    let short = h.short in
+    let part = run_moments o ticks in
+    record {
+      can = record {
+        valid = h.valid;
+        run = (records_are_runs site.panels ticks ordered).0;
+        of_site = of_site site (moments ticks) (run_events site o ticks h.system.events);
+        counters = h.counters;
+        few = omega (arith, short, part);
+      };
+      count = h.count;
+      failed = h.failed;
+      ordered = ordered;
+    }

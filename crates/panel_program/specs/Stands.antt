@@ -23,6 +23,7 @@ use Rattle.record_lines.specs.Stands.{StandsFor as ReadsFor}
 use Rattle.panel_edges.specs.Limits.{most_record_bytes}
 use Rattle.panel_edges.specs.declared.failed.Failed.{Failed}
 use Rattle.panel_rules.specs.Moments.{Moment, TickBlock, moments}
+use Rattle.panel_laws.specs.FormLaws.{CanBeTold}
 use Rattle.panel_rules.specs.Records.{AreOrdered}
 use Rattle.panel_rules.specs.Timeline.{faces_of}
 use Rattle.panel_core.specs.Keeping.{KeepsRun}
@@ -137,7 +138,7 @@ after_close failed p = record { run = closed failed p; block = None }
 
 -- the run has run these ticks
 pub record HasRun (site : Site) (kept : Retained) (ticks : List TickBlock) (run : Run) : Type 0 where
-  pub counters : AreCounters kept.counters
+  pub can : CanBeTold site kept (moments ticks)
   pub count : run.ticks ≡ length ticks
   pub failed : run.store_failures ≡ failures ticks
   pub ordered : AreOrdered site.panels ticks

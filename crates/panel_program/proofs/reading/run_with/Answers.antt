@@ -13,7 +13,7 @@ returns-in_default-write_opening-clause-ran g c =
     let outcome = c.after-in_default-write_opening.result in
     let told = c.after-in_default-write_opening.ensures in
     some_always (g.S.Stream.left c.args.input.now)
-    (λ bytes. ran_opening c.args.site c.args.journal.kept _ bytes outcome old new (ap (λ (o : Outcome). o.status) told)
+    (λ bytes. ran_opening c.args.site c.args.journal.kept _ bytes outcome old new c.in-Ok.run c.in-Ok.ensures.stands (ap (λ (o : Outcome). o.status) told)
     (ap (λ (o : Outcome). o.ticks) told) (ap (λ (o : Outcome). o.store_failures) told)
     (c.in_default-write_opening.ensures.err c.args.site c.args.journal.kept c.in-Ok.ensures.stands c.in-Ok.ensures.empty))
 
