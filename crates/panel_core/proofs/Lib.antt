@@ -16,6 +16,7 @@ pub mod Counts
 -- all panels: a moment, events, turns one after another, operations that come in force
 pub mod Whole
 pub mod TaskTurns
+pub mod PartTurns
 pub mod DeskTurns
 pub mod KeepTurns
 pub mod Events
@@ -27,3 +28,4 @@ pub mod Begun
 pub mod Answered
 pub mod Shows
 pub mod WholeFaces
+pub mod ZonesShown

@@ -28,6 +28,7 @@ mod faces;
 mod keeping;
 mod kept_counts;
 mod parts;
+mod shown_zones;
 mod system;
 mod task_turns;
 mod turns;

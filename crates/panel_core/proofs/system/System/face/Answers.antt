@@ -24,8 +24,8 @@ returns c site kept before h run =
     let turns = hold_turns site kept done panel before in
     let stored = kept_after site kept before in
     let face = record c.empty-face.result {
-      zones = c.alarms_shown-face.result;
-      firsts = c.firsts_shown-face.result;
+      zones = c.zones_shown-zones.result.alarms;
+      firsts = c.zones_shown-zones.result.firsts;
       faults = c.faults-face.result;
       outputs = c.on.result;
       confirmed = c.confirmed.result;
@@ -39,8 +39,8 @@ returns c site kept before h run =
     (counter_in panel stored)
     ∙ same_face (face_with site kept all stored panel before) face
     (ap (λ (f : Face). f.panel) c.empty-face.ensures)
-    (c.alarms_shown-face.ensures site kept before h run)
-    (c.firsts_shown-face.ensures site kept before h run)
+    (c.zones_shown-zones.ensures.alarms site kept before h run)
+    (c.zones_shown-zones.ensures.firsts site kept before h run)
     (c.faults-face.ensures site kept panel done turns stands.holds ∙ faults_held site kept done panel before ∙ sym (faults_now site kept before panel))
     (c.on.ensures site facts kept done panel before stands.drives
     ∙ sym (ap (outputs_where site panel) (fun_ext (on_now site kept before panel))))
