@@ -29,3 +29,4 @@ pub mod Answered
 pub mod Shows
 pub mod WholeFaces
 pub mod ZonesShown
+pub mod PromisedFaces

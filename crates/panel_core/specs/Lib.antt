@@ -7,3 +7,4 @@ pub mod Keeping
 pub mod StepCounts
 pub mod ShownZones
 pub mod ShownFaces
+pub mod PromisedFaces

@@ -5,6 +5,8 @@ use settings_shown::show_settings;
 use site_types::Word;
 
 impl System {
+    ghost use Rattle.panel_core.specs.PromisedFaces.{PromisedCounter, PromisedFaults, PromisedOutputs};
+    ghost use Rattle.panel_core.specs.PromisedFaces.{PromisedSettings, PromisedZones};
     ghost use Rattle.panel_core.specs.ShownFaces.{ShowsFace, ShowsWord, ShowsZones};
     ghost use Rattle.panel_core.specs.Stands.{HasPanel};
 
@@ -12,14 +14,22 @@ impl System {
     /// outputs, the settings in force at it, its buzzer and its counter.
     pub fn face(&self, panel: u8) -> Face
         requires { HasPanel panel self.now }
-        ensures { ShowsFace self.now panel result }
+        ensures shown { ShowsFace self.now panel result }
+        // So it shows what is due in time, and nothing without its cause.
+        ensures zones { PromisedZones self.now panel result }
+        ensures outputs { PromisedOutputs self.now panel result }
+        ensures faults { PromisedFaults self.now panel result }
+        ensures settings { PromisedSettings self.now panel result }
+        ensures counter { PromisedCounter self.now panel result }
     {
         let place = panel as usize - 1;
         let parts = &self.panels[place];
         let zones = self.zones_shown(panel);
+        let alarms = zones.alarms;
+        let firsts = zones.firsts;
         let mut face = Face::empty(panel);
-        face.zones = zones.alarms;
-        face.firsts = zones.firsts;
+        face.zones = alarms;
+        face.firsts = firsts;
         face.faults = parts.hold.faults();
         face.outputs = parts.drive.on();
         face.confirmed = parts.drive.confirmed();
