@@ -1,6 +1,6 @@
 -- What lines make, one line more.
 use Rattle.std.proofs.Common.{◌≡◌, ◌∙◌, ◌+◌, ◌*◌, ◌≤◌, ◌++◌, ℕ, Bool, true, false, List, [], ◌∷◌, length, map, Option, Some, None, if◌then◌else◌}
-use Rattle.std.proofs.Common.{refl, sym, ap, subst, arith, length-map, length-append}
+use Rattle.std.proofs.Common.{refl, sym, ap, subst, arith, length-append}
 use Rattle.std.specs.List.{fold}
 use Rattle.std.proofs.lemmas.List.Sums.{fold_push}
 use Rattle.tick_units.specs.declared.seat.Seat.{Seat}
@@ -13,13 +13,14 @@ use Rattle.std.specs.Prelude.{option_map}
 use Rattle.site_types.specs.declared.event.Event.{Event}
 use Rattle.site_types.specs.declared.event.Event.TheVariants.{Point, Cable, Supply, Link, Confirmed, Op}
 use Rattle.access_levels.specs.Levels.{level_of}
-use Rattle.panel_rules.specs.Operations.{and_request, request_of, requests}
+use Rattle.panel_rules.specs.Operations.{Request, and_request, request_of, requests}
 use Rattle.record_lines.specs.declared.line.Line.{Line}
 use Rattle.record_lines.specs.declared.line.Line.TheVariants.{Tick, Event as EventLine, Order, End}
 use Rattle.panel_rules.specs.Moments.{Moment, Began, Happened, Turned, Kept, TickBlock, and_events, and_turns, moments, tick_of, turn_of}
 use Rattle.panel_rules.specs.Records.{AreOrdered}
 use Rattle.panel_program.specs.Records.{Block, Progress, after_line, at_beginning, closed, closed_by, moments_by, moments_in, progress_of, recorded, ticked, with_event, with_order}
-use Rattle.run_text.specs.Failures.{as_recorded, without_failure}
+use Rattle.run_text.specs.Failures.{as_recorded}
+use Rattle.run_text.proofs.FailuresCounted.{are_the_same}
 use Rattle.panel_program.proofs.Numbers.{tick_count}
 
 pub progress_more : (site : Site) (lines : List Line) (line : Line)
@@ -47,9 +48,12 @@ closed_length failed (Some block) ticks = refl
 pub recorded_length : (p : Progress) → length (closed false (recorded p)) ≡ length (closed false p)
 recorded_length p = go p.block
   where
+    count : length (as_recorded p.run) ≡ length p.run
+    count = (are_the_same 1 p.run).0
+
     go : (o : Option Block) → length (closed_by false o (as_recorded p.run)) ≡ length (closed_by false o p.run)
-    go None = length-map without_failure p.run
-    go (Some block) = let e = length-map without_failure p.run in omega (arith, e)
+    go None = count
+    go (Some block) = let e = count in omega (arith, e)
 
 pub closed_ordered : (panels : ℕ) (failed : Bool) (o : Option Block) (ticks : List TickBlock) → AreOrdered panels (closed_by false o ticks)
     → AreOrdered panels (closed_by failed o ticks)

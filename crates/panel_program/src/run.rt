@@ -1,12 +1,13 @@
-ghost use Rattle.std.specs.Prelude.{◌≡◌, ◌<◌, IfOk, OnErr, OnOk, length, map};
+ghost use Rattle.std.specs.Prelude.{◌≡◌, ◌<◌, ◌-◌, ◌^◌, IfOk, OnErr, OnOk, length, map};
 ghost use Rattle.std.specs.List.{range_with_len};
 ghost use Rattle.face_text.specs.Faces.{empty_face};
 ghost use Rattle.face_text.specs.Timelines.{empty_faces};
+ghost use Rattle.panel_core.specs.Keeping.{has_failed};
 ghost use Rattle.panel_core.specs.Stands.{HasPlan};
 ghost use Rattle.panel_edges.specs.Contents.{Grows, GrowsByFront};
 ghost use Rattle.panel_edges.specs.Faults.{HasCause};
 ghost use Rattle.panel_program.specs.Acting.{ClosesBadly, ClosesWell, MakesTicks, MayShow, ShowsFaces, TellsEvent};
-ghost use Rattle.panel_program.specs.Acting.{TurnsAll};
+ghost use Rattle.panel_program.specs.Acting.{TurnsAll, failures_with};
 ghost use Rattle.panel_program.specs.Disks.{KeepsOn, TurnsOn};
 ghost use Rattle.panel_program.specs.Journals.{IsOpenFor};
 ghost use Rattle.panel_program.specs.Records.{Progress, at_beginning, with_order};
@@ -238,9 +239,7 @@ impl Run {
         ensures disk { KeepsOn D.honest D.images D.faults disk.old disk.new self.old self.new }
     {
         let store = self.turn_all(disk);
-        if store == Store::Failed {
-            self.store_failures += 1;
-        }
+        self.store_failures = with_failure(self.store_failures, store);
         self.is_open = false;
         self.ticks += 1;
         show(&self.system, &mut self.next);
@@ -276,6 +275,17 @@ impl Run {
                 .system
                 .turns(&self.canonical, &mut self.journal, disk, &mut steps),
         }
+    }
+}
+
+// The number of failed ticks with one more, where Keep's turn failed.
+fn with_failure(failures: u64, store: Store) -> u64
+    requires { failures < 2 ^ 64 - 1 }
+    ensures { result ≡ failures_with (has_failed store) failures }
+{
+    match store {
+        Store::Failed => failures + 1,
+        Store::Idle | Store::Kept => failures,
     }
 }
 

@@ -5,8 +5,12 @@ use Rattle.face_text.specs.Timelines.{faces_text}
 use Rattle.panel_program.proofs.writing.TickPage.put.Goals as goal
 
 -- three texts, one after another
-three : (x y z line : List ℕ) → line ≡ x → x ++ y ++ z ≡ (line ++ y) ++ z
-three x y z line e = ap (λ w. w ++ y ++ z) (sym e) ∙ sym (append_assoc line y z)
+three : (x y z line : List ℕ) → line ≡ x → (x ++ y) ++ z ≡ (line ++ y) ++ z
+three x y z line e = ap (λ w. (w ++ y) ++ z) (sym e)
+
+-- the first of them, and the others behind it
+first : (x y z line : List ℕ) → line ≡ x → (x ++ y) ++ z ≡ line ++ (y ++ z)
+first x y z line e = ap (λ w. (w ++ y) ++ z) (sym e) ∙ append_assoc line y z
 
 pub returns-in_err-push-clause-err : goal.returns-in_err-push-clause-err
 returns-in_err-push-clause-err g c =
@@ -16,7 +20,7 @@ returns-in_err-push-clause-err g c =
     let held = c.new-held.result in
     let line = c.as_bytes.ensures.value ∙ c.as_str.ensures.value ∙ c.tick_line.ensures.text in
     front_of held held _ _ _ [] c.as_bytes.result.now (faces ++ answers) _ c.from_residual.result
-    c.new-held.ensures c.from_residual.ensures.0 (ap (λ xs. xs ++ faces ++ answers) (sym line)) (moves_none held _) c.in_err-push.ensures.text.err
+    c.new-held.ensures c.from_residual.ensures.0 (first _ faces answers c.as_bytes.result.now line) (moves_none held _) c.in_err-push.ensures.text.err
 
 pub returns-in_err-push_faces-clause-err : goal.returns-in_err-push_faces-clause-err
 returns-in_err-push_faces-clause-err g c =
