@@ -9,7 +9,7 @@ use Rattle.site_types.specs.declared.retained.Retained.{Retained}
 use Rattle.site_types.specs.declared.site.Site.{Site}
 use Rattle.panel_edges.specs.Crashes.{LeavesOnly}
 use Rattle.retained_journal.specs.declared.journal.Journal.{Journal}
-use Rattle.retained_journal.specs.Images.{HasRoomForTwo, MayLeaveOr}
+use Rattle.retained_journal.specs.Images.{HasRoomForTwo, MayLeave, MayLeaveOr}
 use Rattle.keep_turn.specs.declared.store.Store.{Store}
 use Rattle.panel_rules.specs.Batches.{batch, kept_after}
 use Rattle.panel_rules.specs.Moments.{Moment, Kept, IsRun, and_turns, tick_of, turn_of}
@@ -19,9 +19,11 @@ use Rattle.panel_rules.specs.Storing.{keep_answer}
 use Rattle.panel_core.specs.declared.system.System.{System}
 use Rattle.panel_core.specs.Changes.{AreOfPanels, MakesTurnsFrom, seats_between}
 use Rattle.panel_core.specs.Keeping.{HasTurned, KeepsRun, KeepsTurn, LeavesWithBatch, MayKeep, MayTurnAll, before_keep, has_failed, store_of}
+use Rattle.panel_core.specs.PowerCuts.{IsLeftOver, OpensToFront, OpensToFrontOr}
 use Rattle.panel_core.specs.Stands.{MayTurnFrom, StandsFor}
 use Rattle.panel_core.specs.StepCounts.{CountsTurnsFrom, RisesOver, facts_in_force}
 use Rattle.panel_core.proofs.Applied.{applied_stays}
+use Rattle.panel_core.proofs.Fronts.{front_left, fronts_left, left_over_stays}
 use Rattle.panel_core.proofs.StepsCounted.{applied_over, keep_rises, rises_both, rises_either, rises_more}
 use Rattle.panel_core.proofs.Orders.{before_turns, between_more, front_turns, keep_within, no_other, order_parted, panels_keep, panels_leave_keep, run_behind, same_turns, turns_tick}
 
@@ -74,7 +76,11 @@ module _ {order : List Seat} {journal : Journal} {old between : System} {place :
   stands_between = first.turns site kept before h (front_turns site.panels order 0 place before (omega arith) first.within run)
 
   keeps_between : KeepsRun site kept then journal
-  keeps_between = record { keeps = keeps.keeps ∙ sym (panels_keep site kept false (seats_between 0 place order) before first.panels); wide = keeps.wide }
+  keeps_between = record {
+    keeps = keeps.keeps ∙ sym (panels_keep site kept false (seats_between 0 place order) before first.panels);
+    wide = keeps.wide;
+    torn = λ torn. left_over_stays site kept journal.attempt.items false (seats_between 0 place order) before first.panels (keeps.torn torn);
+  }
 
   few_between : tick_of then ≤ last_tick
   few_between = rw (turns_tick false (seats_between 0 place order) before) few
@@ -141,6 +147,8 @@ module _ {order : List Seat} {journal : Journal} {old between : System} {place :
                   turned.keeps.keeps ∙ sym (panels_keep site kept failed rest (Kept failed ∷ then) rest_panels)
                   ∙ ap (kept_after site kept) (sym (parted failed));
               wide = turned.keeps.wide;
+              torn = λ torn. subst (λ ms. IsLeftOver site kept ms journal'.attempt.items) (sym (parted failed))
+                  (left_over_stays site kept journal'.attempt.items failed rest (Kept failed ∷ then) rest_panels (turned.keeps.torn torn));
             };
             answers =
                 turned.answers
@@ -189,10 +197,19 @@ module _ {order : List Seat} {journal : Journal} {old between : System} {place :
       then_is : then ≡ before_keep (and_turns false order before)
       then_is = sym (panels_leave_keep false (drop (place + 1) order) (Kept false ∷ then) rest_panels) ∙ ap before_keep (sym (parted false))
 
-      -- at each moment of Keep's turn a crash leaves what it might have left before, or what is kept with the batch
-      pub leaves_then : {D : Type 0} (moment : D → ℕ) (left_since : D → ℕ → List ℕ → Type 0) (disk disk' : D)
+      -- at each moment of Keep's turn a power cut leaves a front of the run before it, or what is kept with the batch
+      pub fronts_then : {D : Type 0} (moment : D → ℕ) (left_since : D → ℕ → List ℕ → Type 0) (disk disk' : D)
           → LeavesWithBatch moment left_since disk disk' between journal → HasRoomForTwo journal
-          → LeavesOnly moment left_since disk disk' (MayLeaveOr journal (batch site kept (before_keep (and_turns false order before))))
-      leaves_then moment left_since disk disk' leaves room =
-          subst (λ ms. LeavesOnly moment left_since disk disk' (MayLeaveOr journal (batch site kept ms))) then_is
-          (leaves site kept then stands_between keeps_between keep_run.0 few_between room)
+          → LeavesOnly moment left_since disk disk'
+          (OpensToFrontOr site kept journal.digest before (batch site kept (before_keep (and_turns false order before))))
+      fronts_then moment left_since disk disk' leaves room =
+          fronts_left site kept before journal keeps moment left_since disk disk' (batch site kept (before_keep (and_turns false order before)))
+          (subst (λ ms. LeavesOnly moment left_since disk disk' (MayLeaveOr journal (batch site kept ms))) then_is
+          (leaves site kept then stands_between keeps_between keep_run.0 few_between room))
+
+      -- and after the order one of the run with it
+      pub front_then : journal'.digest ≡ journal.digest → (file : List ℕ) → MayLeave journal' file
+          → OpensToFront site kept journal.digest (and_turns (has_failed store) order before) file
+      front_then same file left =
+          subst (λ digest. OpensToFront site kept digest (and_turns (has_failed store) order before) file) same
+          (front_left site kept (and_turns (has_failed store) order before) journal' all_turned.keeps file left)

@@ -22,6 +22,7 @@ pub mod KeepTurns
 pub mod Events
 pub mod Orders
 pub mod StepsCounted
+pub mod Fronts
 pub mod AllTurns
 pub mod Begun
 -- what is answered, and what is shown of zones

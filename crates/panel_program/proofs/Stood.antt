@@ -93,7 +93,7 @@ begun site ticks old system h stands few =
       valid = h.valid;
       one = h.one;
       system = stands;
-      own = record { keeps = record { keeps = h.own.keeps.keeps; wide = h.own.keeps.wide }; sound = h.own.sound; tried = h.own.tried };
+      own = record { keeps = record { keeps = h.own.keeps.keeps; wide = h.own.keeps.wide; torn = h.own.keeps.torn }; sound = h.own.sound; tried = h.own.tried };
       open_is = refl;
       canonical = h.canonical;
       order_is = sym h.canonical;
@@ -131,7 +131,7 @@ told_by site ticks (Some block) old event system h built open_is stands =
       system = subst (λ ms. SystemStands site nothing_retained ms system) (sym (events_more block.events event (Began ∷ moments ticks))) stands;
       own =
           subst (λ ms. KeepsOwn site ms old.ticks old.own) (sym (events_more block.events event (Began ∷ moments ticks))) (record {
-            keeps = record { keeps = h.own.keeps.keeps; wide = h.own.keeps.wide };
+            keeps = record { keeps = h.own.keeps.keeps; wide = h.own.keeps.wide; torn = h.own.keeps.torn };
             sound = h.own.sound;
             tried = h.own.tried;
           });

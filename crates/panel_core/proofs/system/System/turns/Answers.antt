@@ -1,4 +1,4 @@
-use Rattle.panel_core.proofs.AllTurns.{all_counted, all_turned, leaves_then, may_begin, may_keep, may_rest}
+use Rattle.panel_core.proofs.AllTurns.{all_counted, all_turned, front_then, fronts_then, may_begin, may_keep, may_rest}
 use Rattle.panel_core.proofs.system.System.turns.Goals as goal
 
 pub turns_from-place-requires : goal.turns_from-place-requires
@@ -27,8 +27,14 @@ returns-clause-steps g c site kept before h keeps run few =
     all_counted c.requires.may front.ensures.turns h keeps run few keep.result keep.new.journal keep.new.self keep.ensures.kept c.turns_from.ensures.turns
     c.args.steps.now front.new.steps c.turns_from.new.steps front.ensures.steps c.turns_from.ensures.steps
 
+pub returns-clause-cut : goal.returns-clause-cut
+returns-clause-cut g c honest room site kept before file h keeps run few left =
+    let keep = c.keep-store in
+    front_then c.requires.may c.turns_from-place.ensures.turns h keeps run few keep.result keep.new.journal keep.new.self keep.ensures.kept
+    c.turns_from.ensures.turns keep.ensures.same.digest file (keep.ensures.images honest room file left)
+
 pub returns-clause-moments : goal.returns-clause-moments
 returns-clause-moments g c honest site kept before h keeps run few room =
     let keep = c.keep-store in
-    leaves_then c.requires.may c.turns_from-place.ensures.turns h keeps run few keep.result keep.new.journal keep.new.self keep.ensures.kept
+    fronts_then c.requires.may c.turns_from-place.ensures.turns h keeps run few keep.result keep.new.journal keep.new.self keep.ensures.kept
     c.turns_from.ensures.turns g.D.Disk.moment g.D.Disk.left_since c.args.disk.now keep.new.disk (keep.ensures.moments honest) room
