@@ -29,7 +29,7 @@ use Rattle.panel_rules.proofs.AnswersTell.{eq_true}
 use Rattle.panel_rules.proofs.Places.{get_behind, get_front}
 use Rattle.panel_core.specs.Changes.{AreOfPanels}
 use Rattle.panel_core.specs.Keeping.{KeepsRun}
-use Rattle.panel_core.specs.PowerCuts.{FrontsHoldAcknowledged, StandsAmong, IsLeftOver, OpensTo, OpensToFront, OpensToFrontOr, committed}
+use Rattle.panel_core.specs.PowerCuts.{FrontsHoldAcknowledged, IsAsIf, IsFailedBatch, IsLeftOver, OpensTo, OpensToFront, OpensToFrontOr, StandsAmong, as_if_kept, as_it_was, committed}
 use Rattle.panel_core.proofs.Orders.{turn_is}
 
 -- ---- what is left over
@@ -163,10 +163,50 @@ none_less panel (change ∷ changes) stored small none =
     let rest = none_less panel changes (changed change stored) (counters-changed change stored small) both.1 in
     omega (arith, first, rest)
 
+-- ---- the turn of Keep that failed
+
+module _ (site : Site) (kept : Retained) (changes : List Change) where
+  record FailedTurn (moments : List Moment) : Type 0 where
+    before : List Moment
+    turn : IsPast (Kept true ∷ before) moments
+    is : changes ≡ batch site kept before
+    same : kept_after site kept before ≡ kept_after site kept moments
+
+  one_more : (moment : Moment) (before : List Moment) → kept_after site kept before ≡ kept_after site kept (moment ∷ before)
+      → FailedTurn before → FailedTurn (moment ∷ before)
+  one_more moment before same f = record { before = f.before; turn = later moment before f.turn; is = f.is; same = f.same ∙ same }
+
+  failed_turn : (moments : List Moment) → IsFailedBatch site kept moments changes → FailedTurn moments
+  failed_turn [] h = absurd h
+  failed_turn (Began ∷ before) h = one_more Began before refl (failed_turn before h)
+  failed_turn (Happened event ∷ before) h = one_more (Happened event) before refl (failed_turn before h)
+  failed_turn (Turned panel task ∷ before) h = one_more (Turned panel task) before refl (failed_turn before h)
+  failed_turn (Kept false ∷ before) h = absurd h
+  failed_turn (Kept true ∷ before) (inl is) = record { before = before; turn = present; is = is; same = refl }
+  failed_turn (Kept true ∷ before) (inr h) = one_more (Kept true) before refl (failed_turn before h)
+
+-- a state is what the rules keep of such a run
+record KeptAsIf (site : Site) (kept : Retained) (moments : List Moment) (state : Retained) : Type 0 where
+  run : List Moment
+  as_if : IsAsIf site kept moments run
+  keeps : state ≡ kept_after site kept run
+
+kept_as_if : (site : Site) (kept : Retained) (moments : List Moment) (more : List Change) → IsLeftOver site kept moments more
+    → KeptAsIf site kept moments (changed_by more (kept_after site kept moments))
+kept_as_if site kept moments more (inl none) =
+    record { run = moments; as_if = as_it_was; keeps = ap (λ changes. changed_by changes (kept_after site kept moments)) none }
+kept_as_if site kept moments more (inr failed) =
+    let f = failed_turn site kept more moments failed in
+    record {
+      run = Kept false ∷ f.before;
+      as_if = as_if_kept f.before f.turn f.same;
+      keeps = ap (λ changes. changed_by changes (kept_after site kept moments)) f.is ∙ ap (changed_by (batch site kept f.before)) (sym f.same);
+    }
+
 -- ---- the law
 
 pub fronts_hold : FrontsHoldAcknowledged
-fronts_hold site kept moments state front = record {
+fronts_hold site kept moments state front = let then = kept_as_if site kept moments front.more front.whole in record {
   more = front.more;
   whole = front.whole;
   made =
@@ -180,4 +220,7 @@ fronts_hold site kept moments state front = record {
       let least = none_less panel front.more (kept_after site kept moments) whole.small none in
       let same = ap (counter_in panel) front.is in
       omega (arith, least, same));
+  run = then.run;
+  as_if = then.as_if;
+  keeps = front.is ∙ then.keeps;
 }

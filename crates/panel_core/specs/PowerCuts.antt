@@ -12,7 +12,7 @@ use Rattle.retained_journal.specs.Opening.{Opens, opened}
 use Rattle.keep_batch.specs.MakingLaws.{is_wide}
 use Rattle.panel_rules.specs.Batches.{batch, kept_after}
 use Rattle.panel_rules.specs.Faces.{counter_in}
-use Rattle.panel_rules.specs.Moments.{Moment, Began, Happened, Turned, Kept}
+use Rattle.panel_rules.specs.Moments.{Moment, Began, Happened, Turned, Kept, IsPast}
 use Rattle.panel_rules.specs.Operations.{Answered, WasDone, operations}
 use Rattle.panel_laws.specs.BatchLaws.{is_clearing_of}
 
@@ -70,9 +70,16 @@ pub record StandsAmong (change : Change) (changes : List Change) : Type 0 where
   pub place : ℕ
   pub is : slice_get changes place ≡ Some change
 
+-- a run as it was, or the run up to a turn of Keep that failed, as if that turn had not, where nothing was kept since
+pub data IsAsIf (site : Site) (kept : Retained) (moments : List Moment) : List Moment → Type 0 where
+  as_it_was : IsAsIf site kept moments moments
+  as_if_kept : (before : List Moment) → IsPast (Kept true ∷ before) moments
+      → kept_after site kept before ≡ kept_after site kept moments → IsAsIf site kept moments (Kept false ∷ before)
+
 -- What was acknowledged is in a state: all that was committed made it from what was kept at opening, and then at most
 -- one whole batch; what was answered as done was committed; and of each counter no entry that is shown is missing,
--- unless that batch clears it.
+-- unless that batch clears it. So it is what the rules keep of the run, or of the run as if one turn of Keep had not
+-- failed, with the settings that are in force after that.
 pub record HoldsAcknowledged (site : Site) (kept : Retained) (moments : List Moment) (state : Retained) :
     Type 0 where
   pub more : List Change
@@ -85,6 +92,9 @@ pub record HoldsAcknowledged (site : Site) (kept : Retained) (moments : List Mom
   pub entries_shown : (panel : ℕ) → length kept.counters ≡ 8 → AreCounters kept.counters
       → list_any (is_clearing_of panel) more ≡ false
       → counter_in panel (kept_after site kept moments) ≤ counter_in panel state
+  pub run : List Moment
+  pub as_if : IsAsIf site kept moments run
+  pub keeps : state ≡ kept_after site kept run
 
 -- each front of a run holds it, so each file that a power cut leaves opens to it
 abbrev pub FrontsHoldAcknowledged : Type 0
