@@ -85,7 +85,8 @@ begun site kept ticks old system h stands few short =
       valid = h.valid;
       counters = h.counters;
       system = stands;
-      own = record { keeps = record { keeps = h.own.keeps.keeps; wide = h.own.keeps.wide; torn = h.own.keeps.torn }; sound = h.own.sound; tried = h.own.tried };
+      journal = record { keeps = h.journal.keeps; wide = h.journal.wide; torn = h.journal.torn };
+      tried = h.tried;
       open_is = refl;
       canonical = h.canonical;
       order_is = sym h.canonical;
@@ -113,14 +114,10 @@ told_by site kept ticks (Some block) old event system h open_is stands short =
     let more = sym (events_more block.events event (Began ∷ moments ticks)) in
     record {
       valid = h.valid;
-      one = h.one;
-      system = subst (λ ms. SystemStands site nothing_retained ms system) (sym (events_more block.events event (Began ∷ moments ticks))) stands;
-      own =
-          subst (λ ms. KeepsOwn site ms old.ticks old.own) (sym (events_more block.events event (Began ∷ moments ticks))) (record {
-            keeps = record { keeps = h.own.keeps.keeps; wide = h.own.keeps.wide; torn = h.own.keeps.torn };
-            sound = h.own.sound;
-            tried = h.own.tried;
-          });
+      counters = h.counters;
+      system = subst (λ ms. SystemStands site kept ms system) more stands;
+      journal = subst (λ ms. KeepsRun site kept ms old.journal) more (record { keeps = h.journal.keeps; wide = h.journal.wide; torn = h.journal.torn });
+      tried = h.tried;
       open_is = h.open_is;
       canonical = h.canonical;
       order_is = h.order_is;
