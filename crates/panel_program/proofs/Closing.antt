@@ -1,13 +1,13 @@
 -- What is written when a tick is closed.
-use Rattle.std.proofs.Common.{◌≡◌, ◌∙◌, ◌+◌, ◌-◌, ◌^◌, ◌<◌, ◌++◌, ℕ, Bool, true, false, List, [], ◌∷◌, length, Option, Some, None, refl, sym, ap, arith, subst}
+use Rattle.std.proofs.Common.{◌≡◌, ◌∙◌, ◌++◌, ℕ, true, List, ◌∷◌, Option, Some, None, refl, sym, ap, subst}
 use Rattle.site_types.specs.declared.site.Site.{Site}
 use Rattle.site_types.specs.declared.retained.Retained.{Retained}
 use Rattle.face_text.specs.declared.answers.Answers.{Answers}
 use Rattle.face_text.specs.declared.face.Face.{Face}
 use Rattle.panel_edges.specs.declared.sound_memory_sink.SoundMemorySink.{SoundMemorySink}
 use Rattle.panel_core.specs.Changes.{AnswersAsRuled}
-use Rattle.panel_rules.specs.Moments.{Moment, TickBlock, moments, tick_of}
-use Rattle.panel_rules.specs.Timeline.{answers_now, failed_now, faces_of, told}
+use Rattle.panel_rules.specs.Moments.{TickBlock, moments, tick_of}
+use Rattle.panel_rules.specs.Timeline.{faces_of}
 use Rattle.panel_program.specs.declared.run.Run.{Run}
 use Rattle.panel_program.specs.Acting.{Closes, MakesTick}
 use Rattle.panel_program.specs.Pages.{written_text}

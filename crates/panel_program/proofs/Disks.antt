@@ -1,5 +1,5 @@
 -- What a run leaves of its journal's disk, step by step.
-use Rattle.std.proofs.Common.{◌≡◌, ◌+◌, ◌-◌, ◌^◌, ◌<◌, ◌≤◌, min, ℕ, Bool, true, false, List, arith, refl, subst, sym}
+use Rattle.std.proofs.Common.{◌≡◌, ◌+◌, ◌-◌, ◌^◌, ◌<◌, ◌≤◌, min, ℕ, List, arith, refl, subst, sym}
 use Rattle.keep_turn.specs.declared.store.Store.{Store}
 use Rattle.keep_turn.specs.declared.store.Store.TheVariants.{Idle, Kept, Failed}
 use Rattle.retained_journal.specs.declared.journal.Journal.{Journal}

@@ -12,7 +12,7 @@ use Rattle.panel_program.specs.declared.run_end.RunEnd.TheVariants.{ReadFault}
 use Rattle.program_status.specs.declared.status.Status.TheVariants.{NoMemory, WriteFault}
 use Rattle.program_status.specs.Statuses.{number_of}
 use Rattle.panel_program.specs.Endings.{status_of, last_line}
-use Rattle.panel_program.specs.Runs.{HasMade, Input, RanOn, RanTo, RanUntil, ReadsTo, ReadsUntil}
+use Rattle.panel_program.specs.Runs.{HasMade, Input, RanOn, ReadsTo, ReadsUntil}
 use Rattle.panel_program.specs.Records.{at_beginning}
 use Rattle.panel_program.specs.Stands.{AreTicksOf, HasRun, Stands}
 use Rattle.run_text.proofs.PromisesHold.{are_kept}

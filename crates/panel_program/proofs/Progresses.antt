@@ -1,12 +1,9 @@
 -- What lines make, one line more.
-use Rattle.std.proofs.Common.{◌≡◌, ◌∙◌, ◌+◌, ◌*◌, ◌≤◌, ◌++◌, ℕ, Bool, true, false, List, [], ◌∷◌, length, map, Option, Some, None, if◌then◌else◌}
-use Rattle.std.proofs.Common.{refl, sym, ap, subst, arith, length-append}
+use Rattle.std.proofs.Common.{◌≡◌, ◌+◌, ◌≤◌, ◌++◌, ℕ, Bool, false, List, [], ◌∷◌, length, Option, Some, None}
+use Rattle.std.proofs.Common.{refl, arith, length-append}
 use Rattle.std.specs.List.{fold}
 use Rattle.std.proofs.lemmas.List.Sums.{fold_push}
 use Rattle.tick_units.specs.declared.seat.Seat.{Seat}
-use Rattle.tick_units.specs.declared.task.Task.{Task}
-use Rattle.tick_units.specs.declared.task.Task.TheVariants.{Keep}
-use Rattle.tick_units.specs.Orders.{IsOrder}
 use Rattle.tick_units.proofs.OrderLaws.{length-order}
 use Rattle.site_types.specs.declared.site.Site.{Site}
 use Rattle.std.specs.Prelude.{option_map}
@@ -18,7 +15,7 @@ use Rattle.record_lines.specs.declared.line.Line.{Line}
 use Rattle.record_lines.specs.declared.line.Line.TheVariants.{Tick, Event as EventLine, Order, End}
 use Rattle.panel_rules.specs.Moments.{Moment, Began, Happened, Turned, Kept, TickBlock, and_events, and_turns, moments, tick_of, turn_of}
 use Rattle.panel_rules.specs.Records.{AreOrdered}
-use Rattle.panel_program.specs.Records.{Block, Progress, after_line, at_beginning, closed, closed_by, moments_by, moments_in, progress_of, recorded, ticked, with_event, with_order}
+use Rattle.panel_program.specs.Records.{Block, Progress, after_line, at_beginning, closed, closed_by, moments_by, moments_in, progress_of, recorded, with_event, with_order}
 use Rattle.run_text.specs.Failures.{as_recorded}
 use Rattle.run_text.proofs.FailuresCounted.{are_the_same}
 use Rattle.panel_program.proofs.Numbers.{tick_count}

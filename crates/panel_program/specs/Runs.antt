@@ -1,5 +1,6 @@
 -- What a run over the bytes of a record comes to.
-use Rattle.std.specs.Prelude.{◌≡◌, ◌⊎◌, ◌+◌, ◌-◌, ◌^◌, ◌<◌, ◌≤◌, ℕ, List, [], ◌++◌, length, Option, Some, Result, Ok, Err}
+use Rattle.std.specs.Prelude.{◌≡◌, ◌⊎◌, ◌+◌, ◌-◌, ◌^◌, ◌<◌, ◌≤◌, ℕ, List, [], ◌++◌, length, Option, Some}
+use Rattle.std.specs.Prelude.{Result, Ok, Err}
 use Rattle.panel_edges.specs.Contents.{GrowsByFront}
 use Rattle.panel_edges.specs.Faults.{Rose}
 use Rattle.panel_edges.specs.Limits.{most_record_bytes}
@@ -91,6 +92,16 @@ pub record Input : Type 0 where
 abbrev pub input_of : {S : Type 0} → (S → Option (List ℕ)) → (S → ℕ) → S → S → Input
 input_of left faults old new =
     record { before = left old; after = left new; faults_before = faults old; faults_after = faults new }
+
+-- the files that a shelf tells, where it tells them, and how many of its reads have failed before a call and after it
+pub record Files : Type 0 where
+  pub held : Option (List (List ℕ × List ℕ))
+  pub faults_before : ℕ
+  pub faults_after : ℕ
+
+abbrev pub files_of : {F : Type 0} → (F → Option (List (List ℕ × List ℕ))) → (F → ℕ) → F → F → Files
+files_of held faults old new =
+    record { held = held old; faults_before = faults old; faults_after = faults new }
 
 -- memory ran out before anything was written
 pub record RanNothing (old new : Option (List ℕ)) (outcome : Outcome) : Type 0 where

@@ -1,4 +1,4 @@
-use Rattle.std.proofs.Common.{◌≡◌, ◌<◌, ◌≤◌, ◌+◌, ◌-◌, ◌++◌, ℕ, List, [], length, min, take, Ok, Option, refl, sym, subst, arith}
+use Rattle.std.proofs.Common.{◌≡◌, ◌<◌, ◌≤◌, ◌+◌, ◌-◌, ℕ, List, [], length, min, take, Ok, Option, refl, sym, subst, arith}
 use Rattle.panel_edges.specs.Limits.{most_record_bytes}
 use Rattle.std.proofs.lemmas.Result.{err_from_is_err_and}
 use Rattle.panel_program.specs.declared.run_end.RunEnd.{RunEnd}

@@ -1,13 +1,8 @@
-use Rattle.std.proofs.Common.{◌≡◌, ◌∙◌, ◌≤◌, ◌+◌, ◌++◌, ℕ, List, [], ◌∷◌, length, map, take, length-set, ap, sym, arith}
+use Rattle.std.proofs.Common.{◌≡◌, ◌∙◌, ◌+◌, ◌++◌, [], ◌∷◌, map, length-set, ap, sym, arith}
 use Rattle.std.specs.List.{range_with_len}
 use Rattle.std.proofs.lemmas.List.{take_all, take_more_set}
 use Rattle.std.proofs.lemmas.List.FromFn.{map-range_with_len_more}
-use Rattle.site_types.specs.declared.retained.Retained.{Retained}
-use Rattle.site_types.specs.declared.site.Site.{Site}
-use Rattle.face_text.specs.declared.face.Face.{Face}
-use Rattle.panel_rules.specs.Moments.{Moment, IsRun}
-use Rattle.panel_rules.specs.Timeline.{face_of, faces_of}
-use Rattle.panel_core.specs.Stands.{StandsFor}
+use Rattle.panel_rules.specs.Timeline.{face_of}
 use Rattle.panel_program.proofs.run.show.Goals as goal
 
 pub loop-place-preserved : goal.loop-place-preserved

@@ -1,4 +1,4 @@
-use Rattle.std.proofs.Common.{◌∙◌, ◌<◌, ◌+◌, ◌++◌, take, drop, ap, arith}
+use Rattle.std.proofs.Common.{◌∙◌, ◌+◌, ◌++◌, take, drop, ap, arith}
 use Rattle.std.proofs.lemmas.Option.{slice_get-get_or}
 use Rattle.face_text.specs.Timelines.{faces_text}
 use Rattle.face_text.proofs.Holding.{moves_next, puts_broken}

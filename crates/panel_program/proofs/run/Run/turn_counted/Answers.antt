@@ -1,6 +1,3 @@
-use Rattle.std.proofs.Common.{subst, sym}
-use Rattle.panel_core.specs.Keeping.{MayTurnAll}
-use Rattle.panel_program.specs.Stands.{order_by}
 use Rattle.panel_program.proofs.Stood.{may_turn}
 use Rattle.panel_program.proofs.run.Run.turn_counted.Goals as goal
 

@@ -1,6 +1,6 @@
 use Rattle.std.proofs.Common.{◌≡◌, ◌++◌, ◌∙◌, [], ℕ, Bool, true, false, List, Some, None, Result, Ok, Err, OnOk, OnErr, if◌then◌else◌, is_err, ap, subst, sym}
 use Rattle.panel_edges.specs.Contents.{Grows, GrowsByFront}
-use Rattle.panel_program.specs.Pages.{is_told, page_text}
+use Rattle.panel_program.specs.Pages.{page_text}
 use Rattle.panel_program.proofs.writing.TickPage.write.Goals as goal
 
 same_front : (one other : List ℕ) → Some one ≡ Some other → one ≡ [] → other ≡ []
