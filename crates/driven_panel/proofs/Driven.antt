@@ -65,7 +65,7 @@ begins panels own system h few stands =
       after =
           record {
             stands = stands;
-            keeps = record { keeps = h.after.keeps.keeps; wide = h.after.keeps.wide };
+            keeps = record { keeps = h.after.keeps.keeps; wide = h.after.keeps.wide; torn = h.after.keeps.torn };
             images = h.after.images;
             run = (h.after.run, h.all);
             asked = h.after.asked;
@@ -115,7 +115,7 @@ happens panels own system event h few stands =
       after =
           record {
             stands = stands;
-            keeps = record { keeps = h.after.keeps.keeps; wide = h.after.keeps.wide };
+            keeps = record { keeps = h.after.keeps.keeps; wide = h.after.keeps.wide; torn = h.after.keeps.torn };
             images = h.after.images;
             run = (h.after.run, h.fresh);
             asked = (let asked = h.after.asked in let once = asks_once h.site event h.before in omega (arith, asked, once));

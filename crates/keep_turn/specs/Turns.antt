@@ -5,6 +5,7 @@ use Rattle.site_types.specs.declared.change.Change.{Change}
 use Rattle.site_types.specs.Changes.{changed_by}
 use Rattle.retained_journal.specs.declared.journal.Journal.{Journal}
 use Rattle.retained_journal.specs.Batches.{CanKeepAll}
+use Rattle.retained_journal.specs.Outcomes.{IsAttempted}
 use Rattle.keep_turn.specs.declared.store.Store.{Store}
 use Rattle.keep_turn.specs.declared.store.Store.TheVariants.{Idle, Kept, Failed}
 
@@ -14,11 +15,11 @@ pub record MayCommit (wide : Bool) (batch : List Change) : Type 0 where
   pub keeps : CanKeepAll wide batch
 
 -- Idle where there was nothing to commit, Kept where the batch is kept, and Failed where neither the batch is kept
--- nor the journal whole
+-- nor the journal whole; the batch last attempted is then this one, or as it was of a journal that was torn before
 abbrev pub AnswersTurn : List Change → Journal → Store → Journal → Type 0
 AnswersTurn batch old Idle new = (batch ≡ []) × (new.kept ≡ old.kept) × (new.torn ≡ false)
 AnswersTurn batch old Kept new = (batch ≢ []) × (new.kept ≡ changed_by batch old.kept) × (new.torn ≡ false)
-AnswersTurn batch old Failed new = (new.kept ≡ old.kept) × (new.torn ≡ true)
+AnswersTurn batch old Failed new = (new.kept ≡ old.kept) × (new.torn ≡ true) × IsAttempted batch old new
 
 -- at most one commit more was tried, on the journal of the same site
 pub record TriesAtMostOnce (old new : Journal) : Type 0 where

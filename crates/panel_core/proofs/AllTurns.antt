@@ -7,7 +7,9 @@ use Rattle.tick_units.specs.Orders.{IsOrder, keep_seat}
 use Rattle.tick_units.specs.Ticks.{last_tick}
 use Rattle.site_types.specs.declared.retained.Retained.{Retained}
 use Rattle.site_types.specs.declared.site.Site.{Site}
+use Rattle.panel_edges.specs.Crashes.{LeavesOnly}
 use Rattle.retained_journal.specs.declared.journal.Journal.{Journal}
+use Rattle.retained_journal.specs.Images.{HasRoomForTwo, MayLeave, MayLeaveOr}
 use Rattle.keep_turn.specs.declared.store.Store.{Store}
 use Rattle.panel_rules.specs.Batches.{batch, kept_after}
 use Rattle.panel_rules.specs.Moments.{Moment, Kept, IsRun, and_turns, tick_of, turn_of}
@@ -16,10 +18,12 @@ use Rattle.panel_rules.proofs.RecordRuns.{turns-append}
 use Rattle.panel_rules.specs.Storing.{keep_answer}
 use Rattle.panel_core.specs.declared.system.System.{System}
 use Rattle.panel_core.specs.Changes.{AreOfPanels, MakesTurnsFrom, seats_between}
-use Rattle.panel_core.specs.Keeping.{HasTurned, KeepsRun, MayKeep, MayTurnAll, before_keep, has_failed, store_of}
+use Rattle.panel_core.specs.Keeping.{HasTurned, KeepsRun, KeepsTurn, LeavesWithBatch, MayKeep, MayTurnAll, before_keep, has_failed, store_of}
+use Rattle.panel_core.specs.PowerCuts.{IsLeftOver, OpensToFront, OpensToFrontOr}
 use Rattle.panel_core.specs.Stands.{MayTurnFrom, StandsFor}
 use Rattle.panel_core.specs.StepCounts.{CountsTurnsFrom, RisesOver, facts_in_force}
 use Rattle.panel_core.proofs.Applied.{applied_stays}
+use Rattle.panel_core.proofs.Fronts.{front_left, fronts_left, left_over_stays}
 use Rattle.panel_core.proofs.StepsCounted.{applied_over, keep_rises, rises_both, rises_either, rises_more}
 use Rattle.panel_core.proofs.Orders.{before_turns, between_more, front_turns, keep_within, no_other, order_parted, panels_keep, panels_leave_keep, run_behind, same_turns, turns_tick}
 
@@ -41,9 +45,13 @@ pub same_order : (site there : Site) (kept other : Retained) (before past : List
 same_order site there kept other before past system order h g ordered =
     subst (λ (s : Site). IsOrder s.panels order) (sym g.same ∙ h.same) ordered
 
-module _ (site : Site) (kept : Retained) (before : List Moment) (old between : System) (journal : Journal) (order : List Seat) (place : ℕ)
-    (h : StandsFor site kept before old) (keeps : KeepsRun site kept before journal) (ordered : IsOrder site.panels order)
-    (run : IsRun site.panels (and_turns false order before)) (few : tick_of before ≤ last_tick) (first : MakesTurnsFrom old order 0 place between) where
+-- for a run that the system stands for, once the seats before Keep's had their turns
+module _ {order : List Seat} {journal : Journal} {old between : System} {place : ℕ} (may : MayTurnAll order journal old)
+    (first : MakesTurnsFrom old order 0 place between) {site : Site} {kept : Retained} {before : List Moment} (h : StandsFor site kept before old)
+    (keeps : KeepsRun site kept before journal) (run : IsRun site.panels (and_turns false order before)) (few : tick_of before ≤ last_tick) where
+  ordered : IsOrder site.panels order
+  ordered = same_order site may.site kept may.kept before may.before old order h may.stands may.ordered
+
   -- what had befallen before the turn of Keep
   abbrev pub then : List Moment
   then = and_turns false (seats_between 0 place order) before
@@ -61,21 +69,25 @@ module _ (site : Site) (kept : Retained) (before : List Moment) (old between : S
   rest_run : IsRun site.panels (and_turns false (drop (place + 1) order) (Kept false ∷ then))
   rest_run = subst (IsRun site.panels) (parted false) run
 
-  pub keep_run : IsRun site.panels (Kept false ∷ then)
+  keep_run : IsRun site.panels (Kept false ∷ then)
   keep_run = before_turns site.panels false (drop (place + 1) order) (Kept false ∷ then) rest_run
 
-  pub stands_between : StandsFor site kept then between
+  stands_between : StandsFor site kept then between
   stands_between = first.turns site kept before h (front_turns site.panels order 0 place before (omega arith) first.within run)
 
-  pub keeps_between : KeepsRun site kept then journal
-  keeps_between = record { keeps = keeps.keeps ∙ sym (panels_keep site kept false (seats_between 0 place order) before first.panels); wide = keeps.wide }
+  keeps_between : KeepsRun site kept then journal
+  keeps_between = record {
+    keeps = keeps.keeps ∙ sym (panels_keep site kept false (seats_between 0 place order) before first.panels);
+    wide = keeps.wide;
+    torn = λ torn. left_over_stays site kept journal.attempt.items false (seats_between 0 place order) before first.panels (keeps.torn torn);
+  }
 
-  pub few_between : tick_of then ≤ last_tick
+  few_between : tick_of then ≤ last_tick
   few_between = rw (turns_tick false (seats_between 0 place order) before) few
 
   -- Keep may have its turn then
-  pub may_keep : journal.tried ≤ last_tick → MayKeep journal between
-  may_keep tried = record {
+  pub may_keep : MayKeep journal between
+  may_keep = record {
     site = site;
     kept = kept;
     before = then;
@@ -83,10 +95,13 @@ module _ (site : Site) (kept : Retained) (before : List Moment) (old between : S
     keeps = keeps_between;
     run = keep_run;
     few = few_between;
-    tried = tried;
+    tried = may.tried;
   }
 
-  module _ (store : Store) (journal' : Journal) (after : System) (turned : HasTurned site kept (Kept (has_failed store) ∷ then) store journal' after) where
+  module _ (store : Store) (journal' : Journal) (after : System) (made : KeepsTurn between journal store journal' after) where
+    turned : HasTurned site kept (Kept (has_failed store) ∷ then) store journal' after
+    turned = made site kept then stands_between keeps_between keep_run few_between
+
     behind_run : IsRun site.panels (and_turns false (drop (place + 1) order) (Kept (has_failed store) ∷ then))
     behind_run = run_behind site.panels false (has_failed store) (drop (place + 1) order) then rest_run
 
@@ -102,7 +117,7 @@ module _ (site : Site) (kept : Retained) (before : List Moment) (old between : S
       few = few_between;
     }
 
-    module _ (end : ℕ) (last : System) (second : MakesTurnsFrom after order (place + 1) end last) where
+    module _ {end : ℕ} {last : System} (second : MakesTurnsFrom after order (place + 1) end last) where
       ended : end ≡ length order
       ended =
           no_other order place (get_or order place keep_seat) there (first.keep (get_or order place keep_seat) there) first.panels site.panels end then
@@ -132,6 +147,8 @@ module _ (site : Site) (kept : Retained) (before : List Moment) (old between : S
                   turned.keeps.keeps ∙ sym (panels_keep site kept failed rest (Kept failed ∷ then) rest_panels)
                   ∙ ap (kept_after site kept) (sym (parted failed));
               wide = turned.keeps.wide;
+              torn = λ torn. subst (λ ms. IsLeftOver site kept ms journal'.attempt.items) (sym (parted failed))
+                  (left_over_stays site kept journal'.attempt.items failed rest (Kept failed ∷ then) rest_panels (turned.keeps.torn torn));
             };
             answers =
                 turned.answers
@@ -177,5 +194,22 @@ module _ (site : Site) (kept : Retained) (before : List Moment) (old between : S
           (subst (λ ms. RisesOver site facts failed rest ms b c) (sym then_keep) late))
 
       -- and this had befallen before the latest turn of Keep
-      pub then_is : then ≡ before_keep (and_turns false order before)
+      then_is : then ≡ before_keep (and_turns false order before)
       then_is = sym (panels_leave_keep false (drop (place + 1) order) (Kept false ∷ then) rest_panels) ∙ ap before_keep (sym (parted false))
+
+      -- at each moment of Keep's turn a power cut leaves a front of the run before it, or what is kept with the batch
+      pub fronts_then : {D : Type 0} (moment : D → ℕ) (left_since : D → ℕ → List ℕ → Type 0) (disk disk' : D)
+          → LeavesWithBatch moment left_since disk disk' between journal → HasRoomForTwo journal
+          → LeavesOnly moment left_since disk disk'
+          (OpensToFrontOr site kept journal.digest before (batch site kept (before_keep (and_turns false order before))))
+      fronts_then moment left_since disk disk' leaves room =
+          fronts_left site kept before journal keeps moment left_since disk disk' (batch site kept (before_keep (and_turns false order before)))
+          (subst (λ ms. LeavesOnly moment left_since disk disk' (MayLeaveOr journal (batch site kept ms))) then_is
+          (leaves site kept then stands_between keeps_between keep_run.0 few_between room))
+
+      -- and after the order one of the run with it
+      pub front_then : journal'.digest ≡ journal.digest → (file : List ℕ) → MayLeave journal' file
+          → OpensToFront site kept journal.digest (and_turns (has_failed store) order before) file
+      front_then same file left =
+          subst (λ digest. OpensToFront site kept digest (and_turns (has_failed store) order before) file) same
+          (front_left site kept (and_turns (has_failed store) order before) journal' all_turned.keeps file left)

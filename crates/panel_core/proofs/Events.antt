@@ -50,7 +50,7 @@ use Rattle.output_drive.proofs.Alike.{ConfirmsNone, after_other_event}
 use Rattle.panel_links.specs.declared.ring.Ring.{Ring}
 use Rattle.panel_rules.specs.Outputs.{panel_of_plan}
 use Rattle.panel_rules.specs.Run.{facts_of}
-use Rattle.panel_core.proofs.Panels.{HasFacts, HasOutputs}
+use Rattle.panel_core.proofs.Panels.{HasFacts, HasOutputs, leaves_lanes, with_lanes_left}
 use Rattle.panel_core.proofs.Whole.{panel_at, stands_changed, stands_unchanged}
 
 module _ (site : Site) (kept : Retained) (done : List Done) (panel : ℕ) (before : List Moment) (parts : Parts) (h : PanelStands site kept done panel before parts) where
@@ -67,18 +67,11 @@ told : (site : Site) (kept : Retained) (done : List Done) (panel : ℕ) (before 
     → PanelStands site kept done panel before parts → PollsFor site panel (and_report site panel event (reports site panel before)) poller
     → and_supply panel event (supply_calls panel before) ≡ supply_calls panel before → ConfirmsNone site panel event
     → PanelStands site kept done panel (Happened event ∷ before) (record parts { poller = poller })
-told site kept done panel before parts poller event h p s none = record {
-  member = h.member;
-  polls = p;
-  answers = h.answers;
-  decides = h.decides;
-  findings =
-      h.findings;
-  holds = h.holds;
-  supplies = subst (λ calls. MonitorsFor site.waits calls parts.supply) (sym s) h.supplies;
-  effects = facts_stay site kept done panel before parts h event;
-  drives = outputs_stay site kept done panel before parts h event none;
-}
+told site kept done panel before parts poller event h p s none =
+    with_lanes_left site kept done panel before (Happened event) parts poller parts.supply parts.effects parts.drive h
+    (leaves_lanes site kept done panel before (Happened event) refl refl refl refl) p
+    (subst (λ calls. MonitorsFor site.waits calls parts.supply) (sym s) h.supplies) (facts_stay site kept done panel before parts h event)
+    (outputs_stay site kept done panel before parts h event none)
 
 pub after_point : (site : Site) (kept : Retained) (done : List Done) (panel : ℕ) (before : List Moment) (parts : Parts) (poller : Poller) (point : ℕ) (state :
     PointState) → PanelStands site kept done panel before parts → is_on_panel panel (slice_get site.points point) ≡ true
@@ -101,35 +94,21 @@ after_piece site kept done panel before parts poller line piece state low high h
 pub after_report : (site : Site) (kept : Retained) (done : List Done) (panel : ℕ) (before : List Moment) (parts : Parts) (supply : SupplyPart) (kind : SupplyKind)
     (bad : Bool) → PanelStands site kept done panel before parts → MonitorsFor site.waits (SupplyReported kind bad ∷ supply_calls panel before) supply
     → PanelStands site kept done panel (Happened (Supply panel kind bad) ∷ before) (record parts { supply = supply })
-after_report site kept done panel before parts supply kind bad h m = record {
-  member = h.member;
-  polls = h.polls;
-  answers = h.answers;
-  decides = h.decides;
-  findings = h.findings;
-  holds = h.holds;
-  supplies =
-      subst (λ b. MonitorsFor site.waits (if b then SupplyReported kind bad ∷ supply_calls panel before else supply_calls panel before) supply)
-      (sym (eq_true panel panel refl)) m;
-  effects = facts_stay site kept done panel before parts h (Supply panel kind bad);
-  drives = outputs_stay site kept done panel before parts h (Supply panel kind bad) tt;
-}
+after_report site kept done panel before parts supply kind bad h m =
+    with_lanes_left site kept done panel before (Happened (Supply panel kind bad)) parts parts.poller supply parts.effects parts.drive h
+    (leaves_lanes site kept done panel before (Happened (Supply panel kind bad)) refl refl refl refl) h.polls
+    (subst (λ b. MonitorsFor site.waits (if b then SupplyReported kind bad ∷ supply_calls panel before else supply_calls panel before) supply)
+    (sym (eq_true panel panel refl)) m) (facts_stay site kept done panel before parts h (Supply panel kind bad))
+    (outputs_stay site kept done panel before parts h (Supply panel kind bad) tt)
 
 -- an output of the panel was confirmed
 pub after_confirmation : (site : Site) (kept : Retained) (done : List Done) (panel : ℕ) (before : List Moment) (parts : Parts) (drive : DrivePart) (output : ℕ)
     → PanelStands site kept done panel before parts → HasOutputs site kept done panel before (Happened (Confirmed output) ∷ before) drive
     → PanelStands site kept done panel (Happened (Confirmed output) ∷ before) (record parts { drive = drive })
-after_confirmation site kept done panel before parts drive output h confirmed = record {
-  member = h.member;
-  polls = h.polls;
-  answers = h.answers;
-  decides = h.decides;
-  findings = h.findings;
-  holds = h.holds;
-  supplies = h.supplies;
-  effects = facts_stay site kept done panel before parts h (Confirmed output);
-  drives = confirmed;
-}
+after_confirmation site kept done panel before parts drive output h confirmed =
+    with_lanes_left site kept done panel before (Happened (Confirmed output)) parts parts.poller parts.supply parts.effects drive h
+    (leaves_lanes site kept done panel before (Happened (Confirmed output)) refl refl refl refl) h.polls h.supplies
+    (facts_stay site kept done panel before parts h (Confirmed output)) confirmed
 
 -- a panel that an event doesn't concern
 untold : (site : Site) (kept : Retained) (done : List Done) (panel : ℕ) (before : List Moment) (parts : Parts) (event : Event) → PanelStands site kept done panel before parts

@@ -1,5 +1,5 @@
 -- A turn of Keep: what is left to keep is the batch of the rules, and what its answer makes of the journal and the system.
-use Rattle.std.proofs.Common.{◌≡◌, ◌≢◌, ℕ, zero, suc, ◌-◌, ◌<◌, ◌≤◌, List, [], ◌∷◌, length, Some, slice_get, Bool, true, false, refl, sym, ◌∙◌, ap, subst, arith}
+use Rattle.std.proofs.Common.{◌≡◌, ◌≢◌, ℕ, zero, suc, ◌-◌, ◌<◌, ◌≤◌, List, [], ◌∷◌, length, Some, slice_get, Bool, true, false, inl, inr, refl, sym, ◌∙◌, ap, subst, arith}
 use Rattle.std.specs.Prelude.{slice_index}
 use Rattle.tick_units.specs.Ticks.{last_tick}
 use Rattle.site_types.specs.declared.change.Change.{Change}
@@ -7,6 +7,7 @@ use Rattle.site_types.specs.declared.retained.Retained.{Retained}
 use Rattle.site_types.specs.declared.site.Site.{Site}
 use Rattle.site_types.specs.Changes.{changed_by}
 use Rattle.retained_journal.specs.declared.journal.Journal.{Journal}
+use Rattle.retained_journal.proofs.Calls.{same_batch}
 use Rattle.keep_turn.specs.declared.store.Store.{Store}
 use Rattle.keep_turn.specs.declared.store.Store.TheVariants.{Idle, Kept as WasKept, Failed}
 use Rattle.keep_turn.specs.Turns.{AnswersTurn, MayCommit}
@@ -29,11 +30,13 @@ use Rattle.panel_core.specs.declared.system.System.{System}
 use Rattle.panel_core.specs.Applied.{applied, done_so_far}
 use Rattle.panel_core.specs.Entries.{AreLeft, CountsFor, TellsEntries}
 use Rattle.panel_core.specs.Keeping.{KeepsRun, MayKeep, MayMakeBatch, has_failed, store_of}
+use Rattle.panel_core.specs.PowerCuts.{IsLeftOver}
 use Rattle.panel_core.specs.Stands.{StandsFor}
 use Rattle.hold_calls.specs.Turns.{hold_turns}
 use Rattle.panel_core.proofs.Counts.{counts_stay}
 use Rattle.panel_core.proofs.DeskTurns.{keep_turn}
 use Rattle.panel_core.proofs.EntriesKept.{counted_by_keep, left_to_keep}
+use Rattle.panel_core.proofs.Fronts.{left_over_failed}
 use Rattle.panel_core.proofs.Whole.{panel_at}
 
 not_both : true ≡ false → ⊥
@@ -109,6 +112,19 @@ module _ (site : Site) (kept : Retained) (before : List Moment) (old new : Journ
       some [] apart = absurd (apart refl)
       some (change ∷ changes) apart = refl
   answers_by Failed a = refl
+
+  -- where it is torn, the batch last attempted is that of this turn, or one that might be left before
+  pub torn_by : (store : Store) → (old.torn ≡ true → IsLeftOver site kept before old.attempt.items)
+      → AnswersTurn (batch site kept before) old store new → new.torn ≡ true
+      → IsLeftOver site kept (Kept (has_failed store) ∷ before) new.attempt.items
+  torn_by Idle h a torn = absurd (not_both (sym torn ∙ a.2))
+  torn_by WasKept h a torn = absurd (not_both (sym torn ∙ a.2))
+  torn_by Failed h a torn = elim a.2 [
+    | inl is ↦ inr (inl is)
+    | inr same ↦
+        subst (IsLeftOver site kept (Kept true ∷ before)) (sym (same_batch old new same.1))
+        (left_over_failed site kept old.attempt.items before (h same.0))
+  ]
 
 pub can_make : (journal : Journal) (system : System) → MayKeep journal system → MayMakeBatch system
 can_make journal system may = record { site = may.site; kept = may.kept; before = may.before; stands = may.stands; run = may.run.0; few = may.few }

@@ -1,6 +1,6 @@
 -- What an operation makes of a panel that was done in the tick that ends: it changes nothing of the findings and of the
 -- turns that were made, and the parts stand for it too.
-use Rattle.std.proofs.Common.{◌≡◌, ◌≢◌, ℕ, ◌≤◌, ◌==◌, List, [], ◌∷◌, take, drop, refl, sym, ◌∙◌, ap, subst, arith, true, if◌then◌else◌}
+use Rattle.std.proofs.Common.{◌≡◌, ◌≢◌, ℕ, ◌≤◌, ◌==◌, List, [], ◌∷◌, drop, refl, sym, ◌∙◌, ap, subst, arith, true, if◌then◌else◌}
 use Rattle.tick_units.specs.Lane.{LaneState}
 use Rattle.tick_units.specs.declared.task.Task.TheVariants.{Poll, Decide, Supply, Desk, Hold, Link, Effect, Drive, Keep}
 use Rattle.site_types.specs.declared.retained.Retained.{Retained}

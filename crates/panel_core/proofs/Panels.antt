@@ -9,6 +9,7 @@ use Rattle.site_types.specs.declared.answer.Answer.{Answer}
 use Rattle.site_types.specs.declared.retained.Retained.{Retained}
 use Rattle.site_types.specs.declared.site.Site.{Site}
 use Rattle.site_types.specs.Done.{Done}
+use Rattle.loop_poller.specs.declared.poller.Poller.{Poller}
 use Rattle.loop_poller.specs.Asked.{asked_in}
 use Rattle.loop_poller.specs.Calls.{told_point, told_cable}
 use Rattle.coincidence.specs.Stands.{DecidesFor}
@@ -33,6 +34,7 @@ use Rattle.output_drive.proofs.Alike.{after_kept as drives_kept, after_other_tur
 use Rattle.panel_rules.specs.Run.{facts_of}
 use Rattle.panel_core.specs.Stands.{PanelStands}
 use Rattle.loop_poller.specs.Stands.{StandsFor as PollsFor}
+use Rattle.supply_monitor.specs.declared.supply.Supply.{Supply as SupplyPart}
 use Rattle.supply_monitor.specs.Stands.{StandsFor as MonitorsFor}
 use Rattle.panel_rules.specs.Faults.{supply_calls}
 use Rattle.panel_rules.proofs.Reports.{asked_told}
@@ -88,13 +90,42 @@ after_poll site kept done panel before parts lane now h tick put =
       drives = outputs_left site kept done panel before Poll parts.drive (λ e. cc) h.drives;
     }
 
--- a moment that changes nothing of what a panel stands for
-record LeavesPanel (site : Site) (kept : Retained) (done : List Done) (panel : ℕ) (before : List Moment) (moment : Moment) : Type 0 where
-  told : reports site panel (moment ∷ before) ≡ reports site panel before
+-- a moment that changes nothing of a panel's lanes
+pub record LeavesLanes (site : Site) (kept : Retained) (done : List Done) (panel : ℕ) (before : List Moment) (moment : Moment) : Type 0 where
   answers : answer_lane site panel (moment ∷ before) ≡ answer_lane site panel before
   decided_same : decided site panel (moment ∷ before) ≡ decided site panel before
   findings : finding_lane site kept done panel (moment ∷ before) ≡ finding_lane site kept done panel before
   turns : hold_turns site kept done panel (moment ∷ before) ≡ hold_turns site kept done panel before
+
+module _ (site : Site) (kept : Retained) (done : List Done) (panel : ℕ) (before : List Moment) (moment : Moment) where
+  pub leaves_lanes : answer_lane site panel (moment ∷ before) ≡ answer_lane site panel before
+      → decided site panel (moment ∷ before) ≡ decided site panel before
+      → finding_lane site kept done panel (moment ∷ before) ≡ finding_lane site kept done panel before
+      → hold_turns site kept done panel (moment ∷ before) ≡ hold_turns site kept done panel before → LeavesLanes site kept done panel before moment
+  leaves_lanes answers taken findings turns = record { answers = answers; decided_same = taken; findings = findings; turns = turns }
+
+  -- after it the parts that take no items of a lane stand for what they took
+  pub with_lanes_left : (parts : Parts) (poller : Poller) (supply : SupplyPart) (effects : EffectsPart) (drive : DrivePart)
+      → PanelStands site kept done panel before parts → LeavesLanes site kept done panel before moment
+      → PollsFor site panel (reports site panel (moment ∷ before)) poller → MonitorsFor site.waits (supply_calls panel (moment ∷ before)) supply
+      → HasFacts site kept done panel before (moment ∷ before) effects → HasOutputs site kept done panel before (moment ∷ before) drive
+      → PanelStands site kept done panel (moment ∷ before) (record parts { poller = poller; supply = supply; effects = effects; drive = drive })
+  with_lanes_left parts poller supply effects drive h leaves polls supplies facts drives = record {
+    member = h.member;
+    polls = polls;
+    answers = h.answers ∙ sym leaves.answers;
+    decides = subst (λ taken. DecidesFor site kept panel done taken parts.decide) (sym leaves.decided_same) h.decides;
+    findings = h.findings ∙ sym leaves.findings;
+    holds = subst (λ turns. HoldsFor site kept panel done turns parts.hold) (sym leaves.turns) h.holds;
+    supplies = supplies;
+    effects = facts;
+    drives = drives;
+  }
+
+-- a moment that changes nothing of what a panel stands for
+record LeavesPanel (site : Site) (kept : Retained) (done : List Done) (panel : ℕ) (before : List Moment) (moment : Moment) : Type 0 where
+  lanes : LeavesLanes site kept done panel before moment
+  told : reports site panel (moment ∷ before) ≡ reports site panel before
   supplies : supply_calls panel (moment ∷ before) ≡ supply_calls panel before
   effects : (part : EffectsPart) → HasEffects site (facts_of site kept done) panel before part
       → HasEffects site (facts_of site kept done) panel (moment ∷ before) part
@@ -103,43 +134,27 @@ record LeavesPanel (site : Site) (kept : Retained) (done : List Done) (panel : �
 
 after_nothing : (site : Site) (kept : Retained) (done : List Done) (panel : ℕ) (before : List Moment) (parts : Parts) (moment : Moment)
     → LeavesPanel site kept done panel before moment → PanelStands site kept done panel before parts → PanelStands site kept done panel (moment ∷ before) parts
-after_nothing site kept done panel before parts moment leaves h = record {
-  member = h.member;
-  polls = subst (λ calls. PollsFor site panel calls parts.poller) (sym leaves.told) h.polls;
-  answers = h.answers ∙ sym leaves.answers;
-  decides = subst (λ taken. DecidesFor site kept panel done taken parts.decide) (sym leaves.decided_same) h.decides;
-  findings = h.findings ∙ sym leaves.findings;
-  holds = subst (λ turns. HoldsFor site kept panel done turns parts.hold) (sym leaves.turns) h.holds;
-  supplies = subst (λ calls. MonitorsFor site.waits calls parts.supply) (sym leaves.supplies) h.supplies;
-  effects = leaves.effects parts.effects h.effects;
-  drives = leaves.drives parts.drive h.drives;
-}
+after_nothing site kept done panel before parts moment leaves h =
+    with_lanes_left site kept done panel before moment parts parts.poller parts.supply parts.effects parts.drive h leaves.lanes
+    (subst (λ calls. PollsFor site panel calls parts.poller) (sym leaves.told) h.polls)
+    (subst (λ calls. MonitorsFor site.waits calls parts.supply) (sym leaves.supplies) h.supplies) (leaves.effects parts.effects h.effects)
+    (leaves.drives parts.drive h.drives)
 
 -- a tick begins, and the outputs have taken what was done in the one before
 pub after_begin : (site : Site) (kept : Retained) (done : List Done) (panel : ℕ) (before : List Moment) (parts : Parts) (drive : DrivePart)
     → PanelStands site kept done panel before parts → HasOutputs site kept done panel before (Began ∷ before) drive
     → PanelStands site kept done panel (Began ∷ before) (record parts { drive = drive })
-after_begin site kept done panel before parts drive h drives = record {
-  member = h.member;
-  polls = h.polls;
-  answers = h.answers;
-  decides = h.decides;
-  findings = h.findings;
-  holds = h.holds;
-  supplies = h.supplies;
-  effects = effects_stay site (facts_of site kept done) panel before parts.effects Began (λ e. cc) h.effects;
-  drives = drives;
-}
+after_begin site kept done panel before parts drive h drives =
+    with_lanes_left site kept done panel before Began parts parts.poller parts.supply parts.effects drive h
+    (leaves_lanes site kept done panel before Began refl refl refl refl) h.polls h.supplies
+    (effects_stay site (facts_of site kept done) panel before parts.effects Began (λ e. cc) h.effects) drives
 
 pub after_keep : (site : Site) (kept : Retained) (done : List Done) (panel : ℕ) (failed : Bool) (before : List Moment) (parts : Parts)
     → PanelStands site kept done panel before parts → PanelStands site kept done panel (Kept failed ∷ before) parts
 after_keep site kept done panel failed before parts h =
     after_nothing site kept done panel before parts (Kept failed) (record {
+      lanes = leaves_lanes site kept done panel before (Kept failed) refl refl refl refl;
       told = refl;
-      answers = refl;
-      decided_same = refl;
-      findings = refl;
-      turns = refl;
       supplies = refl;
       effects = λ part e. effects_stay site (facts_of site kept done) panel before part (Kept failed) (λ is. cc) e;
       drives = λ part d. drives_kept site (facts_of site kept done) kept done panel before part d failed;
@@ -187,11 +202,11 @@ pub others_stay : (site : Site) (kept : Retained) (done : List Done) (panel othe
     → PanelStands site kept done panel before parts → PanelStands site kept done panel (Turned other task ∷ before) parts
 others_stay site kept done panel other task before parts n h =
     after_nothing site kept done panel before parts (Turned other task) (record {
+      lanes =
+          leaves_lanes site kept done panel before (Turned other task) (lane_stays site panel other task before apart)
+          (decided_stay site panel other task before apart) (findings_stay site kept done panel other task before apart)
+          (turns_stay site kept done panel other task before apart);
       told = refl;
-      answers = lane_stays site panel other task before apart;
-      decided_same = decided_stay site panel other task before apart;
-      findings = findings_stay site kept done panel other task before apart;
-      turns = turns_stay site kept done panel other task before apart;
       supplies = supplies_stay panel other task before apart;
       effects = λ part e. effects_stay site (facts_of site kept done) panel before part (Turned other task) (λ is. n (of_panel is)) e;
       drives = λ part d. drives_left site (facts_of site kept done) kept done panel before part d other task not_own;
@@ -228,11 +243,8 @@ elsewhere_leaves site kept done panel other before task elsewhere = go elsewhere
         → hold_turns site kept done panel (Turned other one ∷ before) ≡ hold_turns site kept done panel before
         → supply_calls panel (Turned other one ∷ before) ≡ supply_calls panel before → LeavesPanel site kept done panel before (Turned other one)
     with_outputs one apart not_drive findings answers taken turns supplies = record {
+      lanes = leaves_lanes site kept done panel before (Turned other one) answers taken findings turns;
       told = refl;
-      answers = answers;
-      decided_same = taken;
-      findings = findings;
-      turns = turns;
       supplies = supplies;
       effects = λ part e. effects_stay site (facts_of site kept done) panel before part (Turned other one) (λ is. apart (of_task is)) e;
       drives = λ part d. drives_left site (facts_of site kept done) kept done panel before part d other one not_drive;
@@ -259,29 +271,15 @@ after_elsewhere site kept done panel other before parts task elsewhere h =
 pub after_effect : (site : Site) (kept : Retained) (done : List Done) (panel : ℕ) (before : List Moment) (parts : Parts) (effects : EffectsPart)
     → PanelStands site kept done panel before parts → HasFacts site kept done panel before (Turned panel Effect ∷ before) effects
     → PanelStands site kept done panel (Turned panel Effect ∷ before) (record parts { effects = effects })
-after_effect site kept done panel before parts effects h turned = record {
-  member = h.member;
-  polls = h.polls;
-  answers = h.answers;
-  decides = h.decides;
-  findings = h.findings;
-  holds = h.holds;
-  supplies = h.supplies;
-  effects = turned;
-  drives = outputs_left site kept done panel before Effect parts.drive (λ e. cc) h.drives;
-}
+after_effect site kept done panel before parts effects h turned =
+    with_lanes_left site kept done panel before (Turned panel Effect) parts parts.poller parts.supply effects parts.drive h
+    (leaves_lanes site kept done panel before (Turned panel Effect) refl refl refl refl) h.polls h.supplies turned
+    (outputs_left site kept done panel before Effect parts.drive (λ e. cc) h.drives)
 
 pub after_drive : (site : Site) (kept : Retained) (done : List Done) (panel : ℕ) (before : List Moment) (parts : Parts) (drive : DrivePart)
     → PanelStands site kept done panel before parts → HasOutputs site kept done panel before (Turned panel Drive ∷ before) drive
     → PanelStands site kept done panel (Turned panel Drive ∷ before) (record parts { drive = drive })
-after_drive site kept done panel before parts drive h turned = record {
-  member = h.member;
-  polls = h.polls;
-  answers = h.answers;
-  decides = h.decides;
-  findings = h.findings;
-  holds = h.holds;
-  supplies = h.supplies;
-  effects = facts_left site kept done panel before Drive parts.effects (λ e. cc) h.effects;
-  drives = turned;
-}
+after_drive site kept done panel before parts drive h turned =
+    with_lanes_left site kept done panel before (Turned panel Drive) parts parts.poller parts.supply parts.effects drive h
+    (leaves_lanes site kept done panel before (Turned panel Drive) refl refl refl refl) h.polls h.supplies
+    (facts_left site kept done panel before Drive parts.effects (λ e. cc) h.effects) turned

@@ -1,17 +1,17 @@
 -- Steps over turns one after another.
-use Rattle.std.proofs.Common.{◌≡◌, ◌≢◌, ◌∙◌, ◌+◌, ◌≤◌, ◌++◌, ℕ, Bool, false, List, [], ◌∷◌, Some, length, drop, refl, sym, ap, subst, slice_get, arith}
+use Rattle.std.proofs.Common.{◌≡◌, ◌∙◌, ◌++◌, ℕ, Bool, List, [], ◌∷◌, refl, sym, subst}
 use Rattle.tick_units.specs.declared.seat.Seat.{Seat}
 use Rattle.tick_units.specs.declared.task.Task.{Task}
 use Rattle.tick_units.specs.declared.task.Task.TheVariants.{Keep}
 use Rattle.site_types.specs.declared.retained.Retained.{Retained}
 use Rattle.site_types.specs.declared.site.Site.{Site}
 use Rattle.panel_rules.specs.Markers.{Facts}
-use Rattle.panel_rules.specs.Moments.{Moment, Kept, and_turns, turn_of, tick_of}
+use Rattle.panel_rules.specs.Moments.{Moment, and_turns, turn_of}
 use Rattle.panel_core.specs.Applied.{applied}
-use Rattle.panel_core.specs.Changes.{AreOfPanels, seats_between}
+use Rattle.panel_core.specs.Changes.{AreOfPanels}
 use Rattle.panel_core.specs.StepCounts.{RisesAt, RisesOver}
 use Rattle.panel_core.proofs.Applied.{applied_stays}
-use Rattle.panel_core.proofs.Orders.{between_more, turn_is, turns_tick}
+use Rattle.panel_core.proofs.Orders.{turn_is, turns_tick}
 
 -- what is in force stays so over the turns of a tick
 pub applied_over : (site : Site) (kept : Retained) (failed : Bool) (seats : List Seat) (before : List Moment)

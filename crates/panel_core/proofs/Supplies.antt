@@ -15,7 +15,7 @@ use Rattle.panel_rules.proofs.AnswersTell.{eq_true}
 use Rattle.panel_rules.proofs.Turns.{turn_lag}
 use Rattle.panel_core.specs.declared.parts.Parts.{Parts}
 use Rattle.panel_core.specs.Stands.{PanelStands}
-use Rattle.panel_core.proofs.Panels.{facts_left, outputs_left}
+use Rattle.panel_core.proofs.Panels.{facts_left, leaves_lanes, outputs_left, with_lanes_left}
 
 -- a report is no turn
 before_report : (panel now : ℕ) (event : Event) (calls : List Call) → AllBefore now calls → AllBefore now (and_supply panel event calls)
@@ -59,16 +59,9 @@ pub after_supply : (site : Site) (kept : Retained) (done : List Done) (panel : �
 after_supply site kept done panel before parts supply now h tick run turned =
     let lag = rw run.1 at (turn_lag site.panels panel SupplyTask before h.member tt run.0) in
     let made = turned h.supplies (turns_before panel before now (omega (arith, lag, tick))) in
-    record {
-      member = h.member;
-      polls = h.polls;
-      answers = h.answers;
-      decides = h.decides;
-      findings = h.findings;
-      holds = h.holds;
-      supplies =
-          subst (λ b. MonitorsFor site.waits (if b then TurnMade (tick_of before) ∷ supply_calls panel before else supply_calls panel before) supply)
-          (sym (eq_true panel panel refl)) (subst (λ t. MonitorsFor site.waits (TurnMade t ∷ supply_calls panel before) supply) tick made);
-      effects = facts_left site kept done panel before SupplyTask parts.effects (λ e. cc) h.effects;
-      drives = outputs_left site kept done panel before SupplyTask parts.drive (λ e. cc) h.drives;
-    }
+    with_lanes_left site kept done panel before (Turned panel SupplyTask) parts parts.poller supply parts.effects parts.drive h
+    (leaves_lanes site kept done panel before (Turned panel SupplyTask) refl refl refl refl) h.polls
+    (subst (λ b. MonitorsFor site.waits (if b then TurnMade (tick_of before) ∷ supply_calls panel before else supply_calls panel before) supply)
+    (sym (eq_true panel panel refl)) (subst (λ t. MonitorsFor site.waits (TurnMade t ∷ supply_calls panel before) supply) tick made))
+    (facts_left site kept done panel before SupplyTask parts.effects (λ e. cc) h.effects)
+    (outputs_left site kept done panel before SupplyTask parts.drive (λ e. cc) h.drives)

@@ -1,21 +1,19 @@
 -- What a turn of a task is told of the system: its panel, silent panels and links, the outputs that are disabled.
-use Rattle.std.proofs.Common.{◌≡◌, ◌≢◌, ◌∙◌, ◌+◌, ◌-◌, ◌++◌, ◌≤◌, ℕ, List, [], ◌∷◌, Some, slice_get, false, ap, arith, subst, sym}
+use Rattle.std.proofs.Common.{◌≡◌, ◌≢◌, ◌∙◌, ◌+◌, ◌-◌, ◌++◌, ◌≤◌, ℕ, List, [], ◌∷◌, false, ap, arith, subst, sym}
 use Rattle.std.specs.Prelude.{slice_index}
 use Rattle.tick_units.specs.declared.seat.Seat.{Seat}
 use Rattle.tick_units.specs.declared.task.Task.{Task}
 use Rattle.tick_units.specs.declared.task.Task.TheVariants.{Keep}
-use Rattle.site_types.specs.declared.output.Output.{Output}
 use Rattle.site_types.specs.declared.retained.Retained.{Retained}
 use Rattle.site_types.specs.declared.site.Site.{Site}
 use Rattle.site_types.specs.Bits.{has_bit, mask_of}
-use Rattle.site_types.specs.Done.{Done, OutputOff, at_opening, in_force, kept_output}
+use Rattle.site_types.specs.Done.{Done, OutputOff, in_force, kept_output}
 use Rattle.site_types.specs.Profile.{silent_of}
 use Rattle.site_types.proofs.Done.{in_force-later}
 use Rattle.operation_desk.specs.Replies.{AreInForce}
 use Rattle.output_calls.specs.DoneCalls.{IsLatestFirst}
 use Rattle.output_calls.proofs.LatestFirst.{latest_first}
 use Rattle.panel_bridges.proofs.RingStates.{silent_same}
-use Rattle.panel_laws.proofs.LaterDone.{Grew}
 use Rattle.panel_links.specs.Stands.{is_silent}
 use Rattle.panel_rules.specs.Faults.{silent_panels}
 use Rattle.panel_rules.specs.Kept.{heard}

@@ -1,5 +1,6 @@
 -- All panels after a moment: one of them is changed by it, or none, and the others stand for what they stood for.
 use Rattle.std.proofs.Common.{◌≡◌, ◌≢◌, ℕ, ◌+◌, ◌-◌, ◌≤◌, List, [], ◌∷◌, ◌++◌, length, length-append, zero, suc, Some, slice_get, inl, inr, Bool, refl, sym, ◌∙◌, ap, subst, arith}
+use Rattle.std.specs.Global.{Vec}
 use Rattle.std.specs.Vec.{with_item}
 use Rattle.std.proofs.Math.ListN.{length-set}
 use Rattle.tick_units.specs.declared.task.Task.{Task}
@@ -19,9 +20,6 @@ use Rattle.panel_core.specs.declared.system.System.{System}
 use Rattle.panel_core.specs.Applied.{applied}
 use Rattle.panel_core.specs.Entries.{CountsFor}
 use Rattle.panel_links.specs.declared.ring.Ring.{Ring}
-use Rattle.panel_links.specs.Stands.{StandsFor as RingStandsFor}
-use Rattle.panel_rules.specs.Run.{tells_fault}
-use Rattle.panel_rules.specs.Words.{ring_calls}
 use Rattle.panel_core.specs.Stands.{KeepsWords, PanelStands, StandsFor}
 use Rattle.panel_core.proofs.Applied.{applied_stays, settings_stay}
 use Rattle.panel_core.proofs.Counts.{counts_stay}
@@ -45,50 +43,41 @@ module _ (site : Site) (kept : Retained) (before : List Moment) (system : System
   abbrev StoodBefore : ℕ → Parts → Type 0
   StoodBefore panel parts = PanelStands site kept (applied site kept before) panel before parts
 
+  -- with panels that stand for the moment more
+  stands_with : (panels : Vec Parts) → length panels.items ≡ site.panels
+      → ((place : ℕ) (q : Parts) → slice_get panels.items place ≡ Some q → StandsMore (place + 1) q)
+      → StandsFor site kept (moment ∷ before) (record system { panels = panels; ring = ring; desk = desk; counts = counts })
+  stands_with panels count each = record {
+    valid = h.valid;
+    same = h.same;
+    plan = h.plan;
+    tick = h.tick ∙ sym same_tick;
+    count = count;
+    each = λ place q is. more_is (place + 1) q (each place q is);
+    ring = words_kept;
+    events = events;
+    desk = desks;
+    settings = settings_stay site kept moment before system.settings same_tick h.settings;
+    sized = h.sized;
+    own = h.own;
+    counts = counted;
+  }
+
   -- at a moment of one panel
   pub stands_changed : (panel : ℕ) (parts : Parts) → 1 ≤ panel → StandsMore panel parts
       → ((other : ℕ) (q : Parts) → panel ≢ other → StoodBefore other q → StandsMore other q)
       → StandsFor site kept (moment ∷ before) (record system { panels = with_item system.panels (panel - 1) parts; ring = ring; desk = desk; counts = counts })
   stands_changed panel parts one p others =
-      record {
-        valid = h.valid;
-        same = h.same;
-        plan = h.plan;
-        tick = h.tick ∙ sym same_tick;
-        count = length-set system.panels.items (panel - 1) parts ∙ h.count;
-        each = λ place q is. more_is (place + 1) q (
-            elim (get_set system.panels.items (panel - 1) place parts q is) [
-              | inl g ↦ (let at : panel ≡ place + 1 = omega (arith, g.0) in subst (λ n. StandsMore n q) at (subst (StandsMore panel) g.1 p))
-              | inr g ↦ others (place + 1) q (λ e. g.0 (omega (arith, e))) (h.each place q g.1)
-            ]);
-        ring = words_kept;
-        events = events;
-        desk = desks;
-        settings = settings_stay site kept moment before system.settings same_tick h.settings;
-        sized = h.sized;
-        own = h.own;
-        counts = counted;
-      }
+      stands_with (with_item system.panels (panel - 1) parts) (length-set system.panels.items (panel - 1) parts ∙ h.count)
+      (λ place q is. elim (get_set system.panels.items (panel - 1) place parts q is) [
+        | inl g ↦ (let at : panel ≡ place + 1 = omega (arith, g.0) in subst (λ n. StandsMore n q) at (subst (StandsMore panel) g.1 p))
+        | inr g ↦ others (place + 1) q (λ e. g.0 (omega (arith, e))) (h.each place q g.1)
+      ])
 
   -- at a moment at which no panel is changed
   pub stands_unchanged : ((panel : ℕ) (q : Parts) → StoodBefore panel q → StandsMore panel q)
       → StandsFor site kept (moment ∷ before) (record system { ring = ring; desk = desk; counts = counts })
-  stands_unchanged each =
-      record {
-        valid = h.valid;
-        same = h.same;
-        plan = h.plan;
-        tick = h.tick ∙ sym same_tick;
-        count = h.count;
-        each = λ place q is. more_is (place + 1) q (each (place + 1) q (h.each place q is));
-        ring = words_kept;
-        events = events;
-        desk = desks;
-        settings = settings_stay site kept moment before system.settings same_tick h.settings;
-        sized = h.sized;
-        own = h.own;
-        counts = counted;
-      }
+  stands_unchanged each = stands_with system.panels h.count (λ place q is. each (place + 1) q (h.each place q is))
 
 -- a turn of another task leaves the desk
 module _ (site : Site) (kept : Retained) (before : List Moment) (desk : Desk) (panel : ℕ) (h : DesksFor site kept before desk) where

@@ -1,35 +1,27 @@
 -- What the parts of a panel show makes the face of the rules: what was done in the tick that began last changes nothing of it.
-use mathlib.Core.Path.{fun_ext}
-use Rattle.std.proofs.Common.{◌≡◌, ◌≢◌, ◌∙◌, ◌+◌, ◌-◌, ◌++◌, ◌≤◌, ◌<◌, ◌==◌, ◌&&◌, ℕ, zero, suc, Bool, true, false, List, [], ◌∷◌, length, map}
-use Rattle.std.proofs.Common.{inl, inr, if◌then◌else◌, refl, sym, ap, arith, subst}
-use Rattle.std.specs.Prelude.{nat_lt, slice_index_or}
-use Rattle.std.specs.List.{range_with_len}
-use Rattle.std.proofs.Common.{get_or, set}
+use Rattle.std.proofs.Common.{◌≡◌, ◌≢◌, ◌∙◌, ◌++◌, ◌≤◌, ◌==◌, ◌&&◌, ℕ, false, List, [], ◌∷◌}
+use Rattle.std.proofs.Common.{inl, inr, if◌then◌else◌, refl, ap, arith}
+use Rattle.std.specs.Prelude.{nat_lt}
 use Rattle.std.proofs.lemmas.Bool.Decides.{eqb_tells}
-use Rattle.std.proofs.lemmas.List.{get_or-set_other, get_or-set_same}
 use Rattle.tick_units.specs.declared.task.Task.TheVariants.{Poll, Decide, Supply, Desk, Hold, Link, Effect, Drive, Keep}
 use Rattle.site_types.specs.declared.buzzer.Buzzer.{Buzzer}
 use Rattle.site_types.specs.declared.fault_set.FaultSet.{FaultSet}
 use Rattle.site_types.specs.declared.retained.Retained.{Retained}
 use Rattle.site_types.specs.declared.site.Site.{Site}
-use Rattle.site_types.specs.declared.word.Word.{Word}
 use Rattle.site_types.specs.Done.{Done, muted_before}
-use Rattle.site_types.specs.Valid.{IsValid}
-use Rattle.site_types.proofs.Done.{lt_tells, muted-later}
+use Rattle.site_types.proofs.Done.{muted-later}
 use Rattle.site_types.proofs.LaterDone.{AreFrom}
 use Rattle.face_text.specs.declared.face.Face.{Face}
 use Rattle.later_operations.specs.Later.{AreDoneFrom}
 use Rattle.later_operations.proofs.Laws.{faults, outputs}
 use Rattle.later_operations.proofs.Told.{faults_later, kept_word_later, latest_word_later}
 use Rattle.panel_conditions.specs.Shown.{is_news, sounds}
-use Rattle.panel_effects.proofs.HeardMasks.{filled, zones_elsewhere}
 use Rattle.panel_laws.proofs.LaterDone.{Grew, turn_in_time}
 use Rattle.panel_rules.specs.Faces.{buzzer_of, last_news, shown_word, shows_news}
-use Rattle.panel_rules.specs.Kept.{kept_at}
-use Rattle.panel_rules.specs.Moments.{Moment, Began, Happened, Turned, Kept, IsPanel, latest_turn, tick_of}
+use Rattle.panel_rules.specs.Moments.{Moment, Began, Happened, Turned, Kept, latest_turn, tick_of}
 use Rattle.panel_rules.specs.Outputs.{is_confirmed_out, is_on}
 use Rattle.panel_rules.specs.Run.{facts_of, faults_of, tells_fault}
-use Rattle.panel_rules.specs.Words.{kept_word_of, latest_word, word_made}
+use Rattle.panel_rules.specs.Words.{kept_word_of, latest_word}
 use Rattle.panel_rules.proofs.AnswersTell.{eq_true}
 use Rattle.settings_shown.specs.OnFaces.{with_settings_of}
 use Rattle.panel_core.specs.Applied.{applied, done_so_far}
@@ -149,80 +141,7 @@ module _ (site : Site) (kept : Retained) (before : List Moment) (panel : ℕ) wh
       not_own : (source == panel) ≡ false
       not_own = elim (eqb_tells source panel) [ inl t ↦ absurd (apart t.1) | inr t ↦ t.0 ]
 
-  -- a panel that the site hasn't shows nothing
-  module _ (valid : IsValid site) (member : IsPanel site.panels panel) where
-    alarm_elsewhere : (source : ℕ) → site.panels < source → (shown_word site kept all_done panel before source).alarm ≡ 0
-    alarm_elsewhere source beyond =
-        ap (λ (w : Word). w.alarm) (other_shown source (λ same. let last = member.1 in absurd (omega (arith, same, beyond, last))))
-        ∙ made (kept_at site.panels panel source before)
-      where
-        made : (word : List Moment) → (word_made site kept all_done (tells_fault site kept all_done) source word).alarm ≡ 0
-        made [] = refl
-        made (moment ∷ earlier) = sym (zones_elsewhere site valid source _ beyond)
-
-    first_elsewhere : (source : ℕ) → site.panels < source → (shown_word site kept all_done panel before source).first ≡ 0
-    first_elsewhere source beyond =
-        ap (λ (w : Word). w.first) (other_shown source (λ same. let last = member.1 in absurd (omega (arith, same, beyond, last))))
-        ∙ made (kept_at site.panels panel source before)
-      where
-        made : (word : List Moment) → (word_made site kept all_done (tells_fault site kept all_done) source word).first ≡ 0
-        made [] = refl
-        made (moment ∷ earlier) = sym (zones_elsewhere site valid source _ beyond)
-
-    all_shown : (told : Word → ℕ) (zones : List ℕ) → ((source : ℕ) → site.panels < source → told (shown_word site kept all_done panel before source) ≡ 0)
-        → length zones ≡ 8
-        → ((q : ℕ) → 1 ≤ q → q ≤ site.panels → slice_index_or zones (q - 1) 0 ≡ told (shown_word site kept all_done panel before q))
-        → ((q : ℕ) → site.panels < q → q ≤ 8 → slice_index_or zones (q - 1) 0 ≡ 0)
-        → zones ≡ map (λ source. told (shown_word site kept all_done panel before source)) (range_with_len 1 8)
-    all_shown told zones elsewhere wide each none =
-        filled (λ source. told (shown_word site kept all_done panel before source)) zones 1 8 wide
-        (λ k small. (let place : 1 + k - 1 ≡ k = omega arith in
-        sym (ap (λ n. slice_index_or zones n 0) place) ∙ at (1 + k) (omega arith) (omega (arith, small))))
-      where
-        at : (q : ℕ) → 1 ≤ q → q ≤ 8 → slice_index_or zones (q - 1) 0 ≡ told (shown_word site kept all_done panel before q)
-        at q low high =
-            elim (lt_tells site.panels q) [
-              | inl t ↦ none q t.1 high ∙ sym (elsewhere q t.1)
-              | inr t ↦ each q low t.1
-            ]
-
-    pub alarms_are : (zones : List ℕ) → length zones ≡ 8
-        → ((q : ℕ) → 1 ≤ q → q ≤ site.panels → slice_index_or zones (q - 1) 0 ≡ (shown_word site kept all_done panel before q).alarm)
-        → ((q : ℕ) → site.panels < q → q ≤ 8 → slice_index_or zones (q - 1) 0 ≡ 0)
-        → zones ≡ map (λ source. (shown_word site kept all_done panel before source).alarm) (range_with_len 1 8)
-    alarms_are zones wide each none = all_shown (λ (w : Word). w.alarm) zones alarm_elsewhere wide each none
-
-    pub firsts_are : (zones : List ℕ) → length zones ≡ 8
-        → ((q : ℕ) → 1 ≤ q → q ≤ site.panels → slice_index_or zones (q - 1) 0 ≡ (shown_word site kept all_done panel before q).first)
-        → ((q : ℕ) → site.panels < q → q ≤ 8 → slice_index_or zones (q - 1) 0 ≡ 0)
-        → zones ≡ map (λ source. (shown_word site kept all_done panel before source).first) (range_with_len 1 8)
-    firsts_are zones wide each none = all_shown (λ (w : Word). w.first) zones first_elsewhere wide each none
-
--- ---- zones put panel by panel, and settings put on a face
-
--- with the zones of one more panel put, those of all before it and its own are right
-pub each_put : (zones : List ℕ) (source item : ℕ) (right : ℕ → ℕ) → 1 ≤ source → source - 1 < length zones → item ≡ right source
-    → ((q : ℕ) → 1 ≤ q → q < source → get_or zones (q - 1) 0 ≡ right q)
-    → (q : ℕ) → 1 ≤ q → q < source + 1 → get_or (set zones (source - 1) item) (q - 1) 0 ≡ right q
-each_put zones source item right first room is each q low high =
-    elim (lt_tells q source) [
-      | inl t ↦
-          let less = t.1 in
-          get_or-set_other zones (source - 1) (q - 1) item 0 (λ same. absurd (omega (arith, same, less, low, first)))
-          ∙ each q low less
-      | inr t ↦
-          let same : q ≡ source = (let more = t.1 in omega (arith, more, high)) in
-          ap (λ p. get_or (set zones (source - 1) item) (p - 1) 0) same
-          ∙ get_or-set_same zones (source - 1) item 0 room ∙ is ∙ ap right (sym same)
-    ]
-
--- and those behind it have none
-pub none_put : (zones : List ℕ) (source item : ℕ) → 1 ≤ source
-    → ((q : ℕ) → 1 ≤ q → source ≤ q → q ≤ 8 → get_or zones (q - 1) 0 ≡ 0)
-    → (q : ℕ) → 1 ≤ q → source + 1 ≤ q → q ≤ 8 → get_or (set zones (source - 1) item) (q - 1) 0 ≡ 0
-none_put zones source item first none q low behind high =
-    get_or-set_other zones (source - 1) (q - 1) item 0 (λ same. absurd (omega (arith, same, behind, low, first)))
-    ∙ none q low (omega (arith, behind)) high
+-- ---- settings put on a face
 
 -- a face with the settings that another one shows is that one where all else is alike
 module _ (shown face : Face) where

@@ -17,6 +17,7 @@ use Rattle.panel_rules.specs.Moments.{Moment, Began, Happened, Turned, Kept, IsR
 use Rattle.panel_rules.specs.Storing.{KeepAnswer, Idle as WasIdle, Stored, NotStored, keep_answer}
 use Rattle.panel_core.specs.declared.system.System.{System}
 use Rattle.panel_core.specs.Entries.{TellsEntries}
+use Rattle.panel_core.specs.PowerCuts.{IsLeftOver, OpensToFront, OpensToFrontOr}
 use Rattle.panel_core.specs.Stands.{StandsFor}
 
 -- whether a turn of Keep failed
@@ -37,10 +38,11 @@ before_keep (Happened event ∷ before) = before_keep before
 before_keep (Turned panel task ∷ before) = before_keep before
 before_keep (Kept failed ∷ before) = before
 
--- the journal of a site keeps what a run keeps
+-- the journal of a site keeps what a run keeps, and where it is torn attempted last what may be left over
 pub record KeepsRun (site : Site) (kept : Retained) (moments : List Moment) (journal : Journal) : Type 0 where
   pub keeps : journal.kept ≡ kept_after site kept moments
   pub wide : journal.wide ≡ is_wide site
+  pub torn : journal.torn ≡ true → IsLeftOver site kept moments journal.attempt.items
 
 -- after a turn of Keep that answered so
 pub record HasTurned (site : Site) (kept : Retained) (moments : List Moment) (store : Store) (journal : Journal)
@@ -132,11 +134,20 @@ module _ {D : Type 0} (moment : D → ℕ) (left_since : D → ℕ → List ℕ 
       → IsRun site.panels before → tick_of before ≤ last_tick → HasRoomForTwo journal
       → LeavesOnly moment left_since old new (MayLeaveOr journal (batch site kept before))
 
-  -- at each moment of the turns of an order
+  -- at each moment of the turns of an order a power cut leaves a file that opens to a front of the run before them, or
+  -- to what is kept with the batch of their turn of Keep
   abbrev pub LeavesInTurns : List Seat → System → Journal → Type 0
   LeavesInTurns order system journal =
       (site : Site) (kept : Retained) (before : List Moment)
       → StandsFor site kept before system → KeepsRun site kept before journal
       → IsRun site.panels (and_turns false order before) → tick_of before ≤ last_tick → HasRoomForTwo journal
-      → LeavesOnly moment left_since old new
-      (MayLeaveOr journal (batch site kept (before_keep (and_turns false order before))))
+      → LeavesOnly moment left_since old new (OpensToFrontOr site kept journal.digest before
+      (batch site kept (before_keep (and_turns false order before))))
+
+-- after the turns of an order, of which Keep's answered so, a power cut leaves a file that opens to a front of the run
+abbrev pub LeavesAfterTurns : (List ℕ → Type 0) → List Seat → System → Journal → Store → Type 0
+LeavesAfterTurns images order system journal store =
+    (site : Site) (kept : Retained) (before : List Moment) (file : List ℕ)
+    → StandsFor site kept before system → KeepsRun site kept before journal
+    → IsRun site.panels (and_turns false order before) → tick_of before ≤ last_tick → images file
+    → OpensToFront site kept journal.digest (and_turns (has_failed store) order before) file

@@ -3,7 +3,9 @@ pub mod Entries
 pub mod Stands
 pub mod Heard
 pub mod Changes
+pub mod PowerCuts
 pub mod Keeping
 pub mod StepCounts
 pub mod ShownZones
 pub mod ShownFaces
+pub mod PromisedFaces

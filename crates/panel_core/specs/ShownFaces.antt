@@ -9,6 +9,7 @@ use Rattle.face_text.specs.declared.face.Face.{Face}
 use Rattle.panel_rules.specs.Batches.{kept_after}
 use Rattle.panel_rules.specs.Faces.{face_with, shown_word}
 use Rattle.panel_rules.specs.Moments.{Moment, IsRun}
+use Rattle.panel_core.specs.declared.shown_zones.ShownZones.{ShownZones}
 use Rattle.panel_core.specs.declared.system.System.{System}
 use Rattle.panel_core.specs.Applied.{done_so_far}
 use Rattle.panel_core.specs.Stands.{StandsFor}
@@ -27,17 +28,15 @@ ShowsWord system panel source word =
     → StandsFor site kept before system → IsRun site.panels before
     → word ≡ shown_word site kept (done_so_far site kept before) panel before source
 
--- the zones of each panel in alarm, and in first state, by the words that are shown
-abbrev pub ShowsAlarms : System → ℕ → List ℕ → Type 0
-ShowsAlarms system panel zones =
+-- the zones of each panel, one kind of them, by the words that are shown
+abbrev pub ShowsByWords : (Word → ℕ) → System → ℕ → List ℕ → Type 0
+ShowsByWords told system panel zones =
     (site : Site) (kept : Retained) (before : List Moment)
     → StandsFor site kept before system → IsRun site.panels before
-    → zones ≡ map (λ source. (shown_word site kept (done_so_far site kept before) panel before source).alarm)
+    → zones ≡ map (λ source. told (shown_word site kept (done_so_far site kept before) panel before source))
     (range_with_len 1 most_panels)
 
-abbrev pub ShowsFirsts : System → ℕ → List ℕ → Type 0
-ShowsFirsts system panel zones =
-    (site : Site) (kept : Retained) (before : List Moment)
-    → StandsFor site kept before system → IsRun site.panels before
-    → zones ≡ map (λ source. (shown_word site kept (done_so_far site kept before) panel before source).first)
-    (range_with_len 1 most_panels)
+-- those in alarm and those in first state
+pub record ShowsZones (system : System) (panel : ℕ) (zones : ShownZones) : Type 0 where
+  pub alarms : ShowsByWords (λ (word : Word). word.alarm) system panel zones.alarms
+  pub firsts : ShowsByWords (λ (word : Word). word.first) system panel zones.firsts

@@ -12,8 +12,9 @@
 //! [`System::heard`] tells how new the word is that a panel keeps of another. Effect goes by the words that its
 //! panel keeps and asks for outputs, and Drive switches them. [`System::turns`] takes the journal: Keep commits the
 //! entries into the fire alarm condition that aren't kept yet and the operations that wait, in one batch, and after a
-//! failure it tries again in the next tick. [`System::face`] is all that a panel shows, the zones of other panels by
-//! the words that it keeps of them.
+//! failure it tries again in the next tick. Whatever a power cut then leaves opens to a front of the run, and
+//! [`fronts_hold_acknowledged`] says what each of these holds. [`System::face`] is all that a panel shows, the zones of
+//! other panels by the words that it keeps of them; its clauses say what the rules promise of it, and how soon.
 //!
 //! Within a panel two lanes join Poll, Decide and Hold; they never hold more than 64 items, so no turn has an
 //! answer for a full lane.
@@ -27,10 +28,13 @@
 mod faces;
 mod keeping;
 mod kept_counts;
+mod laws;
 mod parts;
+mod shown_zones;
 mod system;
 mod task_turns;
 mod turns;
 
 pub use keep_turn::Store;
+pub use laws::fronts_hold_acknowledged;
 pub use system::System;

@@ -1,6 +1,6 @@
 ghost use Rattle.std.specs.Prelude.{◌≡◌, ◌≢◌, ◌≤◌, ◌↔◌, [], ◌∷◌};
 ghost use Rattle.retained_journal.specs.Images.{HasRoom, IsEarly, Stands};
-ghost use Rattle.retained_journal.specs.Outcomes.{EachMayBeLeft, EachOpens};
+ghost use Rattle.retained_journal.specs.Outcomes.{EachOpens};
 ghost use Rattle.keep_turn.specs.Turns.{FailsByItsDisk, TriesAtMostOnce};
 
 use crate::system::System;
@@ -13,7 +13,7 @@ use tick_units::{Order, Seat, Task};
 
 impl System {
     ghost use Rattle.panel_core.specs.Changes.{MakesTurns, MakesTurnsFrom};
-    ghost use Rattle.panel_core.specs.Keeping.{LeavesInTurns, MakesAllTurns, MayTurnAll};
+    ghost use Rattle.panel_core.specs.Keeping.{LeavesAfterTurns, LeavesInTurns, MakesAllTurns, MayTurnAll};
     ghost use Rattle.panel_core.specs.Stands.{MayTurnFrom, MayTurnSeat};
     ghost use Rattle.panel_core.specs.StepCounts.{CountsAllTurns, CountsTurn, CountsTurnsFrom};
 
@@ -36,9 +36,9 @@ impl System {
         ensures early { IsEarly journal.old → IsEarly journal.new }
         ensures opens { result ≢ Store.Failed → D.honest disk.new → HasRoom journal.new
             → EachOpens (D.images disk.new) journal.new }
-        ensures images { D.honest disk.new → HasRoom journal.new
-            → EachMayBeLeft (D.images disk.new) journal.new }
-        // At each moment a crash leaves what it might have left before, or what is kept with the batch of the tick.
+        // A power cut leaves a front of the run: what is kept, or that with the batch of a turn of Keep that failed.
+        ensures cut { D.honest disk.new → HasRoom journal.new
+            → LeavesAfterTurns (D.images disk.new) order.now self.old journal.old result }
         ensures moments { D.honest disk.old
             → LeavesInTurns D.moment D.left_since disk.old disk.new order.now self.old journal.old }
         ensures honest { D.honest disk.new ↔ D.honest disk.old }

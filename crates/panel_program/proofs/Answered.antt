@@ -2,6 +2,7 @@
 use Rattle.std.proofs.Common.{◌≡◌, ◌≢◌, ◌∙◌, ◌||◌, ◌==◌, not, ℕ, zero, suc, Bool, true, false, List, [], ◌∷◌, length, if◌then◌else◌, inl, inr, refl, sym, ap}
 use Rattle.std.specs.Prelude.{IsTrue, slice_index}
 use Rattle.std.specs.List.{list_any}
+use Rattle.std.proofs.lemmas.Bool.{ne_eqb}
 use Rattle.site_types.specs.declared.site.Site.{Site}
 use Rattle.site_types.specs.declared.retained.Retained.{Retained}
 use Rattle.face_text.specs.declared.answers.Answers.{Answers}
@@ -18,11 +19,14 @@ use Rattle.run_text.specs.SoFar.{tick_text}
 
 some_ops : (ops : List OpAnswer) → ops ≢ [] → not (length ops == 0) ≡ true
 some_ops [] n = absurd (n refl)
-some_ops (op ∷ ops) n = refl
+some_ops (op ∷ ops) n = ap not (ne_eqb (length (op ∷ ops)) 0 (λ e. suc_zero (length ops) e))
+  where
+    suc_zero : (k : ℕ) → suc k ≡ 0 → ⊥
+    suc_zero k e = cc
 
 some_number : (n : ℕ) → n ≢ 0 → has_some n ≡ true
 some_number zero n = absurd (n refl)
-some_number (suc k) n = refl
+some_number (suc k) n = ap not (ne_eqb (suc k) 0 n)
 
 or_true : (b : Bool) → (b || true) ≡ true
 or_true true = refl
@@ -34,8 +38,7 @@ some_busy (x ∷ busy) zero n = ap (λ b. b || list_any has_some busy) (some_num
 some_busy (x ∷ busy) (suc place) n = ap (λ b. has_some x || b) (some_busy busy place n) ∙ or_true (has_some x)
 
 is_true : (b : Bool) → IsTrue b → b ≡ true
-is_true true h = refl
-is_true false h = absurd h
+is_true b h = h
 
 answered_some : (answers : Answers) → HasAnswer answers → has_answers answers ≡ true
 answered_some answers (inl ops) = ap (λ b. b || (list_any has_some answers.busy || answers.failed)) (some_ops answers.ops ops)
@@ -50,7 +53,12 @@ told_by : (xs : List Answered) (failed : Bool) → ((not (length xs == 0) || fai
     → has_answers (told xs failed) ≡ (not (length xs == 0) || failed)
 told_by [] true h = refl
 told_by [] false h = refl
-told_by (x ∷ xs) failed h = answered_some (told (x ∷ xs) failed) (h refl)
+told_by (x ∷ xs) failed h =
+    let some : (not (length (x ∷ xs) == 0) || failed) ≡ true = ap (λ b. b || failed) (some_length x xs) in
+    answered_some (told (x ∷ xs) failed) (h some) ∙ sym some
+  where
+    some_length : (x : Answered) (xs : List Answered) → not (length (x ∷ xs) == 0) ≡ true
+    some_length x xs = ap not (ne_eqb (length (x ∷ xs)) 0 (λ e. cc))
 
 module _ (site : Site) (kept : Retained) (before after : List Moment) (can : CanBeTold site kept after) where
   told_so : has_answers (told (answers_now site kept after) (failed_now site kept after)) ≡ has_answer site kept after

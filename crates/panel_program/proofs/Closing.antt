@@ -1,14 +1,13 @@
 -- What is written when a tick is closed.
-use Rattle.std.proofs.Common.{◌≡◌, ◌∙◌, ◌+◌, ◌-◌, ◌^◌, ◌<◌, ◌++◌, ℕ, Bool, true, false, List, [], ◌∷◌, length, Option, Some, None, refl, sym, ap, arith, subst}
+use Rattle.std.proofs.Common.{◌≡◌, ◌∙◌, ◌++◌, ℕ, true, List, ◌∷◌, Option, Some, None, refl, sym, ap, subst}
 use Rattle.site_types.specs.declared.site.Site.{Site}
 use Rattle.site_types.specs.declared.retained.Retained.{Retained}
 use Rattle.face_text.specs.declared.answers.Answers.{Answers}
+use Rattle.face_text.specs.declared.face.Face.{Face}
+use Rattle.panel_edges.specs.declared.sound_memory_sink.SoundMemorySink.{SoundMemorySink}
 use Rattle.panel_core.specs.Changes.{AnswersAsRuled}
-use Rattle.panel_rules.specs.Moments.{Moment, TickBlock, moments, tick_of}
-use Rattle.panel_rules.specs.Timeline.{answers_now, failed_now, faces_of, told}
-use Rattle.panel_rules.proofs.RecordRuns.{records_are_runs}
-use Rattle.panel_laws.specs.FormLaws.{CanBeTold}
-use Rattle.panel_laws.proofs.EventsOfSite.{of_site}
+use Rattle.panel_rules.specs.Moments.{TickBlock, moments, tick_of}
+use Rattle.panel_rules.specs.Timeline.{faces_of}
 use Rattle.panel_program.specs.declared.run.Run.{Run}
 use Rattle.panel_program.specs.Acting.{Closes, MakesTick}
 use Rattle.panel_program.specs.Pages.{written_text}
@@ -17,21 +16,10 @@ use Rattle.panel_program.specs.Stands.{Stands, after_close}
 use Rattle.run_text.specs.SoFar.{text_so_far, tick_text}
 use Rattle.panel_program.proofs.Answered.{same_answers}
 use Rattle.run_text.proofs.TickTimes.{tick_moments}
-use Rattle.panel_program.proofs.Stood.{not_open}
+use Rattle.panel_program.proofs.Stood.{has_run, not_open, with_page}
 
 module _ (site : Site) (kept : Retained) (run : Run) (answers : Answers) (told_so : AnswersAsRuled run.system answers) (after : List TickBlock) (h :
     Stands site kept (record { run = after; block = None }) run) where
-  can_be_told : CanBeTold site kept (moments after)
-  can_be_told =
-      let short = h.short in
-      record {
-        valid = h.valid;
-        run = (records_are_runs site.panels after h.ordered).0;
-        of_site = of_site site (moments after) h.system.events;
-        counters = h.counters;
-        few = omega (arith, short);
-      }
-
   -- what is written of a tick is the text of the rules
   text_is : (before : List TickBlock) → run.next.items ≡ faces_of site kept (moments before)
       → written_text site run.ticks run.next.items run.shown.items answers ≡ tick_text site kept (moments before) (moments after)
@@ -42,28 +30,34 @@ module _ (site : Site) (kept : Retained) (run : Run) (answers : Answers) (told_s
       ∙ ap (λ fs. written_text site (tick_of (moments after)) fs run.shown.items answers) shown_before
       ∙ ap (λ fs. written_text site (tick_of (moments after)) (faces_of site kept (moments before)) fs answers) h.shown
       ∙ ap (λ a. written_text site (tick_of (moments after)) (faces_of site kept (moments before)) (faces_of site kept (moments after)) a) is
-      ∙ same_answers site kept (moments before) (moments after) can_be_told
+      ∙ same_answers site kept (moments before) (moments after) (has_run site kept after None run h).can
 
 -- what was written of a tick is what the text of all ticks has more
 abbrev pub Told : (List ℕ → Type 0) → Site → Retained → List TickBlock → List TickBlock → Type 0
 Told Wrote site kept before after = (more : List ℕ) × (text_so_far site kept after ≡ text_so_far site kept before ++ more) × Wrote more
 
-module _ (Wrote : List ℕ → Type 0) (site there : Site) (kept : Retained) (old run : Run) (answers : Answers) (told_so :
-    AnswersAsRuled run.system answers) (same : there ≡ site) (wrote :
-    Wrote (written_text there run.ticks run.next.items run.shown.items answers)) where
+module _ (Wrote : List ℕ → Type 0) (site there : Site) (kept : Retained) (old run : Run) (before after : List Face) (answers : Answers) (told_so :
+    AnswersAsRuled run.system answers) (same : there ≡ site) (before_is : before ≡ run.next.items) (after_is : after ≡ run.shown.items) (wrote :
+    Wrote (written_text there run.ticks before after answers)) where
   told_by : (ticks : List TickBlock) (o : Option Block) → Stands site kept (record { run = ticks; block = o }) old → old.is_open ≡ true
       → (made : MakesTick site kept (record { run = ticks; block = o }) old run) → Told Wrote site kept ticks (closed_by made.failed o ticks)
   told_by ticks None h open_is made = not_open (sym open_is ∙ h.open_is)
   told_by ticks (Some block) h open_is made =
-      let after = ticked made.failed block ∷ ticks in (
-        tick_text site kept (moments ticks) (moments after),
+      let all = ticked made.failed block ∷ ticks in (
+        tick_text site kept (moments ticks) (moments all),
         refl,
         subst Wrote
-            (ap (λ s. written_text s run.ticks run.next.items run.shown.items answers) same
-            ∙ text_is site kept run answers told_so after made.stands ticks (made.before ∙ h.shown)) wrote,
+            (ap (λ s. written_text s run.ticks before after answers) same
+            ∙ ap (λ fs. written_text site run.ticks fs after answers) before_is
+            ∙ ap (λ fs. written_text site run.ticks run.next.items fs answers) after_is
+            ∙ text_is site kept run answers told_so all made.stands ticks (made.before ∙ h.shown)) wrote,
       )
 
-  pub told_more : (p : Progress) → Stands site kept p old → old.is_open ≡ true → MakesTick site kept p old run
-      → Closes (λ failed. Told Wrote site kept p.run (closed failed p)) site kept p run
-  told_more p h open_is made =
-      record { failed = made.failed; stands = made.stands; wrote = told_by p.run p.block h open_is made }
+  pub told_more : (p : Progress) (page : SoundMemorySink) → Stands site kept p old → old.is_open ≡ true → MakesTick site kept p old run
+      → Closes (λ failed. Told Wrote site kept p.run (closed failed p)) site kept p (record run { page = page })
+  told_more p page h open_is made =
+      record {
+        failed = made.failed;
+        stands = with_page site kept (after_close made.failed p) run page made.stands;
+        wrote = told_by p.run p.block h open_is made;
+      }

@@ -1,5 +1,5 @@
 -- What a run leaves of its journal's disk, step by step.
-use Rattle.std.proofs.Common.{◌≡◌, ◌+◌, ◌-◌, ◌^◌, ◌<◌, ◌≤◌, min, ℕ, Bool, true, false, List, arith, refl, subst, sym}
+use Rattle.std.proofs.Common.{◌≡◌, ◌+◌, ◌-◌, ◌^◌, ◌<◌, ◌≤◌, min, ℕ, List, arith, refl, subst, sym}
 use Rattle.keep_turn.specs.declared.store.Store.{Store}
 use Rattle.keep_turn.specs.declared.store.Store.TheVariants.{Idle, Kept, Failed}
 use Rattle.retained_journal.specs.declared.journal.Journal.{Journal}
@@ -7,7 +7,7 @@ use Rattle.retained_journal.specs.Images.{Stands as StandsOn}
 use Rattle.panel_core.specs.Keeping.{has_failed}
 use Rattle.panel_program.specs.declared.run.Run.{Run}
 use Rattle.panel_program.specs.Disks.{KeepsOn, TurnsOn}
-use Rattle.panel_program.proofs.Stood.{failures_with}
+use Rattle.panel_program.specs.Acting.{failures_with}
 
 module _ {D : Type 0} (honest : D → Type 0) (images : D → List ℕ → Type 0) (faults : D → ℕ) where
   -- a step that leaves the journal alone

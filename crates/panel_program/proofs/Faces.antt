@@ -1,5 +1,5 @@
 -- The lines of what changed, panel by panel.
-use Rattle.std.proofs.Common.{◌≡◌, ◌∙◌, ◌+◌, ◌++◌, ℕ, zero, suc, List, [], ◌∷◌, length, take, drop, Some, None, slice_get, refl, sym, ap, append_assoc, append-nil}
+use Rattle.std.proofs.Common.{◌≡◌, ◌∙◌, ◌+◌, ◌++◌, ℕ, zero, suc, List, [], ◌∷◌, take, drop, Some, slice_get, refl, sym, ap, arith, append_assoc, append-nil}
 use Rattle.site_types.specs.declared.site.Site.{Site}
 use Rattle.face_text.specs.declared.face.Face.{Face}
 use Rattle.face_text.specs.Changes.{changes_text}
@@ -9,8 +9,8 @@ some_is : (a b : Face) → Some a ≡ Some b → a ≡ b
 some_is a b e = cc
 
 -- one panel more
-pub faces_next : (site : Site) (before after : List Face) (k : ℕ) (old new : Face) → slice_get before k ≡ Some old → slice_get after k ≡ Some new
-    → faces_text site (take (k + 1) before) (take (k + 1) after) ≡ faces_text site (take k before) (take k after) ++ changes_text site old new
+faces_next : (site : Site) (before after : List Face) (k : ℕ) (old new : Face) → slice_get before k ≡ Some old → slice_get after k ≡ Some new
+    → faces_text site (take (suc k) before) (take (suc k) after) ≡ faces_text site (take k before) (take k after) ++ changes_text site old new
 faces_next site [] after k old new b a = absurd (let e = b in cc)
 faces_next site (x ∷ before) [] k old new b a = absurd (let e = a in cc)
 faces_next site (x ∷ before) (y ∷ after) zero old new b a =
@@ -20,6 +20,14 @@ faces_next site (x ∷ before) (y ∷ after) zero old new b a =
 faces_next site (x ∷ before) (y ∷ after) (suc k) old new b a =
     ap (λ xs. changes_text site x y ++ xs) (faces_next site before after k old new b a)
     ∙ sym (append_assoc (changes_text site x y) (faces_text site (take k before) (take k after)) (changes_text site old new))
+
+plus_one : (k : ℕ) → k + 1 ≡ suc k
+plus_one k = omega arith
+
+pub faces_more : (site : Site) (before after : List Face) (k : ℕ) (old new : Face) → slice_get before k ≡ Some old → slice_get after k ≡ Some new
+    → faces_text site (take (k + 1) before) (take (k + 1) after) ≡ faces_text site (take k before) (take k after) ++ changes_text site old new
+faces_more site before after k old new b a =
+    ap (λ n. faces_text site (take n before) (take n after)) (plus_one k) ∙ faces_next site before after k old new b a
 
 none_left : (site : Site) (faces : List Face) → faces_text site faces [] ≡ []
 none_left site [] = refl

@@ -17,7 +17,8 @@ use Rattle.record_lines.specs.Forms.{Form, TickForm, OfEvent, OrderForm, EndForm
 use Rattle.record_lines.specs.Seats.{order_of, seats_of}
 use Rattle.site_types.specs.Numbers.{number_of}
 use Rattle.record_lines.specs.Judged.{judged, judged_as, content_of, may_stand, tick_as, ordered, event_in}
-use Rattle.record_lines.specs.Lines.{Cut, Reading, at_start, begun, by_bytes, by_ending, byte_refusal, cut, lines_read, next_line, next_number, reading_of, refused_rest, rest_by_ending, stands_behind, verdict, with_byte}
+use Rattle.record_lines.specs.Lines.{Cut, Reading, at_start, begun, by_bytes, by_ending, byte_refusal, cut, lines_read, next_line, next_number, reading_of}
+use Rattle.record_lines.specs.Lines.{refused_rest, rest_by_ending, stands_behind, verdict, with_byte}
 use Rattle.record_lines.specs.declared.line.Line.{Line}
 use Rattle.record_lines.specs.declared.line.Line.TheVariants.{Tick, Event as EventLine, Order, End}
 use Rattle.record_lines.specs.declared.over.Over.{Over}

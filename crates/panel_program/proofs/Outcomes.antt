@@ -1,5 +1,5 @@
 -- What a run came to.
-use Rattle.std.proofs.Common.{◌≡◌, ◌∙◌, ◌++◌, ℕ, List, [], Option, refl, sym, subst, inl, inr}
+use Rattle.std.proofs.Common.{◌≡◌, ◌∙◌, ◌++◌, ℕ, List, [], Option, None, refl, sym, subst, inl, inr}
 use Rattle.panel_edges.specs.Contents.{Grows, GrowsByFront}
 use Rattle.panel_edges.specs.Faults.{Rose}
 use Rattle.site_types.specs.declared.retained.Retained.{Retained}
@@ -12,17 +12,30 @@ use Rattle.panel_program.specs.declared.run_end.RunEnd.TheVariants.{ReadFault}
 use Rattle.program_status.specs.declared.status.Status.TheVariants.{NoMemory, WriteFault}
 use Rattle.program_status.specs.Statuses.{number_of}
 use Rattle.panel_program.specs.Endings.{status_of, last_line}
-use Rattle.panel_program.specs.Runs.{HasMade, Input, RanOn, RanTo, RanUntil, ReadsTo, ReadsUntil}
-use Rattle.panel_program.specs.Stands.{AreTicksOf, HasRun}
+use Rattle.panel_program.specs.Runs.{HasMade, Input, RanOn, ReadsTo, ReadsUntil}
+use Rattle.panel_program.specs.Records.{at_beginning}
+use Rattle.panel_program.specs.Stands.{AreTicksOf, HasRun, Stands}
+use Rattle.run_text.proofs.PromisesHold.{are_kept}
+use Rattle.run_text.proofs.WholeTexts.{of_run}
+use Rattle.panel_program.proofs.Stood.{has_run}
 use Rattle.run_text.specs.SoFar.{opening_text, text_so_far}
 use Rattle.program_status.specs.Sayings.{Says}
 use Rattle.panel_program.proofs.Written.{grows_then, front_then, says_then}
 
 -- what a run has made is what its outcome tells
 made_by : (site : Site) (kept : Retained) (consumed : List ℕ) (ticks : List TickBlock) (run : Run) (outcome : Outcome) → AreTicksOf site consumed ticks
-    → HasRun site kept ticks run → outcome.ticks ≡ run.ticks → outcome.store_failures ≡ run.store_failures → HasMade site consumed ticks outcome
+    → HasRun site kept ticks run → outcome.ticks ≡ run.ticks → outcome.store_failures ≡ run.store_failures
+    → HasMade site kept consumed ticks outcome
 made_by site kept consumed ticks run outcome of ran count failed =
-    record { of = of; ticks = count ∙ ran.count; failed = failed ∙ ran.failed }
+    let told = of_run site kept ticks ran.can in
+    record {
+      of = of;
+      count = count ∙ ran.count;
+      failed = failed ∙ ran.failed;
+      promises = are_kept site kept ticks ran.can.valid ran.ordered;
+      form = told.0;
+      told = told.1;
+    }
 
 module _ (site : Site) (kept : Retained) (input : Input) (bytes : List ℕ) (outcome : Outcome) where
   -- memory ran out
@@ -31,15 +44,16 @@ module _ (site : Site) (kept : Retained) (input : Input) (bytes : List ℕ) (out
   ran_nothing old status ticks failed = inl (record { status = status; ticks = ticks; failures = failed; same = refl })
 
   -- the first write failed
-  pub ran_opening : (old new : Option (List ℕ)) → outcome.status ≡ number_of WriteFault → outcome.ticks ≡ 0 → outcome.store_failures ≡ 0
-      → GrowsByFront old new (opening_text site kept) → RanOn site kept input bytes old new outcome
-  ran_opening old new status ticks failed broke =
+  pub ran_opening : (old new : Option (List ℕ)) (run : Run) → Stands site kept at_beginning run → outcome.status ≡ number_of WriteFault
+      → outcome.ticks ≡ 0 → outcome.store_failures ≡ 0 → GrowsByFront old new (opening_text site kept) → RanOn site kept input bytes old new outcome
+  ran_opening old new run h status ticks failed broke =
+      let ran = has_run site kept [] None run h in
       inr (inr (record {
         consumed = [];
         rest = bytes;
         run = [];
         whole = refl;
-        made = record { of = refl; ticks = ticks; failed = failed };
+        made = made_by site kept [] [] run outcome refl ran (ticks ∙ sym ran.count) (failed ∙ sym ran.failed);
         status = status;
         broke = broke;
       }))

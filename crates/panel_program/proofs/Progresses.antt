@@ -1,21 +1,23 @@
 -- What lines make, one line more.
-use Rattle.std.proofs.Common.{◌≡◌, ◌∙◌, ◌+◌, ◌*◌, ◌≤◌, ◌++◌, ℕ, Bool, true, false, List, [], ◌∷◌, length, map, Option, Some, None, if◌then◌else◌}
-use Rattle.std.proofs.Common.{refl, sym, ap, subst, arith, length-map}
+use Rattle.std.proofs.Common.{◌≡◌, ◌+◌, ◌≤◌, ◌++◌, ℕ, Bool, false, List, [], ◌∷◌, length, Option, Some, None}
+use Rattle.std.proofs.Common.{refl, arith, length-append}
 use Rattle.std.specs.List.{fold}
 use Rattle.std.proofs.lemmas.List.Sums.{fold_push}
 use Rattle.tick_units.specs.declared.seat.Seat.{Seat}
-use Rattle.tick_units.specs.declared.task.Task.{Task}
-use Rattle.tick_units.specs.declared.task.Task.TheVariants.{Keep}
-use Rattle.tick_units.specs.Orders.{IsOrder}
 use Rattle.tick_units.proofs.OrderLaws.{length-order}
 use Rattle.site_types.specs.declared.site.Site.{Site}
+use Rattle.std.specs.Prelude.{option_map}
 use Rattle.site_types.specs.declared.event.Event.{Event}
+use Rattle.site_types.specs.declared.event.Event.TheVariants.{Point, Cable, Supply, Link, Confirmed, Op}
+use Rattle.access_levels.specs.Levels.{level_of}
+use Rattle.panel_rules.specs.Operations.{Request, and_request, request_of, requests}
 use Rattle.record_lines.specs.declared.line.Line.{Line}
 use Rattle.record_lines.specs.declared.line.Line.TheVariants.{Tick, Event as EventLine, Order, End}
-use Rattle.panel_rules.specs.Moments.{Moment, Began, Happened, TickBlock, and_events, and_turns, moments, turn_of}
+use Rattle.panel_rules.specs.Moments.{Moment, Began, Happened, Turned, Kept, TickBlock, and_events, and_turns, moments, tick_of, turn_of}
 use Rattle.panel_rules.specs.Records.{AreOrdered}
-use Rattle.panel_program.specs.Records.{Block, Progress, after_line, at_beginning, closed, closed_by, moments_by, moments_in, progress_of, recorded, ticked, with_event, with_order}
-use Rattle.run_text.specs.Failures.{as_recorded, without_failure}
+use Rattle.panel_program.specs.Records.{Block, Progress, after_line, at_beginning, closed, closed_by, moments_by, moments_in, progress_of, recorded, with_event, with_order}
+use Rattle.run_text.specs.Failures.{as_recorded}
+use Rattle.run_text.proofs.FailuresCounted.{are_the_same}
 use Rattle.panel_program.proofs.Numbers.{tick_count}
 
 pub progress_more : (site : Site) (lines : List Line) (line : Line)
@@ -43,9 +45,12 @@ closed_length failed (Some block) ticks = refl
 pub recorded_length : (p : Progress) → length (closed false (recorded p)) ≡ length (closed false p)
 recorded_length p = go p.block
   where
+    count : length (as_recorded p.run) ≡ length p.run
+    count = (are_the_same 1 p.run).0
+
     go : (o : Option Block) → length (closed_by false o (as_recorded p.run)) ≡ length (closed_by false o p.run)
-    go None = length-map without_failure p.run
-    go (Some block) = let e = length-map without_failure p.run in omega (arith, e)
+    go None = count
+    go (Some block) = let e = count in omega (arith, e)
 
 pub closed_ordered : (panels : ℕ) (failed : Bool) (o : Option Block) (ticks : List TickBlock) → AreOrdered panels (closed_by false o ticks)
     → AreOrdered panels (closed_by failed o ticks)
@@ -102,7 +107,7 @@ turns_length failed (seat ∷ seats) before =
     let ih = turns_length failed seats (turn_of failed seat.panel seat.task ∷ before) in
     omega (arith, ih)
 
-events_length : (events : List Event) (before : List Moment) → length (and_events events before) ≡ length events + length before
+pub events_length : (events : List Event) (before : List Moment) → length (and_events events before) ≡ length events + length before
 events_length [] before = omega arith
 events_length (event ∷ events) before = let ih = events_length events (Happened event ∷ before) in omega (arith, ih)
 
@@ -147,3 +152,26 @@ line_moments site failed p (Tick tick) few ordered = let l = closed_moments site
 line_moments site failed p (EventLine event) few ordered = let l = event_moments event p.block p.run in omega (arith, l)
 line_moments site failed p (Order seats) few ordered = let l = order_moments seats p.block p.run in omega (arith, l)
 line_moments site failed p End few ordered = let l = closed_moments site.panels failed p.block p.run few ordered in omega (arith, l)
+
+-- ---- how many operations were asked for
+
+asked_more : (site : Site) (tick : ℕ) (event : Event) (asked : List Request) → length (and_request site tick event asked) ≤ length asked + 1
+asked_more site tick (Op panel code operation) asked =
+    let e = length-append asked (request_of tick panel (level_of site (option_map (λ label. label.bytes) code)) operation asked ∷ []) in
+    omega (arith, e)
+asked_more site tick (Point point state) asked = omega arith
+asked_more site tick (Cable panel line piece state) asked = omega arith
+asked_more site tick (Supply panel kind bad) asked = omega arith
+asked_more site tick (Link link up) asked = omega arith
+asked_more site tick (Confirmed output) asked = omega arith
+
+-- no more than moments befell
+pub few_asked : (site : Site) (moments : List Moment) → length (requests site moments) ≤ length moments
+few_asked site [] = omega arith
+few_asked site (Began ∷ before) = let ih = few_asked site before in omega (arith, ih)
+few_asked site (Happened event ∷ before) =
+    let ih = few_asked site before in
+    let one = asked_more site (tick_of before) event (requests site before) in
+    omega (arith, ih, one)
+few_asked site (Turned panel task ∷ before) = let ih = few_asked site before in omega (arith, ih)
+few_asked site (Kept failed ∷ before) = let ih = few_asked site before in omega (arith, ih)

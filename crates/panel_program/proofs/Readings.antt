@@ -46,15 +46,20 @@ pub record IsReading (read : ℕ) (reader : LineReader) (run : Run) : Type 0 whe
   pub is_at : IsAt site kept bytes p reader run
   pub count : read ≡ length bytes
 
+pub still_within : (read : ℕ) (piece : List ℕ) (reader : LineReader) (run : Run) (r : IsReading read reader run) → read + length piece ≤ most_record_bytes
+    → AreWithin (r.bytes ++ piece)
+still_within read piece reader run r few =
+    let count = r.count in
+    let sum = length-append r.bytes piece in
+    omega (arith, few, count, sum)
+
 -- a piece of a record may be taken
 pub may_piece : (read : ℕ) (piece : List ℕ) (reader : LineReader) (run : Run) → IsReading read reader run → read + length piece ≤ most_record_bytes
     → MayPiece piece reader run
 may_piece read piece reader run r few =
-    let count = r.count in
-    let sum = length-append r.bytes piece in
     record {
       at = record { site = r.site; kept = r.kept; bytes = r.bytes; p = r.p; is_at = r.is_at };
-      within = omega (arith, few, count, sum);
+      within = still_within read piece reader run r few;
     }
 
 -- and then it was

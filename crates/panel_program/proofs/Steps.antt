@@ -1,12 +1,12 @@
 -- What a reader's answer makes of a run.
-use Rattle.std.proofs.Common.{◌≡◌, ◌∙◌, ◌+◌, ◌-◌, ◌*◌, ◌^◌, ◌<◌, ◌≤◌, ◌++◌, ℕ, true, false, List, [], ◌∷◌, length, take, drop, take-append-drop, Option, Some, None}
-use Rattle.std.proofs.Common.{Bool, Result, Ok, Err, refl, sym, ap, subst, arith, lit<, append-nil, length-append}
+use Rattle.std.proofs.Common.{◌≡◌, ◌∙◌, ◌-◌, ◌*◌, ◌^◌, ◌<◌, ◌≤◌, ◌++◌, ℕ, false, List, [], ◌∷◌, length, take, drop, take-append-drop, Option, Some, None}
+use Rattle.std.proofs.Common.{Bool, Result, Ok, Err, sym, ap, subst, arith, lit<, append-nil, length-append}
 use Rattle.panel_edges.specs.Limits.{most_record_bytes}
 use Rattle.site_types.specs.declared.retained.Retained.{Retained}
 use Rattle.site_types.specs.declared.site.Site.{Site}
 use Rattle.panel_edges.specs.declared.failed.Failed.{Failed}
 use Rattle.panel_edges.proofs.Growing.{grows_same, grows_none}
-use Rattle.panel_rules.specs.Moments.{Moment, TickBlock}
+use Rattle.panel_rules.specs.Moments.{TickBlock}
 use Rattle.record_lines.specs.Belongs.{StepBelongs}
 use Rattle.record_lines.specs.Judged.{line_view}
 use Rattle.record_lines.specs.Lines.{ends_with, reading_of}

@@ -1,9 +1,8 @@
 -- What a run stands for after each of its steps.
-use Rattle.std.proofs.Common.{◌≡◌, ◌∙◌, ◌+◌, ◌-◌, ◌^◌, ◌<◌, ◌≤◌, ◌++◌, ℕ, Bool, true, false, List, [], ◌∷◌, length, map, Option, Some, None}
-use Rattle.std.proofs.Common.{if◌then◌else◌, refl, sym, ap, subst, arith, lit<, lit≤, length-map-range_with_len}
-use Rattle.std.specs.List.{range_with_len}
+use Rattle.std.proofs.Common.{◌≡◌, ◌∙◌, ◌+◌, ◌-◌, ◌^◌, ◌<◌, ◌≤◌, ◌++◌, Bool, true, false, List, [], ◌∷◌, length, Option, Some, None}
+use Rattle.std.proofs.Common.{refl, sym, ap, subst, arith, lit<, lit≤}
+use Rattle.std.proofs.lemmas.List.FromFn.{length-map-range_with_len}
 use Rattle.std.proofs.lemmas.List.Sorted.{IsPermutation-refl}
-use Rattle.tick_units.specs.declared.seat.Seat.{Seat}
 use Rattle.tick_units.specs.Orders.{IsOrder, canonical_seats}
 use Rattle.tick_units.specs.Ticks.{last_tick}
 use Rattle.site_types.specs.declared.event.Event.{Event}
@@ -13,8 +12,8 @@ use Rattle.site_types.specs.Changes.{AreCounters}
 use Rattle.site_types.specs.Valid.{IsValid}
 use Rattle.face_text.specs.declared.face.Face.{Face}
 use Rattle.keep_turn.specs.declared.store.Store.{Store}
+use Rattle.panel_edges.specs.declared.sound_memory_sink.SoundMemorySink.{SoundMemorySink}
 use Rattle.panel_rules.specs.Moments.{Moment, Began, Happened, TickBlock, IsRun, moments, and_events, and_turns, tick_of}
-use Rattle.panel_rules.specs.Operations.{requests}
 use Rattle.panel_rules.specs.Records.{AreOrdered}
 use Rattle.panel_rules.specs.Timeline.{face_of, faces_of}
 use Rattle.panel_rules.proofs.RecordRuns.{records_are_runs}
@@ -23,13 +22,15 @@ use Rattle.panel_core.specs.Keeping.{HasTurned, KeepsRun, MayTurnAll, has_failed
 use Rattle.panel_core.specs.Stands.{StandsFor as SystemStands}
 use Rattle.retained_journal.specs.declared.journal.Journal.{Journal}
 use Rattle.panel_program.specs.declared.run.Run.{Run}
-use Rattle.panel_program.specs.Acting.{MakesTick, TurnsAll}
+use Rattle.panel_program.specs.Acting.{MakesTick, MayShow, TurnsAll, failures_with}
 use Rattle.panel_program.specs.Journals.{IsOpenFor}
 use Rattle.panel_program.specs.Records.{Block, Progress, at_beginning, closed, closed_by, moments_by, new_block, ticked, with_event}
 use Rattle.panel_program.specs.Stands.{AreFew, HasRun, MayClose, Stands, after_close, order_by}
 use Rattle.run_text.specs.Failures.{failures}
 use Rattle.run_text.proofs.TickTimes.{tick_moments}
-use Rattle.panel_program.proofs.Progresses.{closed_ordered, same_moments}
+use Rattle.panel_laws.specs.OperationLaws.{AreEventsOf}
+use Rattle.panel_laws.proofs.EventsOfSite.{of_site}
+use Rattle.panel_program.proofs.Progresses.{closed_ordered, events_length, same_moments}
 
 -- ---- the tick of a record's moments
 
@@ -81,7 +82,7 @@ begun site kept ticks old system h stands few short =
       valid = h.valid;
       counters = h.counters;
       system = stands;
-      journal = record { keeps = h.journal.keeps; wide = h.journal.wide };
+      journal = record { keeps = h.journal.keeps; wide = h.journal.wide; torn = h.journal.torn };
       tried = h.tried;
       open_is = refl;
       canonical = h.canonical;
@@ -112,7 +113,7 @@ told_by site kept ticks (Some block) old event system h open_is stands short =
       valid = h.valid;
       counters = h.counters;
       system = subst (λ ms. SystemStands site kept ms system) more stands;
-      journal = subst (λ ms. KeepsRun site kept ms old.journal) more (record { keeps = h.journal.keeps; wide = h.journal.wide });
+      journal = subst (λ ms. KeepsRun site kept ms old.journal) more (record { keeps = h.journal.keeps; wide = h.journal.wide; torn = h.journal.torn });
       tried = h.tried;
       open_is = h.open_is;
       canonical = h.canonical;
@@ -192,10 +193,6 @@ may_turn_by site kept ticks (Some block) run h open_is = may_turn_block site kep
 pub may_turn : (run : Run) (r : MayClose run) → MayTurnAll (order_by run.order run.canonical) run.journal run.system
 may_turn run r = may_turn_by r.site r.kept r.p.run r.p.block run r.stands r.open_is
 
--- the number of failed ticks with one more
-abbrev pub failures_with : Bool → ℕ → ℕ
-failures_with failed n = if failed then n + 1 else n
-
 -- the tick of a run was made, after the turns of its seats
 pub record TickMade (store : Store) (turned run : Run) : Type 0 where
   pub system : run.system ≡ turned.system
@@ -269,11 +266,11 @@ ticks_few site kept p run h = let few = h.few in let count = h.count in let le =
 
 failures_few : (ticks : List TickBlock) → failures ticks ≤ length ticks
 failures_few [] = omega arith
-failures_few (tick ∷ ticks) = go tick.failed
+failures_few (tick ∷ ticks) = go tick.failed (failures_few ticks)
   where
-    go : (b : Bool) → (if b then failures ticks + 1 else failures ticks) ≤ length ticks + 1
-    go true = let ih = failures_few ticks in omega (arith, ih)
-    go false = let ih = failures_few ticks in omega (arith, ih)
+    go : (b : Bool) → failures ticks ≤ length ticks → failures_with b (failures ticks) ≤ length (tick ∷ ticks)
+    go true ih = omega (arith, ih)
+    go false ih = omega (arith, ih)
 
 -- and so does that of the failed ones
 pub failed_few : (site : Site) (kept : Retained) (p : Progress) (run : Run) → Stands site kept p run → run.store_failures ≤ last_tick
@@ -294,11 +291,85 @@ pub shut : (site : Site) (kept : Retained) (p : Progress) (run : Run) → Stands
     → (p.block ≡ None) × Stands site kept (after_close false p) run
 shut site kept p run h is = shut_by site kept p.run p.block run h is
 
--- what has been run
+-- ---- what has been run
+
+events_behind : (site : Site) (events : List Event) (past : List Moment) → AreEventsOf site (and_events events past) → AreEventsOf site past
+events_behind site [] past h = h
+events_behind site (event ∷ events) past h = (events_behind site events (Happened event ∷ past) h).0
+
+run_events : (site : Site) (o : Option Block) (ticks : List TickBlock) → AreEventsOf site (moments_by o ticks) → AreEventsOf site (moments ticks)
+run_events site None ticks h = h
+run_events site (Some block) ticks h = events_behind site block.events (Began ∷ moments ticks) h
+
+run_moments : (o : Option Block) (ticks : List TickBlock) → length (moments ticks) ≤ length (moments_by o ticks)
+run_moments None ticks = omega arith
+run_moments (Some block) ticks = let e = events_length block.events (Began ∷ moments ticks) in omega (arith, e)
+
+run_ordered : (site : Site) (o : Option Block) (ticks : List TickBlock) → AreOrdered site.panels (closed_by false o ticks) → AreOrdered site.panels ticks
+run_ordered site None ticks h = h
+run_ordered site (Some block) ticks h = h.0
+
 pub has_run : (site : Site) (kept : Retained) (ticks : List TickBlock) (o : Option Block) (run : Run)
     → Stands site kept (record { run = ticks; block = o }) run → HasRun site kept ticks run
-has_run site kept ticks o run h = record { counters = h.counters; count = h.count; failed = h.failed; ordered = ordered_by o h.ordered }
-  where
-    ordered_by : (o : Option Block) → AreOrdered site.panels (closed_by false o ticks) → AreOrdered site.panels ticks
-    ordered_by None g = g
-    ordered_by (Some block) g = g.0
+has_run site kept ticks o run h =
+    let ordered = run_ordered site o ticks h.ordered in
+    let short = h.short in
+    let part = run_moments o ticks in
+    record {
+      can = record {
+        valid = h.valid;
+        run = (records_are_runs site.panels ticks ordered).0;
+        of_site = of_site site (moments ticks) (run_events site o ticks h.system.events);
+        counters = h.counters;
+        few = omega (arith, short, part);
+      };
+      count = h.count;
+      failed = h.failed;
+      ordered = ordered;
+    }
+
+-- the page isn't looked at
+pub with_page : (site : Site) (kept : Retained) (p : Progress) (run : Run) (page : SoundMemorySink) → Stands site kept p run
+    → Stands site kept p (record run { page = page })
+with_page site kept p run page h =
+    record {
+      valid = h.valid;
+      counters = h.counters;
+      system = h.system;
+      journal = h.journal;
+      tried = h.tried;
+      open_is = h.open_is;
+      canonical = h.canonical;
+      order_is = h.order_is;
+      ordered = h.ordered;
+      shown = h.shown;
+      room = h.room;
+      count = h.count;
+      failed = h.failed;
+      few = h.few;
+      short = h.short;
+    }
+
+may_show_by : (site : Site) (kept : Retained) (ticks : List TickBlock) (o : Option Block) (old turned : Run) (store : Store)
+    → Stands site kept (record { run = ticks; block = o }) old → old.is_open ≡ true → TurnsAll old store turned → MayShow turned.system turned.next.items
+may_show_by site kept ticks None old turned store h open_is turns = not_open (sym open_is ∙ h.open_is)
+may_show_by site kept ticks (Some block) old turned store h open_is turns =
+    let turned_so = turned_block site kept ticks block old h store turned turns in
+    record {
+      site = site;
+      kept = kept;
+      before = moments (ticked (has_failed store) block ∷ ticks);
+      stands = turned_so.stands;
+      room = ap (λ (r : Run). length r.next.items) turns.rest ∙ h.room;
+    }
+
+-- what is shown may be asked for once the turns were made
+pub may_show : (old turned : Run) (store : Store) (r : MayClose old) → TurnsAll old store turned → MayShow turned.system turned.next.items
+may_show old turned store r turns = may_show_by r.site r.kept r.p.run r.p.block old turned store r.stands r.open_is turns
+
+-- there is a face of each panel, before and after
+pub same_room : (site : Site) (kept : Retained) (p : Progress) (run : Run) → Stands site kept p run → length run.shown.items ≡ length run.next.items
+same_room site kept p run h =
+    ap (λ (fs : List Face). length fs) h.shown
+    ∙ length-map-range_with_len (λ panel. face_of site kept panel (moments p.run)) 1 site.panels
+    ∙ sym h.room

@@ -1,5 +1,5 @@
 -- What a line makes of a run.
-use Rattle.std.proofs.Common.{◌≡◌, ◌∙◌, ◌+◌, ◌-◌, ◌^◌, ◌<◌, ◌≤◌, ◌++◌, ℕ, Bool, true, false, List, [], ◌∷◌, length, Option, Some, None, Result, Ok, Err}
+use Rattle.std.proofs.Common.{◌≡◌, ℕ, Bool, false, List, [], Option, Some, None, Result, Ok, Err}
 use Rattle.std.proofs.Common.{refl, sym, ap, subst, arith, append-nil}
 use Rattle.std.specs.Result.{IsErr}
 use Rattle.tick_units.specs.Orders.{IsOrder}
@@ -18,7 +18,7 @@ use Rattle.record_lines.specs.declared.line.Line.TheVariants.{Tick, Event as Eve
 use Rattle.panel_program.specs.declared.run.Run.{Run}
 use Rattle.panel_program.specs.declared.run_end.RunEnd.{RunEnd}
 use Rattle.panel_program.specs.declared.run_end.RunEnd.TheVariants.{Ended}
-use Rattle.panel_program.specs.Acting.{Closes, ClosesBadly, ClosesWell, TellsEvent}
+use Rattle.panel_program.specs.Acting.{ClosesBadly, ClosesWell, TellsEvent}
 use Rattle.panel_program.specs.Records.{Progress, after_line, closed, new_block, with_order}
 use Rattle.panel_program.specs.Stands.{AreFew, HasRun, MayCome, OpensTick, Stands, StandsClosed, Takes, Writes, WritesPart}
 use Rattle.run_text.specs.SoFar.{text_so_far}

@@ -1,5 +1,5 @@
 -- What each step makes of a run.
-use Rattle.std.specs.Prelude.{◌≡◌, ◌+◌, ◌≤◌, ℕ, Bool, false, List, length, Option}
+use Rattle.std.specs.Prelude.{◌≡◌, ◌+◌, ◌≤◌, ℕ, Bool, false, List, length, Option, if◌then◌else◌}
 use Rattle.site_types.specs.declared.event.Event.{Event}
 use Rattle.site_types.specs.declared.retained.Retained.{Retained}
 use Rattle.site_types.specs.declared.site.Site.{Site}
@@ -37,6 +37,10 @@ TellsEvent event old run =
     (site : Site) (kept : Retained) (p : Progress) → Stands site kept p old
     → AreFew (moments_in (after_line site false p (EventLine (event_view event))))
     → Stands site kept (after_line site false p (EventLine (event_view event))) run
+
+-- a number of failed ticks, with one more where Keep's turn failed
+abbrev pub failures_with : Bool → ℕ → ℕ
+failures_with failed n = if failed then n + 1 else n
 
 -- each seat had its turn, and Keep's answered so
 pub record TurnsAll (old : Run) (store : Store) (run : Run) : Type 0 where

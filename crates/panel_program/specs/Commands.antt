@@ -1,5 +1,6 @@
 -- What each command answers.
 use Rattle.std.specs.Prelude.{◌≡◌, ◌⊎◌, ℕ, List, [], ◌∷◌, Option, IfSome, Result, Ok, Err}
+use Rattle.panel_edges.specs.Faults.{Rose}
 use Rattle.panel_edges.specs.Shelves.{file_of}
 use Rattle.site_types.specs.declared.site.Site.{Site}
 use Rattle.panel_program.specs.declared.command.Command.{Command}
@@ -11,9 +12,10 @@ use Rattle.panel_program.specs.declared.stop.Stop.{Stop}
 use Rattle.panel_program.specs.Lines.{counts_line, usage_line}
 use Rattle.panel_program.specs.Refusals.{stop_status, stop_text}
 use Rattle.panel_program.specs.Matrix.{IsMatrix}
-use Rattle.panel_program.specs.Runs.{Input, Ran, RanNothing}
+use Rattle.panel_program.specs.Runs.{Files, Input, Ran, RanNothing}
 use Rattle.panel_program.specs.Sites.{Loads, file_digest}
 use Rattle.program_status.specs.Sayings.{Says}
+use Rattle.panel_program.specs.Words.{command_of}
 
 -- the word that names the site
 abbrev pub site_word : List (List ℕ) → List ℕ
@@ -63,3 +65,14 @@ Answers Matrix name rose files input seen old new outcome =
     IfSome files (λ held. AnswersBy rose (file_of name held) (Draws old new outcome))
 Answers Run name rose files input seen old new outcome = IfSome files (λ held. AnswersBy rose (file_of name held)
     (Runs (file_digest (file_of name held)) input seen old new outcome))
+
+-- the same, by what a shelf of files and an input are before a call and after it
+abbrev pub AnswersCommand : Command → List ℕ → Files → Option (List ℕ) → Option (List ℕ) → Option (List ℕ) → Input
+    → Outcome → Type 0
+AnswersCommand command name files seen old new input outcome =
+    Answers command name (Rose files.faults_before files.faults_after) files.held input seen old new outcome
+
+-- what a call with these words answers
+abbrev pub AnswersWords : List (List ℕ) → Files → Option (List ℕ) → Option (List ℕ) → Option (List ℕ) → Input
+    → Outcome → Type 0
+AnswersWords words = AnswersCommand (command_of words) (site_word words)

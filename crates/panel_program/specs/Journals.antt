@@ -6,7 +6,8 @@ use Rattle.site_types.specs.declared.site.Site.{Site}
 use Rattle.keep_batch.specs.MakingLaws.{is_wide}
 use Rattle.retained_journal.specs.declared.journal.Journal.{Journal}
 use Rattle.retained_journal.specs.declared.open_refusal.OpenRefusal.{OpenRefusal}
-use Rattle.retained_journal.specs.declared.open_refusal.OpenRefusal.TheVariants.{Damaged, DiskFault, NotAJournal, OtherSite}
+use Rattle.retained_journal.specs.declared.open_refusal.OpenRefusal.TheVariants.{Damaged, DiskFault, NotAJournal}
+use Rattle.retained_journal.specs.declared.open_refusal.OpenRefusal.TheVariants.{OtherSite}
 use Rattle.retained_journal.specs.Images.{IsSound}
 use Rattle.retained_journal.specs.Outcomes.{IsKeptIn}
 use Rattle.panel_core.specs.Keeping.{KeepsRun}
@@ -31,7 +32,8 @@ other_file_text mark = codes "refused journal 1 " ++ encode_lower mark ++ codes 
 
 -- the digests of the site that is kept and of the site that is given
 abbrev pub other_site_text : List ℕ → List ℕ → List ℕ
-other_site_text kept given = codes "refused journal 2 " ++ encode_lower kept ++ codes " " ++ encode_lower given ++ codes "\n"
+other_site_text kept given =
+    codes "refused journal 2 " ++ encode_lower kept ++ codes " " ++ encode_lower given ++ codes "\n"
 
 -- the offset of the first byte that is out of its form, and the byte
 abbrev pub damage_text : ℕ → ℕ → List ℕ

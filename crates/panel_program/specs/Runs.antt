@@ -1,12 +1,17 @@
 -- What a run over the bytes of a record comes to.
-use Rattle.std.specs.Prelude.{◌≡◌, ◌⊎◌, ◌+◌, ◌-◌, ◌^◌, ◌<◌, ◌≤◌, ℕ, List, [], ◌++◌, length, Option, Some, Result, Ok, Err}
+use Rattle.std.specs.Prelude.{◌≡◌, ◌⊎◌, ◌+◌, ◌-◌, ◌^◌, ◌<◌, ◌≤◌, ℕ, List, [], ◌++◌, length, Option, Some}
+use Rattle.std.specs.Prelude.{Result, Ok, Err}
 use Rattle.panel_edges.specs.Contents.{GrowsByFront}
 use Rattle.panel_edges.specs.Faults.{Rose}
 use Rattle.panel_edges.specs.Limits.{most_record_bytes}
 use Rattle.panel_edges.specs.declared.failed.Failed.{Failed}
 use Rattle.site_types.specs.declared.retained.Retained.{Retained}
 use Rattle.site_types.specs.declared.site.Site.{Site}
-use Rattle.panel_rules.specs.Moments.{TickBlock}
+use Rattle.face_text.specs.Timelines.{IsInForm, text_of}
+use Rattle.panel_rules.specs.Moments.{TickBlock, moments}
+use Rattle.panel_rules.specs.Timeline.{timeline_of}
+use Rattle.run_text.specs.RunPromises.{KeepsPromises}
+use Rattle.run_text.specs.TextLaws.{whole_text}
 use Rattle.retained_journal.specs.declared.open_refusal.OpenRefusal.{OpenRefusal}
 use Rattle.retained_journal.specs.Outcomes.{IsRefusalOf}
 use Rattle.keep_batch.specs.MakingLaws.{is_wide}
@@ -59,12 +64,17 @@ module _ (site : Site) (kept : Retained) (bytes : List ℕ) (left old new : Opti
   ReadsRecord run (Ok end) = ReadsTo run end
   ReadsRecord run (Err failed) = ReadsUntil run
 
--- the ticks that a run made of the bytes that were read, and in which of them Keep's turn failed: as many as the
--- outcome tells
-pub record HasMade (site : Site) (consumed : List ℕ) (ticks : List TickBlock) (outcome : Outcome) : Type 0 where
+-- The ticks that a run made of the bytes that were read, and in which of them Keep's turn failed: as many as the
+-- outcome tells. What is due is shown in them and nothing without its cause, and with the last line their text is that
+-- of the one timeline that they have, which is in form.
+pub record HasMade (site : Site) (kept : Retained) (consumed : List ℕ) (ticks : List TickBlock) (outcome : Outcome) :
+    Type 0 where
   pub of : AreTicksOf site consumed ticks
-  pub ticks : outcome.ticks ≡ length ticks
+  pub count : outcome.ticks ≡ length ticks
   pub failed : outcome.store_failures ≡ failures ticks
+  pub promises : KeepsPromises site kept ticks
+  pub form : IsInForm site (timeline_of site kept (moments ticks))
+  pub told : whole_text site kept ticks ≡ text_of site (timeline_of site kept (moments ticks))
 
 -- the failed ticks are no more than the disk's count of faults rose by, unless that stands at its last value
 pub record BlamesStores (outcome : Outcome) (before after : ℕ) : Type 0 where
@@ -82,6 +92,16 @@ pub record Input : Type 0 where
 abbrev pub input_of : {S : Type 0} → (S → Option (List ℕ)) → (S → ℕ) → S → S → Input
 input_of left faults old new =
     record { before = left old; after = left new; faults_before = faults old; faults_after = faults new }
+
+-- the files that a shelf tells, where it tells them, and how many of its reads have failed before a call and after it
+pub record Files : Type 0 where
+  pub held : Option (List (List ℕ × List ℕ))
+  pub faults_before : ℕ
+  pub faults_after : ℕ
+
+abbrev pub files_of : {F : Type 0} → (F → Option (List (List ℕ × List ℕ))) → (F → ℕ) → F → F → Files
+files_of held faults old new =
+    record { held = held old; faults_before = faults old; faults_after = faults new }
 
 -- memory ran out before anything was written
 pub record RanNothing (old new : Option (List ℕ)) (outcome : Outcome) : Type 0 where
@@ -102,7 +122,7 @@ module _ (site : Site) (kept : Retained) (input : Input) (bytes : List ℕ) (old
     pub ended : EndsRun site bytes consumed end
     -- a read failed, and what was read holds neither the end nor a refused line
     pub fault : end ≡ ReadFault → Rose input.faults_before input.faults_after × (input.after ≡ Some rest)
-    pub made : HasMade site consumed run outcome
+    pub made : HasMade site kept consumed run outcome
     pub says : Says (status_of end) (text_so_far site kept run ++ last_line outcome.ticks end) old new
         outcome.status
 
@@ -112,7 +132,7 @@ module _ (site : Site) (kept : Retained) (input : Input) (bytes : List ℕ) (old
     pub rest : List ℕ
     pub run : List TickBlock
     pub whole : bytes ≡ consumed ++ rest
-    pub made : HasMade site consumed run outcome
+    pub made : HasMade site kept consumed run outcome
     pub status : outcome.status ≡ number_of WriteFault
     pub broke : GrowsByFront old new (text_so_far site kept run)
 

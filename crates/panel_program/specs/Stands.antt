@@ -1,8 +1,8 @@
 -- What a run stands for, after some lines of its record.
-use Rattle.std.specs.Prelude.{◌≡◌, ◌+◌, ◌-◌, ◌*◌, ◌^◌, ◌<◌, ◌≤◌, ℕ, Bool, true, false, List, [], ◌++◌, length, take, Option}
-use Rattle.std.specs.Prelude.{Some, None, Result, Ok, Err, is_some}
+use Rattle.std.specs.Prelude.{◌≡◌, ◌+◌, ◌-◌, ◌*◌, ◌^◌, ◌<◌, ◌≤◌, ℕ, Bool, true, false, List, ◌++◌, length, take}
+use Rattle.std.specs.Prelude.{Option, Some, None, Result, Ok, Err, is_some}
 use Rattle.tick_units.specs.declared.seat.Seat.{Seat}
-use Rattle.tick_units.specs.Orders.{canonical_seats}
+use Rattle.tick_units.specs.Orders.{IsOrder, canonical_seats}
 use Rattle.tick_units.specs.Ticks.{last_tick}
 use Rattle.site_types.specs.declared.event.Event.{Event}
 use Rattle.site_types.specs.declared.retained.Retained.{Retained}
@@ -23,6 +23,7 @@ use Rattle.record_lines.specs.Stands.{StandsFor as ReadsFor}
 use Rattle.panel_edges.specs.Limits.{most_record_bytes}
 use Rattle.panel_edges.specs.declared.failed.Failed.{Failed}
 use Rattle.panel_rules.specs.Moments.{Moment, TickBlock, moments}
+use Rattle.panel_laws.specs.FormLaws.{CanBeTold}
 use Rattle.panel_rules.specs.Records.{AreOrdered}
 use Rattle.panel_rules.specs.Timeline.{faces_of}
 use Rattle.panel_core.specs.Keeping.{KeepsRun}
@@ -31,6 +32,7 @@ use Rattle.panel_program.specs.declared.run.Run.{Run}
 use Rattle.panel_program.specs.declared.run_end.RunEnd.{RunEnd}
 use Rattle.panel_program.specs.declared.run_end.RunEnd.TheVariants.{Ended, Refused, TooManyBytes, ReadFault}
 use Rattle.panel_program.specs.Records.{Block, Progress, at_beginning, closed, after_line, new_block, progress_of}
+use Rattle.panel_program.specs.Records.{with_order}
 use Rattle.panel_program.specs.Records.{moments_in, recorded, ticks_run}
 use Rattle.run_text.specs.Failures.{as_recorded}
 use Rattle.panel_program.specs.declared.taken.Taken.{Taken}
@@ -137,7 +139,7 @@ after_close failed p = record { run = closed failed p; block = None }
 
 -- the run has run these ticks
 pub record HasRun (site : Site) (kept : Retained) (ticks : List TickBlock) (run : Run) : Type 0 where
-  pub counters : AreCounters kept.counters
+  pub can : CanBeTold site kept (moments ticks)
   pub count : run.ticks ≡ length ticks
   pub failed : run.store_failures ≡ failures ticks
   pub ordered : AreOrdered site.panels ticks
@@ -178,6 +180,18 @@ module _ (site : Site) (kept : Retained) where
   Takes p line old new run (Ok (Some ReadFault)) = ⊥
   Takes p line old new run (Err failed) = Fails p line old new run
 
+-- a line that may come was taken, whatever lines came before it
+abbrev pub HasTakenLine : Line → Option (List ℕ) → Option (List ℕ) → Run → Run → Result (Option RunEnd) Failed → Type 0
+HasTakenLine line old new before run result =
+    (site : Site) (kept : Retained) (p : Progress) → Stands site kept p before → MayCome site p line
+    → Takes site kept p line old new run result
+
+-- the open tick was given an order of its turns
+abbrev pub HasOrder : List Seat → Run → Run → Type 0
+HasOrder order before run =
+    (site : Site) (kept : Retained) (p : Progress) → Stands site kept p before → IsOrder site.panels order
+    → Stands site kept (record { run = p.run; block = with_order order p.block }) run
+
 -- what a reader answered may come
 abbrev pub MayStep : Site → Progress → Step → Type 0
 MayStep site p Need = Unit {0}
@@ -198,6 +212,12 @@ TakesStep site kept p Need old new before run result = (result ≡ Ok None) × (
 TakesStep site kept p (LineStep line) old new before run result = Takes site kept p line old new run result
 TakesStep site kept p (RefusedStep refusal) old new before run result =
     (result ≡ Ok (Some (Refused refusal))) × (new ≡ old) × (run ≡ before)
+
+-- what a reader answered was taken, if it may come, whatever came before it
+abbrev pub HasTakenStep : Step → Option (List ℕ) → Option (List ℕ) → Run → Run → Result (Option RunEnd) Failed → Type 0
+HasTakenStep step old new before run result =
+    (site : Site) (kept : Retained) (p : Progress) → Stands site kept p before → MayStep site p step
+    → TakesStep site kept p step old new before run result
 
 -- ---- bytes
 
@@ -294,3 +314,18 @@ module _ (site : Site) (kept : Retained) (p : Progress) where
   TakesPiece before piece old new reader run (Ok None) = GoesOnAt (before ++ piece) old new reader run
   TakesPiece before piece old new reader run (Ok (Some end)) = EndsIn before piece end old new run
   TakesPiece before piece old new reader run (Err failed) = BreaksOff before piece old new run
+
+-- the next line of a piece, or the piece, was taken behind whatever bytes came before it
+abbrev pub TakesBehind : (Site → Retained → Progress → List ℕ → Type 0) → List ℕ → LineReader → Run → Type 0
+TakesBehind Does piece reader run = (site : Site) (kept : Retained) (before : List ℕ) (p : Progress)
+    → IsAt site kept before p reader run → AreWithin (before ++ piece) → Does site kept p before
+
+abbrev pub HasTakenNext : List ℕ → Option (List ℕ) → Option (List ℕ) → LineReader → Run → LineReader → Run
+    → Result Taken Failed → Type 0
+HasTakenNext piece old new before from reader run result =
+    TakesBehind (λ site kept p bytes. TakesNext site kept p bytes piece old new reader run result) piece before from
+
+abbrev pub HasTakenPiece : List ℕ → Option (List ℕ) → Option (List ℕ) → LineReader → Run → LineReader → Run
+    → Result (Option RunEnd) Failed → Type 0
+HasTakenPiece piece old new before from reader run result =
+    TakesBehind (λ site kept p bytes. TakesPiece site kept p bytes piece old new reader run result) piece before from

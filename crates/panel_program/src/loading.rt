@@ -22,7 +22,8 @@ use std::alloc::Global;
 /// The site of this name with the plan of its markers and the digest of its file.
 pub fn load<F: Shelf>(alloc: Global, name: &str, shelf: &mut F) -> Result<Loaded, Stop>
     ensures told { IfSome (F.files shelf.old)
-        (λ held. Loads (file_of name.now held) (site_of result)) }
+        (λ held. Loads (Rose (F.faults shelf.old) (F.faults shelf.new)) (file_of name.now held)
+        (site_of result)) }
     ensures valid { IfOk result IsLoaded }
     ensures digest { IfSome (F.files shelf.old)
         (λ held. IfOk result (λ loaded. loaded.digest ≡ file_digest (file_of name.now held))) }

@@ -2,12 +2,10 @@ ghost use Rattle.std.specs.Prelude.{◌≡◌, ◌≢◌, ◌⊎◌, IfSome, Ok,
 ghost use Rattle.cause_effect.specs.Stands.{IsPlanOf};
 ghost use Rattle.panel_edges.specs.Faults.{Rose};
 ghost use Rattle.panel_edges.specs.Shelves.{file_of};
-ghost use Rattle.panel_program.specs.Commands.{Answers, AnswersBy, Checks, Draws, Runs, site_word};
-ghost use Rattle.panel_program.specs.Runs.{BlamesStores, input_of};
-ghost use Rattle.panel_program.specs.Sites.{file_digest};
+ghost use Rattle.panel_program.specs.Commands.{AnswersBy, AnswersCommand, AnswersWords, Checks, Draws};
+ghost use Rattle.panel_program.specs.Runs.{BlamesStores, files_of, input_of};
 ghost use Rattle.program_status.specs.Statuses.{BlamesDisk, BlamesReads, BlamesWrites, IsSilentWithoutMemory};
 ghost use Rattle.program_status.specs.Statuses.{number_of};
-ghost use Rattle.panel_program.specs.Words.{command_of as command_by};
 ghost use Rattle.site_types.specs.Valid.{IsValid};
 
 use crate::command::{Command, command_of};
@@ -34,10 +32,9 @@ pub fn panel<F: Shelf, S: Source, K: Sink, D: Disk>(
     out: &mut K,
     disk: &mut D,
 ) -> Outcome
-    ensures answers { Answers (command_by (map string_bytes words.now))
-        (site_word (map string_bytes words.now)) (Rose (F.faults shelf.old) (F.faults shelf.new))
-        (F.files shelf.old) (input_of S.left S.read_faults input.old input.new)
-        (D.seen disk.old) (K.written out.old) (K.written out.new) result }
+    ensures answers { AnswersWords (map string_bytes words.now)
+        (files_of F.files F.faults shelf.old shelf.new) (D.seen disk.old) (K.written out.old)
+        (K.written out.new) (input_of S.left S.read_faults input.old input.new) result }
     ensures read { result.status ≡ number_of Status.ReadFault
         → Rose (F.faults shelf.old) (F.faults shelf.new)
         ⊎ Rose (S.read_faults input.old) (S.read_faults input.new) }
@@ -117,11 +114,9 @@ fn run<F: Shelf, S: Source, K: Sink, D: Disk>(
     out: &mut K,
     disk: &mut D,
 ) -> Outcome
-    ensures answers { IfSome (F.files shelf.old) (λ held. AnswersBy
-        (Rose (F.faults shelf.old) (F.faults shelf.new)) (file_of name.now held)
-        (Runs (file_digest (file_of name.now held))
-        (input_of S.left S.read_faults input.old input.new) (D.seen disk.old)
-        (K.written out.old) (K.written out.new) result)) }
+    ensures answers { AnswersCommand Command.Run name.now
+        (files_of F.files F.faults shelf.old shelf.new) (D.seen disk.old) (K.written out.old)
+        (K.written out.new) (input_of S.left S.read_faults input.old input.new) result }
     ensures read { result.status ≡ number_of Status.ReadFault
         → Rose (F.faults shelf.old) (F.faults shelf.new)
         ⊎ Rose (S.read_faults input.old) (S.read_faults input.new) }

@@ -1,18 +1,17 @@
 //! Reading a record, tick by tick.
 
 ghost use Rattle.std.specs.Prelude.{◌≡◌, ◌≢◌, ◌<◌, ◌≤◌, ◌↔◌, [], List, ℕ, IfOk, IfSome, OnErr, Ok, length, take};
-ghost use Rattle.std.specs.Prelude.{◌++◌};
 ghost use Rattle.panel_core.specs.Stands.{HasPlan};
 ghost use Rattle.panel_edges.specs.Contents.{Consumes};
 ghost use Rattle.panel_edges.specs.Faults.{HasCause, Rose};
 ghost use Rattle.panel_program.specs.Disks.{KeepsOn};
 ghost use Rattle.panel_program.specs.Endings.{last_line as last_text, status_of as status_of_end};
 ghost use Rattle.panel_program.specs.Journals.{IsOpenFor};
-ghost use Rattle.panel_program.specs.Records.{Progress, at_beginning};
+ghost use Rattle.panel_program.specs.Records.{at_beginning};
 ghost use Rattle.panel_program.specs.Runs.{BlamesStores, Ran, RanOn, ReadsRecord, input_of};
 ghost use Rattle.panel_program.specs.Sites.{IsLoaded};
-ghost use Rattle.panel_program.specs.Stands.{AreWithin, IsAt, MayPiece, MayStep, MayStepSome, Stands};
-ghost use Rattle.panel_program.specs.Stands.{StandsAtBeginning, TakesNext, TakesPiece, TakesStep};
+ghost use Rattle.panel_program.specs.Stands.{HasTakenNext, HasTakenPiece, HasTakenStep, MayPiece, MayStepSome};
+ghost use Rattle.panel_program.specs.Stands.{Stands, StandsAtBeginning};
 ghost use Rattle.program_status.specs.Statuses.{BlamesDisk, BlamesReads, BlamesWrites, IsSilentWithoutMemory};
 ghost use Rattle.program_status.specs.Statuses.{number_of};
 ghost use Rattle.program_status.specs.Sayings.{Says};
@@ -170,10 +169,8 @@ fn take_piece<K: Sink, D: Disk>(
 ) -> Result<Option<RunEnd>, Failed>
     requires may { MayPiece piece.now reader.old run.old }
     requires stands { StandsOn D.honest D.images disk.old run.old.journal }
-    ensures takes { (site : SiteOf) (kept : RetainedOf) (before : List ℕ) (p : Progress)
-        → IsAt site kept before p reader.old run.old → AreWithin (before ++ piece.now)
-        → TakesPiece site kept p before piece.now (K.written out.old) (K.written out.new)
-        reader.new run.new result }
+    ensures takes { HasTakenPiece piece.now (K.written out.old) (K.written out.new) reader.old
+        run.old reader.new run.new result }
     ensures disk { KeepsOn D.honest D.images D.faults disk.old disk.new run.old run.new }
     ensures cause { HasCause (K.write_faults out.old) (K.write_faults out.new) result }
 {
@@ -199,10 +196,8 @@ fn take_next<K: Sink, D: Disk>(
     requires may { MayPiece piece.now reader.old run.old }
     requires some { 0 < length piece.now }
     requires stands { StandsOn D.honest D.images disk.old run.old.journal }
-    ensures takes { (site : SiteOf) (kept : RetainedOf) (before : List ℕ) (p : Progress)
-        → IsAt site kept before p reader.old run.old → AreWithin (before ++ piece.now)
-        → TakesNext site kept p before piece.now (K.written out.old) (K.written out.new) reader.new
-        run.new result }
+    ensures takes { HasTakenNext piece.now (K.written out.old) (K.written out.new) reader.old
+        run.old reader.new run.new result }
     ensures used { IfOk result (λ taken. (0 < taken.used) × (taken.used ≤ length piece.now)) }
     ensures disk { KeepsOn D.honest D.images D.faults disk.old disk.new run.old run.new }
     ensures cause { HasCause (K.write_faults out.old) (K.write_faults out.new) result }
@@ -222,9 +217,7 @@ fn take_step<K: Sink, D: Disk>(
 ) -> Result<Option<RunEnd>, Failed>
     requires may { MayStepSome step run.old }
     requires stands { StandsOn D.honest D.images disk.old run.old.journal }
-    ensures takes { (site : SiteOf) (kept : RetainedOf) (p : Progress) → Stands site kept p run.old
-        → MayStep site p step
-        → TakesStep site kept p step (K.written out.old) (K.written out.new) run.old run.new
+    ensures takes { HasTakenStep step (K.written out.old) (K.written out.new) run.old run.new
         result }
     ensures disk { KeepsOn D.honest D.images D.faults disk.old disk.new run.old run.new }
     ensures cause { HasCause (K.write_faults out.old) (K.write_faults out.new) result }

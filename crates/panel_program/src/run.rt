@@ -1,20 +1,20 @@
-ghost use Rattle.std.specs.Prelude.{◌≡◌, ◌<◌, IfOk, OnErr, OnOk, length, map};
+ghost use Rattle.std.specs.Prelude.{◌≡◌, ◌<◌, ◌-◌, ◌^◌, IfOk, OnErr, OnOk, length, map};
 ghost use Rattle.std.specs.List.{range_with_len};
 ghost use Rattle.face_text.specs.Faces.{empty_face};
 ghost use Rattle.face_text.specs.Timelines.{empty_faces};
+ghost use Rattle.panel_core.specs.Keeping.{has_failed};
 ghost use Rattle.panel_core.specs.Stands.{HasPlan};
 ghost use Rattle.panel_edges.specs.Contents.{Grows, GrowsByFront};
 ghost use Rattle.panel_edges.specs.Faults.{HasCause};
 ghost use Rattle.panel_program.specs.Acting.{ClosesBadly, ClosesWell, MakesTicks, MayShow, ShowsFaces, TellsEvent};
-ghost use Rattle.panel_program.specs.Acting.{TurnsAll};
+ghost use Rattle.panel_program.specs.Acting.{TurnsAll, failures_with};
 ghost use Rattle.panel_program.specs.Disks.{KeepsOn, TurnsOn};
 ghost use Rattle.panel_program.specs.Journals.{IsOpenFor};
-ghost use Rattle.panel_program.specs.Records.{Progress, at_beginning, with_order};
-ghost use Rattle.panel_program.specs.Stands.{MayClose, MayHappen as MayTell, MayTake, MayCome, OpensTick, Stands};
-ghost use Rattle.panel_program.specs.Stands.{StandsClosed, StandsSome, Takes};
+ghost use Rattle.panel_program.specs.Records.{Progress, at_beginning};
+ghost use Rattle.panel_program.specs.Stands.{HasOrder, HasTakenLine, MayClose, MayHappen as MayTell, MayTake};
+ghost use Rattle.panel_program.specs.Stands.{OpensTick, Stands, StandsClosed, StandsSome};
 ghost use Rattle.run_text.specs.SoFar.{opening_text};
 ghost use Rattle.retained_journal.specs.Images.{Stands as StandsOn};
-ghost use Rattle.tick_units.specs.Orders.{IsOrder};
 ghost use Rattle.site_types.specs.Valid.{IsValid};
 ghost use Rattle.site_types.specs.declared.retained.Retained.{Retained as RetainedOf};
 ghost use Rattle.site_types.specs.declared.site.Site.{Site as SiteOf};
@@ -145,9 +145,8 @@ impl Run {
     ) -> Result<Option<RunEnd>, Failed>
         requires may { MayTake line self.old }
         requires stands { StandsOn D.honest D.images disk.old self.old.journal }
-        ensures takes { (site : SiteOf) (kept : RetainedOf) (p : Progress) → Stands site kept p self.old
-            → MayCome site p line
-            → Takes site kept p line (K.written out.old) (K.written out.new) self.new result }
+        ensures takes { HasTakenLine line (K.written out.old) (K.written out.new) self.old self.new
+            result }
         ensures disk { KeepsOn D.honest D.images D.faults disk.old disk.new self.old self.new }
         ensures cause { HasCause (K.write_faults out.old) (K.write_faults out.new) result }
     {
@@ -184,9 +183,7 @@ impl Run {
     }
 
     fn set_order(&mut self, order: Order)
-        ensures stands { (site : SiteOf) (kept : RetainedOf) (p : Progress) → Stands site kept p self.old
-            → IsOrder site.panels order
-            → Stands site kept (record { run = p.run; block = with_order order p.block }) self.new }
+        ensures stands { HasOrder order self.old self.new }
         ensures same { self.new.journal ≡ self.old.journal }
         ensures failures { self.new.store_failures ≡ self.old.store_failures }
     {
@@ -209,7 +206,8 @@ impl Run {
     fn close<D: Disk, K: Sink>(&mut self, disk: &mut D, out: &mut K) -> Result<(), Failed>
         requires some { StandsSome self.old }
         requires stands { StandsOn D.honest D.images disk.old self.old.journal }
-        ensures ok { OnOk result (ClosesWell (K.written out.old) (K.written out.new) self.old self.new) }
+        ensures ok { OnOk result
+            (ClosesWell (K.written out.old) (K.written out.new) self.old self.new) }
         ensures err { OnErr result
             (ClosesBadly (K.written out.old) (K.written out.new) self.old self.new) }
         ensures disk { KeepsOn D.honest D.images D.faults disk.old disk.new self.old self.new }
@@ -238,9 +236,7 @@ impl Run {
         ensures disk { KeepsOn D.honest D.images D.faults disk.old disk.new self.old self.new }
     {
         let store = self.turn_all(disk);
-        if store == Store::Failed {
-            self.store_failures += 1;
-        }
+        self.store_failures = with_failure(self.store_failures, store);
         self.is_open = false;
         self.ticks += 1;
         show(&self.system, &mut self.next);
@@ -252,7 +248,8 @@ impl Run {
         requires may { MayClose self.old }
         requires stands { StandsOn D.honest D.images disk.old self.old.journal }
         ensures turns { TurnsAll self.old result self.new }
-        ensures disk { TurnsOn D.honest D.images D.faults disk.old disk.new self.new.journal result }
+        ensures disk { TurnsOn D.honest D.images D.faults disk.old disk.new self.new.journal
+            result }
     {
         self.turn_counted::<Brand, D>(disk, Blank::new(1))
     }
@@ -265,7 +262,8 @@ impl Run {
         requires parts { blank.parts ≡ L.parts }
         requires some { 0 < blank.parts }
         ensures turns { TurnsAll self.old result self.new }
-        ensures disk { TurnsOn D.honest D.images D.faults disk.old disk.new self.new.journal result }
+        ensures disk { TurnsOn D.honest D.images D.faults disk.old disk.new self.new.journal
+            result }
     {
         let mut steps: Steps<L> = Steps::new(blank);
         match &self.order {
@@ -276,6 +274,17 @@ impl Run {
                 .system
                 .turns(&self.canonical, &mut self.journal, disk, &mut steps),
         }
+    }
+}
+
+// The number of failed ticks with one more, where Keep's turn failed.
+fn with_failure(failures: u64, store: Store) -> u64
+    requires { failures < 2 ^ 64 - 1 }
+    ensures { result ≡ failures_with (has_failed store) failures }
+{
+    match store {
+        Store::Failed => failures + 1,
+        Store::Idle | Store::Kept => failures,
     }
 }
 

@@ -7,7 +7,8 @@ ghost use Rattle.face_text.specs.Holding.{Puts};
 ghost use Rattle.face_text.specs.Timelines.{faces_text, opening_line as opening_words};
 ghost use Rattle.panel_edges.specs.Contents.{Grows, GrowsByFront};
 ghost use Rattle.panel_edges.specs.Faults.{HasCause};
-ghost use Rattle.panel_program.specs.Pages.{has_answers as has_answers_told, page_text, written_text};
+ghost use Rattle.panel_program.specs.Pages.{has_answers as has_answers_told, is_told as is_told_of, page_text};
+ghost use Rattle.panel_program.specs.Pages.{written_text};
 
 use crate::lines::{opening_line, tick_line};
 use face_text::{Answers, Face, Held, push_answers, push_changes};
@@ -60,8 +61,7 @@ impl TickPage<'_> {
             self.now.answers.now)) }
         ensures cause { HasCause (K.write_faults out.old) (K.write_faults out.new) result }
     {
-        let is_told = !are_same(self.after, self.before) || has_answers(self.answers);
-        if !is_told {
+        if !self.is_told() {
             return Ok(());
         }
         page.bytes.clear();
@@ -71,6 +71,13 @@ impl TickPage<'_> {
             return self.put(out);
         }
         write_all(out, page.bytes.as_slice())
+    }
+
+    // Whether there is anything to tell.
+    fn is_told(&self) -> bool
+        ensures { result ≡ is_told_of self.now.before.now self.now.after.now self.now.answers.now }
+    {
+        !are_same(self.after, self.before) || has_answers(self.answers)
     }
 
     // Puts its lines, in as few pieces as the room for lines allows.

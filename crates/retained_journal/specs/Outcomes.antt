@@ -82,11 +82,16 @@ abbrev pub HasKept : List Change → Journal → Journal → Type 0
 HasKept batch old new = (new.kept ≡ changed_by batch old.kept) × (new.torn ≡ false)
     × (new.attempt.items ≡ batch)
 
+-- the batch was attempted, or the journal was torn before and the batch last attempted is as it was
+abbrev pub IsAttempted : List Change → Journal → Journal → Type 0
+IsAttempted batch old new =
+    (new.attempt.items ≡ batch) ⊎ ((old.torn ≡ true) × (new.attempt ≡ old.attempt))
+
 -- A batch was not kept: the journal is torn and keeps what it kept. The batch was attempted, or the mending
 -- before it failed.
 abbrev pub HasFailed : List Change → Journal → Journal → Type 0
 HasFailed batch old new =
-    (new.kept ≡ old.kept) × (new.torn ≡ true) × ((new.attempt.items ≡ batch) ⊎ (new.attempt ≡ old.attempt))
+    (new.kept ≡ old.kept) × (new.torn ≡ true) × IsAttempted batch old new
 
 -- no cell counts, unless the log gate was open; of the journal only what is known of the log gate and of
 -- the next cell's gate changed

@@ -163,7 +163,7 @@ impl Journal {
         ensures same { KeepsAll self.old self.new }
         ensures early { IsEarly self.old → IsEarly self.new }
         ensures ok { OnOk result (self.new.torn ≡ false) }
-        ensures err { OnErr result (self.new.torn ≡ true) }
+        ensures err { OnErr result ((self.old.torn ≡ true) × (self.new.torn ≡ true)) }
         // After Ok each file that a crash may leave opens to what is kept, and all cells that count are known.
         ensures opens { D.honest disk.new → HasRoom self.new →
             OnOk result (EachOpens (D.images disk.new) self.new) }

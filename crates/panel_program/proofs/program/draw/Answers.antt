@@ -11,5 +11,6 @@ returns-in-Ok-clause-drawn g c = inr (
     says = subst (λ text. Says Done text (g.K.Stream.written c.args.out.now) (g.K.Stream.written c.say.new.out) c.say.result.status) c.as_slice.ensures
         c.say.ensures.says;
     ticks = c.say.ensures.ticks.0;
+    failures = c.say.ensures.ticks.1;
   },
 )

@@ -1,4 +1,4 @@
-use Rattle.std.proofs.Common.{◌≡◌, ◌<◌, ◌≤◌, ◌+◌, ◌-◌, ◌++◌, ℕ, List, [], length, min, take, Ok, Option, refl, sym, subst, arith}
+use Rattle.std.proofs.Common.{◌≡◌, ◌<◌, ◌≤◌, ◌+◌, ◌-◌, ℕ, List, [], length, min, take, Ok, Option, refl, sym, subst, arith}
 use Rattle.panel_edges.specs.Limits.{most_record_bytes}
 use Rattle.std.proofs.lemmas.Result.{err_from_is_err_and}
 use Rattle.panel_program.specs.declared.run_end.RunEnd.{RunEnd}
@@ -7,7 +7,7 @@ use Rattle.panel_program.specs.Runs.{ReadsRecord}
 use Rattle.panel_program.specs.Stands.{TakesPiece}
 use Rattle.panel_program.proofs.Disks.{keeps_more, keeps_same}
 use Rattle.panel_program.proofs.Pieces.{SoFar}
-use Rattle.panel_program.proofs.Readings.{begins_at, fault_ends, input_ends, limit_ends, may_piece, piece_breaks, piece_ends, piece_more, piece_within, reads_on, so_far_none}
+use Rattle.panel_program.proofs.Readings.{begins_at, fault_ends, input_ends, limit_ends, may_piece, piece_breaks, piece_ends, piece_more, piece_within, reads_on, so_far_none, still_within}
 use Rattle.panel_program.proofs.Written.{some_weaker}
 use Rattle.panel_program.proofs.reading.read_record.Goals as goal
 
@@ -134,13 +134,13 @@ loop-read-preserved g c =
     let writes_still = c.take_piece.ensures.cause.later in
     let r = c.loop-read.invariant.at in
     let fits = piece_fits c.loop-read.read c.min-most.result c.in-Ok.count piece lt most bound count in
-    let may = may_piece c.loop-read.read piece c.loop-read.reader c.loop-read.run r fits in
+    let within = still_within c.loop-read.read piece c.loop-read.reader c.loop-read.run r fits in
     record {
       at =
           reads_on c.loop-read.read (c.loop-read.read + c.in-Ok.count) piece c.loop-read.reader c.take_piece.new.reader c.loop-read.run c.take_piece.new.run
           mid new r (omega (arith, count))
           (subst (λ (o : Option RunEnd). TakesPiece r.site r.kept r.p r.bytes piece mid new c.take_piece.new.reader c.take_piece.new.run (Ok o))
-          c.in-None.is (c.in_ok-end.ensures.takes r.site r.kept r.bytes r.p r.is_at may.within));
+          c.in-None.is (c.in_ok-end.ensures.takes r.site r.kept r.bytes r.p r.is_at within));
       few = omega (arith, lt, most, bound);
       reads = omega (arith, reads, reads_still);
       writes = omega (arith, writes, writes_still);

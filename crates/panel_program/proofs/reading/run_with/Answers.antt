@@ -1,8 +1,6 @@
-use Rattle.std.proofs.Common.{◌∙◌, ap, subst}
+use Rattle.std.proofs.Common.{◌∙◌, Ok, ap}
 use Rattle.program_status.specs.declared.outcome.Outcome.{Outcome}
-use Rattle.program_status.specs.Sayings.{Says}
-use Rattle.panel_program.specs.Endings.{status_of, last_line}
-use Rattle.panel_program.proofs.Outcomes.{ran_nothing, ran_opening, ran_until, ran_to}
+use Rattle.panel_program.proofs.Outcomes.{ran_opening, ran_until, ran_to}
 use Rattle.panel_program.proofs.Written.{some_always, some_weaker}
 use Rattle.panel_program.proofs.reading.run_with.Goals as goal
 
@@ -13,7 +11,7 @@ returns-in_default-write_opening-clause-ran g c =
     let outcome = c.after-in_default-write_opening.result in
     let told = c.after-in_default-write_opening.ensures in
     some_always (g.S.Stream.left c.args.input.now)
-    (λ bytes. ran_opening c.args.site c.args.journal.kept _ bytes outcome old new (ap (λ (o : Outcome). o.status) told)
+    (λ bytes. ran_opening c.args.site c.args.journal.kept _ bytes outcome old new c.in-Ok.run' c.in-Ok.ensures.stands (ap (λ (o : Outcome). o.status) told)
     (ap (λ (o : Outcome). o.ticks) told) (ap (λ (o : Outcome). o.store_failures) told)
     (c.in_default-write_opening.ensures.err c.args.site c.args.journal.kept c.in-Ok.ensures.stands c.in-Ok.ensures.empty))
 
@@ -29,7 +27,7 @@ returns-in-Ok-read_record-clause-ran g c =
     let end = c.in-Ok-read_record.end in
     some_weaker (g.S.Stream.left c.args.input.now)
     (λ bytes r. ran_to c.args.site c.args.journal.kept _ bytes c.finish.result old mid last new c.read_record.new.run end c.finish.ensures.ticks.0
-    c.finish.ensures.ticks.1 (λ e. c.read_record.ensures.read (c.in-Ok-read_record.is ∙ ap _ e))
+    c.finish.ensures.ticks.1 (λ e. c.read_record.ensures.read (c.in-Ok-read_record.is ∙ ap (λ x. Ok x) e))
     (c.in-Ok-write_opening.ensures.ok c.args.site c.args.journal.kept c.in-Ok.ensures.stands c.in-Ok.ensures.empty) r c.finish.ensures.says)
     (c.in-Ok-read_record.ensures.reads c.args.site c.args.journal.kept c.in-Ok.ensures.stands)
 
@@ -40,6 +38,9 @@ returns-clause-ran g c =
     let new = g.K.Stream.written c.read_record.new.out in
     let outcome = c.run_outcome.result in
     some_weaker (g.S.Stream.left c.args.input.now)
-    (λ bytes r. ran_until c.args.site c.args.journal.kept _ bytes outcome old mid new c.read_record.new.run _ _ _
+    (λ bytes r. ran_until c.args.site c.args.journal.kept _ bytes outcome old mid new c.read_record.new.run
+    (ap (λ (o : Outcome). o.status) c.run_outcome.ensures ∙ ap (λ (o : Outcome). o.status) c.after-in-Err.ensures)
+    (ap (λ (o : Outcome). o.ticks) c.run_outcome.ensures ∙ ap (λ (o : Outcome). o.ticks) c.after-in-Err.ensures ∙ c.ticks.ensures)
+    (ap (λ (o : Outcome). o.store_failures) c.run_outcome.ensures)
     (c.in-Ok-write_opening.ensures.ok c.args.site c.args.journal.kept c.in-Ok.ensures.stands c.in-Ok.ensures.empty) r)
     (c.in-Err.ensures.reads c.args.site c.args.journal.kept c.in-Ok.ensures.stands)

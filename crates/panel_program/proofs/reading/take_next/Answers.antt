@@ -3,7 +3,7 @@ use Rattle.std.proofs.lemmas.Result.{err_from_is_err_and}
 use Rattle.record_lines.specs.Belongs.{StepBelongs}
 use Rattle.record_lines.specs.Stands.{StandsFor as ReadsFor, Feeds}
 use Rattle.panel_program.specs.Stands.{TakesNext}
-use Rattle.panel_program.proofs.Steps.{fed_next, may_step, used_some, NextBy}
+use Rattle.panel_program.proofs.Steps.{fed_next, may_step, NextBy}
 use Rattle.panel_program.proofs.reading.take_next.Goals as goal
 
 pub take_step-requires-clause-may : goal.take_step-requires-clause-may

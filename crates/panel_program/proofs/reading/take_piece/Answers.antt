@@ -1,9 +1,14 @@
-use Rattle.std.proofs.Common.{◌++◌, take, refl, sym, subst, arith}
+use Rattle.std.proofs.Common.{◌≡◌, ◌∙◌, ◌++◌, ◌==◌, ℕ, List, [], ◌∷◌, true, length, take, refl, sym, subst, arith}
+use Rattle.std.proofs.lemmas.Bool.{eqb-true}
 use Rattle.std.proofs.lemmas.Result.{err_from_is_err_and}
 use Rattle.panel_program.specs.Stands.{GoesOn, TakesPiece}
 use Rattle.panel_program.proofs.Disks.{keeps_more, keeps_same}
-use Rattle.panel_program.proofs.Pieces.{may_rest, rest_within, taking_none, taking_more, taking_ends, taking_breaks}
+use Rattle.panel_program.proofs.Pieces.{may_rest, rest_within, taking_none, taking_more, taking_ends, taking_breaks, taking_whole}
 use Rattle.panel_program.proofs.reading.take_piece.Goals as goal
+
+no_rest : (rest : List ℕ) → (length rest == 0) ≡ true → rest ≡ []
+no_rest [] e = refl
+no_rest (byte ∷ rest) e = absurd (let none = eqb-true (length (byte ∷ rest)) 0 e in cc)
 
 pub loop-rest-init : goal.loop-rest-init
 loop-rest-init g c =
@@ -79,3 +84,9 @@ loop-rest-preserved g c =
           (subst (GoesOn site kept t.now ((before ++ t.front) ++ take used rest) mid new c.take_next.new.reader c.take_next.new.run) c.in-None.is
           (c.in_ok-taken.ensures.takes site kept (before ++ t.front) t.now t.is_at within_rest));
     }
+
+pub returns-clause-takes : goal.returns-clause-takes
+returns-clause-takes g c site kept before p h within =
+    taking_whole site kept p before c.args.piece.now c.loop-rest.rest.now (g.K.Stream.written c.args.out.now) (g.K.Stream.written c.loop-rest.out)
+    c.loop-rest.reader c.loop-rest.run (c.loop-rest.invariant.so_far site kept before p h within)
+    (no_rest c.loop-rest.rest.now (sym c.is_empty.ensures ∙ c.loop-rest-test.false))

@@ -1,4 +1,4 @@
-use Rattle.std.proofs.Common.{◌≡◌, ◌≤◌, take}
+use Rattle.std.proofs.Common.{◌≤◌, take}
 use Rattle.face_text.specs.Holding.{Moves}
 use Rattle.face_text.specs.Timelines.{faces_text}
 use Rattle.panel_program.proofs.writing.push_faces.Given as goal

@@ -1,5 +1,5 @@
 use Rattle.std.proofs.Common.{◌∙◌, ap}
-use Rattle.panel_rules.specs.Faults.{is_unconfirmed, links_down, outside_with, silent_panels}
+use Rattle.panel_rules.specs.Faults.{is_unconfirmed, outside_with, silent_panels}
 use Rattle.panel_rules.specs.Kept.{heard}
 use Rattle.panel_rules.specs.Moments.{tick_of}
 use Rattle.panel_rules.specs.Outputs.{outputs_where}

@@ -1,7 +1,6 @@
-use Rattle.std.proofs.Common.{◌∙◌, length, refl, sym, ap, arith}
-use Rattle.site_types.specs.declared.site.Site.{Site}
+use Rattle.std.proofs.Common.{◌∙◌, refl, sym, ap, arith}
 use Rattle.site_types.specs.Events.{has_event}
-use Rattle.panel_core.proofs.Events.{can_hear, confirmation_done, desk_after, link_within, other_done, output_panel, output_within}
+use Rattle.panel_core.proofs.Events.{can_hear, confirmation_done, desk_after, link_within, other_done, output_panel}
 use Rattle.panel_core.proofs.Events.{panel_read, piece_done, piece_read, point_done, point_panel, report_done, supply_panel}
 use Rattle.panel_core.proofs.system.System.event.Goals as goal
 

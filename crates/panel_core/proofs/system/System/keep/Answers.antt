@@ -3,7 +3,7 @@ use Rattle.keep_turn.specs.Turns.{AnswersTurn}
 use Rattle.retained_journal.specs.Images.{MayLeaveOr}
 use Rattle.panel_edges.specs.Crashes.{LeavesOnly}
 use Rattle.panel_core.specs.Entries.{TellsEntries}
-use Rattle.panel_core.proofs.KeepTurns.{answers_by, can_commit, can_make, keeps_by}
+use Rattle.panel_core.proofs.KeepTurns.{answers_by, can_commit, can_make, keeps_by, torn_by}
 use Rattle.panel_core.proofs.system.System.keep.Goals as goal
 
 pub left_batch-batch-requires-clause-may : goal.left_batch-batch-requires-clause-may
@@ -31,7 +31,11 @@ returns-clause-kept g c site kept before h keeps run few =
     record {
       stands = c.note_kept.ensures site kept before h (subst (λ panels. TellsEntries panels c.entries_of-entries.result) c.as_slice.ensures.value c.entries_of-entries.ensures.told)
           run now;
-      keeps = record { keeps = now; wide = c.keep_turn-store.ensures.same.wide ∙ keeps.wide };
+      keeps = record {
+        keeps = now;
+        wide = c.keep_turn-store.ensures.same.wide ∙ keeps.wide;
+        torn = torn_by site kept before old new store keeps.torn turned;
+      };
       answers = answers_by site kept before old new store turned;
     }
 

@@ -1,5 +1,3 @@
-use Rattle.std.proofs.Common.{refl}
-use Rattle.panel_program.proofs.Disks.{keeps_same}
 use Rattle.panel_program.proofs.Taking.{end_failed, end_taken, event_taken, order_taken, tick_failed, tick_may_open, tick_taken}
 use Rattle.panel_program.proofs.run.Run.take.Goals as goal
 
@@ -9,13 +7,13 @@ begin-requires g c =
     tick_may_open r.site r.kept r.p c.args.line c.in-Tick.tick (g.K.Stream.written c.args.out.now) (g.K.Stream.written c.close.new.out) c.args.self.now
     c.close.new.self c.in-Tick.is r.stands r.comes c.in_ok-close-in-Tick.ensures.ok
 
-pub returns-in-Tick-clause-takes : goal.returns-in-Tick-clause-takes
-returns-in-Tick-clause-takes g c site kept p h may =
+pub returns-in_ok-close-in-Tick-clause-takes : goal.returns-in_ok-close-in-Tick-clause-takes
+returns-in_ok-close-in-Tick-clause-takes g c site kept p h may =
     tick_taken site kept p c.args.line c.in-Tick.tick (g.K.Stream.written c.args.out.now) (g.K.Stream.written c.close.new.out) c.args.self.now
     c.close.new.self c.begin.new.self c.in-Tick.is h may c.in_ok-close-in-Tick.ensures.ok c.begin.ensures.opens
 
-pub returns-in-End-clause-takes : goal.returns-in-End-clause-takes
-returns-in-End-clause-takes g c site kept p h may =
+pub returns-in_ok-close-in-End-clause-takes : goal.returns-in_ok-close-in-End-clause-takes
+returns-in_ok-close-in-End-clause-takes g c site kept p h may =
     end_taken site kept p c.args.line (g.K.Stream.written c.args.out.now) (g.K.Stream.written c.close-in-End.new.out) c.args.self.now
     c.close-in-End.new.self c.in-End.is h may c.in_ok-close-in-End.ensures.ok
 

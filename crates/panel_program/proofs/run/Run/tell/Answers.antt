@@ -1,8 +1,8 @@
-use Rattle.std.proofs.Common.{◌∙◌, ap, arith, sym}
-use Rattle.panel_rules.proofs.FaultsTold.{requests_short}
+use Rattle.std.proofs.Common.{arith}
 use Rattle.record_lines.specs.Events.{event_view}
 use Rattle.panel_program.specs.Records.{moments_in}
 use Rattle.panel_program.proofs.Codes.{stands_for_view}
+use Rattle.panel_program.proofs.Progresses.{few_asked}
 use Rattle.panel_program.proofs.Stood.{told, untold}
 use Rattle.panel_program.proofs.run.Run.tell.Goals as goal
 
@@ -10,7 +10,7 @@ pub event-requires : goal.event-requires
 event-requires c =
     let r = c.requires in
     let short = r.stands.short in
-    let asked = requests_short r.site (moments_in r.p) in
+    let asked = few_asked r.site (moments_in r.p) in
     record {
       site = r.site;
       kept = r.kept;
@@ -25,5 +25,5 @@ returns-then-self-clause-tells c site kept p h short =
     told site kept p c.args.self.now (event_view c.args.event) c.event.new.self h c.if-self.true
     (stands_for_view site kept c.args.event (moments_in p) c.event.new.self (c.event.ensures site kept (moments_in p) h.system)) short
 
-pub returns-clause-tells : goal.returns-clause-tells
-returns-clause-tells c site kept p h short = untold site kept p c.args.self.now (event_view c.args.event) h c.if-self.false
+pub returns-else-self-clause-tells : goal.returns-else-self-clause-tells
+returns-else-self-clause-tells c site kept p h short = untold site kept p c.args.self.now (event_view c.args.event) h c.if-self.false

@@ -1,0 +1,46 @@
+use Rattle.std.proofs.Common.{◌∙◌, ap, arith, refl, sym, length}
+use Rattle.std.proofs.Common.{Vec}
+use Rattle.std.specs.Global.{Global}
+use Rattle.face_text.specs.declared.face.Face.{Face}
+use Rattle.panel_program.specs.declared.run.Run.{Run}
+use Rattle.panel_program.proofs.Stood.{failed_few, makes, may_show, same_room}
+use Rattle.panel_program.proofs.run.Run.make_turns.Goals as goal
+
+pub with_failure-self-requires : goal.with_failure-self-requires
+with_failure-self-requires g c =
+    let r = c.requires.may in
+    let few = failed_few r.site r.kept r.p c.args.self.now r.stands in
+    let same = ap (λ (run : Run). run.store_failures) c.turn_all-store.ensures.turns.rest in
+    omega (arith, few, same)
+
+pub show-requires : goal.show-requires
+show-requires g c =
+    may_show c.args.self.now c.turn_all-store.new.self c.turn_all-store.result c.requires.may c.turn_all-store.ensures.turns
+
+pub returns-clause-makes : goal.returns-clause-makes
+returns-clause-makes g c site kept p h short =
+    let turns = c.turn_all-store.ensures.turns in
+    makes site kept c.turn_all-store.result c.args.self.now c.turn_all-store.new.self _ turns
+    (record {
+      system = refl;
+      journal = refl;
+      shut = refl;
+      canonical = refl;
+      ticks = refl;
+      failed = c.with_failure-self.ensures;
+      before = ap (λ (v : Vec Face Global). v.items) c.swap.ensures.y_after;
+    })
+    (λ before stands run. ap (λ (v : Vec Face Global). v.items) c.swap.ensures.x_after
+    ∙ c.show.ensures.shows site kept before stands run (ap (λ (r : Run). length r.next.items) turns.rest ∙ h.room))
+    p h c.requires.may.open_is short
+
+pub returns-clause-room : goal.returns-clause-room
+returns-clause-room g c =
+    let r = c.requires.may in
+    let turns = c.turn_all-store.ensures.turns in
+    ap (λ (v : Vec Face Global). length v.items) c.swap.ensures.y_after
+    ∙ ap (λ (run : Run). length run.shown.items) turns.rest
+    ∙ same_room r.site r.kept r.p c.args.self.now r.stands
+    ∙ sym (ap (λ (run : Run). length run.next.items) turns.rest)
+    ∙ sym c.show.ensures.room
+    ∙ sym (ap (λ (v : Vec Face Global). length v.items) c.swap.ensures.x_after)
