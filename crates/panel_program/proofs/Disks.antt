@@ -1,9 +1,9 @@
 -- What a run leaves of its journal's disk, step by step.
-use Rattle.std.proofs.Common.{◌≡◌, ◌+◌, ◌-◌, ◌^◌, ◌<◌, ◌≤◌, min, ℕ, List, arith, refl, subst, sym}
+use Rattle.std.proofs.Common.{◌≡◌, ◌+◌, ◌-◌, ◌^◌, ◌<◌, ◌≤◌, min, ℕ, List, ◌∙◌, ap, arith, refl, subst, sym}
 use Rattle.keep_turn.specs.declared.store.Store.{Store}
 use Rattle.keep_turn.specs.declared.store.Store.TheVariants.{Idle, Kept, Failed}
 use Rattle.retained_journal.specs.declared.journal.Journal.{Journal}
-use Rattle.retained_journal.specs.Images.{Stands as StandsOn}
+use Rattle.retained_journal.specs.Images.{IsEarly, Stands as StandsOn}
 use Rattle.panel_core.specs.Keeping.{has_failed}
 use Rattle.panel_program.specs.declared.run.Run.{Run}
 use Rattle.panel_program.specs.Disks.{KeepsOn, TurnsOn}
@@ -16,6 +16,8 @@ module _ {D : Type 0} (honest : D → Type 0) (images : D → List ℕ → Type 
   keeps_same disk before after same failures stands =
       record {
         stands = subst (StandsOn honest images disk) (sym same) stands;
+        digest = ap (λ (j : Journal). j.digest) same;
+        early = subst IsEarly (sym same);
         later = omega arith;
         blames = λ few. omega (arith, failures);
       }
@@ -28,17 +30,21 @@ module _ {D : Type 0} (honest : D → Type 0) (images : D → List ℕ → Type 
       let other = h.later in
       record {
         stands = h.stands;
+        digest = h.digest ∙ g.digest;
+        early = λ before. h.early (g.early before);
         later = omega (arith, one, other);
         blames = λ few. let first = g.blames (omega (arith, few, other)) in let second = h.blames few in omega (arith, first, second);
       }
 
   -- the turns of a tick
-  pub keeps_turns : (a b : D) (x y : Run) (store : Store) (journal : Journal) → TurnsOn honest images faults a b journal store → y.journal ≡ journal
+  pub keeps_turns : (a b : D) (x y : Run) (store : Store) (journal : Journal) → TurnsOn honest images faults a b x.journal journal store → y.journal ≡ journal
       → y.store_failures ≡ failures_with (has_failed store) x.store_failures → KeepsOn honest images faults a b x y
   keeps_turns a b x y store journal t same failed =
       let later = t.cause.later in
       record {
         stands = subst (StandsOn honest images b) (sym same) t.stands;
+        digest = ap (λ (j : Journal). j.digest) same ∙ t.digest;
+        early = λ before. subst IsEarly (sym same) (t.early before);
         later = later;
         blames = λ few. counts store failed t.cause.failed few;
       }

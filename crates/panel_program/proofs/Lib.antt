@@ -10,6 +10,7 @@ pub mod Disks
 pub mod Written
 pub mod Ends
 pub mod Pieces
+pub mod PowerCuts
 pub mod Steps
 pub mod Readings
 pub mod Outcomes

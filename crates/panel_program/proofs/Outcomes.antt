@@ -13,6 +13,7 @@ use Rattle.program_status.specs.declared.status.Status.TheVariants.{NoMemory, Wr
 use Rattle.program_status.specs.Statuses.{number_of}
 use Rattle.panel_program.specs.Endings.{status_of, last_line}
 use Rattle.panel_program.specs.Runs.{HasMade, Input, RanOn, ReadsTo, ReadsUntil}
+use Rattle.panel_program.specs.PowerCuts.{JournalDisk, LeavesAcknowledged}
 use Rattle.panel_program.specs.Records.{at_beginning}
 use Rattle.panel_program.specs.Stands.{AreTicksOf, HasRun, Stands}
 use Rattle.run_text.proofs.PromisesHold.{are_kept}
@@ -37,16 +38,17 @@ made_by site kept consumed ticks run outcome of ran count failed =
       told = told.1;
     }
 
-module _ (site : Site) (kept : Retained) (input : Input) (bytes : List ℕ) (outcome : Outcome) where
+module _ (site : Site) (kept : Retained) (digest : List ℕ) (disk : JournalDisk) (input : Input) (bytes : List ℕ) (outcome : Outcome) where
   -- memory ran out
   pub ran_nothing : (old : Option (List ℕ)) → outcome.status ≡ number_of NoMemory → outcome.ticks ≡ 0 → outcome.store_failures ≡ 0
-      → RanOn site kept input bytes old old outcome
-  ran_nothing old status ticks failed = inl (record { status = status; ticks = ticks; failures = failed; same = refl })
+      → LeavesAcknowledged site kept digest disk [] → RanOn site kept digest disk input bytes old old outcome
+  ran_nothing old status ticks failed cut = inl (record { status = status; ticks = ticks; failures = failed; same = refl }, cut)
 
   -- the first write failed
   pub ran_opening : (old new : Option (List ℕ)) (run : Run) → Stands site kept at_beginning run → outcome.status ≡ number_of WriteFault
-      → outcome.ticks ≡ 0 → outcome.store_failures ≡ 0 → GrowsByFront old new (opening_text site kept) → RanOn site kept input bytes old new outcome
-  ran_opening old new run h status ticks failed broke =
+      → outcome.ticks ≡ 0 → outcome.store_failures ≡ 0 → GrowsByFront old new (opening_text site kept)
+      → LeavesAcknowledged site kept digest disk [] → RanOn site kept digest disk input bytes old new outcome
+  ran_opening old new run h status ticks failed broke cut =
       let ran = has_run site kept [] None run h in
       inr (inr (record {
         consumed = [];
@@ -54,6 +56,7 @@ module _ (site : Site) (kept : Retained) (input : Input) (bytes : List ℕ) (out
         run = [];
         whole = refl;
         made = made_by site kept [] [] run outcome refl ran (ticks ∙ sym ran.count) (failed ∙ sym ran.failed);
+        cut = cut;
         status = status;
         broke = broke;
       }))
@@ -61,8 +64,9 @@ module _ (site : Site) (kept : Retained) (input : Input) (bytes : List ℕ) (out
   -- a later write failed
   pub ran_until : (old mid new : Option (List ℕ)) (run : Run) → outcome.status ≡ number_of WriteFault → outcome.ticks ≡ run.ticks
       → outcome.store_failures ≡ run.store_failures → Grows old mid (opening_text site kept) → ReadsUntil site kept bytes input.after mid new run
-      → RanOn site kept input bytes old new outcome
-  ran_until old mid new run status ticks failed opened r =
+      → ((ticks : List TickBlock) → HasRun site kept ticks run → LeavesAcknowledged site kept digest disk ticks)
+      → RanOn site kept digest disk input bytes old new outcome
+  ran_until old mid new run status ticks failed opened r cut =
       inr
       (inr
       (record {
@@ -71,6 +75,7 @@ module _ (site : Site) (kept : Retained) (input : Input) (bytes : List ℕ) (out
         run = r.ticks;
         whole = r.whole;
         made = made_by site kept r.consumed r.ticks run outcome r.of r.ran ticks failed;
+        cut = cut r.ticks r.ran;
         status = status;
         broke = front_then old mid new (text_so_far site kept []) (text_so_far site kept r.ticks) opened r.broke;
       }))
@@ -79,8 +84,9 @@ module _ (site : Site) (kept : Retained) (input : Input) (bytes : List ℕ) (out
   pub ran_to : (old mid last new : Option (List ℕ)) (run : Run) (end : RunEnd) → outcome.ticks ≡ run.ticks → outcome.store_failures ≡ run.store_failures
       → (end ≡ ReadFault → Rose input.faults_before input.faults_after) → Grows old mid (opening_text site kept)
       → ReadsTo site kept bytes input.after mid last run end → Says (status_of end) (last_line run.ticks end) last new outcome.status
-      → RanOn site kept input bytes old new outcome
-  ran_to old mid last new run end ticks failed rose opened r says =
+      → ((ticks : List TickBlock) → HasRun site kept ticks run → LeavesAcknowledged site kept digest disk ticks)
+      → RanOn site kept digest disk input bytes old new outcome
+  ran_to old mid last new run end ticks failed rose opened r says cut =
       inr
       (inl (
         end,
@@ -92,6 +98,7 @@ module _ (site : Site) (kept : Retained) (input : Input) (bytes : List ℕ) (out
           ended = r.ended;
           fault = λ e. (rose e, r.unread e);
           made = made_by site kept r.consumed r.ticks run outcome r.of r.ran ticks failed;
+          cut = cut r.ticks r.ran;
           says =
               subst (λ n. Says (status_of end) (text_so_far site kept r.ticks ++ last_line n end) old new outcome.status) (sym ticks)
               (says_then (status_of end) outcome.status old last new (text_so_far site kept r.ticks) (last_line run.ticks end)

@@ -309,6 +309,21 @@ run_ordered : (site : Site) (o : Option Block) (ticks : List TickBlock) → AreO
 run_ordered site None ticks h = h
 run_ordered site (Some block) ticks h = h.0
 
+-- what befell since the last tick changes nothing that is kept
+keeps_behind : (site : Site) (kept : Retained) (journal : Journal) (events : List Event) (before : List Moment)
+    → KeepsRun site kept (and_events events before) journal → KeepsRun site kept before journal
+keeps_behind site kept journal [] earlier h = h
+keeps_behind site kept journal (event ∷ events) earlier h =
+    let g = keeps_behind site kept journal events (Happened event ∷ earlier) h in
+    record { keeps = g.keeps; wide = g.wide; torn = g.torn }
+
+run_keeps : (site : Site) (kept : Retained) (journal : Journal) (o : Option Block) (ticks : List TickBlock)
+    → KeepsRun site kept (moments_by o ticks) journal → KeepsRun site kept (moments ticks) journal
+run_keeps site kept journal None ticks h = h
+run_keeps site kept journal (Some block) ticks h =
+    let g = keeps_behind site kept journal block.events (Began ∷ moments ticks) h in
+    record { keeps = g.keeps; wide = g.wide; torn = g.torn }
+
 pub has_run : (site : Site) (kept : Retained) (ticks : List TickBlock) (o : Option Block) (run : Run)
     → Stands site kept (record { run = ticks; block = o }) run → HasRun site kept ticks run
 has_run site kept ticks o run h =
@@ -326,6 +341,9 @@ has_run site kept ticks o run h =
       count = h.count;
       failed = h.failed;
       ordered = ordered;
+      few = let few = h.few in let less = run_few o ticks in omega (arith, few, less);
+      journal = run_keeps site kept run.journal o ticks h.journal;
+      tried = h.tried;
     }
 
 -- the page isn't looked at

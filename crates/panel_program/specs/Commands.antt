@@ -1,5 +1,7 @@
 -- What each command answers.
-use Rattle.std.specs.Prelude.{◌≡◌, ◌⊎◌, ℕ, List, [], ◌∷◌, Option, IfSome, Result, Ok, Err}
+use Rattle.std.specs.Prelude.{◌≡◌, ◌⊎◌, ℕ, List, [], ◌∷◌, Option, IfSome, Result, Ok, Err, map}
+use Rattle.std.specs.Prelude.{String, string_bytes}
+use Rattle.std.specs.declared.alloc.Global.{Global}
 use Rattle.panel_edges.specs.Faults.{Rose}
 use Rattle.panel_edges.specs.Shelves.{file_of}
 use Rattle.site_types.specs.declared.site.Site.{Site}
@@ -12,7 +14,8 @@ use Rattle.panel_program.specs.declared.stop.Stop.{Stop}
 use Rattle.panel_program.specs.Lines.{counts_line, usage_line}
 use Rattle.panel_program.specs.Refusals.{stop_status, stop_text}
 use Rattle.panel_program.specs.Matrix.{IsMatrix}
-use Rattle.panel_program.specs.Runs.{Files, Input, Ran, RanNothing}
+use Rattle.panel_program.specs.PowerCuts.{JournalDisk}
+use Rattle.panel_program.specs.Runs.{Files, Input, RanNothing, RanOver}
 use Rattle.panel_program.specs.Sites.{Loads, file_digest}
 use Rattle.program_status.specs.Sayings.{Says}
 use Rattle.panel_program.specs.Words.{command_of}
@@ -42,11 +45,10 @@ Draws old new outcome (Ok site) =
 Draws old new outcome (Err stop) = Tells (stop_status stop) (stop_text stop) old new outcome
 
 -- a run runs the site over the record where the input tells its bytes, or tells why there is no site
-abbrev pub Runs : List ℕ → Input → Option (List ℕ) → Option (List ℕ) → Option (List ℕ) → Outcome
-    → Result Site Stop → Type 0
-Runs digest input seen old new outcome (Ok site) =
-    IfSome input.before (λ bytes. Ran site digest input bytes seen old new outcome)
-Runs digest input seen old new outcome (Err stop) = Tells (stop_status stop) (stop_text stop) old new outcome
+abbrev pub Runs : List ℕ → JournalDisk → Option (List ℕ) → Option (List ℕ) → Input → Outcome → Result Site Stop
+    → Type 0
+Runs digest disk old new input outcome (Ok site) = RanOver site digest disk old new input outcome
+Runs digest disk old new input outcome (Err stop) = Tells (stop_status stop) (stop_text stop) old new outcome
 
 -- what a command that has a site answers, by the file under the site's name
 pub record AnswersBy (rose : Type 0) (file : Option (List ℕ)) (does : Result Site Stop → Type 0) : Type 0 where
@@ -54,25 +56,25 @@ pub record AnswersBy (rose : Type 0) (file : Option (List ℕ)) (does : Result S
   pub loads : Loads rose file result
   pub did : does result
 
+-- what a command that has a site answers, by the file under its name and the digest of that file
+abbrev pub AnswersOver : Files → List ℕ → (List ℕ → Result Site Stop → Type 0) → Type 0
+AnswersOver files name does = IfSome files.held (λ held. AnswersBy (Rose files.faults_before files.faults_after)
+    (file_of name held) (does (file_digest (file_of name held))))
+
 -- what a command answers: on its words alone, or by the files where the shelf tells them; a run by the bytes of the
 -- record, where the input tells them, and by what the journal's disk holds
-abbrev pub Answers : Command → List ℕ → Type 0 → Option (List (List ℕ × List ℕ)) → Input → Option (List ℕ)
-    → Option (List ℕ) → Option (List ℕ) → Outcome → Type 0
-Answers Usage name rose files input seen old new outcome = Tells exit.Usage usage_line old new outcome
-Answers Check name rose files input seen old new outcome =
-    IfSome files (λ held. AnswersBy rose (file_of name held) (Checks old new outcome))
-Answers Matrix name rose files input seen old new outcome =
-    IfSome files (λ held. AnswersBy rose (file_of name held) (Draws old new outcome))
-Answers Run name rose files input seen old new outcome = IfSome files (λ held. AnswersBy rose (file_of name held)
-    (Runs (file_digest (file_of name held)) input seen old new outcome))
-
--- the same, by what a shelf of files and an input are before a call and after it
-abbrev pub AnswersCommand : Command → List ℕ → Files → Option (List ℕ) → Option (List ℕ) → Option (List ℕ) → Input
+abbrev pub AnswersCommand : Command → List ℕ → Files → JournalDisk → Option (List ℕ) → Option (List ℕ) → Input
     → Outcome → Type 0
-AnswersCommand command name files seen old new input outcome =
-    Answers command name (Rose files.faults_before files.faults_after) files.held input seen old new outcome
+AnswersCommand Usage name files disk old new input outcome = Tells exit.Usage usage_line old new outcome
+AnswersCommand Check name files disk old new input outcome = AnswersOver files name (λ digest. Checks old new outcome)
+AnswersCommand Matrix name files disk old new input outcome = AnswersOver files name (λ digest. Draws old new outcome)
+AnswersCommand Run name files disk old new input outcome =
+    AnswersOver files name (λ digest. Runs digest disk old new input outcome)
+
+abbrev pub AnswersRun : List ℕ → Files → JournalDisk → Option (List ℕ) → Option (List ℕ) → Input → Outcome → Type 0
+AnswersRun = AnswersCommand Run
 
 -- what a call with these words answers
-abbrev pub AnswersWords : List (List ℕ) → Files → Option (List ℕ) → Option (List ℕ) → Option (List ℕ) → Input
-    → Outcome → Type 0
-AnswersWords words = AnswersCommand (command_of words) (site_word words)
+abbrev pub Answers : List (String Global) → Files → JournalDisk → Option (List ℕ) → Option (List ℕ) → Input → Outcome
+    → Type 0
+Answers words = AnswersCommand (command_of (map string_bytes words)) (site_word (map string_bytes words))

@@ -10,6 +10,7 @@ pub mod Stands
 pub mod Acting
 pub mod Disks
 pub mod Pages
+pub mod PowerCuts
 pub mod Runs
 pub mod Sites
 pub mod Commands

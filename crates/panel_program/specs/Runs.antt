@@ -1,5 +1,5 @@
 -- What a run over the bytes of a record comes to.
-use Rattle.std.specs.Prelude.{◌≡◌, ◌⊎◌, ◌+◌, ◌-◌, ◌^◌, ◌<◌, ◌≤◌, ℕ, List, [], ◌++◌, length, Option, Some}
+use Rattle.std.specs.Prelude.{◌≡◌, ◌⊎◌, ◌+◌, ◌-◌, ◌^◌, ◌<◌, ◌≤◌, ℕ, List, [], ◌++◌, length, Option, Some, IfSome}
 use Rattle.std.specs.Prelude.{Result, Ok, Err}
 use Rattle.panel_edges.specs.Contents.{GrowsByFront}
 use Rattle.panel_edges.specs.Faults.{Rose}
@@ -12,6 +12,7 @@ use Rattle.panel_rules.specs.Moments.{TickBlock, moments}
 use Rattle.panel_rules.specs.Timeline.{timeline_of}
 use Rattle.run_text.specs.RunPromises.{KeepsPromises}
 use Rattle.run_text.specs.TextLaws.{whole_text}
+use Rattle.retained_journal.specs.declared.journal.Journal.{Journal}
 use Rattle.retained_journal.specs.declared.open_refusal.OpenRefusal.{OpenRefusal}
 use Rattle.retained_journal.specs.Outcomes.{IsRefusalOf}
 use Rattle.keep_batch.specs.MakingLaws.{is_wide}
@@ -23,6 +24,7 @@ use Rattle.program_status.specs.declared.status.Status.TheVariants.{NoMemory, Wr
 use Rattle.program_status.specs.Statuses.{number_of}
 use Rattle.panel_program.specs.Endings.{end_of, within_limit, status_of, last_line}
 use Rattle.panel_program.specs.Journals.{KeepsFor, journal_status, journal_text}
+use Rattle.panel_program.specs.PowerCuts.{IsJournalOf, JournalDisk, LeavesAcknowledged}
 use Rattle.panel_program.specs.Records.{ticks_run}
 use Rattle.panel_program.specs.Stands.{HasRun, IsGoing, AreTicksOf, Writes, WritesPart}
 use Rattle.run_text.specs.SoFar.{text_so_far}
@@ -110,8 +112,8 @@ pub record RanNothing (old new : Option (List ℕ)) (outcome : Outcome) : Type 0
   pub failures : outcome.store_failures ≡ 0
   pub same : new ≡ old
 
-module _ (site : Site) (kept : Retained) (input : Input) (bytes : List ℕ) (old new : Option (List ℕ)) (outcome :
-    Outcome) where
+module _ (site : Site) (kept : Retained) (digest : List ℕ) (disk : JournalDisk) (input : Input) (bytes : List ℕ) (old
+    new : Option (List ℕ)) (outcome : Outcome) where
   -- the run read these bytes and ended so: it wrote the text of their ticks and the last line, or a front of
   -- that with a write fault
   pub record RanTo (end : RunEnd) : Type 0 where
@@ -123,6 +125,7 @@ module _ (site : Site) (kept : Retained) (input : Input) (bytes : List ℕ) (old
     -- a read failed, and what was read holds neither the end nor a refused line
     pub fault : end ≡ ReadFault → Rose input.faults_before input.faults_after × (input.after ≡ Some rest)
     pub made : HasMade site kept consumed run outcome
+    pub cut : LeavesAcknowledged site kept digest disk run
     pub says : Says (status_of end) (text_so_far site kept run ++ last_line outcome.ticks end) old new
         outcome.status
 
@@ -133,12 +136,21 @@ module _ (site : Site) (kept : Retained) (input : Input) (bytes : List ℕ) (old
     pub run : List TickBlock
     pub whole : bytes ≡ consumed ++ rest
     pub made : HasMade site kept consumed run outcome
+    pub cut : LeavesAcknowledged site kept digest disk run
     pub status : outcome.status ≡ number_of WriteFault
     pub broke : GrowsByFront old new (text_so_far site kept run)
 
   -- a run with what the journal kept: memory ran out before anything was written, it came to an end, or a write failed
   abbrev pub RanOn : Type 0
-  RanOn = RanNothing old new outcome ⊎ ((end : RunEnd) × RanTo end) ⊎ RanUntil
+  RanOn = (RanNothing old new outcome × LeavesAcknowledged site kept digest disk [])
+      ⊎ ((end : RunEnd) × RanTo end) ⊎ RanUntil
+
+-- a run with a journal, whatever its disk told when it was opened
+abbrev pub RanFrom : Site → Journal → (Option (List ℕ) → JournalDisk) → Option (List ℕ) → Option (List ℕ) → Input
+    → Outcome → Type 0
+RanFrom site journal disk old new input outcome = (digest : List ℕ) (seen : Option (List ℕ))
+    → IsJournalOf digest seen journal
+    → IfSome input.before (λ bytes. RanOn site journal.kept digest (disk seen) input bytes old new outcome)
 
 -- the journal can't be used: it is another site's, damaged or none at all, or its disk failed
 pub record StopsAtJournal (site : Site) (digest : List ℕ) (seen old new : Option (List ℕ)) (outcome : Outcome) :
@@ -150,14 +162,18 @@ pub record StopsAtJournal (site : Site) (digest : List ℕ) (seen old new : Opti
   pub failures : outcome.store_failures ≡ 0
 
 -- the journal kept this, and the run went on from it
-pub record RanKept (site : Site) (digest : List ℕ) (input : Input) (bytes : List ℕ) (seen old new :
+pub record RanKept (site : Site) (digest : List ℕ) (disk : JournalDisk) (input : Input) (bytes : List ℕ) (old new :
     Option (List ℕ)) (outcome : Outcome) : Type 0 where
   pub kept : Retained
-  pub keeps : KeepsFor site digest seen kept
-  pub ran : RanOn site kept input bytes old new outcome
+  pub keeps : KeepsFor site digest disk.seen kept
+  pub ran : RanOn site kept digest disk input bytes old new outcome
 
 -- What a run of a site over the bytes of a record came to, by what its disk holds.
-abbrev pub Ran : Site → List ℕ → Input → List ℕ → Option (List ℕ) → Option (List ℕ) → Option (List ℕ) → Outcome
-    → Type 0
-Ran site digest input bytes seen old new outcome =
-    StopsAtJournal site digest seen old new outcome ⊎ RanKept site digest input bytes seen old new outcome
+abbrev pub Ran : Site → List ℕ → JournalDisk → Input → List ℕ → Option (List ℕ) → Option (List ℕ) → Outcome → Type 0
+Ran site digest disk input bytes old new outcome =
+    StopsAtJournal site digest disk.seen old new outcome ⊎ RanKept site digest disk input bytes old new outcome
+
+-- the same, where the input tells the bytes of the record
+abbrev pub RanOver : Site → List ℕ → JournalDisk → Option (List ℕ) → Option (List ℕ) → Input → Outcome → Type 0
+RanOver site digest disk old new input outcome =
+    IfSome input.before (λ bytes. Ran site digest disk input bytes old new outcome)

@@ -143,6 +143,9 @@ pub record HasRun (site : Site) (kept : Retained) (ticks : List TickBlock) (run 
   pub count : run.ticks ≡ length ticks
   pub failed : run.store_failures ≡ failures ticks
   pub ordered : AreOrdered site.panels ticks
+  pub few : length ticks ≤ last_tick
+  pub journal : KeepsRun site kept (moments ticks) run.journal
+  pub tried : run.journal.tried ≤ run.ticks
 
 module _ (site : Site) (kept : Retained) where
   -- the text of the ticks of one state grew to that of another

@@ -1,8 +1,9 @@
-ghost use Rattle.std.specs.Prelude.{◌≡◌, ◌≢◌, ◌⊎◌, IfSome, Ok, map, string_bytes};
+ghost use Rattle.std.specs.Prelude.{◌≡◌, ◌≢◌, ◌⊎◌, IfSome, Ok};
 ghost use Rattle.cause_effect.specs.Stands.{IsPlanOf};
 ghost use Rattle.panel_edges.specs.Faults.{Rose};
 ghost use Rattle.panel_edges.specs.Shelves.{file_of};
-ghost use Rattle.panel_program.specs.Commands.{AnswersBy, AnswersCommand, AnswersWords, Checks, Draws};
+ghost use Rattle.panel_program.specs.Commands.{Answers, AnswersBy, AnswersRun, Checks, Draws};
+ghost use Rattle.panel_program.specs.PowerCuts.{disk_of};
 ghost use Rattle.panel_program.specs.Runs.{BlamesStores, files_of, input_of};
 ghost use Rattle.program_status.specs.Statuses.{BlamesDisk, BlamesReads, BlamesWrites, IsSilentWithoutMemory};
 ghost use Rattle.program_status.specs.Statuses.{number_of};
@@ -32,9 +33,9 @@ pub fn panel<F: Shelf, S: Source, K: Sink, D: Disk>(
     out: &mut K,
     disk: &mut D,
 ) -> Outcome
-    ensures answers { AnswersWords (map string_bytes words.now)
-        (files_of F.files F.faults shelf.old shelf.new) (D.seen disk.old) (K.written out.old)
-        (K.written out.new) (input_of S.left S.read_faults input.old input.new) result }
+    ensures answers { Answers words.now (files_of F.files F.faults shelf.old shelf.new)
+        (disk_of D.seen D.honest D.images disk.old disk.new) (K.written out.old) (K.written out.new)
+        (input_of S.left S.read_faults input.old input.new) result }
     ensures read { result.status ≡ number_of Status.ReadFault
         → Rose (F.faults shelf.old) (F.faults shelf.new)
         ⊎ Rose (S.read_faults input.old) (S.read_faults input.new) }
@@ -114,9 +115,9 @@ fn run<F: Shelf, S: Source, K: Sink, D: Disk>(
     out: &mut K,
     disk: &mut D,
 ) -> Outcome
-    ensures answers { AnswersCommand Command.Run name.now
-        (files_of F.files F.faults shelf.old shelf.new) (D.seen disk.old) (K.written out.old)
-        (K.written out.new) (input_of S.left S.read_faults input.old input.new) result }
+    ensures answers { AnswersRun name.now (files_of F.files F.faults shelf.old shelf.new)
+        (disk_of D.seen D.honest D.images disk.old disk.new) (K.written out.old) (K.written out.new)
+        (input_of S.left S.read_faults input.old input.new) result }
     ensures read { result.status ≡ number_of Status.ReadFault
         → Rose (F.faults shelf.old) (F.faults shelf.new)
         ⊎ Rose (S.read_faults input.old) (S.read_faults input.new) }

@@ -7,8 +7,9 @@ ghost use Rattle.panel_edges.specs.Faults.{HasCause, Rose};
 ghost use Rattle.panel_program.specs.Disks.{KeepsOn};
 ghost use Rattle.panel_program.specs.Endings.{last_line as last_text, status_of as status_of_end};
 ghost use Rattle.panel_program.specs.Journals.{IsOpenFor};
+ghost use Rattle.panel_program.specs.PowerCuts.{disk_after, disk_of};
 ghost use Rattle.panel_program.specs.Records.{at_beginning};
-ghost use Rattle.panel_program.specs.Runs.{BlamesStores, Ran, RanOn, ReadsRecord, input_of};
+ghost use Rattle.panel_program.specs.Runs.{BlamesStores, RanFrom, RanOver, ReadsRecord, input_of};
 ghost use Rattle.panel_program.specs.Sites.{IsLoaded};
 ghost use Rattle.panel_program.specs.Stands.{HasTakenNext, HasTakenPiece, HasTakenStep, MayPiece, MayStepSome};
 ghost use Rattle.panel_program.specs.Stands.{Stands, StandsAtBeginning};
@@ -47,9 +48,9 @@ pub fn run_site<S: Source, K: Sink, D: Disk>(
     disk: &mut D,
 ) -> Outcome
     requires { IsLoaded loaded }
-    ensures ran { IfSome (S.left input.old) (λ bytes. Ran loaded.site loaded.digest
-        (input_of S.left S.read_faults input.old input.new) bytes
-        (D.seen disk.old) (K.written out.old) (K.written out.new) result) }
+    ensures ran { RanOver loaded.site loaded.digest
+        (disk_of D.seen D.honest D.images disk.old disk.new) (K.written out.old) (K.written out.new)
+        (input_of S.left S.read_faults input.old input.new) result }
     ensures read { BlamesReads result (S.read_faults input.old) (S.read_faults input.new) }
     ensures write { BlamesWrites result (K.write_faults out.old) (K.write_faults out.new) }
     ensures memory { IsSilentWithoutMemory result (K.written out.old) (K.written out.new) }
@@ -77,9 +78,9 @@ fn run_with<S: Source, K: Sink, D: Disk>(
     requires plan { HasPlan site plan }
     requires journal { IsOpenFor site journal.kept journal }
     requires stands { StandsOn D.honest D.images disk.old journal }
-    ensures ran { IfSome (S.left input.old) (λ bytes. RanOn site journal.kept
-        (input_of S.left S.read_faults input.old input.new) bytes
-        (K.written out.old) (K.written out.new) result) }
+    ensures ran { RanFrom site journal (disk_after D.honest D.images disk.new)
+        (K.written out.old) (K.written out.new)
+        (input_of S.left S.read_faults input.old input.new) result }
     ensures read { BlamesReads result (S.read_faults input.old) (S.read_faults input.new) }
     ensures write { BlamesWrites result (K.write_faults out.old) (K.write_faults out.new) }
     ensures memory { IsSilentWithoutMemory result (K.written out.old) (K.written out.new) }

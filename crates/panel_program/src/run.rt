@@ -248,8 +248,8 @@ impl Run {
         requires may { MayClose self.old }
         requires stands { StandsOn D.honest D.images disk.old self.old.journal }
         ensures turns { TurnsAll self.old result self.new }
-        ensures disk { TurnsOn D.honest D.images D.faults disk.old disk.new self.new.journal
-            result }
+        ensures disk { TurnsOn D.honest D.images D.faults disk.old disk.new self.old.journal
+            self.new.journal result }
     {
         self.turn_counted::<Brand, D>(disk, Blank::new(1))
     }
@@ -262,8 +262,8 @@ impl Run {
         requires parts { blank.parts ≡ L.parts }
         requires some { 0 < blank.parts }
         ensures turns { TurnsAll self.old result self.new }
-        ensures disk { TurnsOn D.honest D.images D.faults disk.old disk.new self.new.journal
-            result }
+        ensures disk { TurnsOn D.honest D.images D.faults disk.old disk.new self.old.journal
+            self.new.journal result }
     {
         let mut steps: Steps<L> = Steps::new(blank);
         match &self.order {

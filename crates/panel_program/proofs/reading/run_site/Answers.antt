@@ -1,0 +1,19 @@
+use Rattle.std.proofs.Common.{inr, subst, sym}
+use Rattle.panel_program.specs.Journals.{KeepsFor}
+use Rattle.panel_program.proofs.PowerCuts.{opened_of}
+use Rattle.panel_program.proofs.Written.{some_weaker}
+use Rattle.panel_program.proofs.reading.run_site.Goals as goal
+
+pub returns-in-Ok-clause-ran : goal.returns-in-Ok-clause-ran
+returns-in-Ok-clause-ran g c =
+    let journal = c.in-Ok.journal in
+    let seen = g.D.Disk.seen c.args.disk.now in
+    let digest = c.args.loaded.digest in
+    let opened = c.in-Ok.ensures in
+    some_weaker (g.S.Stream.left c.args.input.now)
+    (λ bytes ran. inr (record {
+      kept = journal.kept;
+      keeps = subst (KeepsFor c.args.loaded.site digest seen) (sym opened.kept) opened.ok;
+      ran = ran;
+    }))
+    (c.run_with.ensures.ran digest seen (opened_of digest seen journal opened.fresh.same_digest opened.early))
