@@ -39,10 +39,16 @@ use program::panel;
 use program_status::Status;
 use std::alloc::{AllocError, Global};
 use std::env;
+use std::fs::File;
 use std::io::ErrorKind;
 use std::process::ExitCode;
 
 fn main(rt: HostRuntime) -> ExitCode {
+    // Where standard input, output or error is closed, one of these has its descriptor, so that no journal gets it. What
+    // would be written there is refused then, since they are open for reading alone.
+    let _first = File::open(&rt, "/dev/null");
+    let _second = File::open(&rt, "/dev/null");
+    let _third = File::open(&rt, "/dev/null");
     let Ok(words) = words_of(&rt) else {
         return ExitCode::from(Status::NoMemory.number());
     };
