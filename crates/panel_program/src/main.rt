@@ -44,8 +44,8 @@ use std::io::ErrorKind;
 use std::process::ExitCode;
 
 fn main(rt: HostRuntime) -> ExitCode {
-    // Where standard input, output or error is closed, one of these has its descriptor, so that no journal gets it. What
-    // would be written there is refused then, since they are open for reading alone.
+    // Where standard input, output or error is closed, one of these has its descriptor, so that no journal gets it.
+    // What would be written there is refused then, since they are open for reading alone.
     let _first = File::open(&rt, "/dev/null");
     let _second = File::open(&rt, "/dev/null");
     let _third = File::open(&rt, "/dev/null");
