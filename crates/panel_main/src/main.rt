@@ -1,41 +1,11 @@
-//! The program `panel`: a site file and a record in, the text of all that the panels show and answer out, with a
-//! journal that outlives a power cut.
+//! The program `panel`: real files and streams for the call `panel` of panel_program, which promises the rest.
 //!
-//! Begin with `panel` of src/program. Its contract speaks of bytes alone: `Answers` of specs/Commands says
-//! what each command writes and how it ends, by the words, the file under the site's name, the bytes of the record and
-//! those of the journal. For a run that is `Ran` of specs/Runs: the text of the ticks that site, record and journal
-//! make (specs/Records, and `text_so_far` of run_text), the last line and the status of the end that the bytes have
-//! (specs/Endings). In which ticks the journal could not be kept is told by the text; how many these are is tied to
-//! the outcome and to the faults of its disk. Which site a command has at hand, or why it has none, stands in
-//! specs/Sites, with the lines of refusals in specs/Refusals and Journals.
-//!
-//! `run_site` of src/reading opens the journal and reads the record piece by piece; `Run` takes it line by line. A
-//! tick's turns are made when the line behind its block was read, and its text is written then, a short one in one
-//! call. All memory of a run is taken before its first line is written. Between two lines a tick costs the turns of the
-//! system and a look at the faces of its panels; its text costs the lines that it has.
+//! It takes the words behind its name, opens the file that the third of them names as the journal's disk, and ends with
+//! the status of the outcome. No clause speaks of a real file or stream, so there is none here.
 #![tactic(auto)]
 
-mod command;
-mod cycle_lines;
-mod journal_lines;
-mod last_lines;
-mod lines;
-mod loaded;
-mod loading;
-mod matrix;
-mod program;
-mod reading;
-mod run;
-mod run_end;
-mod site_lines;
-mod sized;
-mod stop;
-mod taken;
-mod usage;
-mod writing;
-
 use panel_edges::{FileDisk, FileShelf, StdSink, StdSource};
-use program::panel;
+use panel_program::panel;
 use program_status::Status;
 use std::alloc::{AllocError, Global};
 use std::env;
