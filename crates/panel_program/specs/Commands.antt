@@ -1,5 +1,5 @@
 -- What each command answers.
-use Rattle.std.specs.Prelude.{◌≡◌, ◌⊎◌, ℕ, List, [], ◌∷◌, Option, IfSome, Result, Ok, Err, map}
+use Rattle.std.specs.Prelude.{◌≡◌, ◌≢◌, ◌⊎◌, ℕ, List, [], ◌∷◌, Option, IfSome, Result, Ok, Err, map}
 use Rattle.std.specs.Prelude.{String, string_bytes}
 use Rattle.std.specs.declared.alloc.Global.{Global}
 use Rattle.panel_edges.specs.Faults.{Rose}
@@ -15,7 +15,7 @@ use Rattle.panel_program.specs.Lines.{counts_line, usage_line}
 use Rattle.panel_program.specs.Refusals.{stop_status, stop_text}
 use Rattle.panel_program.specs.Matrix.{IsMatrix}
 use Rattle.panel_program.specs.PowerCuts.{JournalDisk}
-use Rattle.panel_program.specs.Runs.{Files, Input, RanNothing, RanOver}
+use Rattle.panel_program.specs.Runs.{Files, RanNothing, RanOver, Streams}
 use Rattle.panel_program.specs.Sites.{Loads, file_digest}
 use Rattle.program_status.specs.Sayings.{Says}
 use Rattle.panel_program.specs.Words.{command_of}
@@ -45,10 +45,10 @@ Draws old new outcome (Ok site) =
 Draws old new outcome (Err stop) = Tells (stop_status stop) (stop_text stop) old new outcome
 
 -- a run runs the site over the record where the input tells its bytes, or tells why there is no site
-abbrev pub Runs : List ℕ → JournalDisk → Option (List ℕ) → Option (List ℕ) → Input → Outcome → Result Site Stop
-    → Type 0
-Runs digest disk old new input outcome (Ok site) = RanOver site digest disk old new input outcome
-Runs digest disk old new input outcome (Err stop) = Tells (stop_status stop) (stop_text stop) old new outcome
+abbrev pub Runs : List ℕ → JournalDisk → Streams → Outcome → Result Site Stop → Type 0
+Runs digest disk streams outcome (Ok site) = RanOver site digest disk streams outcome
+Runs digest disk streams outcome (Err stop) =
+    Tells (stop_status stop) (stop_text stop) streams.old streams.new outcome
 
 -- what a command that has a site answers, by the file under the site's name
 pub record AnswersBy (rose : Type 0) (file : Option (List ℕ)) (does : Result Site Stop → Type 0) : Type 0 where
@@ -63,18 +63,22 @@ AnswersOver files name does = IfSome files.held (λ held. AnswersBy (Rose files.
 
 -- what a command answers: on its words alone, or by the files where the shelf tells them; a run by the bytes of the
 -- record, where the input tells them, and by what the journal's disk holds
-abbrev pub AnswersCommand : Command → List ℕ → Files → JournalDisk → Option (List ℕ) → Option (List ℕ) → Input
-    → Outcome → Type 0
-AnswersCommand Usage name files disk old new input outcome = Tells exit.Usage usage_line old new outcome
-AnswersCommand Check name files disk old new input outcome = AnswersOver files name (λ digest. Checks old new outcome)
-AnswersCommand Matrix name files disk old new input outcome = AnswersOver files name (λ digest. Draws old new outcome)
-AnswersCommand Run name files disk old new input outcome =
-    AnswersOver files name (λ digest. Runs digest disk old new input outcome)
+abbrev pub AnswersCommand : Command → List ℕ → Files → JournalDisk → Streams → Outcome → Type 0
+AnswersCommand Usage name files disk streams outcome = Tells exit.Usage usage_line streams.old streams.new outcome
+AnswersCommand Check name files disk streams outcome =
+    AnswersOver files name (λ digest. Checks streams.old streams.new outcome)
+AnswersCommand Matrix name files disk streams outcome =
+    AnswersOver files name (λ digest. Draws streams.old streams.new outcome)
+AnswersCommand Run name files disk streams outcome =
+    AnswersOver files name (λ digest. Runs digest disk streams outcome)
 
-abbrev pub AnswersRun : List ℕ → Files → JournalDisk → Option (List ℕ) → Option (List ℕ) → Input → Outcome → Type 0
+abbrev pub AnswersRun : List ℕ → Files → JournalDisk → Streams → Outcome → Type 0
 AnswersRun = AnswersCommand Run
 
 -- what a call with these words answers
-abbrev pub Answers : List (String Global) → Files → JournalDisk → Option (List ℕ) → Option (List ℕ) → Input → Outcome
-    → Type 0
+abbrev pub Answers : List (String Global) → Files → JournalDisk → Streams → Outcome → Type 0
 Answers words = AnswersCommand (command_of (map string_bytes words)) (site_word (map string_bytes words))
+
+-- a command that runs no site leaves its input unread and its disk alone
+abbrev pub RunsNothing : List (String Global) → Type 0
+RunsNothing words = command_of (map string_bytes words) ≢ Run

@@ -2,9 +2,9 @@ ghost use Rattle.std.specs.Prelude.{◌≡◌, ◌≢◌, ◌⊎◌, IfSome, Ok}
 ghost use Rattle.cause_effect.specs.Stands.{IsPlanOf};
 ghost use Rattle.panel_edges.specs.Faults.{Rose};
 ghost use Rattle.panel_edges.specs.Shelves.{file_of};
-ghost use Rattle.panel_program.specs.Commands.{Answers, AnswersBy, AnswersRun, Checks, Draws};
+ghost use Rattle.panel_program.specs.Commands.{Answers, AnswersBy, AnswersRun, Checks, Draws, RunsNothing};
 ghost use Rattle.panel_program.specs.PowerCuts.{disk_of};
-ghost use Rattle.panel_program.specs.Runs.{BlamesStores, files_of, input_of};
+ghost use Rattle.panel_program.specs.Runs.{BlamesStores, files_of, streams_of};
 ghost use Rattle.program_status.specs.Statuses.{BlamesDisk, BlamesReads, BlamesWrites, IsSilentWithoutMemory};
 ghost use Rattle.program_status.specs.Statuses.{number_of};
 ghost use Rattle.site_types.specs.Valid.{IsValid};
@@ -34,8 +34,9 @@ pub fn panel<F: Shelf, S: Source, K: Sink, D: Disk>(
     disk: &mut D,
 ) -> Outcome
     ensures answers { Answers words.now (files_of F.files F.faults shelf.old shelf.new)
-        (disk_of D.seen D.honest D.images disk.old disk.new) (K.written out.old) (K.written out.new)
-        (input_of S.left S.read_faults input.old input.new) result }
+        (disk_of D.seen D.honest D.images D.moment D.left_since disk.old disk.new)
+        (streams_of S.left S.read_faults K.written input.old input.new out.old out.new) result }
+    ensures alone { RunsNothing words.now → (input.new ≡ input.old) × (disk.new ≡ disk.old) }
     ensures read { result.status ≡ number_of Status.ReadFault
         → Rose (F.faults shelf.old) (F.faults shelf.new)
         ⊎ Rose (S.read_faults input.old) (S.read_faults input.new) }
@@ -116,8 +117,8 @@ fn run<F: Shelf, S: Source, K: Sink, D: Disk>(
     disk: &mut D,
 ) -> Outcome
     ensures answers { AnswersRun name.now (files_of F.files F.faults shelf.old shelf.new)
-        (disk_of D.seen D.honest D.images disk.old disk.new) (K.written out.old) (K.written out.new)
-        (input_of S.left S.read_faults input.old input.new) result }
+        (disk_of D.seen D.honest D.images D.moment D.left_since disk.old disk.new)
+        (streams_of S.left S.read_faults K.written input.old input.new out.old out.new) result }
     ensures read { result.status ≡ number_of Status.ReadFault
         → Rose (F.faults shelf.old) (F.faults shelf.new)
         ⊎ Rose (S.read_faults input.old) (S.read_faults input.new) }
