@@ -1,12 +1,11 @@
 -- What the site of a drill at work stands for, and what each step makes of it.
-use Rattle.std.specs.Prelude.{◌≡◌, ◌+◌, ◌-◌, ◌^◌, ◌<◌, ◌≤◌, ℕ, Bool, true, false, List, length, Option, Some, None}
+use Rattle.std.specs.Prelude.{◌≡◌, ◌+◌, ◌-◌, ◌^◌, ◌<◌, ◌≤◌, ℕ, Bool, true, false, List, length, [], Option, Some, None}
 use Rattle.std.specs.Prelude.{reverse, if◌then◌else◌}
 use Rattle.tick_units.specs.declared.seat.Seat.{Seat}
 use Rattle.tick_units.specs.Orders.{IsOrder, canonical_seats}
 use Rattle.tick_units.specs.Ticks.{last_tick}
 use Rattle.site_types.specs.declared.event.Event.{Event}
 use Rattle.site_types.specs.declared.site.Site.{Site}
-use Rattle.site_types.specs.declared.retained.Retained.{Retained}
 use Rattle.site_types.specs.Changes.{nothing_retained}
 use Rattle.site_types.specs.Events.{has_event}
 use Rattle.panel_edges.specs.declared.sound_memory_disk.SoundMemoryDisk.{SoundMemoryDisk}
@@ -41,7 +40,7 @@ IsOnDisk disk journal =
 pub record OpensFor (wide : Bool) (disk : SoundMemoryDisk) (journal : Journal) : Type 0 where
   pub kept : journal.kept ≡ nothing_retained
   pub same_wide : journal.wide ≡ wide
-  pub whole : journal.torn ≡ false
+  pub attempt : journal.attempt.items ≡ []
   pub untried : journal.tried ≡ 0
   pub stands : IsOnDisk disk journal
 

@@ -12,13 +12,13 @@
 #![tactic(auto)]
 
 mod counting;
-mod drill;
 mod drill_stop;
+mod drills;
 mod line;
 mod loading;
 mod running;
 mod summary;
 
-pub use drill::{MOST_TICKS, drill};
 pub use drill_stop::DrillStop;
+pub use drills::{MOST_TICKS, drill};
 pub use summary::Summary;
