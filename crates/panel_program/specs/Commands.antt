@@ -5,8 +5,9 @@ use Rattle.std.specs.declared.alloc.Global.{Global}
 use Rattle.panel_edges.specs.Faults.{Rose}
 use Rattle.panel_edges.specs.Shelves.{file_of}
 use Rattle.site_types.specs.declared.site.Site.{Site}
+use Rattle.panel_drill.specs.Drills.{TellsDrill}
 use Rattle.panel_program.specs.declared.command.Command.{Command}
-use Rattle.panel_program.specs.declared.command.Command.TheVariants.{Usage, Check, Run, Matrix}
+use Rattle.panel_program.specs.declared.command.Command.TheVariants.{Usage, Check, Run, Matrix, Drill}
 use Rattle.program_status.specs.declared.outcome.Outcome.{Outcome}
 use Rattle.program_status.specs.declared.status.Status.{Status}
 use Rattle.program_status.specs.declared.status.Status.TheVariants as exit
@@ -31,6 +32,12 @@ pub record Tells (status : Status) (text : List ℕ) (old new : Option (List ℕ
   pub ticks : outcome.ticks ≡ 0
   pub failures : outcome.store_failures ≡ 0
 
+-- one text was written, after so many ticks
+pub record TellsAfter (ticks : ℕ) (text : List ℕ) (old new : Option (List ℕ)) (outcome : Outcome) : Type 0 where
+  pub says : Says exit.Done text old new outcome.status
+  pub ticks_run : outcome.ticks ≡ ticks
+  pub failures : outcome.store_failures ≡ 0
+
 -- a check tells the counts of the site, or why there is none
 abbrev pub Checks : Option (List ℕ) → Option (List ℕ) → Outcome → Result Site Stop → Type 0
 Checks old new outcome (Ok site) = Tells exit.Done (counts_line site) old new outcome
@@ -49,6 +56,11 @@ abbrev pub Runs : List ℕ → JournalDisk → Streams → Outcome → Result Si
 Runs digest disk streams outcome (Ok site) = RanOver site digest disk streams outcome
 Runs digest disk streams outcome (Err stop) =
     Tells (stop_status stop) (stop_text stop) streams.old streams.new outcome
+
+-- a drill tells the line of its seed after its ticks, or memory ran out
+abbrev pub Drills : ℕ → ℕ → Option (List ℕ) → Option (List ℕ) → Outcome → Type 0
+Drills seed ticks old new outcome =
+    RanNothing old new outcome ⊎ ((line : List ℕ) × TellsDrill seed ticks line × TellsAfter ticks line old new outcome)
 
 -- what a command that has a site answers, by the file under the site's name
 pub record AnswersBy (rose : Type 0) (file : Option (List ℕ)) (does : Result Site Stop → Type 0) : Type 0 where
@@ -71,6 +83,8 @@ AnswersCommand Matrix name files disk streams outcome =
     AnswersOver files name (λ digest. Draws streams.old streams.new outcome)
 AnswersCommand Run name files disk streams outcome =
     AnswersOver files name (λ digest. Runs digest disk streams outcome)
+AnswersCommand (Drill seed ticks) name files disk streams outcome =
+    Drills seed ticks streams.old streams.new outcome
 
 abbrev pub AnswersRun : List ℕ → Files → JournalDisk → Streams → Outcome → Type 0
 AnswersRun = AnswersCommand Run

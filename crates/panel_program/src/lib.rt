@@ -18,6 +18,7 @@
 
 mod command;
 mod cycle_lines;
+mod drilling;
 mod journal_lines;
 mod last_lines;
 mod laws;

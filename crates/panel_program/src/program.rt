@@ -10,6 +10,7 @@ ghost use Rattle.program_status.specs.Statuses.{number_of};
 ghost use Rattle.site_types.specs.Valid.{IsValid};
 
 use crate::command::{Command, command_of};
+use crate::drilling::run_drill;
 use crate::lines::counts_line;
 use crate::loading::load;
 use crate::matrix::matrix_of;
@@ -50,6 +51,7 @@ pub fn panel<F: Shelf, S: Source, K: Sink, D: Disk>(
         Command::Check => check(alloc, words[1].as_str(), shelf, out),
         Command::Run => run(alloc, words[1].as_str(), shelf, input, out, disk),
         Command::Matrix => matrix(alloc, words[1].as_str(), shelf, out),
+        Command::Drill { seed, ticks } => run_drill(alloc, seed, ticks, out),
     }
 }
 
