@@ -35,7 +35,7 @@ state_by zero = Quiet
 state_by (suc zero) = Alarm
 state_by (suc (suc n)) = Gone
 
--- every fourth word tells an event: the state of a point
+-- a word that is a multiple of 4 tells an event: the state of a point
 abbrev pub event_by : ℕ → Option Event
 event_by word =
     if word % 4 == 0 then Some (Point (word / 4 % 3072) (state_by (word / 12288 % 3))) else None
@@ -50,8 +50,8 @@ drawn_behind seed n = drawn_by (word_behind seed (2 * n)) (word_behind seed (2 *
 
 -- ---- ticks
 
-abbrev pub order_by : ℕ → Bool → List Seat
-order_by panels reversed = if reversed then reverse (canonical_seats panels) else canonical_seats panels
+abbrev pub order_drawn : ℕ → Bool → List Seat
+order_drawn panels reversed = if reversed then reverse (canonical_seats panels) else canonical_seats panels
 
 abbrev pub events_of : Option Event → List Event
 events_of None = []
@@ -60,7 +60,7 @@ events_of (Some event) = event ∷ []
 -- a tick of a site of so many panels, in which Keep's turn doesn't fail
 abbrev pub tick_drawn : ℕ → Drawn → TickBlock
 tick_drawn panels drawn =
-    record { events = events_of drawn.event; order = order_by panels drawn.reversed; failed = false }
+    record { events = events_of drawn.event; order = order_drawn panels drawn.reversed; failed = false }
 
 -- the record of a seed, with so many ticks, the newest first
 abbrev pub drill_ticks : ℕ → ℕ → ℕ → List TickBlock

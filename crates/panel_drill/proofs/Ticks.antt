@@ -13,11 +13,11 @@ use Rattle.panel_rules.specs.Operations.{requests}
 use Rattle.panel_rules.specs.Records.{AreOrdered}
 use Rattle.panel_core.specs.Keeping.{KeepsRun}
 use Rattle.panel_core.proofs.Orders.{turns_ask, turns_tick}
-use Rattle.drill_record.specs.Records.{drawn_behind, drill_ticks, event_by, events_of, order_by, state_by, word_behind}
+use Rattle.drill_record.specs.Records.{drawn_behind, drill_ticks, event_by, events_of, order_drawn, state_by, word_behind}
 use Rattle.panel_drill.specs.Running.{HasAny, drill_moments, drill_points}
 
 -- the order of a tick, canonical or backwards
-pub drawn_order : (panels : ℕ) (reversed : Bool) → IsOrder panels (order_by panels reversed)
+pub drawn_order : (panels : ℕ) (reversed : Bool) → IsOrder panels (order_drawn panels reversed)
 drawn_order panels true = IsOrder-reverse panels (canonical_seats panels) (IsOrder-canonical_seats panels)
 drawn_order panels false = IsOrder-canonical_seats panels
 
@@ -68,7 +68,7 @@ none_asked site seed zero = refl
 none_asked site seed (suc n) =
     let word = word_behind seed (2 * n) in
     let before = drill_moments site seed n in
-    turns_ask site false (order_by site.panels (drawn_behind seed n).reversed) (and_events (events_of (event_by word)) (Began ∷ before))
+    turns_ask site false (order_drawn site.panels (drawn_behind seed n).reversed) (and_events (events_of (event_by word)) (Began ∷ before))
     ∙ event_asks site word (Began ∷ before)
     ∙ none_asked site seed n
 
@@ -77,7 +77,7 @@ ticks_run site seed zero = refl
 ticks_run site seed (suc n) =
     let word = word_behind seed (2 * n) in
     let before = drill_moments site seed n in
-    let more = turns_tick false (order_by site.panels (drawn_behind seed n).reversed) (and_events (events_of (event_by word)) (Began ∷ before)) in
+    let more = turns_tick false (order_drawn site.panels (drawn_behind seed n).reversed) (and_events (events_of (event_by word)) (Began ∷ before)) in
     let told = event_tick site word (Began ∷ before) in
     let ih = ticks_run site seed n in
     omega (arith, more, told, ih)

@@ -45,7 +45,7 @@ pub record OpensFor (wide : Bool) (disk : SoundMemoryDisk) (journal : Journal) :
   pub stands : IsOnDisk disk journal
 
 -- after so many ticks of the record of a seed
-pub record IsAt (site : Site) (seed ticks : ℕ) (own : Running) : Type 0 where
+pub record IsAfter (site : Site) (seed ticks : ℕ) (own : Running) : Type 0 where
   pub system : SystemStands site nothing_retained (drill_moments site seed ticks) own.system
   pub keeps : KeepsRun site nothing_retained (drill_moments site seed ticks) own.journal
   pub disk : IsOnDisk own.disk own.journal
@@ -59,16 +59,16 @@ pub record IsUnderWay (tick : ℕ) (own : Running) : Type 0 where
   pub site : Site
   pub seed : ℕ
   pub ticks : ℕ
-  pub is_at : IsAt site seed ticks own
+  pub is_at : IsAfter site seed ticks own
   pub points : length site.points ≡ drill_points
   pub few : ticks < most_ticks
   pub next : tick ≡ ticks + 1
 
 -- it was run
-abbrev pub MakesTick : ℕ → Running → Running → Type 0
-MakesTick tick old own =
-    (site : Site) (seed ticks : ℕ) → IsAt site seed ticks old → length site.points ≡ drill_points
-    → ticks < most_ticks → tick ≡ ticks + 1 → IsAt site seed (ticks + 1) own
+abbrev pub RunsTick : ℕ → Running → Running → Type 0
+RunsTick tick old own =
+    (site : Site) (seed ticks : ℕ) → IsAfter site seed ticks old → length site.points ≡ drill_points
+    → ticks < most_ticks → tick ≡ ticks + 1 → IsAfter site seed (ticks + 1) own
 
 -- ---- its steps
 
@@ -94,7 +94,7 @@ abbrev pub order_in : Bool → Running → List Seat
 order_in reversed own = if reversed then own.reversed else own.canonical
 
 -- each seat may have its turn, and the journal one commit more
-pub record MayTurn (reversed : Bool) (own : Running) : Type 0 where
+pub record MayRunTurns (reversed : Bool) (own : Running) : Type 0 where
   pub site : Site
   pub before : List Moment
   pub stands : SystemStands site nothing_retained before own.system
@@ -106,16 +106,16 @@ pub record MayTurn (reversed : Bool) (own : Running) : Type 0 where
   pub tried : own.journal.tried ≤ last_tick
 
 -- each seat had its turn, and Keep's didn't fail
-pub record HasTurned (site : Site) (after : List Moment) (own : Running) : Type 0 where
+pub record HasRunTurns (site : Site) (after : List Moment) (own : Running) : Type 0 where
   pub stands : SystemStands site nothing_retained after own.system
   pub keeps : KeepsRun site nothing_retained after own.journal
 
-pub record Turns (reversed : Bool) (old own : Running) : Type 0 where
+pub record RunsTurns (reversed : Bool) (old own : Running) : Type 0 where
   pub rest : own ≡ record old { system = own.system; journal = own.journal; disk = own.disk }
   pub turns : (site : Site) (before : List Moment) → SystemStands site nothing_retained before old.system
       → KeepsRun site nothing_retained before old.journal
       → IsRun site.panels (and_turns false (order_in reversed old) before) → tick_of before ≤ last_tick
-      → HasTurned site (and_turns false (order_in reversed old) before) own
+      → HasRunTurns site (and_turns false (order_in reversed old) before) own
   pub disk : IsOnDisk own.disk own.journal
   pub tried : own.journal.tried ≤ old.journal.tried + 1
 
@@ -124,9 +124,9 @@ pub record Turns (reversed : Bool) (old own : Running) : Type 0 where
 pub record MayRun (own : Running) : Type 0 where
   pub site : Site
   pub seed : ℕ
-  pub is_at : IsAt site seed 0 own
+  pub is_at : IsAfter site seed 0 own
   pub points : length site.points ≡ drill_points
 
 abbrev pub RunsOn : ℕ → Running → Running → Type 0
 RunsOn ticks old own =
-    (site : Site) (seed : ℕ) → IsAt site seed 0 old → length site.points ≡ drill_points → IsAt site seed ticks own
+    (site : Site) (seed : ℕ) → IsAfter site seed 0 old → length site.points ≡ drill_points → IsAfter site seed ticks own

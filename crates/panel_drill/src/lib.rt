@@ -6,8 +6,8 @@
 //! tick. Its contract says that these are what the definitions say of the site and of that record, in which no turn of
 //! Keep fails.
 //!
-//! The file is read by `read_site`, and no clause says that it accepts it: [`DrillStop`] has an answer for a file that is
-//! refused, which the trials show not to come. All memory is taken before the first tick; that of the disk has its
+//! The file is read by `read_site`, and no clause says that it accepts it: [`DrillStop`] has an answer for a file that
+//! is refused, which the trials show not to come. All memory is taken before the first tick; that of the disk has its
 //! greatest size from the beginning, so a drill of more ticks takes no more.
 #![tactic(auto)]
 

@@ -3,7 +3,7 @@
 ghost use Rattle.std.specs.Prelude.{◌≡◌, ◌<◌, [], IfOk, IsOk, false};
 ghost use Rattle.panel_core.specs.Keeping.{has_failed};
 ghost use Rattle.panel_core.specs.Stands.{HasPlan};
-ghost use Rattle.panel_drill.specs.Running.{IsAt, IsUnderWay, MakesTick, MayTell, MayTurn, TellsAll, Turns};
+ghost use Rattle.panel_drill.specs.Running.{IsAfter, IsUnderWay, RunsTick, MayTell, MayRunTurns, TellsAll, RunsTurns};
 ghost use Rattle.panel_drill.specs.Running.{OpensFor};
 ghost use Rattle.site_types.specs.Valid.{IsValid};
 
@@ -35,7 +35,7 @@ impl Running {
     pub(crate) fn open(alloc: Global, loaded: Loaded, seed: u64) -> Result<Running, NoMemory>
         requires valid { IsValid loaded.site }
         requires plan { HasPlan loaded.site loaded.plan }
-        ensures { IfOk result (IsAt loaded.site seed 0) }
+        ensures { IfOk result (IsAfter loaded.site seed 0) }
     {
         let Loaded { site, plan, digest } = loaded;
         let Ok(mut disk) = SoundMemoryDisk::new(alloc, Vec::new(alloc)) else {
@@ -60,7 +60,7 @@ impl Running {
     /// The next tick: what is drawn for it, and its turns.
     pub(crate) fn run_tick(&mut self, tick: Tick)
         requires { IsUnderWay tick.0 self.old }
-        ensures { MakesTick tick.0 self.old self.new }
+        ensures { RunsTick tick.0 self.old self.new }
     {
         self.system.begin(tick);
         let drawn = self.drawer.next_tick();
@@ -70,11 +70,11 @@ impl Running {
 
     // Each seat has its turn, with a counter of steps that is let go. Keep's doesn't fail, since the disk doesn't.
     fn turn_counted<L: Ledger>(&mut self, reversed: bool, blank: Blank) -> Store
-        requires may { MayTurn reversed self.old }
+        requires may { MayRunTurns reversed self.old }
         requires name { blank.name ≡ L.name }
         requires parts { blank.parts ≡ L.parts }
         requires some { 0 < blank.parts }
-        ensures turns { Turns reversed self.old self.new }
+        ensures turns { RunsTurns reversed self.old self.new }
         ensures kept { has_failed result ≡ false }
     {
         let mut steps: Steps<L> = Steps::new(blank);

@@ -1,5 +1,5 @@
 use Rattle.std.proofs.Common.{◌≡◌, arith, refl, subst}
-use Rattle.panel_drill.specs.Running.{IsAt}
+use Rattle.panel_drill.specs.Running.{IsAfter}
 use Rattle.panel_drill.proofs.drills.run.Goals as goal
 
 pub run_tick-requires : goal.run_tick-requires
@@ -28,4 +28,4 @@ returns c site seed at points =
     let end = c.loop-before.auto.before-end in
     let test = c.loop-before-test.false in
     let all : c.loop-before.before ≡ c.args.ticks = omega (arith, end, test) in
-    subst (λ n. IsAt site seed n c.loop-before.running) all (c.loop-before.invariant site seed at points)
+    subst (λ n. IsAfter site seed n c.loop-before.running) all (c.loop-before.invariant site seed at points)
