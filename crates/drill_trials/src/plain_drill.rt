@@ -1,13 +1,12 @@
 //! The same counts by the plain program of the rules.
 
-ghost use Rattle.std.specs.Prelude.{◌≤◌};
 ghost use Rattle.tick_units.specs.Orders.{IsPanelCount};
 
 use crate::counting::count;
-use crate::telling::{Length, length_of, line_of, site_of};
+use crate::telling::{Length, file_of, length_of, line_of, site_of};
 use anyhow::{Result, bail};
 use drill_record::{Drawer, Drawn, reversed_order};
-use face_text::Timeline;
+use face_text::{Face, Timeline};
 use plain_history::Moment;
 use plain_panel::timeline;
 use site_types::Retained;
@@ -34,7 +33,8 @@ pub(crate) fn compare(alloc: Global, case: &Case) -> Result<String> {
 
 // The line by the plain program.
 fn plain_line(alloc: Global, length: Length) -> Result<String> {
-    let site = site_of(alloc)?;
+    let text = file_of(alloc)?;
+    let site = site_of(alloc, text.as_slice())?;
     let moments = moments_of(alloc, site.panels, length)?;
     let Ok(run) = timeline(alloc, &site, &Retained::empty(), moments.as_slice()) else {
         bail!("no memory");
@@ -43,7 +43,7 @@ fn plain_line(alloc: Global, length: Length) -> Result<String> {
 }
 
 // The faces after the last tick.
-fn last_faces(run: &Timeline) -> &[face_text::Face] {
+fn last_faces(run: &Timeline) -> &[Face] {
     match run.steps.as_slice().last() {
         Some(step) => step.faces.as_slice(),
         None => run.opened.as_slice(),

@@ -1,10 +1,11 @@
 //! The site file and the lines of drills.
 
-ghost use Rattle.std.specs.Prelude.{IfOk};
+ghost use Rattle.std.specs.Prelude.{◌≤◌, IfOk};
 ghost use Rattle.panel_drill.specs.Running.{most_ticks};
 ghost use Rattle.site_types.specs.Valid.{IsValid};
 
 use anyhow::{Result, bail};
+use cause_effect::compile;
 use drill_site::drill_file;
 use panel_drill::{MOST_TICKS, drill};
 use site_config::read_site;
@@ -19,9 +20,7 @@ pub(crate) struct Length {
     pub(crate) ticks: u64,
 }
 
-ghost use Rattle.std.specs.Prelude.{◌≤◌};
-
-// The seed and the ticks of a case.
+/// The seed and the ticks of a case.
 pub(crate) fn length_of(case: &Case) -> Result<Length>
     ensures { IfOk result (λ length. length.ticks ≤ most_ticks) }
 {
@@ -37,9 +36,15 @@ pub(crate) fn length_of(case: &Case) -> Result<Length>
 pub(crate) fn line_of(alloc: Global, length: Length) -> Result<String>
     requires { length.ticks ≤ most_ticks }
 {
-    match drill(alloc, length.seed, length.ticks) {
+    let text = file_of(alloc)?;
+    let site = site_of(alloc, text.as_slice())?;
+    let Ok(plan) = compile(alloc, &site) else {
+        bail!("no plan of the markers");
+    };
+    let digest = site_digest(text.as_slice());
+    match drill(alloc, site, plan, digest, length.seed, length.ticks) {
         Ok(line) => Ok(String::from_str(alloc, line.as_str())?),
-        Err(_) => bail!("no drill"),
+        Err(_) => bail!("no memory"),
     }
 }
 
@@ -52,14 +57,19 @@ pub(crate) fn say_line(alloc: Global, case: &Case) -> Result<String> {
     lines.done()
 }
 
-/// The site of a drill.
-pub(crate) fn site_of(alloc: Global) -> Result<Site>
+/// The site file of a drill.
+pub(crate) fn file_of(alloc: Global) -> Result<Vec<u8>> {
+    match drill_file(alloc) {
+        Ok(text) => Ok(text),
+        Err(_) => bail!("no memory"),
+    }
+}
+
+/// The site that it spells.
+pub(crate) fn site_of(alloc: Global, text: &[u8]) -> Result<Site>
     ensures { IfOk result IsValid }
 {
-    let Ok(text) = drill_file(alloc) else {
-        bail!("no memory");
-    };
-    match read_site(alloc, text.as_slice()) {
+    match read_site(alloc, text) {
         Ok(site) => Ok(site),
         Err(_) => bail!("the file is refused"),
     }
@@ -67,10 +77,8 @@ pub(crate) fn site_of(alloc: Global) -> Result<Site>
 
 /// The file and the counts of its site.
 pub(crate) fn say_file(alloc: Global) -> Result<String> {
-    let Ok(text) = drill_file(alloc) else {
-        bail!("no memory");
-    };
-    let site = site_of(alloc)?;
+    let text = file_of(alloc)?;
+    let site = site_of(alloc, text.as_slice())?;
     let mut lines = Lines::new(alloc);
     lines.count("    bytes ", text.len() as u64);
     lines.say("\n    digest ");

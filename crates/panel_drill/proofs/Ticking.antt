@@ -17,8 +17,8 @@ use Rattle.drill_record.specs.Records.{drawn_behind, drill_ticks, events_of, ord
 use Rattle.drill_record.specs.Stands.{StandsFor as DrawsFor}
 use Rattle.retained_journal.specs.declared.journal.Journal.{Journal}
 use Rattle.panel_drill.specs.declared.running.Running.{Running}
-use Rattle.panel_drill.specs.Running.{HasAny, HasRunTurns, IsAfter, IsOnDisk, MayTell, MayRunTurns, RunsTurns, drill_moments, drill_points, most_ticks, order_in}
-use Rattle.panel_drill.proofs.Ticks.{drawn_order, event_has, event_keeps, event_tick, none_asked, ordered, ticks_run}
+use Rattle.panel_drill.specs.Running.{HasRunTurns, IsAfter, IsOnDisk, MayTell, MayRunTurns, RunsTurns, drill_moments, most_ticks, order_in}
+use Rattle.panel_drill.proofs.Ticks.{drawn_order, event_keeps, event_tick, none_asked, ordered, ticks_run}
 
 -- a disk that never fails lets no turn of Keep fail
 pub never_fails : (store : Store) → (store ≡ Failed → Rose 0 0) → has_failed store ≡ false
@@ -40,10 +40,10 @@ module _ (site : Site) (seed n : ℕ) where
   began = Began ∷ before
 
   abbrev pub told : Drawn → List Moment
-  told drawn = and_events (events_of drawn.event) began
+  told drawn = and_events (events_of site drawn.event) began
 
   pub may_run : IsRun site.panels began
-  may_run = records_are_runs site.panels (drill_ticks site.panels seed n) (ordered site.panels seed n)
+  may_run = records_are_runs site.panels (drill_ticks site seed n) (ordered site seed n)
 
   pub may_begin : (own : Running) → IsAfter site seed n own → MayBegin own.system
   may_begin own h = record { site = site; kept = nothing_retained; before = before; stands = h.system; run = may_run }
@@ -51,23 +51,21 @@ module _ (site : Site) (seed n : ℕ) where
   pub next_tick : (tick : ℕ) → tick ≡ n + 1 → tick ≡ tick_of began
   next_tick tick is = let now = ticks_run site seed n in omega (arith, is, now)
 
-  pub may_tell : (drawn : Drawn) (system : System) → drawn ≡ drawn_behind seed n → length site.points ≡ drill_points
-      → SystemStands site nothing_retained began system → MayTell drawn.event system
-  may_tell drawn system drew points stands =
+  pub may_tell : (system : System) → SystemStands site nothing_retained began system → MayTell system
+  may_tell system stands =
       let none = none_asked site seed n in
       let top : 0 < 2 ^ 64 - 1 = lit< tt in
       record {
         site = site;
         before = began;
         stands = stands;
-        has = subst (λ (d : Drawn). HasAny site d.event) (sym drew) (event_has site (word_behind seed (2 * n)) points);
         few = subst (λ asked. length asked < 2 ^ 64 - 1) (sym none) top;
       }
 
   turns_run : (drawn : Drawn) (own : Running) → drawn ≡ drawn_behind seed n → order_in drawn.reversed own ≡ order_drawn site.panels drawn.reversed
       → IsRun site.panels (and_turns false (order_in drawn.reversed own) (told drawn))
   turns_run drawn own drew same =
-      let all = (records_are_runs site.panels (drill_ticks site.panels seed (suc n)) (ordered site.panels seed (suc n))).0 in
+      let all = (records_are_runs site.panels (drill_ticks site seed (suc n)) (ordered site seed (suc n))).0 in
       subst (λ order. IsRun site.panels (and_turns false order (told drawn))) (sym same)
       (subst (λ (d : Drawn). IsRun site.panels (and_turns false (order_drawn site.panels d.reversed) (told d))) (sym drew) all)
 

@@ -1,5 +1,5 @@
 -- What the site of a drill at work stands for, and what each step makes of it.
-use Rattle.std.specs.Prelude.{◌≡◌, ◌+◌, ◌-◌, ◌^◌, ◌<◌, ◌≤◌, ℕ, Bool, true, false, List, length, [], Option, Some, None}
+use Rattle.std.specs.Prelude.{◌≡◌, ◌+◌, ◌-◌, ◌^◌, ◌<◌, ◌≤◌, ℕ, Bool, false, List, length, [], Option}
 use Rattle.std.specs.Prelude.{reverse, if◌then◌else◌}
 use Rattle.tick_units.specs.declared.seat.Seat.{Seat}
 use Rattle.tick_units.specs.Orders.{IsOrder, canonical_seats}
@@ -7,7 +7,6 @@ use Rattle.tick_units.specs.Ticks.{last_tick}
 use Rattle.site_types.specs.declared.event.Event.{Event}
 use Rattle.site_types.specs.declared.site.Site.{Site}
 use Rattle.site_types.specs.Changes.{nothing_retained}
-use Rattle.site_types.specs.Events.{has_event}
 use Rattle.panel_edges.specs.declared.sound_memory_disk.SoundMemoryDisk.{SoundMemoryDisk}
 use Rattle.retained_journal.specs.declared.journal.Journal.{Journal}
 use Rattle.retained_journal.specs.Images.{Stands as StandsOn}
@@ -20,16 +19,13 @@ use Rattle.drill_record.specs.Records.{drill_ticks, events_of}
 use Rattle.drill_record.specs.Stands.{StandsFor as DrawsFor}
 use Rattle.panel_drill.specs.declared.running.Running.{Running}
 
--- the most ticks of a drill, and the points of its site
+-- the most ticks of a drill
 abbrev pub most_ticks : ℕ
 most_ticks = 100000
 
-abbrev pub drill_points : ℕ
-drill_points = 3072
-
 -- what has befallen after so many ticks of the record of a seed
 abbrev pub drill_moments : Site → ℕ → ℕ → List Moment
-drill_moments site seed ticks = moments (drill_ticks site.panels seed ticks)
+drill_moments site seed ticks = moments (drill_ticks site seed ticks)
 
 -- a journal stands on its disk; nothing is said of crashes of this one
 abbrev pub IsOnDisk : SoundMemoryDisk → Journal → Type 0
@@ -60,34 +56,28 @@ pub record IsUnderWay (tick : ℕ) (own : Running) : Type 0 where
   pub seed : ℕ
   pub ticks : ℕ
   pub is_at : IsAfter site seed ticks own
-  pub points : length site.points ≡ drill_points
   pub few : ticks < most_ticks
   pub next : tick ≡ ticks + 1
 
 -- it was run
 abbrev pub RunsTick : ℕ → Running → Running → Type 0
 RunsTick tick old own =
-    (site : Site) (seed ticks : ℕ) → IsAfter site seed ticks old → length site.points ≡ drill_points
-    → ticks < most_ticks → tick ≡ ticks + 1 → IsAfter site seed (ticks + 1) own
+    (site : Site) (seed ticks : ℕ) → IsAfter site seed ticks old → ticks < most_ticks → tick ≡ ticks + 1
+    → IsAfter site seed (ticks + 1) own
 
 -- ---- its steps
 
--- the site has what an event names, if there is one
-abbrev pub HasAny : Site → Option Event → Type 0
-HasAny site None = Unit {0}
-HasAny site (Some event) = has_event site event ≡ true
-
-pub record MayTell (event : Option Event) (system : System) : Type 0 where
+-- an event may come
+pub record MayTell (system : System) : Type 0 where
   pub site : Site
   pub before : List Moment
   pub stands : SystemStands site nothing_retained before system
-  pub has : HasAny site event
   pub few : length (requests site before) < 2 ^ 64 - 1
 
 abbrev pub TellsAll : Option Event → System → System → Type 0
 TellsAll event old system =
     (site : Site) (before : List Moment) → SystemStands site nothing_retained before old
-    → SystemStands site nothing_retained (and_events (events_of event) before) system
+    → SystemStands site nothing_retained (and_events (events_of site event) before) system
 
 -- the order of a tick's turns
 abbrev pub order_in : Bool → Running → List Seat
@@ -125,8 +115,7 @@ pub record MayRun (own : Running) : Type 0 where
   pub site : Site
   pub seed : ℕ
   pub is_at : IsAfter site seed 0 own
-  pub points : length site.points ≡ drill_points
 
 abbrev pub RunsOn : ℕ → Running → Running → Type 0
 RunsOn ticks old own =
-    (site : Site) (seed : ℕ) → IsAfter site seed 0 old → length site.points ≡ drill_points → IsAfter site seed ticks own
+    (site : Site) (seed : ℕ) → IsAfter site seed 0 old → IsAfter site seed ticks own

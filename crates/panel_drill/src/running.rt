@@ -7,13 +7,12 @@ ghost use Rattle.panel_drill.specs.Running.{IsAfter, IsUnderWay, RunsTick, MayTe
 ghost use Rattle.panel_drill.specs.Running.{OpensFor};
 ghost use Rattle.site_types.specs.Valid.{IsValid};
 
-use crate::loading::Loaded;
-use cause_effect::Steps;
+use cause_effect::{Plan, Steps};
 use drill_record::{Drawer, reversed_order};
 use panel_core::{Store, System};
 use panel_edges::SoundMemoryDisk;
 use retained_journal::Journal;
-use site_types::{Event, Retained};
+use site_types::{Event, Retained, Site};
 use std::alloc::Global;
 use std::marker::Brand;
 use std::sync::ledger::{Blank, Ledger};
@@ -32,12 +31,17 @@ pub(crate) struct Running {
 
 impl Running {
     /// Before the first tick.
-    pub(crate) fn open(alloc: Global, loaded: Loaded, seed: u64) -> Result<Running, NoMemory>
-        requires valid { IsValid loaded.site }
-        requires plan { HasPlan loaded.site loaded.plan }
-        ensures { IfOk result (IsAfter loaded.site seed 0) }
+    pub(crate) fn open(
+        alloc: Global,
+        site: Site,
+        plan: Plan,
+        digest: [u8; 32],
+        seed: u64,
+    ) -> Result<Running, NoMemory>
+        requires valid { IsValid site }
+        requires plan { HasPlan site plan }
+        ensures { IfOk result (IsAfter site seed 0) }
     {
-        let Loaded { site, plan, digest } = loaded;
         let Ok(mut disk) = SoundMemoryDisk::new(alloc, Vec::new(alloc)) else {
             return Err(NoMemory);
         };
@@ -96,13 +100,15 @@ impl Running {
     }
 }
 
-// An event, if there is one.
+// The event that was drawn, if there is one and the site has its point.
 fn tell(system: &mut System, event: Option<Event>)
-    requires { MayTell event system.old }
+    requires { MayTell system.old }
     ensures { TellsAll event system.old system.new }
 {
     if let Some(event) = event {
-        system.event(&event);
+        if system.site().has_event(&event) {
+            system.event(&event);
+        }
     }
 }
 
