@@ -10,6 +10,8 @@ use Rattle.site_types.specs.declared.event.Event.{Event}
 use Rattle.site_types.specs.declared.event.Event.TheVariants.{Point}
 use Rattle.site_types.specs.declared.point_state.PointState.{PointState}
 use Rattle.site_types.specs.declared.point_state.PointState.TheVariants.{Quiet, Alarm, Gone}
+use Rattle.site_types.specs.declared.site.Site.{Site}
+use Rattle.site_types.specs.Events.{has_event}
 use Rattle.panel_rules.specs.Moments.{TickBlock}
 use Rattle.drill_record.specs.declared.drawn.Drawn.{Drawn}
 
@@ -35,7 +37,7 @@ state_by zero = Quiet
 state_by (suc zero) = Alarm
 state_by (suc (suc n)) = Gone
 
--- every fourth word tells an event: the state of a point
+-- a word that is a multiple of 4 tells an event: the state of a point
 abbrev pub event_by : ℕ → Option Event
 event_by word =
     if word % 4 == 0 then Some (Point (word / 4 % 3072) (state_by (word / 12288 % 3))) else None
@@ -50,19 +52,20 @@ drawn_behind seed n = drawn_by (word_behind seed (2 * n)) (word_behind seed (2 *
 
 -- ---- ticks
 
-abbrev pub order_by : ℕ → Bool → List Seat
-order_by panels reversed = if reversed then reverse (canonical_seats panels) else canonical_seats panels
+abbrev pub order_drawn : ℕ → Bool → List Seat
+order_drawn panels reversed = if reversed then reverse (canonical_seats panels) else canonical_seats panels
 
-abbrev pub events_of : Option Event → List Event
-events_of None = []
-events_of (Some event) = event ∷ []
+-- the event that was drawn, where the site has the point that it names
+abbrev pub events_of : Site → Option Event → List Event
+events_of site None = []
+events_of site (Some event) = if has_event site event then event ∷ [] else []
 
--- a tick of a site of so many panels, in which Keep's turn doesn't fail
-abbrev pub tick_drawn : ℕ → Drawn → TickBlock
-tick_drawn panels drawn =
-    record { events = events_of drawn.event; order = order_by panels drawn.reversed; failed = false }
+-- a tick of a site, in which Keep's turn doesn't fail
+abbrev pub tick_drawn : Site → Drawn → TickBlock
+tick_drawn site drawn =
+    record { events = events_of site drawn.event; order = order_drawn site.panels drawn.reversed; failed = false }
 
--- the record of a seed, with so many ticks, the newest first
-abbrev pub drill_ticks : ℕ → ℕ → ℕ → List TickBlock
-drill_ticks panels seed zero = []
-drill_ticks panels seed (suc n) = tick_drawn panels (drawn_behind seed n) ∷ drill_ticks panels seed n
+-- the record of a seed for a site, with so many ticks, the newest first
+abbrev pub drill_ticks : Site → ℕ → ℕ → List TickBlock
+drill_ticks site seed zero = []
+drill_ticks site seed (suc n) = tick_drawn site (drawn_behind seed n) ∷ drill_ticks site seed n

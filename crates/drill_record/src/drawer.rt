@@ -44,7 +44,7 @@ fn drawn_by(first: u32, second: u32) -> Drawn
     }
 }
 
-// Every fourth word tells an event.
+// A word that is a multiple of 4 tells an event.
 fn event_by(word: u32) -> Option<Event>
     ensures { result ≡ event_by_word word }
 {

@@ -14,11 +14,11 @@ for_each text (suc n) = for_each text n ++ text (suc n)
 abbrev pub zone_number : ℕ → ℕ → ℕ
 zone_number line address = 8 * (line - 1) + (address - 1) / 12 + 1
 
-abbrev pub zone_name : ℕ → ℕ → List ℕ
-zone_name panel number = codes "z" ++ decimal panel ++ codes "-" ++ decimal number
+abbrev pub zone_label : ℕ → ℕ → List ℕ
+zone_label panel number = codes "z" ++ decimal panel ++ codes "-" ++ decimal number
 
-abbrev pub point_name : ℕ → ℕ → ℕ → List ℕ
-point_name panel line address =
+abbrev pub point_label : ℕ → ℕ → ℕ → List ℕ
+point_label panel line address =
     codes "p" ++ decimal panel ++ codes "-l" ++ decimal line ++ codes "-a" ++ decimal address
 
 -- ---- lines
@@ -30,14 +30,14 @@ loop_line panel line =
 
 abbrev pub zone_line : ℕ → ℕ → List ℕ
 zone_line panel number =
-    codes "  { name = \"" ++ zone_name panel number ++ codes "\", panel = " ++ decimal panel
+    codes "  { name = \"" ++ zone_label panel number ++ codes "\", panel = " ++ decimal panel
     ++ codes ", number = " ++ decimal number ++ codes " },\n"
 
 abbrev pub point_line : ℕ → ℕ → ℕ → List ℕ
 point_line panel line address =
-    codes "  { name = \"" ++ point_name panel line address ++ codes "\", panel = " ++ decimal panel
+    codes "  { name = \"" ++ point_label panel line address ++ codes "\", panel = " ++ decimal panel
     ++ codes ", loop = " ++ decimal line ++ codes ", address = " ++ decimal address
-    ++ codes ", zone = \"" ++ zone_name panel (zone_number line address) ++ codes "\" },\n"
+    ++ codes ", zone = \"" ++ zone_label panel (zone_number line address) ++ codes "\" },\n"
 
 abbrev pub output_line : ℕ → List ℕ
 output_line panel =
@@ -45,7 +45,7 @@ output_line panel =
     ++ codes ", number = 1, kind = \"sounder\", when = \"any-" ++ decimal panel ++ codes "\" },\n"
 
 abbrev pub term_text : ℕ → ℕ → List ℕ
-term_text panel number = codes "\"zone:" ++ zone_name panel number ++ codes "\", "
+term_text panel number = codes "\"zone:" ++ zone_label panel number ++ codes "\", "
 
 abbrev pub marker_head : ℕ → List ℕ
 marker_head panel = codes "  { name = \"any-" ++ decimal panel ++ codes "\", kind = \"any\", terms = ["
@@ -71,12 +71,12 @@ points_of_panel panel = for_each (points_of_loop panel) 4
 -- ---- the file
 
 -- its lists begin with their keys
-abbrev pub key_text : Part → List ℕ
-key_text Loops = codes "loop = [\n"
-key_text Zones = codes "zone = [\n"
-key_text Points = codes "point = [\n"
-key_text Outputs = codes "output = [\n"
-key_text Markers = codes "marker = [\n"
+abbrev pub list_head : Part → List ℕ
+list_head Loops = codes "loop = [\n"
+list_head Zones = codes "zone = [\n"
+list_head Points = codes "point = [\n"
+list_head Outputs = codes "output = [\n"
+list_head Markers = codes "marker = [\n"
 
 -- what stands in a list for a panel
 abbrev pub text_of_panel : Part → ℕ → List ℕ
@@ -88,10 +88,11 @@ text_of_panel Markers panel = marker_line panel
 
 -- a list, with all eight panels
 unfoldable pub part_text : Part → List ℕ
-part_text part = key_text part ++ for_each (text_of_panel part) 8 ++ codes "]\n"
+part_text part = list_head part ++ for_each (text_of_panel part) 8 ++ codes "]\n"
 
 abbrev pub head_text : List ℕ
 head_text = codes "format = 1\nsite = \"drill\"\npanels = 8\n"
 
 unfoldable pub drill_file : List ℕ
-drill_file = head_text ++ part_text Loops ++ part_text Zones ++ part_text Points ++ part_text Outputs ++ part_text Markers
+drill_file =
+    head_text ++ part_text Loops ++ part_text Zones ++ part_text Points ++ part_text Outputs ++ part_text Markers

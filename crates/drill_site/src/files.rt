@@ -1,7 +1,7 @@
 //! The whole file.
 
 ghost use Rattle.std.specs.Prelude.{◌≡◌, ◌≤◌, ◌++◌, IfOk};
-ghost use Rattle.drill_site.specs.Files.{drill_file as file_text, key_text, loops_of_panel, marker_line, part_text};
+ghost use Rattle.drill_site.specs.Files.{drill_file as file_text, list_head, loops_of_panel, marker_line, part_text};
 ghost use Rattle.drill_site.specs.Files.{points_of_loop, points_of_panel, text_of_panel, zones_of_panel};
 
 use crate::lines::{loop_line, marker_head, output_line, point_line, term_text, zone_line};
@@ -38,7 +38,7 @@ fn push_part(part: Part, text: &mut Vec<u8>) -> Result<(), NoMemory>
 }
 
 fn key_of(part: Part) -> &'static [u8]
-    ensures { result.now ≡ key_text part }
+    ensures { result.now ≡ list_head part }
 {
     match part {
         Part::Loops => b"loop = [\n",

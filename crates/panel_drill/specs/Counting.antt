@@ -18,18 +18,18 @@ module _ (site : Site) (moments : List Moment) where
   shown_face panel = face_of site nothing_retained panel moments
 
   -- the face of its own panel shows a zone in alarm
-  abbrev pub is_in_alarm : Zone → Bool
-  is_in_alarm zone = shows_zone (shown_face zone.panel) zone
+  abbrev pub shows_own_alarm : Zone → Bool
+  shows_own_alarm zone = shows_zone (shown_face zone.panel) zone
 
   -- the face of its panel shows an output on
-  abbrev pub is_on : Output → Bool
-  is_on output = shows_output (shown_face output.panel) output
+  abbrev pub shows_own_output : Output → Bool
+  shows_own_output output = shows_output (shown_face output.panel) output
 
   abbrev pub zones_in_alarm : ℕ
-  zones_in_alarm = count_by is_in_alarm site.zones
+  zones_in_alarm = count_by shows_own_alarm site.zones
 
   abbrev pub outputs_on : ℕ
-  outputs_on = count_by is_on site.outputs
+  outputs_on = count_by shows_own_output site.outputs
 
   abbrev pub counter_of : ℕ → ℕ
   counter_of panel = (shown_face panel).counter
@@ -41,26 +41,26 @@ module _ (site : Site) (moments : List Moment) where
   summary_of = record { zones = zones_in_alarm; outputs = outputs_on; counter = sum_of_counters }
 
 -- the system stands for a run
-pub record MayCount (system : System) : Type 0 where
+pub record MayBeCounted (system : System) : Type 0 where
   pub site : Site
   pub before : List Moment
   pub stands : StandsFor site nothing_retained before system
   pub run : IsRun site.panels before
 
 -- what is told is so of whatever run the system stands for
-abbrev pub Tells : {X : Type 0} → (Site → List Moment → X) → System → X → Type 0
-Tells told system x =
+abbrev pub TellsAsRuled : {X : Type 0} → (Site → List Moment → X) → System → X → Type 0
+TellsAsRuled told system x =
     (site : Site) (before : List Moment) → StandsFor site nothing_retained before system → IsRun site.panels before
     → x ≡ told site before
 
 abbrev pub TellsZones : System → ℕ → Type 0
-TellsZones = Tells zones_in_alarm
+TellsZones = TellsAsRuled zones_in_alarm
 
 abbrev pub TellsOutputs : System → ℕ → Type 0
-TellsOutputs = Tells outputs_on
+TellsOutputs = TellsAsRuled outputs_on
 
 abbrev pub TellsCounters : System → ℕ → Type 0
-TellsCounters = Tells sum_of_counters
+TellsCounters = TellsAsRuled sum_of_counters
 
 abbrev pub TellsSummary : System → Summary → Type 0
-TellsSummary = Tells summary_of
+TellsSummary = TellsAsRuled summary_of

@@ -1,5 +1,5 @@
 -- What the site of a drill at work stands for, and what each step makes of it.
-use Rattle.std.specs.Prelude.{◌≡◌, ◌+◌, ◌-◌, ◌^◌, ◌<◌, ◌≤◌, ℕ, Bool, true, false, List, length, [], Option, Some, None}
+use Rattle.std.specs.Prelude.{◌≡◌, ◌+◌, ◌-◌, ◌^◌, ◌<◌, ◌≤◌, ℕ, Bool, false, List, length, [], Option}
 use Rattle.std.specs.Prelude.{reverse, if◌then◌else◌}
 use Rattle.tick_units.specs.declared.seat.Seat.{Seat}
 use Rattle.tick_units.specs.Orders.{IsOrder, canonical_seats}
@@ -7,7 +7,6 @@ use Rattle.tick_units.specs.Ticks.{last_tick}
 use Rattle.site_types.specs.declared.event.Event.{Event}
 use Rattle.site_types.specs.declared.site.Site.{Site}
 use Rattle.site_types.specs.Changes.{nothing_retained}
-use Rattle.site_types.specs.Events.{has_event}
 use Rattle.panel_edges.specs.declared.sound_memory_disk.SoundMemoryDisk.{SoundMemoryDisk}
 use Rattle.retained_journal.specs.declared.journal.Journal.{Journal}
 use Rattle.retained_journal.specs.Images.{Stands as StandsOn}
@@ -20,16 +19,13 @@ use Rattle.drill_record.specs.Records.{drill_ticks, events_of}
 use Rattle.drill_record.specs.Stands.{StandsFor as DrawsFor}
 use Rattle.panel_drill.specs.declared.running.Running.{Running}
 
--- the most ticks of a drill, and the points of its site
+-- the most ticks of a drill
 abbrev pub most_ticks : ℕ
 most_ticks = 100000
 
-abbrev pub drill_points : ℕ
-drill_points = 3072
-
 -- what has befallen after so many ticks of the record of a seed
 abbrev pub drill_moments : Site → ℕ → ℕ → List Moment
-drill_moments site seed ticks = moments (drill_ticks site.panels seed ticks)
+drill_moments site seed ticks = moments (drill_ticks site seed ticks)
 
 -- a journal stands on its disk; nothing is said of crashes of this one
 abbrev pub IsOnDisk : SoundMemoryDisk → Journal → Type 0
@@ -45,7 +41,7 @@ pub record OpensFor (wide : Bool) (disk : SoundMemoryDisk) (journal : Journal) :
   pub stands : IsOnDisk disk journal
 
 -- after so many ticks of the record of a seed
-pub record IsAt (site : Site) (seed ticks : ℕ) (own : Running) : Type 0 where
+pub record IsAfter (site : Site) (seed ticks : ℕ) (own : Running) : Type 0 where
   pub system : SystemStands site nothing_retained (drill_moments site seed ticks) own.system
   pub keeps : KeepsRun site nothing_retained (drill_moments site seed ticks) own.journal
   pub disk : IsOnDisk own.disk own.journal
@@ -59,42 +55,36 @@ pub record IsUnderWay (tick : ℕ) (own : Running) : Type 0 where
   pub site : Site
   pub seed : ℕ
   pub ticks : ℕ
-  pub is_at : IsAt site seed ticks own
-  pub points : length site.points ≡ drill_points
+  pub is_at : IsAfter site seed ticks own
   pub few : ticks < most_ticks
   pub next : tick ≡ ticks + 1
 
 -- it was run
-abbrev pub MakesTick : ℕ → Running → Running → Type 0
-MakesTick tick old own =
-    (site : Site) (seed ticks : ℕ) → IsAt site seed ticks old → length site.points ≡ drill_points
-    → ticks < most_ticks → tick ≡ ticks + 1 → IsAt site seed (ticks + 1) own
+abbrev pub RunsTick : ℕ → Running → Running → Type 0
+RunsTick tick old own =
+    (site : Site) (seed ticks : ℕ) → IsAfter site seed ticks old → ticks < most_ticks → tick ≡ ticks + 1
+    → IsAfter site seed (ticks + 1) own
 
 -- ---- its steps
 
--- the site has what an event names, if there is one
-abbrev pub HasAny : Site → Option Event → Type 0
-HasAny site None = Unit {0}
-HasAny site (Some event) = has_event site event ≡ true
-
-pub record MayTell (event : Option Event) (system : System) : Type 0 where
+-- an event may come
+pub record MayTell (system : System) : Type 0 where
   pub site : Site
   pub before : List Moment
   pub stands : SystemStands site nothing_retained before system
-  pub has : HasAny site event
   pub few : length (requests site before) < 2 ^ 64 - 1
 
 abbrev pub TellsAll : Option Event → System → System → Type 0
 TellsAll event old system =
     (site : Site) (before : List Moment) → SystemStands site nothing_retained before old
-    → SystemStands site nothing_retained (and_events (events_of event) before) system
+    → SystemStands site nothing_retained (and_events (events_of site event) before) system
 
 -- the order of a tick's turns
 abbrev pub order_in : Bool → Running → List Seat
 order_in reversed own = if reversed then own.reversed else own.canonical
 
 -- each seat may have its turn, and the journal one commit more
-pub record MayTurn (reversed : Bool) (own : Running) : Type 0 where
+pub record MayRunTurns (reversed : Bool) (own : Running) : Type 0 where
   pub site : Site
   pub before : List Moment
   pub stands : SystemStands site nothing_retained before own.system
@@ -106,16 +96,16 @@ pub record MayTurn (reversed : Bool) (own : Running) : Type 0 where
   pub tried : own.journal.tried ≤ last_tick
 
 -- each seat had its turn, and Keep's didn't fail
-pub record HasTurned (site : Site) (after : List Moment) (own : Running) : Type 0 where
+pub record HasRunTurns (site : Site) (after : List Moment) (own : Running) : Type 0 where
   pub stands : SystemStands site nothing_retained after own.system
   pub keeps : KeepsRun site nothing_retained after own.journal
 
-pub record Turns (reversed : Bool) (old own : Running) : Type 0 where
+pub record RunsTurns (reversed : Bool) (old own : Running) : Type 0 where
   pub rest : own ≡ record old { system = own.system; journal = own.journal; disk = own.disk }
   pub turns : (site : Site) (before : List Moment) → SystemStands site nothing_retained before old.system
       → KeepsRun site nothing_retained before old.journal
       → IsRun site.panels (and_turns false (order_in reversed old) before) → tick_of before ≤ last_tick
-      → HasTurned site (and_turns false (order_in reversed old) before) own
+      → HasRunTurns site (and_turns false (order_in reversed old) before) own
   pub disk : IsOnDisk own.disk own.journal
   pub tried : own.journal.tried ≤ old.journal.tried + 1
 
@@ -124,9 +114,8 @@ pub record Turns (reversed : Bool) (old own : Running) : Type 0 where
 pub record MayRun (own : Running) : Type 0 where
   pub site : Site
   pub seed : ℕ
-  pub is_at : IsAt site seed 0 own
-  pub points : length site.points ≡ drill_points
+  pub is_at : IsAfter site seed 0 own
 
 abbrev pub RunsOn : ℕ → Running → Running → Type 0
 RunsOn ticks old own =
-    (site : Site) (seed : ℕ) → IsAt site seed 0 old → length site.points ≡ drill_points → IsAt site seed ticks own
+    (site : Site) (seed : ℕ) → IsAfter site seed 0 old → IsAfter site seed ticks own

@@ -1,14 +1,14 @@
 //! What stands after the last tick, counted.
 
 ghost use Rattle.std.specs.Prelude.{◌≡◌};
-ghost use Rattle.panel_drill.specs.Counting.{MayCount, TellsCounters, TellsOutputs, TellsSummary, TellsZones};
+ghost use Rattle.panel_drill.specs.Counting.{MayBeCounted, TellsCounters, TellsOutputs, TellsSummary, TellsZones};
 
 use crate::summary::Summary;
 use panel_core::System;
 use site_types::has_bit_32;
 
 pub(crate) fn summary_of(system: &System) -> Summary
-    requires { MayCount system.now }
+    requires { MayBeCounted system.now }
     ensures { TellsSummary system.now result }
 {
     Summary {
@@ -20,7 +20,7 @@ pub(crate) fn summary_of(system: &System) -> Summary
 
 // How many zones their own panels show in alarm.
 fn zones_on(system: &System) -> usize
-    requires { MayCount system.now }
+    requires { MayBeCounted system.now }
     ensures { TellsZones system.now result }
 {
     let mut count = 0;
@@ -35,7 +35,7 @@ fn zones_on(system: &System) -> usize
 
 // How many outputs are on.
 fn outputs_on(system: &System) -> usize
-    requires { MayCount system.now }
+    requires { MayBeCounted system.now }
     ensures { TellsOutputs system.now result }
 {
     let mut count = 0;
@@ -50,7 +50,7 @@ fn outputs_on(system: &System) -> usize
 
 // The sum of the panels' counters.
 fn counters(system: &System) -> u64
-    requires { MayCount system.now }
+    requires { MayBeCounted system.now }
     ensures { TellsCounters system.now result }
 {
     let mut sum = 0;

@@ -1,33 +1,39 @@
-ghost use Rattle.std.specs.Prelude.{◌≤◌, IfErr, IfOk};
-ghost use Rattle.panel_drill.specs.Drills.{IsStop, TellsDrill};
+ghost use Rattle.std.specs.Prelude.{◌≡◌, ◌≤◌, IfOk};
+ghost use Rattle.panel_core.specs.Stands.{HasPlan};
+ghost use Rattle.panel_drill.specs.Drills.{drill_line as line_text};
 ghost use Rattle.panel_drill.specs.Running.{MayRun, RunsOn, most_ticks};
+ghost use Rattle.site_types.specs.Valid.{IsValid};
 
 use crate::counting::summary_of;
-use crate::drill_stop::DrillStop;
-use crate::line::drill_line;
-use crate::loading::load;
+use crate::line::summary_line;
 use crate::running::Running;
 use arrayvec::ArrayString;
+use cause_effect::Plan;
+use site_types::Site;
 use std::alloc::Global;
-use tick_units::Tick;
+use tick_units::{NoMemory, Tick};
 
 /// The most ticks of a drill.
 pub const MOST_TICKS: u64 = 100_000;
 
-/// Runs a drill, and gives its line.
-///
-/// # Errors
-///
-/// Only where memory ran out, or the site file of the drill is refused or unfit.
-pub fn drill(alloc: Global, seed: u64, ticks: u64) -> Result<ArrayString<192>, DrillStop>
-    requires { ticks ≤ most_ticks }
-    ensures told { IfOk result (λ line. TellsDrill seed ticks line.bytes) }
-    ensures stop { IfErr result IsStop }
+/// Runs a site with the plan of its markers and the digest of its file over the record that a seed draws, and gives
+/// the line of the drill. All memory is taken before the first tick.
+pub fn drill(
+    alloc: Global,
+    site: Site,
+    plan: Plan,
+    digest: [u8; 32],
+    seed: u64,
+    ticks: u64,
+) -> Result<ArrayString<192>, NoMemory>
+    requires valid { IsValid site }
+    requires plan { HasPlan site plan }
+    requires few { ticks ≤ most_ticks }
+    ensures { IfOk result (λ line. line.bytes ≡ line_text site seed ticks) }
 {
-    let loaded = load(alloc)?;
-    let mut running = Running::open(alloc, loaded, seed)?;
+    let mut running = Running::open(alloc, site, plan, digest, seed)?;
     run(&mut running, ticks);
-    Ok(drill_line(seed, ticks, &summary_of(&running.system)))
+    Ok(summary_line(seed, ticks, &summary_of(&running.system)))
 }
 
 // So many ticks.

@@ -1,13 +1,13 @@
 //! The line of a drill.
 
 ghost use Rattle.std.specs.Prelude.{◌≡◌, ◌+◌, ◌≤◌, ◌++◌, decimal, length};
-ghost use Rattle.panel_drill.specs.Drills.{drill_line as line_text};
+ghost use Rattle.panel_drill.specs.Drills.{summary_line as line_text};
 
 use crate::summary::Summary;
 use arrayvec::ArrayString;
 use itoa::Buffer;
 
-pub(crate) fn drill_line(seed: u64, ticks: u64, summary: &Summary) -> ArrayString<192>
+pub(crate) fn summary_line(seed: u64, ticks: u64, summary: &Summary) -> ArrayString<192>
     ensures { result.bytes ≡ line_text seed ticks summary.now }
 {
     let mut line = ArrayString::new();

@@ -3,17 +3,16 @@
 ghost use Rattle.std.specs.Prelude.{◌≡◌, ◌<◌, [], IfOk, IsOk, false};
 ghost use Rattle.panel_core.specs.Keeping.{has_failed};
 ghost use Rattle.panel_core.specs.Stands.{HasPlan};
-ghost use Rattle.panel_drill.specs.Running.{IsAt, IsUnderWay, MakesTick, MayTell, MayTurn, TellsAll, Turns};
+ghost use Rattle.panel_drill.specs.Running.{IsAfter, IsUnderWay, RunsTick, MayTell, MayRunTurns, TellsAll, RunsTurns};
 ghost use Rattle.panel_drill.specs.Running.{OpensFor};
 ghost use Rattle.site_types.specs.Valid.{IsValid};
 
-use crate::loading::Loaded;
-use cause_effect::Steps;
+use cause_effect::{Plan, Steps};
 use drill_record::{Drawer, reversed_order};
 use panel_core::{Store, System};
 use panel_edges::SoundMemoryDisk;
 use retained_journal::Journal;
-use site_types::{Event, Retained};
+use site_types::{Event, Retained, Site};
 use std::alloc::Global;
 use std::marker::Brand;
 use std::sync::ledger::{Blank, Ledger};
@@ -32,12 +31,17 @@ pub(crate) struct Running {
 
 impl Running {
     /// Before the first tick.
-    pub(crate) fn open(alloc: Global, loaded: Loaded, seed: u64) -> Result<Running, NoMemory>
-        requires valid { IsValid loaded.site }
-        requires plan { HasPlan loaded.site loaded.plan }
-        ensures { IfOk result (IsAt loaded.site seed 0) }
+    pub(crate) fn open(
+        alloc: Global,
+        site: Site,
+        plan: Plan,
+        digest: [u8; 32],
+        seed: u64,
+    ) -> Result<Running, NoMemory>
+        requires valid { IsValid site }
+        requires plan { HasPlan site plan }
+        ensures { IfOk result (IsAfter site seed 0) }
     {
-        let Loaded { site, plan, digest } = loaded;
         let Ok(mut disk) = SoundMemoryDisk::new(alloc, Vec::new(alloc)) else {
             return Err(NoMemory);
         };
@@ -60,7 +64,7 @@ impl Running {
     /// The next tick: what is drawn for it, and its turns.
     pub(crate) fn run_tick(&mut self, tick: Tick)
         requires { IsUnderWay tick.0 self.old }
-        ensures { MakesTick tick.0 self.old self.new }
+        ensures { RunsTick tick.0 self.old self.new }
     {
         self.system.begin(tick);
         let drawn = self.drawer.next_tick();
@@ -70,11 +74,11 @@ impl Running {
 
     // Each seat has its turn, with a counter of steps that is let go. Keep's doesn't fail, since the disk doesn't.
     fn turn_counted<L: Ledger>(&mut self, reversed: bool, blank: Blank) -> Store
-        requires may { MayTurn reversed self.old }
+        requires may { MayRunTurns reversed self.old }
         requires name { blank.name ≡ L.name }
         requires parts { blank.parts ≡ L.parts }
         requires some { 0 < blank.parts }
-        ensures turns { Turns reversed self.old self.new }
+        ensures turns { RunsTurns reversed self.old self.new }
         ensures kept { has_failed result ≡ false }
     {
         let mut steps: Steps<L> = Steps::new(blank);
@@ -96,13 +100,15 @@ impl Running {
     }
 }
 
-// An event, if there is one.
+// The event that was drawn, if there is one and the site has its point.
 fn tell(system: &mut System, event: Option<Event>)
-    requires { MayTell event system.old }
+    requires { MayTell system.old }
     ensures { TellsAll event system.old system.new }
 {
     if let Some(event) = event {
-        system.event(&event);
+        if system.site().has_event(&event) {
+            system.event(&event);
+        }
     }
 }
 

@@ -1,4 +1,4 @@
-use Rattle.std.proofs.Common.{◌++◌, ◌∙◌, ap}
+use Rattle.std.proofs.Common.{◌++◌, ◌∙◌, ap, refl}
 use Rattle.drill_site.specs.Files.{marker_head, term_text}
 use Rattle.drill_site.proofs.Each.{begins, grows}
 use Rattle.drill_site.proofs.files.push_marker.Goals as goal
@@ -10,4 +10,7 @@ loop-before-init c =
     ∙ begins (c.args.text.now.items ++ marker_head c.args.panel) (term_text c.args.panel)
 
 pub loop-before-preserved : goal.loop-before-preserved
-loop-before-preserved c = grows (c.args.text.now.items ++ marker_head c.args.panel) _ _ _ (term_text c.args.panel) c.loop-before.before c.loop-before.invariant c.in_ok-push_line-2.ensures (c.as_str-in-loop-before.ensures.value ∙ c.term_text.ensures)
+loop-before-preserved c =
+    let pushed = c.in_ok-push_line-2.ensures in
+    let is = c.as_str-in-loop-before.ensures.value ∙ c.term_text.ensures in
+    grows (c.args.text.now.items ++ marker_head c.args.panel) _ _ _ (term_text c.args.panel) c.loop-before.before c.loop-before.invariant pushed is

@@ -5,7 +5,7 @@ use Rattle.site_types.specs.declared.site.Site.{Site}
 use Rattle.site_types.specs.Changes.{nothing_retained}
 use Rattle.face_text.specs.declared.face.Face.{Face}
 use Rattle.panel_laws.specs.FaceLaws.{shows_zone}
-use Rattle.panel_drill.specs.Counting.{is_in_alarm}
+use Rattle.panel_drill.specs.Counting.{shows_own_alarm}
 use Rattle.panel_drill.proofs.Counts.{count_more, counted, few_more}
 use Rattle.panel_drill.proofs.counting.zones_on.Goals.{then-has_bit_32, else-has_bit_32}
 use Rattle.panel_drill.proofs.counting.zones_on.Goals as goal
@@ -31,5 +31,5 @@ loop-zone-preserved c =
           let there = ap (λ xs. slice_get xs k) (sym all) ∙ at in
           let shown = sym c.has_bit_32.ensures in
           let told = sym (ap (λ (face : Face). shows_zone face item) (c.face-face.ensures.shown site nothing_retained before stands run)) ∙ shown in
-          count_more (is_in_alarm site before) site.zones k item here old new within there told (c.loop-zone.invariant.counted site before stands run) chosen;
+          count_more (shows_own_alarm site before) site.zones k item here old new within there told (c.loop-zone.invariant.counted site before stands run) chosen;
     }

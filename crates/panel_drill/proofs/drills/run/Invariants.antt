@@ -1,9 +1,9 @@
-use Rattle.std.proofs.Common.{◌≡◌, ℕ, length}
+use Rattle.std.proofs.Common.{ℕ}
 use Rattle.site_types.specs.declared.site.Site.{Site}
-use Rattle.panel_drill.specs.Running.{IsAt, drill_points}
+use Rattle.panel_drill.specs.Running.{IsAfter}
 use Rattle.panel_drill.proofs.drills.run.Given as goal
 
 -- so many ticks were run
 abbrev pub invariant-loop-before : goal.invariant-loop-before
 invariant-loop-before l =
-    (site : Site) (seed : ℕ) → IsAt site seed 0 l.fn.running → length site.points ≡ drill_points → IsAt site seed l.before l.running
+    (site : Site) (seed : ℕ) → IsAfter site seed 0 l.fn.running → IsAfter site seed l.before l.running

@@ -9,8 +9,7 @@ begin-requires c = let r = c.requires in may_begin r.site r.seed r.ticks c.args.
 pub tell-requires : goal.tell-requires
 tell-requires c =
     let r = c.requires in
-    let drew = c.next_tick-drawn.ensures r.seed r.ticks r.is_at.drawer in
-    may_tell r.site r.seed r.ticks c.next_tick-drawn.result c.begin.new.self drew.drew r.points
+    may_tell r.site r.seed r.ticks c.begin.new.self
     (c.begin.ensures r.site nothing_retained (before r.site r.seed r.ticks) r.is_at.system
     (next_tick r.site r.seed r.ticks c.args.tick.0 r.next) (may_run r.site r.seed r.ticks))
 
@@ -25,7 +24,7 @@ turn_counted-requires-clause-may c =
     (c.tell.ensures r.site (began r.site r.seed r.ticks) stands)
 
 pub returns : goal.returns
-returns c site seed ticks h points few is =
+returns c site seed ticks h few is =
     let drew = c.next_tick-drawn.ensures seed ticks h.drawer in
     let stands =
     c.begin.ensures site nothing_retained (before site seed ticks) h.system (next_tick site seed ticks c.args.tick.0 is) (may_run site seed ticks) in
