@@ -5,7 +5,8 @@ use Rattle.std.specs.declared.alloc.Global.{Global}
 use Rattle.panel_edges.specs.Faults.{Rose}
 use Rattle.panel_edges.specs.Shelves.{file_of}
 use Rattle.site_types.specs.declared.site.Site.{Site}
-use Rattle.panel_drill.specs.Drills.{TellsDrill}
+use Rattle.drill_site.specs.Files.{drill_file}
+use Rattle.panel_drill.specs.Drills.{drill_line}
 use Rattle.panel_program.specs.declared.command.Command.{Command}
 use Rattle.panel_program.specs.declared.command.Command.TheVariants.{Usage, Check, Run, Matrix, Drill}
 use Rattle.program_status.specs.declared.outcome.Outcome.{Outcome}
@@ -17,7 +18,7 @@ use Rattle.panel_program.specs.Refusals.{stop_status, stop_text}
 use Rattle.panel_program.specs.Matrix.{IsMatrix}
 use Rattle.panel_program.specs.PowerCuts.{JournalDisk}
 use Rattle.panel_program.specs.Runs.{Files, RanNothing, RanOver, Streams}
-use Rattle.panel_program.specs.Sites.{Loads, file_digest}
+use Rattle.panel_program.specs.Sites.{IsAtHand, Loads, file_digest}
 use Rattle.program_status.specs.Sayings.{Says}
 use Rattle.panel_program.specs.Words.{command_of}
 
@@ -57,10 +58,11 @@ Runs digest disk streams outcome (Ok site) = RanOver site digest disk streams ou
 Runs digest disk streams outcome (Err stop) =
     Tells (stop_status stop) (stop_text stop) streams.old streams.new outcome
 
--- a drill tells the line of its seed after its ticks, or memory ran out
+-- a drill tells the line of its site and seed after its ticks, or memory ran out
 abbrev pub Drills : ℕ → ℕ → Option (List ℕ) → Option (List ℕ) → Outcome → Type 0
 Drills seed ticks old new outcome =
-    RanNothing old new outcome ⊎ ((line : List ℕ) × TellsDrill seed ticks line × TellsAfter ticks line old new outcome)
+    RanNothing old new outcome
+    ⊎ ((site : Site) × IsAtHand drill_file site × TellsAfter ticks (drill_line site seed ticks) old new outcome)
 
 -- what a command that has a site answers, by the file under the site's name
 pub record AnswersBy (rose : Type 0) (file : Option (List ℕ)) (does : Result Site Stop → Type 0) : Type 0 where
