@@ -1,0 +1,68 @@
+//! What a stop at each call of a run leaves.
+
+use crate::called::{Called, call};
+use crate::given::Given;
+use crate::groups::Groups;
+use crate::images::{LEFT_BYTES, image_of, reopen};
+use crate::options::Options;
+use crate::runs::{last_run, parts_of};
+use anyhow::Result;
+use std::alloc::Global;
+use trial_cases::{Case, Lines};
+
+/// What a run tells at its opening where the one before was stopped after each of the calls that its disk logged, from
+/// one of them on. One call may leave several files, which then tell several things.
+pub(crate) fn try_stops(rt: &HostRuntime, case: &Case) -> Result<String> {
+    let alloc = rt.alloc();
+    let (records, options) = parts_of(case.rest);
+    let options = Options::read(alloc, options)?;
+    let given = last_run(rt, case.subject, records, &options)?;
+    let called = call(alloc, &given, &options.outside)?;
+    let mut groups = Groups::new(alloc);
+    for calls in 0..=called.disk.log.len() {
+        if calls as u64 >= options.from {
+            groups.put(calls as u64, all_left(alloc, &given, &called, calls)?);
+        }
+    }
+    groups.done()
+}
+
+// What is told over each of the files that a stop may leave, each once.
+fn all_left(alloc: Global, given: &Given, called: &Called, calls: usize) -> Result<String> {
+    let mut all: Vec<String> = Vec::new(alloc);
+    for bytes in LEFT_BYTES {
+        let image = image_of(alloc, &called.disk, calls, bytes)?;
+        let told = opening_of(alloc, &reopen(alloc, given, image)?)?;
+        if !has_text(all.as_slice(), told.as_str()) {
+            all.push(told)?;
+        }
+    }
+    let mut lines = Lines::new(alloc);
+    for told in &all {
+        lines.item(" or ", told.as_str());
+    }
+    lines.done()
+}
+
+fn has_text(all: &[String], text: &str) -> bool {
+    for one in all {
+        if one.as_str() == text {
+            return true;
+        }
+    }
+    false
+}
+
+// What a run without a tick told between its first line and its last, or all that it told where it ended otherwise.
+fn opening_of(alloc: Global, called: &Called) -> Result<String> {
+    let mut lines = Lines::new(alloc);
+    for line in called.text.as_str().lines() {
+        if called.outcome.status != 0 || !(line.starts_with("site ") || line == "end 0") {
+            lines.item(", ", line);
+        }
+    }
+    if lines.is_empty() {
+        lines.say("nothing");
+    }
+    lines.done()
+}
