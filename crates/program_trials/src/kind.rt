@@ -15,6 +15,7 @@ pub(crate) enum Kind {
     /// `failing-writes SITE: RECORD; OPTIONS`: each write fails once.
     FailingWrites,
     /// `failing-disk SITE: RECORD; calls 1 to 120, LINE keeps LINE`: each call of the disk in that range fails once.
+    /// What the first line acknowledges is told by the second where a file is opened again; with `drops`, isn't told.
     FailingDisk,
     /// `stops SITE: RECORD; OPTIONS`: what a stop at each call of the disk leaves.
     Stops,

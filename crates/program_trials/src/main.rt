@@ -1,4 +1,4 @@
-//! Trials of the call `panel` over forms in memory: of streams that are cut, and of streams, shelves and disks that fail.
+//! Trials of the call `panel` over forms in memory: streams that are cut, and streams, shelves and disks that fail.
 //!
 //! `Kind` of src/kind has the kinds of cases, and the head of trial_cases how a list of cases is written. A case is a
 //! call, or one call for each place at which something may fail. `Options` of src/options reads what is said of the

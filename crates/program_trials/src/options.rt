@@ -4,11 +4,13 @@ use std::alloc::Global;
 use std::fs;
 use trial_cases::Words;
 
-/// A line of a text that acknowledges something, and the line with which a journal that keeps it opens.
+/// A line of a text that acknowledges something, and a line that a run tells, or doesn't tell, at its opening over a
+/// journal which holds that.
 #[derive(Clone, Copy)]
 pub(crate) struct Keeping<'a> {
     pub(crate) told: &'a str,
-    pub(crate) kept: &'a str,
+    pub(crate) line: &'a str,
+    pub(crate) is_told: bool,
 }
 
 /// What is said of the outside of a call, and of the calls that are made.
@@ -61,9 +63,16 @@ impl<'a> Options<'a> {
 
     // Takes one of them.
     fn take(&mut self, part: &'a str) -> Result<()> {
-        if let Some((told, kept)) = part.split_once(" keeps ") {
-            self.keepings.push(Keeping { told, kept })?;
-            return Ok(());
+        for (word, is_told) in [(" keeps ", true), (" drops ", false)] {
+            if let Some((told, line)) = part.split_once(word) {
+                let keeping = Keeping {
+                    told,
+                    line,
+                    is_told,
+                };
+                self.keepings.push(keeping)?;
+                return Ok(());
+            }
         }
         if let Some((edges, numbers)) = part.split_once(" fails ") {
             return self.take_failing(edges, numbers);

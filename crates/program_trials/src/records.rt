@@ -9,7 +9,7 @@ use trial_cases::{History, Lines};
 const REVERSED: &str = "order k r1 e1 l1 h1 o1 s1 d1 p1\n";
 
 /// The bytes of a record. `words` is the name of a file that ends with `.record`, or a history, behind which the line
-/// `end` comes. A history `nothing` has no tick. Where it begins with `reversed`, each tick has that order, at one panel.
+/// `end` comes. A history `nothing` has no tick. Where it begins with `reversed`, each tick has that order, of one panel.
 pub(crate) fn record_of(rt: &HostRuntime, words: &str) -> Result<Vec<u8>> {
     if words.ends_with(".record") {
         return Ok(fs::read(rt, words)?);

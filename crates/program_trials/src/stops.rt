@@ -3,7 +3,7 @@
 use crate::called::{Called, call};
 use crate::given::Given;
 use crate::groups::Groups;
-use crate::images::{LEFT_BYTES, image_of, reopen};
+use crate::images::{WAYS, image_of, reopen};
 use crate::options::Options;
 use crate::runs::{last_run, parts_of};
 use anyhow::Result;
@@ -30,8 +30,8 @@ pub(crate) fn try_stops(rt: &HostRuntime, case: &Case) -> Result<String> {
 // What is told over each of the files that a stop may leave, each once.
 fn all_left(alloc: Global, given: &Given, called: &Called, calls: usize) -> Result<String> {
     let mut all: Vec<String> = Vec::new(alloc);
-    for bytes in LEFT_BYTES {
-        let image = image_of(alloc, &called.disk, calls, bytes)?;
+    for way in WAYS {
+        let image = image_of(alloc, &called.disk, calls, way)?;
         let told = opening_of(alloc, &reopen(alloc, given, image)?)?;
         if !has_text(all.as_slice(), told.as_str()) {
             all.push(told)?;
