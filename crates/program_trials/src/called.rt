@@ -27,21 +27,28 @@ pub(crate) struct Called {
     pub(crate) disk: MemoryDisk,
 }
 
+impl Called {
+    /// Whether another call ended as this one did, with the same text.
+    pub(crate) fn is_told_by(&self, other: &Called) -> bool {
+        self.outcome == other.outcome && self.text.as_str() == other.text.as_str()
+    }
+}
+
 /// Calls `panel` over forms in memory.
-pub(crate) fn call(alloc: Global, given: &Given, outside: &Outside) -> Result<Called> {
-    let mut shelf = shelf_of(alloc, given, outside)?;
+pub(crate) fn call(alloc: Global, given: Given, outside: Outside) -> Result<Called> {
+    let mut shelf = shelf_of(alloc, given, outside.fetch)?;
     let mut input = TrickleSource {
-        source: source_of(alloc, given, outside)?,
+        source: source_of(alloc, given, outside.read)?,
         most: outside.piece.max(1),
     };
     let mut out = TrickleSink {
-        sink: sink_of(alloc, outside)?,
+        sink: sink_of(alloc, outside.write)?,
         most: outside.take.max(1),
     };
-    let mut disk = disk_of(alloc, given, outside)?;
+    let mut disk = disk_of(alloc, given, outside.disk)?;
     let outcome = panel(
         alloc,
-        given.words.as_slice(),
+        given.words,
         &mut shelf,
         &mut input,
         &mut out,
@@ -59,46 +66,45 @@ pub(crate) fn call(alloc: Global, given: &Given, outside: &Outside) -> Result<Ca
     })
 }
 
-fn shelf_of(alloc: Global, given: &Given, outside: &Outside) -> Result<MemoryShelf> {
+fn shelf_of(alloc: Global, given: Given, failing: u64) -> Result<MemoryShelf> {
     let mut files = Vec::new(alloc);
-    if let (Some(name), Some(bytes)) = (given.words.get(1), &given.site) {
+    if let (Some(name), Some(bytes)) = (given.words.get(1), given.site) {
         files.push(ShelfFile {
             name: name.clone()?,
-            bytes: bytes.clone()?,
+            bytes: Vec::from_slice(alloc, bytes)?,
         })?;
     }
-    match MemoryShelf::new(alloc, files, outside.fetches.clone()?) {
+    match MemoryShelf::new(alloc, files, vec![in alloc; failing]?) {
         Ok(shelf) => Ok(shelf),
         Err(_) => bail!("no memory"),
     }
 }
 
-fn source_of(alloc: Global, given: &Given, outside: &Outside) -> Result<MemorySource> {
-    match MemorySource::new(alloc, given.record.clone()?, outside.reads.clone()?) {
+fn source_of(alloc: Global, given: Given, failing: u64) -> Result<MemorySource> {
+    let record = Vec::from_slice(alloc, given.record)?;
+    match MemorySource::new(alloc, record, vec![in alloc; failing]?) {
         Ok(source) => Ok(source),
         Err(_) => bail!("no memory"),
     }
 }
 
-fn sink_of(alloc: Global, outside: &Outside) -> Result<MemorySink> {
-    match MemorySink::new(alloc, MOST_TEXT, outside.writes.clone()?) {
+fn sink_of(alloc: Global, failing: u64) -> Result<MemorySink> {
+    match MemorySink::new(alloc, MOST_TEXT, vec![in alloc; failing]?) {
         Ok(sink) => Ok(sink),
         Err(_) => bail!("no memory"),
     }
 }
 
-fn disk_of(alloc: Global, given: &Given, outside: &Outside) -> Result<MemoryDisk> {
-    let bytes = given.journal.clone()?;
-    if bytes.len() > MOST_DISK_BYTES {
-        bail!("a journal of {} bytes", bytes.len());
+fn disk_of(alloc: Global, given: Given, failing: (u64, u64)) -> Result<MemoryDisk> {
+    if given.journal.len() > MOST_DISK_BYTES {
+        bail!("a journal that is too long");
     }
-    match MemoryDisk::new(
-        alloc,
-        bytes,
-        MOST_CALLS,
-        MOST_WRITTEN,
-        outside.disk.clone()?,
-    ) {
+    let mut fails = Vec::new(alloc);
+    for number in failing.0..=failing.1 {
+        fails.push(number)?;
+    }
+    let journal = Vec::from_slice(alloc, given.journal)?;
+    match MemoryDisk::new(alloc, journal, MOST_CALLS, MOST_WRITTEN, fails) {
         Ok(disk) => Ok(disk),
         Err(_) => bail!("no memory"),
     }

@@ -2,7 +2,7 @@
 
 use crate::called::{Called, call};
 use crate::given::Given;
-use crate::outside::Outside;
+use crate::outside::SOUND;
 use anyhow::{Result, bail};
 use panel_edges::MemoryDisk;
 use std::alloc::Global;
@@ -21,26 +21,26 @@ pub(crate) const WAYS: [(usize, usize); 8] = [
     (0, 40_000),
 ];
 
-/// The file that is left where the disk stops after so many calls of its log.
-pub(crate) fn image_of(
+/// What a run without a tick tells over the file that is left where the disk stops after so many calls of its log.
+pub(crate) fn reopened(
     alloc: Global,
+    given: Given,
     disk: &MemoryDisk,
     calls: usize,
     way: (usize, usize),
-) -> Result<Vec<u8>> {
+) -> Result<Called> {
     let (last, earlier) = way;
     let mut left = vec![in alloc; earlier; disk.log.len()]?;
     if let Some(bytes) = left.get_mut(calls.saturating_sub(1)) {
         *bytes = last;
     }
-    match disk.cut(alloc, calls, left.as_slice()) {
-        Ok(file) => Ok(file),
-        Err(_) => bail!("no memory"),
-    }
-}
-
-/// A run without a tick over a file that was left as the journal.
-pub(crate) fn reopen(alloc: Global, given: &Given, image: Vec<u8>) -> Result<Called> {
-    let given = given.reopened(alloc, image)?;
-    call(alloc, &given, &Outside::sound(alloc))
+    let Ok(image) = disk.cut(alloc, calls, left.as_slice()) else {
+        bail!("no memory");
+    };
+    let given = Given {
+        record: b"end\n".as_slice(),
+        journal: image.as_slice(),
+        ..given
+    };
+    call(alloc, given, SOUND)
 }

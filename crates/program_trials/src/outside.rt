@@ -1,60 +1,23 @@
-use std::alloc::{AllocError, Global};
-
-/// How the outside takes the calls that are made of it. Calls that fail are given by number, from 1.
-#[derive(Drop)]
+/// How the outside takes the calls that are made of it. A call that fails is given by its number, from 1; 0 is none.
+#[derive(Clone, Copy)]
 pub(crate) struct Outside {
     /// How many bytes a read gives at most.
     pub(crate) piece: usize,
     /// How many bytes a write takes at most.
     pub(crate) take: usize,
-    pub(crate) fetches: Vec<u64>,
-    pub(crate) reads: Vec<u64>,
-    pub(crate) writes: Vec<u64>,
-    pub(crate) disk: Vec<u64>,
+    pub(crate) fetch: u64,
+    pub(crate) read: u64,
+    pub(crate) write: u64,
+    /// The first and the last of the calls of the disk that fail.
+    pub(crate) disk: (u64, u64),
 }
 
-impl Outside {
-    /// One that never fails, gives what is asked for and takes what is given.
-    pub(crate) fn sound(alloc: Global) -> Outside {
-        Outside {
-            piece: 65_536,
-            take: 65_536,
-            fetches: Vec::new(alloc),
-            reads: Vec::new(alloc),
-            writes: Vec::new(alloc),
-            disk: Vec::new(alloc),
-        }
-    }
-
-    /// The same, with a read that fails.
-    pub(crate) fn with_read(&self, alloc: Global, number: u64) -> Result<Outside, AllocError> {
-        let mut other = self.copied()?;
-        other.reads = vec![in alloc; number]?;
-        Ok(other)
-    }
-
-    /// The same, with a write that fails.
-    pub(crate) fn with_write(&self, alloc: Global, number: u64) -> Result<Outside, AllocError> {
-        let mut other = self.copied()?;
-        other.writes = vec![in alloc; number]?;
-        Ok(other)
-    }
-
-    /// The same, with a call of the disk that fails.
-    pub(crate) fn with_disk(&self, alloc: Global, number: u64) -> Result<Outside, AllocError> {
-        let mut other = self.copied()?;
-        other.disk = vec![in alloc; number]?;
-        Ok(other)
-    }
-
-    pub(crate) fn copied(&self) -> Result<Outside, AllocError> {
-        Ok(Outside {
-            piece: self.piece,
-            take: self.take,
-            fetches: self.fetches.clone()?,
-            reads: self.reads.clone()?,
-            writes: self.writes.clone()?,
-            disk: self.disk.clone()?,
-        })
-    }
-}
+/// One that never fails, gives what is asked for and takes what is given.
+pub(crate) const SOUND: Outside = Outside {
+    piece: 65_536,
+    take: 65_536,
+    fetch: 0,
+    read: 0,
+    write: 0,
+    disk: (0, 0),
+};

@@ -9,7 +9,8 @@ use trial_cases::{History, Lines};
 const REVERSED: &str = "order k r1 e1 l1 h1 o1 s1 d1 p1\n";
 
 /// The bytes of a record. `words` is the name of a file that ends with `.record`, or a history, behind which the line
-/// `end` comes. A history `nothing` has no tick. Where it begins with `reversed`, each tick has that order, of one panel.
+/// `end` comes. A history `nothing` has no tick. Where it begins with `reversed`, each tick has that order, which is of
+/// one panel.
 pub(crate) fn record_of(rt: &HostRuntime, words: &str) -> Result<Vec<u8>> {
     if words.ends_with(".record") {
         return Ok(fs::read(rt, words)?);
@@ -20,8 +21,12 @@ pub(crate) fn record_of(rt: &HostRuntime, words: &str) -> Result<Vec<u8>> {
 
 // The record that a history spells.
 fn spelled(alloc: Global, words: &str) -> Result<String> {
+    let order = if words.starts_with("reversed") {
+        REVERSED
+    } else {
+        ""
+    };
     let history = History::read(alloc, words)?;
-    let mut order = "";
     let mut lines = Lines::new(alloc);
     for tick in 0..=history.last {
         if tick > 0 {
@@ -30,16 +35,9 @@ fn spelled(alloc: Global, words: &str) -> Result<String> {
             lines.say(order);
         }
         for step in &history.steps {
-            if step.tick != tick {
-                continue;
-            }
-            match step.words {
-                "nothing" => {}
-                "reversed" => order = REVERSED,
-                words => {
-                    lines.say(words);
-                    lines.say("\n");
-                }
+            if step.tick == tick && step.words != "nothing" && step.words != "reversed" {
+                lines.say(step.words);
+                lines.say("\n");
             }
         }
     }

@@ -1,79 +1,61 @@
-//! Single calls, told whole.
+//! Single calls, told whole, and runs over streams that are cut.
 
 use crate::called::{Called, call};
-use crate::given::{Given, words_of};
-use crate::options::Options;
+use crate::options::option;
 use crate::outside::Outside;
-use crate::records::record_of;
-use crate::telling::say_called;
+use crate::telling::{say_called, say_ending};
+use crate::trial::Trial;
 use anyhow::Result;
-use std::fs;
-use trial_cases::{Case, Lines};
+use std::alloc::Global;
+use trial_cases::Lines;
 
-/// A call of any words. The file that the second word names is on the shelf, where there is one.
-pub(crate) fn try_words(rt: &HostRuntime, case: &Case) -> Result<String> {
-    let alloc = rt.alloc();
-    let (record, options) = parts_of(case.rest);
-    let options = Options::read(alloc, options)?;
-    let mut words = Vec::new(alloc);
-    for word in case.subject.split(' ') {
-        if !word.is_empty() {
-            words.push(word)?;
-        }
-    }
-    let site = match words.get(1) {
-        Some(name) => fs::read(rt, *name).ok(),
-        None => None,
-    };
-    let given = Given {
-        words: words_of(alloc, words.as_slice())?,
-        site,
-        record: record_of(rt, record)?,
-        journal: options.edited(rt, Vec::new(alloc))?,
-    };
-    told(rt, &given, &call(alloc, &given, &options.outside)?)
-}
-
-/// Runs over records, each over the journal that the one before left.
-pub(crate) fn try_runs(rt: &HostRuntime, case: &Case) -> Result<String> {
-    let (records, options) = parts_of(case.rest);
-    let options = Options::read(rt.alloc(), options)?;
-    let given = last_run(rt, case.subject, records, &options)?;
-    told(rt, &given, &call(rt.alloc(), &given, &options.outside)?)
-}
-
-/// What the last of several runs finds, of which each finds the journal that the one before left.
-pub(crate) fn last_run(
-    rt: &HostRuntime,
-    site: &str,
-    records: &str,
-    options: &Options,
-) -> Result<Given> {
-    let (earlier, last) = records.rsplit_once(" | ").unwrap_or(("", records));
-    let mut journal = Vec::new(rt.alloc());
-    if !earlier.is_empty() {
-        for record in earlier.split(" | ") {
-            let name = options.before.unwrap_or(site);
-            let mut given = Given::run(rt, name, record_of(rt, record)?)?;
-            given.journal = journal;
-            let called = call(rt.alloc(), &given, &Outside::sound(rt.alloc()))?;
-            journal = called.disk.bytes.clone()?;
-        }
-    }
-    let mut given = Given::run(rt, site, record_of(rt, last)?)?;
-    given.journal = options.edited(rt, journal)?;
-    Ok(given)
-}
-
-/// The record of a case and its options, which stand behind a semicolon.
-pub(crate) fn parts_of<'a>(rest: &'a str) -> (&'a str, &'a str) {
-    rest.split_once("; ").unwrap_or((rest, ""))
-}
-
-fn told(rt: &HostRuntime, given: &Given, called: &Called) -> Result<String> {
-    let mut lines = Lines::new(rt.alloc());
+/// How a call ended, what it asked of the outside, and its text.
+pub(crate) fn try_call(alloc: Global, trial: &Trial) -> Result<String> {
+    let given = trial.given();
+    let called = call(alloc, given, trial.outside)?;
+    let mut lines = Lines::new(alloc);
     lines.say("    ");
-    say_called(&mut lines, called, given.journal.as_slice());
+    say_called(&mut lines, &called, given.journal);
     lines.say("\n");
     lines.done()
+}
+
+/// Whether the text is the same where a read gives, or a write takes, only so many bytes at a time.
+pub(crate) fn try_sizes(alloc: Global, trial: &Trial, is_read: bool) -> Result<String> {
+    let whole = call(alloc, trial.given(), trial.outside)?;
+    let mut lines = Lines::new(alloc);
+    for word in option(trial.options, "of").split(' ') {
+        let size = word.parse::<u16>()?;
+        let mut outside = trial.outside;
+        if is_read {
+            outside.piece = size as usize;
+        } else {
+            outside.take = size as usize;
+        }
+        say_sized(alloc, &mut lines, trial, outside, &whole)?;
+    }
+    lines.done()
+}
+
+// Says whether a run over this outside ends as another did, with the same text and the same journal.
+fn say_sized(
+    alloc: Global,
+    lines: &mut Lines,
+    trial: &Trial,
+    outside: Outside,
+    whole: &Called,
+) -> Result<()> {
+    let called = call(alloc, trial.given(), outside)?;
+    let is_same = whole.is_told_by(&called)
+        && whole.disk.bytes.as_slice() == called.disk.bytes.as_slice();
+    lines.count("    reads ", called.reads);
+    lines.count(", writes ", called.writes);
+    if is_same {
+        lines.say(": the same\n");
+    } else {
+        lines.say(": otherwise, ");
+        say_ending(lines, &called);
+        lines.say("\n");
+    }
+    Ok(())
 }

@@ -1,38 +1,34 @@
 //! What a stop at each call of a run leaves.
 
 use crate::called::{Called, call};
-use crate::given::Given;
 use crate::groups::Groups;
-use crate::images::{WAYS, image_of, reopen};
-use crate::options::Options;
-use crate::runs::{last_run, parts_of};
+use crate::images::{WAYS, reopened};
+use crate::options::{option, range_of};
+use crate::trial::Trial;
 use anyhow::Result;
 use std::alloc::Global;
-use trial_cases::{Case, Lines};
+use trial_cases::Lines;
 
 /// What a run tells at its opening where the one before was stopped after each of the calls that its disk logged, from
 /// one of them on. One call may leave several files, which then tell several things.
-pub(crate) fn try_stops(rt: &HostRuntime, case: &Case) -> Result<String> {
-    let alloc = rt.alloc();
-    let (records, options) = parts_of(case.rest);
-    let options = Options::read(alloc, options)?;
-    let given = last_run(rt, case.subject, records, &options)?;
-    let called = call(alloc, &given, &options.outside)?;
+pub(crate) fn try_stops(alloc: Global, trial: &Trial) -> Result<String> {
+    let called = call(alloc, trial.given(), trial.outside)?;
+    let (from, _) = range_of(option(trial.options, "from"))?;
     let mut groups = Groups::new(alloc);
     for calls in 0..=called.disk.log.len() {
-        if calls as u64 >= options.from {
-            groups.put(calls as u64, all_left(alloc, &given, &called, calls)?);
+        if calls as u64 >= from {
+            groups.put(calls as u64, all_left(alloc, trial, &called, calls)?);
         }
     }
     groups.done()
 }
 
 // What is told over each of the files that a stop may leave, each once.
-fn all_left(alloc: Global, given: &Given, called: &Called, calls: usize) -> Result<String> {
+fn all_left(alloc: Global, trial: &Trial, called: &Called, calls: usize) -> Result<String> {
     let mut all: Vec<String> = Vec::new(alloc);
     for way in WAYS {
-        let image = image_of(alloc, &called.disk, calls, way)?;
-        let told = opening_of(alloc, &reopen(alloc, given, image)?)?;
+        let again = reopened(alloc, trial.given(), &called.disk, calls, way)?;
+        let told = opening_of(alloc, &again)?;
         if !has_text(all.as_slice(), told.as_str()) {
             all.push(told)?;
         }

@@ -18,6 +18,12 @@ pub(crate) fn say_called(lines: &mut Lines, called: &Called, journal: &[u8]) {
     say_text(lines, called.text.as_str());
 }
 
+/// Says how a call ended, and its text.
+pub(crate) fn say_ending(lines: &mut Lines, called: &Called) {
+    say_outcome(lines, called);
+    say_text(lines, called.text.as_str());
+}
+
 // Says the status, how many ticks were run, and in how many the journal was not kept.
 fn say_outcome(lines: &mut Lines, called: &Called) {
     lines.count("status ", called.outcome.status as u64);
@@ -35,31 +41,24 @@ fn say_text(lines: &mut Lines, text: &str) {
     }
 }
 
-/// How a call ended and its text, with something said between the two.
-pub(crate) fn outcome_of(alloc: Global, called: &Called, words: &str) -> Result<String> {
+/// How a call ended, and what holds of its text, or that text where this doesn't hold.
+pub(crate) fn told_if(alloc: Global, called: &Called, holds: bool, words: &str) -> Result<String> {
     let mut lines = Lines::new(alloc);
     say_outcome(&mut lines, called);
-    lines.say(words);
-    lines.done()
-}
-
-/// The same, and the text.
-pub(crate) fn ending_of(alloc: Global, called: &Called, words: &str) -> Result<String> {
-    let mut lines = Lines::new(alloc);
-    say_outcome(&mut lines, called);
-    lines.say(words);
-    say_text(&mut lines, called.text.as_str());
-    lines.done()
-}
-
-/// Whether a text has a line.
-pub(crate) fn has_line(text: &str, wanted: &str) -> bool {
-    for line in text.lines() {
-        if line == wanted {
-            return true;
-        }
+    if holds {
+        lines.say(words);
+    } else {
+        lines.say(", otherwise:");
+        say_text(&mut lines, called.text.as_str());
     }
-    false
+    lines.done()
+}
+
+/// How a call ended and its text.
+pub(crate) fn told(alloc: Global, called: &Called) -> Result<String> {
+    let mut lines = Lines::new(alloc);
+    say_ending(&mut lines, called);
+    lines.done()
 }
 
 /// How often a text has a line.
