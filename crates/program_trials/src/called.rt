@@ -9,12 +9,12 @@ use program_status::Outcome;
 use std::alloc::Global;
 
 /// How much text a sink has room for.
-const MOST_TEXT: usize = 200_000;
+const MOST_TEXT: usize = 20_000;
 
 /// How many calls and written bytes the log of a disk has room for.
 const MOST_CALLS: usize = 1_000;
 
-const MOST_WRITTEN: usize = 250_000;
+const MOST_WRITTEN: usize = 125_000;
 
 /// What came of a call, and how many calls it made of the outside.
 #[derive(Drop)]
