@@ -4,6 +4,8 @@ pub mod Progresses
 pub mod Codes
 pub mod Answered
 pub mod Stood
+pub mod Cuts
+pub mod TickCuts
 pub mod Closing
 pub mod Taking
 pub mod Disks
@@ -14,6 +16,7 @@ pub mod PowerCuts
 pub mod Steps
 pub mod Readings
 pub mod Outcomes
+pub mod Succeeding
 pub mod Matrices
 pub mod Naming
 pub mod Faces

@@ -12,10 +12,11 @@ use Rattle.panel_program.specs.declared.run_end.RunEnd.TheVariants.{ReadFault}
 use Rattle.program_status.specs.declared.status.Status.TheVariants.{NoMemory, WriteFault}
 use Rattle.program_status.specs.Statuses.{number_of}
 use Rattle.panel_program.specs.Endings.{status_of, last_line}
-use Rattle.panel_program.specs.Runs.{HasMade, Input, RanOn, ReadsTo, ReadsUntil}
+use Rattle.panel_program.specs.Runs.{HasMade, Input, IsUnread, RanOn, ReadsTo, ReadsUntil}
 use Rattle.panel_program.specs.PowerCuts.{JournalDisk, LeavesAcknowledged}
 use Rattle.panel_program.specs.Records.{at_beginning}
-use Rattle.panel_program.specs.Stands.{AreTicksOf, HasRun, Stands}
+use Rattle.panel_program.specs.Outside.{DiskKind, Outside}
+use Rattle.panel_program.specs.Stands.{AreTicksOf, HasRun, Stands, Stores}
 use Rattle.run_text.proofs.PromisesHold.{are_kept}
 use Rattle.run_text.proofs.WholeTexts.{of_run}
 use Rattle.panel_program.proofs.Stood.{has_run}
@@ -41,8 +42,9 @@ made_by site kept consumed ticks run outcome of ran count failed =
 module _ (site : Site) (kept : Retained) (digest : List ℕ) (disk : JournalDisk) (input : Input) (bytes : List ℕ) (outcome : Outcome) where
   -- memory ran out
   pub ran_nothing : (old : Option (List ℕ)) → outcome.status ≡ number_of NoMemory → outcome.ticks ≡ 0 → outcome.store_failures ≡ 0
-      → LeavesAcknowledged site kept digest disk [] → RanOn site kept digest disk input bytes old old outcome
-  ran_nothing old status ticks failed cut = inl (record { status = status; ticks = ticks; failures = failed; same = refl }, cut)
+      → IsUnread input → LeavesAcknowledged site kept digest disk [] → RanOn site kept digest disk input bytes old old outcome
+  ran_nothing old status ticks failed unread cut =
+      inl (record { status = status; ticks = ticks; failures = failed; same = refl }, unread, cut)
 
   -- the first write failed
   pub ran_opening : (old new : Option (List ℕ)) (run : Run) → Stands site kept at_beginning run → outcome.status ≡ number_of WriteFault
@@ -62,10 +64,11 @@ module _ (site : Site) (kept : Retained) (digest : List ℕ) (disk : JournalDisk
       }))
 
   -- a later write failed
-  pub ran_until : (old mid new : Option (List ℕ)) (run : Run) → outcome.status ≡ number_of WriteFault → outcome.ticks ≡ run.ticks
-      → outcome.store_failures ≡ run.store_failures → Grows old mid (opening_text site kept) → ReadsUntil site kept bytes input.after mid new run
-      → ((ticks : List TickBlock) → HasRun site kept ticks run → LeavesAcknowledged site kept digest disk ticks)
-      → RanOn site kept digest disk input bytes old new outcome
+  pub ran_until : {kind : DiskKind} (old : Option (List ℕ)) (mid new : Outside kind) (run : Run) → outcome.status ≡ number_of WriteFault → outcome.ticks ≡ run.ticks
+      → outcome.store_failures ≡ run.store_failures → Grows old mid.written (opening_text site kept) → ReadsUntil site kept bytes input.after mid new run
+      → ((ticks : List TickBlock) → HasRun site kept ticks run → Stores site kept mid.stored new.stored [] ticks
+      → LeavesAcknowledged site kept digest disk ticks)
+      → RanOn site kept digest disk input bytes old new.written outcome
   ran_until old mid new run status ticks failed opened r cut =
       inr
       (inr
@@ -75,18 +78,19 @@ module _ (site : Site) (kept : Retained) (digest : List ℕ) (disk : JournalDisk
         run = r.ticks;
         whole = r.whole;
         made = made_by site kept r.consumed r.ticks run outcome r.of r.ran ticks failed;
-        cut = cut r.ticks r.ran;
+        cut = cut r.ticks r.ran r.broke.stores;
         status = status;
-        broke = front_then old mid new (text_so_far site kept []) (text_so_far site kept r.ticks) opened r.broke;
+        broke = front_then old mid.written new.written (text_so_far site kept []) (text_so_far site kept r.ticks) opened r.broke.text;
       }))
 
   -- the run ended
-  pub ran_to : (old mid last new : Option (List ℕ)) (run : Run) (end : RunEnd) → outcome.ticks ≡ run.ticks → outcome.store_failures ≡ run.store_failures
-      → (end ≡ ReadFault → Rose input.faults_before input.faults_after) → Grows old mid (opening_text site kept)
-      → ReadsTo site kept bytes input.after mid last run end → Says (status_of end) (last_line run.ticks end) last new outcome.status
-      → ((ticks : List TickBlock) → HasRun site kept ticks run → LeavesAcknowledged site kept digest disk ticks)
+  pub ran_to : {kind : DiskKind} (old new : Option (List ℕ)) (mid last : Outside kind) (run : Run) (end : RunEnd) → outcome.ticks ≡ run.ticks → outcome.store_failures ≡ run.store_failures
+      → (end ≡ ReadFault → Rose input.faults_before input.faults_after) → Grows old mid.written (opening_text site kept)
+      → ReadsTo site kept bytes input.after mid last run end → Says (status_of end) (last_line run.ticks end) last.written new outcome.status
+      → ((ticks : List TickBlock) → HasRun site kept ticks run → Stores site kept mid.stored last.stored [] ticks
+      → LeavesAcknowledged site kept digest disk ticks)
       → RanOn site kept digest disk input bytes old new outcome
-  ran_to old mid last new run end ticks failed rose opened r says cut =
+  ran_to old new mid last run end ticks failed rose opened r says cut =
       inr
       (inl (
         end,
@@ -98,10 +102,10 @@ module _ (site : Site) (kept : Retained) (digest : List ℕ) (disk : JournalDisk
           ended = r.ended;
           fault = λ e. (rose e, r.unread e);
           made = made_by site kept r.consumed r.ticks run outcome r.of r.ran ticks failed;
-          cut = cut r.ticks r.ran;
+          cut = cut r.ticks r.ran r.wrote.stores;
           says =
               subst (λ n. Says (status_of end) (text_so_far site kept r.ticks ++ last_line n end) old new outcome.status) (sym ticks)
-              (says_then (status_of end) outcome.status old last new (text_so_far site kept r.ticks) (last_line run.ticks end)
-              (grows_then old mid last (text_so_far site kept []) (text_so_far site kept r.ticks) opened r.wrote) says);
+              (says_then (status_of end) outcome.status old last.written new (text_so_far site kept r.ticks) (last_line run.ticks end)
+              (grows_then old mid.written last.written (text_so_far site kept []) (text_so_far site kept r.ticks) opened r.wrote.text) says);
         },
       ))

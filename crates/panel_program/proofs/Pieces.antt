@@ -11,18 +11,26 @@ use Rattle.panel_edges.proofs.Growing.{split_more}
 use Rattle.panel_program.specs.Records.{Progress}
 use Rattle.panel_program.specs.Stands.{AreTicksOf, AreWithin, BreaksOff, EndsIn, GoesOnAt, HasEnded, IsAt, MayPiece, Writes, WritesPart}
 use Rattle.run_text.specs.SoFar.{text_so_far}
-use Rattle.panel_program.proofs.Written.{stays, advances_more, breaks_more}
+use Rattle.panel_program.specs.Outside.{DiskKind, Outside}
+use Rattle.panel_program.proofs.Cuts.{stores_more, writes_same}
+use Rattle.panel_program.proofs.Written.{advances_more, breaks_more}
 
-module _ (site : Site) (kept : Retained) where
-  pub writes_more : (a b c : Option (List ℕ)) (x y z : List TickBlock) → Writes site kept a b x y → Writes site kept b c y z → Writes site kept a c x z
-  writes_more a b c x y z g h = advances_more a b c (text_so_far site kept x) (text_so_far site kept y) (text_so_far site kept z) g h
+module _ {kind : DiskKind} (site : Site) (kept : Retained) where
+  pub writes_more : (a b c : Outside kind) (x y z : List TickBlock) → Writes site kept a b x y → Writes site kept b c y z → Writes site kept a c x z
+  writes_more a b c x y z g h = record {
+    text = advances_more a.written b.written c.written (text_so_far site kept x) (text_so_far site kept y) (text_so_far site kept z) g.text h.text;
+    stores = stores_more site kept a.stored b.stored c.stored x y z g.stores h.stores;
+  }
 
-  pub writes_part : (a b c : Option (List ℕ)) (x y z : List TickBlock) → Writes site kept a b x y → WritesPart site kept b c y z
+  pub writes_part : (a b c : Outside kind) (x y z : List TickBlock) → Writes site kept a b x y → WritesPart site kept b c y z
       → WritesPart site kept a c x z
-  writes_part a b c x y z g h = breaks_more a b c (text_so_far site kept x) (text_so_far site kept y) (text_so_far site kept z) g h
+  writes_part a b c x y z g h = record {
+    text = breaks_more a.written b.written c.written (text_so_far site kept x) (text_so_far site kept y) (text_so_far site kept z) g.text h.text;
+    stores = stores_more site kept a.stored b.stored c.stored x y z g.stores h.stores;
+  }
 
   -- a front of a piece was taken
-  pub record Taking (p : Progress) (before piece rest : List ℕ) (old new : Option (List ℕ)) (reader : LineReader) (run : Run) : Type 0 where
+  pub record Taking (p : Progress) (before piece rest : List ℕ) (old new : Outside kind) (reader : LineReader) (run : Run) : Type 0 where
     pub front : List ℕ
     pub now : Progress
     pub is : piece ≡ front ++ rest
@@ -30,7 +38,7 @@ module _ (site : Site) (kept : Retained) where
     pub wrote : Writes site kept old new p.run now.run
 
   -- a front of all bytes was read and taken
-  pub record SoFar (bytes : List ℕ) (left old new : Option (List ℕ)) (reader : LineReader) (run : Run) (read : ℕ) : Type 0 where
+  pub record SoFar (bytes : List ℕ) (left : Option (List ℕ)) (old new : Outside kind) (reader : LineReader) (run : Run) (read : ℕ) : Type 0 where
     pub consumed : List ℕ
     pub rest : List ℕ
     pub now : Progress
@@ -42,7 +50,7 @@ module _ (site : Site) (kept : Retained) where
 
   -- ---- a piece
 
-  pub taking_none : (p : Progress) (before piece : List ℕ) (out : Option (List ℕ)) (reader : LineReader) (run : Run) → IsAt site kept before p reader run
+  pub taking_none : (p : Progress) (before piece : List ℕ) (out : Outside kind) (reader : LineReader) (run : Run) → IsAt site kept before p reader run
       → Taking p before piece piece out out reader run
   taking_none p before piece out reader run h =
       record {
@@ -50,10 +58,10 @@ module _ (site : Site) (kept : Retained) where
         now = p;
         is = refl;
         is_at = subst (λ xs. IsAt site kept xs p reader run) (sym (append-nil before)) h;
-        wrote = stays out (text_so_far site kept p.run);
+        wrote = writes_same site kept out out p.run refl refl refl;
       }
 
-  module _ (p : Progress) (before piece rest : List ℕ) (old mid new : Option (List ℕ)) (reader : LineReader) (run : Run) (t :
+  module _ (p : Progress) (before piece rest : List ℕ) (old mid new : Outside kind) (reader : LineReader) (run : Run) (t :
       Taking p before piece rest old mid reader run) where
     -- what is left of the piece is within what may be read
     pub rest_within : AreWithin (before ++ piece) → AreWithin ((before ++ t.front) ++ rest)
@@ -106,7 +114,7 @@ module _ (site : Site) (kept : Retained) where
         }
 
   -- the whole piece was taken
-  pub taking_whole : (p : Progress) (before piece rest : List ℕ) (old new : Option (List ℕ)) (reader : LineReader) (run : Run)
+  pub taking_whole : (p : Progress) (before piece rest : List ℕ) (old new : Outside kind) (reader : LineReader) (run : Run)
       → Taking p before piece rest old new reader run → rest ≡ [] → GoesOnAt site kept p (before ++ piece) old new reader run
   taking_whole p before piece rest old new reader run t none =
       let same : t.front ≡ piece = sym (t.is ∙ ap (λ xs. t.front ++ xs) none ∙ append-nil t.front) in
@@ -117,7 +125,7 @@ module _ (site : Site) (kept : Retained) where
       }
 
 -- what is left of a piece may be taken behind its front
-pub may_rest : (rest back : List ℕ) (used : ℕ) (old new : Option (List ℕ)) (reader reader' : LineReader) (run run' : Run) (r : MayPiece rest reader run)
+pub may_rest : {kind : DiskKind} (rest back : List ℕ) (used : ℕ) (old new : Outside kind) (reader reader' : LineReader) (run run' : Run) (r : MayPiece rest reader run)
     → back ≡ drop used rest → GoesOnAt r.at.site r.at.kept r.at.p (r.at.bytes ++ take used rest) old new reader' run' → MayPiece back reader' run'
 may_rest rest back used old new reader reader' run run' r is g =
     let whole : (r.at.bytes ++ take used rest) ++ back ≡ r.at.bytes ++ rest =

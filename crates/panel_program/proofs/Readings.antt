@@ -16,11 +16,11 @@ use Rattle.record_lines.specs.Stands.{StandsFor as ReadsFor}
 use Rattle.panel_program.specs.Records.{Progress, at_beginning}
 use Rattle.panel_program.specs.Stands.{AreTicksOf, AreWithin, BreaksOff, EndsAt, EndsIn, GoesOnAt, HasRun, IsAt, MayPiece, Stands}
 use Rattle.panel_program.specs.Runs.{EndsRun, ReadsTo, ReadsUntil}
-use Rattle.run_text.specs.SoFar.{text_so_far}
 use Rattle.panel_program.proofs.Ends.{ends_whole, truncated_whole, limit_whole}
 use Rattle.panel_program.proofs.Pieces.{SoFar, writes_more, writes_part}
 use Rattle.panel_program.proofs.Stood.{has_run}
-use Rattle.panel_program.proofs.Written.{stays}
+use Rattle.panel_program.specs.Outside.{DiskKind, Outside}
+use Rattle.panel_program.proofs.Cuts.{writes_same}
 
 -- a source that told what was left tells what is left
 told : (rest xs : List ℕ) (left new : Option (List ℕ)) → left ≡ Some rest → Consumes left new xs → (more : List ℕ) × (new ≡ Some more)
@@ -63,7 +63,7 @@ may_piece read piece reader run r few =
     }
 
 -- and then it was
-pub reads_on : (read read' : ℕ) (piece : List ℕ) (reader reader' : LineReader) (run run' : Run) (old new : Option (List ℕ)) (r : IsReading read reader run)
+pub reads_on : (read read' : ℕ) (piece : List ℕ) (reader reader' : LineReader) (run run' : Run) {kind : DiskKind} (old new : Outside kind) (r : IsReading read reader run)
     → read' ≡ read + length piece → GoesOnAt r.site r.kept r.p (r.bytes ++ piece) old new reader' run' → IsReading read' reader' run'
 reads_on read read' piece reader reader' run run' old new r more g =
     let count = r.count in
@@ -77,9 +77,9 @@ no_fault site bytes (Refused refusal) h e = absurd cc
 no_fault site bytes TooManyBytes h e = absurd h
 no_fault site bytes ReadFault h e = absurd h
 
-module _ (site : Site) (kept : Retained) where
+module _ {kind : DiskKind} (site : Site) (kept : Retained) where
   -- nothing was read yet
-  pub so_far_none : (left out : Option (List ℕ)) (reader : LineReader) (run : Run) → IsAt site kept [] at_beginning reader run
+  pub so_far_none : (left : Option (List ℕ)) (out : Outside kind) (reader : LineReader) (run : Run) → IsAt site kept [] at_beginning reader run
       → IfSome left (λ bytes. SoFar site kept bytes left out out reader run 0)
   so_far_none None out reader run h = tt
   so_far_none (Some bytes) out reader run h =
@@ -91,10 +91,10 @@ module _ (site : Site) (kept : Retained) where
         left_is = refl;
         count = refl;
         is_at = h;
-        wrote = stays out (text_so_far site kept []);
+        wrote = writes_same site kept out out [] refl refl refl;
       }
 
-  module _ (bytes : List ℕ) (left old mid : Option (List ℕ)) (reader : LineReader) (run : Run) (read : ℕ) (s :
+  module _ (bytes : List ℕ) (left : Option (List ℕ)) (old mid : Outside kind) (reader : LineReader) (run : Run) (read : ℕ) (s :
       SoFar site kept bytes left old mid reader run read) where
     ran : HasRun site kept s.now.run run
     ran = has_run site kept s.now.run s.now.block run s.is_at.stands
@@ -159,7 +159,7 @@ module _ (site : Site) (kept : Retained) where
     piece_within piece few = let count = s.count in let sum = length-append s.consumed piece in omega (arith, few, count, sum)
 
     -- the run ended in a piece
-    pub piece_ends : (piece : List ℕ) (left' new : Option (List ℕ)) (new_run : Run) (end : RunEnd) → Consumes left left' piece
+    pub piece_ends : (piece : List ℕ) (left' : Option (List ℕ)) (new : Outside kind) (new_run : Run) (end : RunEnd) → Consumes left left' piece
         → read + length piece ≤ most_record_bytes → EndsIn site kept s.now s.consumed piece end mid new new_run
         → ReadsTo site kept bytes left' old new new_run end
     piece_ends piece left' new new_run end consumes few g =
@@ -187,7 +187,7 @@ module _ (site : Site) (kept : Retained) where
         }
 
     -- a write failed in a piece
-    pub piece_breaks : (piece : List ℕ) (left' new : Option (List ℕ)) (new_run : Run) → Consumes left left' piece
+    pub piece_breaks : (piece : List ℕ) (left' : Option (List ℕ)) (new : Outside kind) (new_run : Run) → Consumes left left' piece
         → read + length piece ≤ most_record_bytes → BreaksOff site kept s.now s.consumed piece mid new new_run
         → ReadsUntil site kept bytes left' old new new_run
     piece_breaks piece left' new new_run consumes few b =
@@ -210,7 +210,7 @@ module _ (site : Site) (kept : Retained) where
         }
 
     -- a whole piece was taken
-    pub piece_more : (piece : List ℕ) (left' new : Option (List ℕ)) (new_reader : LineReader) (new_run : Run) (read' : ℕ) → Consumes left left' piece
+    pub piece_more : (piece : List ℕ) (left' : Option (List ℕ)) (new : Outside kind) (new_reader : LineReader) (new_run : Run) (read' : ℕ) → Consumes left left' piece
         → read' ≡ read + length piece → GoesOnAt site kept s.now (s.consumed ++ piece) mid new new_reader new_run
         → SoFar site kept bytes left' old new new_reader new_run read'
     piece_more piece left' new new_reader new_run read' consumes sum g =

@@ -1,11 +1,10 @@
 -- What a reader's answer makes of a run.
 use Rattle.std.proofs.Common.{◌≡◌, ◌∙◌, ◌-◌, ◌*◌, ◌^◌, ◌<◌, ◌≤◌, ◌++◌, ℕ, false, List, [], ◌∷◌, length, take, drop, take-append-drop, Option, Some, None}
-use Rattle.std.proofs.Common.{Bool, Result, Ok, Err, sym, ap, subst, arith, lit<, append-nil, length-append}
+use Rattle.std.proofs.Common.{Bool, Result, Ok, Err, sym, ap, subst, arith, lit<, length-append}
 use Rattle.panel_edges.specs.Limits.{most_record_bytes}
 use Rattle.site_types.specs.declared.retained.Retained.{Retained}
 use Rattle.site_types.specs.declared.site.Site.{Site}
 use Rattle.panel_edges.specs.declared.failed.Failed.{Failed}
-use Rattle.panel_edges.proofs.Growing.{grows_same, grows_none}
 use Rattle.panel_rules.specs.Moments.{TickBlock}
 use Rattle.record_lines.specs.Belongs.{StepBelongs}
 use Rattle.record_lines.specs.Judged.{line_view}
@@ -23,9 +22,10 @@ use Rattle.panel_program.specs.declared.run_end.RunEnd.TheVariants.{Ended, Refus
 use Rattle.panel_program.specs.Records.{Progress, after_line, closed, moments_in, progress_of, recorded}
 use Rattle.run_text.specs.Failures.{as_recorded}
 use Rattle.panel_program.specs.Stands.{AreFew, AreTicksOf, AreWithin, BreaksOff, GoesOn, HasRun, IsAt, IsGoing, IsNext, IsSmall, MayStep, Stands, Takes, TakesStep, Writes}
-use Rattle.run_text.specs.SoFar.{text_so_far}
 use Rattle.panel_program.proofs.Numbers.{counted, few_lines, next_of}
 use Rattle.panel_program.proofs.Progresses.{line_moments, progress_length, progress_more, recorded_length, recorded_line}
+use Rattle.panel_program.specs.Outside.{DiskKind, Outside}
+use Rattle.panel_program.proofs.Cuts.{writes_same}
 use Rattle.panel_program.proofs.Stood.{has_run}
 
 -- ---- what may come
@@ -105,17 +105,18 @@ used_some site before piece fed new_reader going feeds some =
 
 -- ---- what was taken
 
-abbrev pub NextBy : Site → Retained → Progress → List ℕ → List ℕ → ℕ → Option (List ℕ) → Option (List ℕ) → LineReader → Run
+abbrev pub NextBy : {kind : DiskKind} → Site → Retained → Progress → List ℕ → List ℕ → ℕ → Outside kind → Outside kind → LineReader → Run
     → Result (Option RunEnd) Failed → Type 0
 NextBy site kept p before piece used old new reader run (Ok end) = GoesOn site kept p (before ++ take used piece) old new reader run end
 NextBy site kept p before piece used old new reader run (Err failed) = BreaksOff site kept p before piece old new run
 
 -- nothing was written of ticks
-same_text : (site : Site) (kept : Retained) (ticks : List TickBlock) (old new : Option (List ℕ)) → new ≡ old → Writes site kept old new ticks ticks
-same_text site kept ticks old new same =
-    ([], sym (append-nil (text_so_far site kept ticks)), grows_same old old new [] same (grows_none old))
+same_text : {kind : DiskKind} (site : Site) (kept : Retained) (ticks : List TickBlock) (old new : Outside kind) → new ≡ old → Writes site kept old new ticks ticks
+same_text {kind} site kept ticks old new same =
+    writes_same site kept old new ticks (ap (λ (o : Outside kind). o.written) same) (ap (λ (o : Outside kind). o.stored.disk) same)
+    (ap (λ (o : Outside kind). o.stored.journal) same)
 
-module _ (site : Site) (kept : Retained) (before piece : List ℕ) (p : Progress) (used : ℕ) (old new : Option (List ℕ)) (reader new_reader :
+module _ {kind : DiskKind} (site : Site) (kept : Retained) (before piece : List ℕ) (p : Progress) (used : ℕ) (old new : Outside kind) (reader new_reader :
     LineReader) (run new_run : Run) (h : IsAt site kept before p reader run) (within : AreWithin (before ++ piece)) (reads :
     ReadsFor site (before ++ take used piece) new_reader) where
   abbrev after : List ℕ
@@ -208,7 +209,7 @@ module _ (site : Site) (kept : Retained) (before piece : List ℕ) (p : Progress
       })
 
 -- the answer to a piece was taken, by what the reader of the run's site and the run answered
-pub fed_next : (site there : Site) (kept : Retained) (before piece : List ℕ) (p : Progress) (fed : Fed) (old new : Option (List ℕ)) (reader new_reader :
+pub fed_next : {kind : DiskKind} (site there : Site) (kept : Retained) (before piece : List ℕ) (p : Progress) (fed : Fed) (old new : Outside kind) (reader new_reader :
     LineReader) (run new_run : Run) (result : Result (Option RunEnd) Failed) → IsAt site kept before p reader run → AreWithin (before ++ piece)
     → there ≡ site → ((bytes : List ℕ) → ReadsFor there bytes reader → Feeds there bytes piece fed new_reader) → StepBelongs there fed.step
     → (MayStep site p fed.step → TakesStep site kept p fed.step old new run new_run result)

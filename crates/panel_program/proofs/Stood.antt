@@ -25,7 +25,8 @@ use Rattle.panel_program.specs.declared.run.Run.{Run}
 use Rattle.panel_program.specs.Acting.{MakesTick, MayShow, TurnsAll, failures_with}
 use Rattle.panel_program.specs.Journals.{IsOpenFor}
 use Rattle.panel_program.specs.Records.{Block, Progress, at_beginning, closed, closed_by, moments_by, new_block, ticked, with_event}
-use Rattle.panel_program.specs.Stands.{AreFew, HasRun, MayClose, Stands, after_close, order_by}
+use Rattle.panel_program.specs.Outside.{Disks, stored_new, stored_old}
+use Rattle.panel_program.specs.Stands.{AreFew, HasRun, MayClose, Stands, Stores, after_close, order_by}
 use Rattle.run_text.specs.Failures.{failures}
 use Rattle.run_text.proofs.TickTimes.{tick_moments}
 use Rattle.panel_laws.specs.OperationLaws.{AreEventsOf}
@@ -152,11 +153,11 @@ module _ (site : Site) (kept : Retained) (ticks : List TickBlock) (block : Block
   abbrev before : List Moment
   before = and_events block.events (Began ∷ moments ticks)
 
-  order_run : IsRun site.panels (and_turns false (order_by run.order run.canonical) before)
+  pub order_run : IsRun site.panels (and_turns false (order_by run.order run.canonical) before)
   order_run =
       subst (λ order. IsRun site.panels (and_turns false order before)) h.order_is (records_are_runs site.panels (ticked false block ∷ ticks) h.ordered).0
 
-  in_time : tick_of before ≤ last_tick
+  pub in_time : tick_of before ≤ last_tick
   in_time = let tick = block_tick block ticks in let few = h.few in omega (arith, tick, few)
 
   pub may_turn_block : MayTurnAll (order_by run.order run.canonical) run.journal run.system
@@ -205,9 +206,11 @@ pub record TickMade (store : Store) (turned run : Run) : Type 0 where
 
 module _ (site : Site) (kept : Retained) (store : Store) (old turned run : Run) (turns : TurnsAll old store turned) (made :
     TickMade store turned run) (shows : (before : List Moment) → SystemStands site kept before turned.system → IsRun site.panels before
-    → run.shown.items ≡ faces_of site kept before) where
+    → run.shown.items ≡ faces_of site kept before) (disks : Disks) (stores : (ticks : List TickBlock) (block : Block)
+    → Stands site kept (record { run = ticks; block = Some block }) old
+    → Stores site kept (stored_old disks old) (stored_new disks run) ticks (ticked (has_failed store) block ∷ ticks)) where
   made_block : (ticks : List TickBlock) (block : Block) → Stands site kept (record { run = ticks; block = Some block }) old
-      → AreFew (moments (ticked false block ∷ ticks)) → MakesTick site kept (record { run = ticks; block = Some block }) old run
+      → AreFew (moments (ticked false block ∷ ticks)) → MakesTick disks site kept (record { run = ticks; block = Some block }) old run
   made_block ticks block h short =
       let failed = has_failed store in
       let all = ticked failed block ∷ ticks in
@@ -245,15 +248,16 @@ module _ (site : Site) (kept : Retained) (store : Store) (old turned run : Run) 
           short = omega (arith, short, same);
         };
         before = shown_were;
+        stores = stores ticks block h;
       }
 
   made_by : (ticks : List TickBlock) (o : Option Block) → Stands site kept (record { run = ticks; block = o }) old → old.is_open ≡ true
-      → AreFew (moments (closed_by false o ticks)) → MakesTick site kept (record { run = ticks; block = o }) old run
+      → AreFew (moments (closed_by false o ticks)) → MakesTick disks site kept (record { run = ticks; block = o }) old run
   made_by ticks None h open_is short = not_open (sym open_is ∙ h.open_is)
   made_by ticks (Some block) h open_is short = made_block ticks block h short
 
   -- the turns were made
-  pub makes : (p : Progress) → Stands site kept p old → old.is_open ≡ true → AreFew (moments (closed false p)) → MakesTick site kept p old run
+  pub makes : (p : Progress) → Stands site kept p old → old.is_open ≡ true → AreFew (moments (closed false p)) → MakesTick disks site kept p old run
   makes p h open_is short = made_by p.run p.block h open_is short
 
 run_few : (o : Option Block) (ticks : List TickBlock) → length ticks ≤ length (closed_by false o ticks)

@@ -1,6 +1,6 @@
 -- What a line makes of a run.
-use Rattle.std.proofs.Common.{◌≡◌, ℕ, Bool, false, List, [], Option, Some, None, Result, Ok, Err}
-use Rattle.std.proofs.Common.{refl, sym, ap, subst, arith, append-nil}
+use Rattle.std.proofs.Common.{◌≡◌, ℕ, Bool, false, List, Option, Some, None, Result, Ok, Err}
+use Rattle.std.proofs.Common.{refl, sym, ap, subst, arith}
 use Rattle.std.specs.Result.{IsErr}
 use Rattle.tick_units.specs.Orders.{IsOrder}
 use Rattle.tick_units.specs.declared.seat.Seat.{Seat}
@@ -9,8 +9,7 @@ use Rattle.site_types.specs.declared.event.Event.{Event}
 use Rattle.site_types.specs.declared.retained.Retained.{Retained}
 use Rattle.site_types.specs.declared.site.Site.{Site}
 use Rattle.panel_edges.specs.declared.failed.Failed.{Failed}
-use Rattle.panel_edges.proofs.Growing.{grows_none}
-use Rattle.panel_rules.specs.Moments.{TickBlock, moments}
+use Rattle.panel_rules.specs.Moments.{moments}
 use Rattle.record_lines.specs.Belongs.{Belongs}
 use Rattle.record_lines.specs.Judged.{line_view}
 use Rattle.record_lines.specs.declared.line.Line.{Line}
@@ -20,16 +19,13 @@ use Rattle.panel_program.specs.declared.run_end.RunEnd.{RunEnd}
 use Rattle.panel_program.specs.declared.run_end.RunEnd.TheVariants.{Ended}
 use Rattle.panel_program.specs.Acting.{ClosesBadly, ClosesWell, TellsEvent}
 use Rattle.panel_program.specs.Records.{Progress, after_line, closed, new_block, with_order}
-use Rattle.panel_program.specs.Stands.{AreFew, HasRun, MayCome, OpensTick, Stands, StandsClosed, Takes, Writes, WritesPart}
-use Rattle.run_text.specs.SoFar.{text_so_far}
+use Rattle.panel_program.specs.Outside.{Disks, Outside, outside_after, outside_before, stored_new, stored_old}
+use Rattle.panel_program.specs.Stands.{AreFew, HasRun, MayCome, OpensTick, Stands, StandsClosed, Takes, WritesPart}
+use Rattle.panel_program.proofs.Cuts.{stores_as, writes_same}
 use Rattle.panel_program.proofs.Progresses.{closed_length, same_moments}
 use Rattle.panel_program.proofs.Stood.{has_run}
 
--- nothing is written where no tick was run
-nothing_more : (site : Site) (kept : Retained) (ticks : List TickBlock) (written : Option (List ℕ)) → Writes site kept written written ticks ticks
-nothing_more site kept ticks written = ([], sym (append-nil (text_so_far site kept ticks)), grows_none written)
-
-module _ (site : Site) (kept : Retained) (p : Progress) where
+module _ (disks : Disks) (site : Site) (kept : Retained) (p : Progress) where
   -- few moments befall up to the end of a tick that a line closes
   few_tick : (tick : TickOf) → MayCome site p (Tick tick) → AreFew (moments (closed false p))
   few_tick tick may = let short = may.short in omega (arith, short)
@@ -49,32 +45,42 @@ module _ (site : Site) (kept : Retained) (p : Progress) where
 
   -- the line of a tick acts
   pub tick_taken : (line : Line) (tick : TickOf) (old new : Option (List ℕ)) (before closed_run run : Run) → line ≡ Tick tick → Stands site kept p before
-      → MayCome site p line → ClosesWell old new before closed_run → OpensTick tick.0 closed_run run → Takes site kept p line old new run (Ok None)
-  tick_taken line tick old new before closed_run run is h may closes opens =
+      → MayCome site p line → ClosesWell disks old new before closed_run → OpensTick tick.0 closed_run run → run.journal ≡ closed_run.journal
+      → Takes site kept p line (outside_before disks old before) (outside_after disks new run) run (Ok None)
+  tick_taken line tick old new before closed_run run is h may closes opens same =
       let comes = subst (MayCome site p) is may in
       let done = closes site kept p h (few_tick tick comes) in
-      subst (λ l. Takes site kept p l old new run (Ok None)) (sym is) (
+      subst (λ l. Takes site kept p l (outside_before disks old before) (outside_after disks new run) run (Ok None)) (sym is) (
         refl,
-        record { failed = done.failed; stands = tick_opens done.failed tick closed_run run comes done.stands opens; wrote = done.wrote },
+        record {
+          failed = done.failed;
+          stands = tick_opens done.failed tick closed_run run comes done.stands opens;
+          wrote = record {
+            text = done.wrote.text;
+            stores =
+                stores_as site kept (stored_old disks before) (stored_new disks closed_run) p.run (closed done.failed p) run.journal same
+                done.wrote.stores;
+          };
+        },
       )
 
   -- and may open its tick
   pub tick_may_open : (line : Line) (tick : TickOf) (old new : Option (List ℕ)) (before closed_run : Run) → line ≡ Tick tick → Stands site kept p before
-      → MayCome site p line → ClosesWell old new before closed_run → StandsClosed closed_run
+      → MayCome site p line → ClosesWell disks old new before closed_run → StandsClosed closed_run
   tick_may_open line tick old new before closed_run is h may closes =
       let done = closes site kept p h (few_tick tick (subst (MayCome site p) is may)) in
       record { site = site; kept = kept; ticks = closed done.failed p; stands = done.stands }
 
   -- the line `end` closes the last tick
   pub end_taken : (line : Line) (old new : Option (List ℕ)) (before run : Run) → line ≡ End → Stands site kept p before → MayCome site p line
-      → ClosesWell old new before run → Takes site kept p line old new run (Ok (Some Ended))
+      → ClosesWell disks old new before run → Takes site kept p line (outside_before disks old before) (outside_after disks new run) run (Ok (Some Ended))
   end_taken line old new before run is h may closes =
       let done = closes site kept p h (few_end (subst (MayCome site p) is may)) in (
         is,
         record { failed = done.failed; ran = has_run site kept (closed done.failed p) None run done.stands; wrote = done.wrote },
       )
 
-  failed_by : (line : Line) (old new : Option (List ℕ)) (run : Run) (result : Result (Option RunEnd) Failed) (failed : Bool) → IsErr result
+  failed_by : (line : Line) (old new : Outside disks.kind) (run : Run) (result : Result (Option RunEnd) Failed) (failed : Bool) → IsErr result
       → (after_line site failed p (line_view line)).run ≡ closed failed p → Stands site kept (record { run = closed failed p; block = None }) run
       → WritesPart site kept old new p.run (closed failed p) → Takes site kept p line old new run result
   failed_by line old new run (Err f) failed err same stands broke =
@@ -87,37 +93,47 @@ module _ (site : Site) (kept : Retained) (p : Progress) where
 
   -- what the tick before told could not be written
   pub tick_failed : (line : Line) (tick : TickOf) (old new : Option (List ℕ)) (before run : Run) (result : Result (Option RunEnd) Failed) → line ≡ Tick tick
-      → Stands site kept p before → MayCome site p line → ClosesBadly old new before run → IsErr result → Takes site kept p line old new run result
+      → Stands site kept p before → MayCome site p line → ClosesBadly disks old new before run → IsErr result
+      → Takes site kept p line (outside_before disks old before) (outside_after disks new run) run result
   tick_failed line tick old new before run result is h may closes err =
       let done = closes site kept p h (few_tick tick (subst (MayCome site p) is may)) in
-      failed_by line old new run result done.failed err (ap (λ (l : Line). (after_line site done.failed p (line_view l)).run) is) done.stands done.wrote
+      failed_by line (outside_before disks old before) (outside_after disks new run) run result done.failed err
+      (ap (λ (l : Line). (after_line site done.failed p (line_view l)).run) is) done.stands done.wrote
 
   pub end_failed : (line : Line) (old new : Option (List ℕ)) (before run : Run) (result : Result (Option RunEnd) Failed) → line ≡ End
-      → Stands site kept p before → MayCome site p line → ClosesBadly old new before run → IsErr result → Takes site kept p line old new run result
+      → Stands site kept p before → MayCome site p line → ClosesBadly disks old new before run → IsErr result
+      → Takes site kept p line (outside_before disks old before) (outside_after disks new run) run result
   end_failed line old new before run result is h may closes err =
       let done = closes site kept p h (few_end (subst (MayCome site p) is may)) in
-      failed_by line old new run result done.failed err (ap (λ (l : Line). (after_line site done.failed p (line_view l)).run) is) done.stands done.wrote
+      failed_by line (outside_before disks old before) (outside_after disks new run) run result done.failed err
+      (ap (λ (l : Line). (after_line site done.failed p (line_view l)).run) is) done.stands done.wrote
 
   -- an event is told
   pub event_taken : (line : Line) (event : Event) (written : Option (List ℕ)) (before run : Run) → line ≡ EventLine event → Stands site kept p before
-      → MayCome site p line → TellsEvent event before run → Takes site kept p line written written run (Ok None)
-  event_taken line event written before run is h may tells =
+      → MayCome site p line → TellsEvent event before run → disks.new ≡ disks.old → run.journal ≡ before.journal
+      → Takes site kept p line (outside_before disks written before) (outside_after disks written run) run (Ok None)
+  event_taken line event written before run is h may tells disk same =
       let comes = subst (MayCome site p) is may in
-      subst (λ l. Takes site kept p l written written run (Ok None)) (sym is) (
+      subst (λ l. Takes site kept p l (outside_before disks written before) (outside_after disks written run) run (Ok None)) (sym is) (
         refl,
-        record { failed = false; stands = tells site kept p h comes.short; wrote = nothing_more site kept p.run written },
+        record {
+          failed = false;
+          stands = tells site kept p h comes.short;
+          wrote = writes_same site kept (outside_before disks written before) (outside_after disks written run) p.run refl disk same;
+        },
       )
 
   -- an order is kept for the tick that has begun
-  pub order_taken : (line : Line) (seats : List Seat) (written : Option (List ℕ)) (run : Run) → line ≡ Order seats → MayCome site p line
+  pub order_taken : (line : Line) (seats : List Seat) (written : Option (List ℕ)) (before run : Run) → line ≡ Order seats → MayCome site p line
       → (IsOrder site.panels seats → Stands site kept (record { run = p.run; block = with_order seats p.block }) run)
-      → Takes site kept p line written written run (Ok None)
-  order_taken line seats written run is may stands =
-      subst (λ l. Takes site kept p l written written run (Ok None)) (sym is) (
+      → disks.new ≡ disks.old → run.journal ≡ before.journal
+      → Takes site kept p line (outside_before disks written before) (outside_after disks written run) run (Ok None)
+  order_taken line seats written before run is may stands disk same =
+      subst (λ l. Takes site kept p l (outside_before disks written before) (outside_after disks written run) run (Ok None)) (sym is) (
         refl,
         record {
           failed = false;
           stands = stands (subst (Belongs site) is may.belongs);
-          wrote = nothing_more site kept p.run written;
+          wrote = writes_same site kept (outside_before disks written before) (outside_after disks written run) p.run refl disk same;
         },
       )

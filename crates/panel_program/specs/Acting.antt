@@ -1,12 +1,13 @@
 -- What each step makes of a run.
-use Rattle.std.specs.Prelude.{◌≡◌, ◌+◌, ◌≤◌, ℕ, Bool, false, List, length, Option, if◌then◌else◌}
+use Rattle.std.specs.Prelude.{◌≡◌, ◌↔◌, ◌+◌, ◌≤◌, ℕ, Bool, false, List, length, Option, if◌then◌else◌}
 use Rattle.site_types.specs.declared.event.Event.{Event}
 use Rattle.site_types.specs.declared.retained.Retained.{Retained}
 use Rattle.site_types.specs.declared.site.Site.{Site}
 use Rattle.face_text.specs.declared.face.Face.{Face}
 use Rattle.keep_turn.specs.declared.store.Store.{Store}
 use Rattle.panel_core.specs.declared.system.System.{System}
-use Rattle.panel_core.specs.Keeping.{MakesAllTurns}
+use Rattle.retained_journal.specs.Images.{HasRoom}
+use Rattle.panel_core.specs.Keeping.{LeavesAfterTurns, LeavesInTurns, MakesAllTurns}
 use Rattle.panel_core.specs.Stands.{StandsFor as SystemStands}
 use Rattle.panel_rules.specs.Moments.{Moment, IsRun, moments}
 use Rattle.panel_rules.specs.Timeline.{faces_of}
@@ -14,7 +15,8 @@ use Rattle.record_lines.specs.Events.{event_view}
 use Rattle.record_lines.specs.declared.line.Line.TheVariants.{Event as EventLine}
 use Rattle.panel_program.specs.declared.run.Run.{Run}
 use Rattle.panel_program.specs.Records.{Progress, after_line, closed, moments_in}
-use Rattle.panel_program.specs.Stands.{AreFew, Stands, Writes, WritesPart, after_close, order_by}
+use Rattle.panel_program.specs.Outside.{Disks, outside_after, outside_before, stored_new, stored_old}
+use Rattle.panel_program.specs.Stands.{AreFew, Stands, Stores, Writes, WritesPart, after_close, order_by}
 
 -- the system stands for some history, and there is room for a face of each panel
 pub record MayShow (system : System) (faces : List Face) : Type 0 where
@@ -48,16 +50,25 @@ pub record TurnsAll (old : Run) (store : Store) (run : Run) : Type 0 where
   pub turns : MakesAllTurns old.system (order_by old.order old.canonical) old.journal store run.journal run.system
   pub tried : run.journal.tried ≤ old.journal.tried + 1
 
+-- what power cuts leave in these turns and after them
+pub record LeavesInTick (disks : Disks) (old : Run) (store : Store) (run : Run) : Type 0 where
+  pub honest : disks.kind.honest disks.new ↔ disks.kind.honest disks.old
+  pub during : disks.kind.honest disks.old → LeavesInTurns disks.kind.moment disks.kind.left_since disks.old disks.new
+      (order_by old.order old.canonical) old.system old.journal
+  pub after : disks.kind.honest disks.new → HasRoom run.journal → LeavesAfterTurns (disks.kind.images disks.new)
+      (order_by old.order old.canonical) old.system old.journal store
+
 -- the turns of the open tick were made, and what was shown before it is still at hand
-pub record MakesTick (site : Site) (kept : Retained) (p : Progress) (old run : Run) : Type 0 where
+pub record MakesTick (disks : Disks) (site : Site) (kept : Retained) (p : Progress) (old run : Run) : Type 0 where
   pub failed : Bool
   pub stands : Stands site kept (after_close failed p) run
   pub before : run.next.items ≡ old.shown.items
+  pub stores : Stores site kept (stored_old disks old) (stored_new disks run) p.run (closed failed p)
 
-abbrev pub MakesTicks : Run → Run → Type 0
-MakesTicks old run =
+abbrev pub MakesTicks : Disks → Run → Run → Type 0
+MakesTicks disks old run =
     (site : Site) (kept : Retained) (p : Progress) → Stands site kept p old
-    → AreFew (moments (closed false p)) → MakesTick site kept p old run
+    → AreFew (moments (closed false p)) → MakesTick disks site kept p old run
 
 -- the open tick was closed, where there was one, and what it told was written, or a front of that
 pub record Closes (W : Bool → Type 0) (site : Site) (kept : Retained) (p : Progress) (run : Run) : Type 0 where
@@ -65,14 +76,17 @@ pub record Closes (W : Bool → Type 0) (site : Site) (kept : Retained) (p : Pro
   pub stands : Stands site kept (after_close failed p) run
   pub wrote : W failed
 
-abbrev pub ClosesWell : Option (List ℕ) → Option (List ℕ) → Run → Run → Type 0
-ClosesWell written written' old run =
+abbrev pub ClosesWell : Disks → Option (List ℕ) → Option (List ℕ) → Run → Run → Type 0
+ClosesWell disks written written' old run =
     (site : Site) (kept : Retained) (p : Progress) → Stands site kept p old
     → AreFew (moments (closed false p))
-    → Closes (λ failed. Writes site kept written written' p.run (closed failed p)) site kept p run
+    → Closes (λ failed. Writes site kept (outside_before disks written old)
+    (outside_after disks written' run) p.run (closed failed p))
+    site kept p run
 
-abbrev pub ClosesBadly : Option (List ℕ) → Option (List ℕ) → Run → Run → Type 0
-ClosesBadly written written' old run =
+abbrev pub ClosesBadly : Disks → Option (List ℕ) → Option (List ℕ) → Run → Run → Type 0
+ClosesBadly disks written written' old run =
     (site : Site) (kept : Retained) (p : Progress) → Stands site kept p old
     → AreFew (moments (closed false p))
-    → Closes (λ failed. WritesPart site kept written written' p.run (closed failed p)) site kept p run
+    → Closes (λ failed. WritesPart site kept (outside_before disks written old) (outside_after disks written' run) p.run
+    (closed failed p)) site kept p run

@@ -6,6 +6,7 @@ pub mod Endings
 pub mod Writings
 pub mod Journals
 pub mod Refusals
+pub mod Outside
 pub mod Stands
 pub mod Acting
 pub mod Disks
@@ -14,4 +15,5 @@ pub mod PowerCuts
 pub mod Runs
 pub mod Sites
 pub mod Commands
+pub mod Successes
 pub mod Cycles

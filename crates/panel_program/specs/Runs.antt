@@ -14,7 +14,7 @@ use Rattle.run_text.specs.RunPromises.{KeepsPromises}
 use Rattle.run_text.specs.TextLaws.{whole_text}
 use Rattle.retained_journal.specs.declared.journal.Journal.{Journal}
 use Rattle.retained_journal.specs.declared.open_refusal.OpenRefusal.{OpenRefusal}
-use Rattle.retained_journal.specs.Outcomes.{IsRefusalOf}
+use Rattle.retained_journal.specs.Outcomes.{IsRefusalOf, UnlessEmpty}
 use Rattle.keep_batch.specs.MakingLaws.{is_wide}
 use Rattle.program_status.specs.declared.outcome.Outcome.{Outcome}
 use Rattle.panel_program.specs.declared.run.Run.{Run}
@@ -24,9 +24,10 @@ use Rattle.program_status.specs.declared.status.Status.TheVariants.{NoMemory, Wr
 use Rattle.program_status.specs.Statuses.{number_of}
 use Rattle.panel_program.specs.Endings.{end_of, within_limit, status_of, last_line}
 use Rattle.panel_program.specs.Journals.{KeepsFor, journal_status, journal_text}
+use Rattle.panel_program.specs.Outside.{DiskKind, Disks, Outside, outside_after, outside_before}
 use Rattle.panel_program.specs.PowerCuts.{IsJournalOf, JournalDisk, LeavesAcknowledged}
-use Rattle.panel_program.specs.Records.{ticks_run}
-use Rattle.panel_program.specs.Stands.{HasRun, IsGoing, AreTicksOf, Writes, WritesPart}
+use Rattle.panel_program.specs.Records.{at_beginning, ticks_run}
+use Rattle.panel_program.specs.Stands.{AreTicksOf, HasRun, IsGoing, Stands, Writes, WritesPart}
 use Rattle.run_text.specs.SoFar.{text_so_far}
 use Rattle.run_text.specs.Failures.{failures}
 use Rattle.program_status.specs.Sayings.{Says}
@@ -38,7 +39,31 @@ EndsRun site bytes consumed ReadFault = IsGoing site consumed
 EndsRun site bytes consumed end =
     (end ≡ end_of site bytes) × (ticks_run site consumed ≡ ticks_run site (within_limit bytes))
 
-module _ (site : Site) (kept : Retained) (bytes : List ℕ) (left old new : Option (List ℕ)) where
+-- what an input tells before a run and after it: the bytes that are left, where they are told, and how many of its
+-- reads have failed
+pub record Input : Type 0 where
+  pub before : Option (List ℕ)
+  pub after : Option (List ℕ)
+  pub faults_before : ℕ
+  pub faults_after : ℕ
+
+abbrev pub input_of : {S : Type 0} → (S → Option (List ℕ)) → (S → ℕ) → S → S → Input
+input_of left faults old new =
+    record { before = left old; after = left new; faults_before = faults old; faults_after = faults new }
+
+-- the input, and what was written before a run and after it
+pub record Streams : Type 0 where
+  pub input : Input
+  pub old : Option (List ℕ)
+  pub new : Option (List ℕ)
+
+abbrev pub streams_of : {S K : Type 0} → (S → Option (List ℕ)) → (S → ℕ) → (K → Option (List ℕ)) → S → S → K → K
+    → Streams
+streams_of left faults written before after old new =
+    record { input = input_of left faults before after; old = written old; new = written new }
+
+module _ {kind : DiskKind} (site : Site) (kept : Retained) (bytes : List ℕ) (left : Option (List ℕ)) (old new :
+    Outside kind) where
   -- these bytes were read, and ended so; where a read failed all that was read was taken
   pub record ReadsTo (run : Run) (end : RunEnd) : Type 0 where
     pub consumed : List ℕ
@@ -66,6 +91,13 @@ module _ (site : Site) (kept : Retained) (bytes : List ℕ) (left old new : Opti
   ReadsRecord run (Ok end) = ReadsTo run end
   ReadsRecord run (Err failed) = ReadsUntil run
 
+-- a record was read from its beginning, where the input tells its bytes
+abbrev pub HasReadRecord : Disks → Streams → Run → Run → Result RunEnd Failed → Type 0
+HasReadRecord disks streams before run result = (site : Site) (kept : Retained)
+    → Stands site kept at_beginning before
+    → IfSome streams.input.before (λ bytes. ReadsRecord site kept bytes streams.input.after
+    (outside_before disks streams.old before) (outside_after disks streams.new run) run result)
+
 -- The ticks that a run made of the bytes that were read, and in which of them Keep's turn failed: as many as the
 -- outcome tells. What is due is shown in them and nothing without its cause, and with the last line their text is that
 -- of the one timeline that they have, which is in form.
@@ -83,18 +115,6 @@ pub record BlamesStores (outcome : Outcome) (before after : ℕ) : Type 0 where
   pub later : before ≤ after
   pub failed : after < 2 ^ 64 - 1 → outcome.store_failures + before ≤ after
 
--- what an input tells before a run and after it: the bytes that are left, where they are told, and how many of its
--- reads have failed
-pub record Input : Type 0 where
-  pub before : Option (List ℕ)
-  pub after : Option (List ℕ)
-  pub faults_before : ℕ
-  pub faults_after : ℕ
-
-abbrev pub input_of : {S : Type 0} → (S → Option (List ℕ)) → (S → ℕ) → S → S → Input
-input_of left faults old new =
-    record { before = left old; after = left new; faults_before = faults old; faults_after = faults new }
-
 -- the files that a shelf tells, where it tells them, and how many of its reads have failed before a call and after it
 pub record Files : Type 0 where
   pub held : Option (List (List ℕ × List ℕ))
@@ -104,6 +124,11 @@ pub record Files : Type 0 where
 abbrev pub files_of : {F : Type 0} → (F → Option (List (List ℕ × List ℕ))) → (F → ℕ) → F → F → Files
 files_of held faults old new =
     record { held = held old; faults_before = faults old; faults_after = faults new }
+
+-- nothing was read of an input
+pub record IsUnread (input : Input) : Type 0 where
+  pub left : input.after ≡ input.before
+  pub faults : input.faults_after ≡ input.faults_before
 
 -- memory ran out before anything was written
 pub record RanNothing (old new : Option (List ℕ)) (outcome : Outcome) : Type 0 where
@@ -140,23 +165,26 @@ module _ (site : Site) (kept : Retained) (digest : List ℕ) (disk : JournalDisk
     pub status : outcome.status ≡ number_of WriteFault
     pub broke : GrowsByFront old new (text_so_far site kept run)
 
-  -- a run with what the journal kept: memory ran out before anything was written, it came to an end, or a write failed
+  -- a run with what the journal kept: memory ran out before anything was read or written, it came to an end, or a
+  -- write failed
   abbrev pub RanOn : Type 0
-  RanOn = (RanNothing old new outcome × LeavesAcknowledged site kept digest disk [])
+  RanOn = (RanNothing old new outcome × IsUnread input × LeavesAcknowledged site kept digest disk [])
       ⊎ ((end : RunEnd) × RanTo end) ⊎ RanUntil
 
 -- a run with a journal, whatever its disk told when it was opened
-abbrev pub RanFrom : Site → Journal → (Option (List ℕ) → JournalDisk) → Option (List ℕ) → Option (List ℕ) → Input
-    → Outcome → Type 0
-RanFrom site journal disk old new input outcome = (digest : List ℕ) (seen : Option (List ℕ))
-    → IsJournalOf digest seen journal
-    → IfSome input.before (λ bytes. RanOn site journal.kept digest (disk seen) input bytes old new outcome)
+abbrev pub RanFrom : Site → Journal → (Option (List ℕ) → JournalDisk) → Streams → Outcome → Type 0
+RanFrom site journal disk streams outcome = (digest : List ℕ) (seen : Option (List ℕ))
+    → IsJournalOf digest seen journal → IfSome streams.input.before (λ bytes.
+    RanOn site journal.kept digest (disk seen) streams.input bytes streams.old streams.new outcome)
 
--- the journal can't be used: it is another site's, damaged or none at all, or its disk failed
-pub record StopsAtJournal (site : Site) (digest : List ℕ) (seen old new : Option (List ℕ)) (outcome : Outcome) :
-    Type 0 where
+-- The journal can't be used: it is another site's, damaged or none at all, or its disk failed. Its file stays as it
+-- is, unless it was empty, and nothing is read of the record.
+pub record StopsAtJournal (site : Site) (digest : List ℕ) (disk : JournalDisk) (input : Input) (old new : Option (List
+    ℕ)) (outcome : Outcome) : Type 0 where
   pub refusal : OpenRefusal
-  pub cause : IsRefusalOf (is_wide site) digest seen refusal
+  pub cause : IsRefusalOf (is_wide site) digest disk.seen refusal
+  pub spared : UnlessEmpty disk.seen (disk.told ≡ disk.seen)
+  pub unread : IsUnread input
   pub says : Says (journal_status refusal) (journal_text refusal) old new outcome.status
   pub ticks : outcome.ticks ≡ 0
   pub failures : outcome.store_failures ≡ 0
@@ -171,9 +199,9 @@ pub record RanKept (site : Site) (digest : List ℕ) (disk : JournalDisk) (input
 -- What a run of a site over the bytes of a record came to, by what its disk holds.
 abbrev pub Ran : Site → List ℕ → JournalDisk → Input → List ℕ → Option (List ℕ) → Option (List ℕ) → Outcome → Type 0
 Ran site digest disk input bytes old new outcome =
-    StopsAtJournal site digest disk.seen old new outcome ⊎ RanKept site digest disk input bytes old new outcome
+    StopsAtJournal site digest disk input old new outcome ⊎ RanKept site digest disk input bytes old new outcome
 
 -- the same, where the input tells the bytes of the record
-abbrev pub RanOver : Site → List ℕ → JournalDisk → Option (List ℕ) → Option (List ℕ) → Input → Outcome → Type 0
-RanOver site digest disk old new input outcome =
-    IfSome input.before (λ bytes. Ran site digest disk input bytes old new outcome)
+abbrev pub RanOver : Site → List ℕ → JournalDisk → Streams → Outcome → Type 0
+RanOver site digest disk streams outcome = IfSome streams.input.before (λ bytes.
+    Ran site digest disk streams.input bytes streams.old streams.new outcome)

@@ -1,5 +1,5 @@
 -- What a run stands for, after some lines of its record.
-use Rattle.std.specs.Prelude.{◌≡◌, ◌+◌, ◌-◌, ◌*◌, ◌^◌, ◌<◌, ◌≤◌, ℕ, Bool, true, false, List, ◌++◌, length, take}
+use Rattle.std.specs.Prelude.{◌≡◌, ◌+◌, ◌-◌, ◌*◌, ◌^◌, ◌<◌, ◌≤◌, ◌↔◌, ℕ, Bool, true, false, List, ◌++◌, length, take}
 use Rattle.std.specs.Prelude.{Option, Some, None, Result, Ok, Err, is_some}
 use Rattle.tick_units.specs.declared.seat.Seat.{Seat}
 use Rattle.tick_units.specs.Orders.{IsOrder, canonical_seats}
@@ -38,7 +38,10 @@ use Rattle.run_text.specs.Failures.{as_recorded}
 use Rattle.panel_program.specs.declared.taken.Taken.{Taken}
 use Rattle.run_text.specs.SoFar.{text_so_far}
 use Rattle.run_text.specs.Failures.{failures}
+use Rattle.panel_program.specs.Outside.{DiskKind, Disks, Outside, Stored, outside_after, outside_before}
+use Rattle.panel_program.specs.PowerCuts.{LeavesTicks}
 use Rattle.panel_program.specs.Writings.{Advances, Breaks}
+use Rattle.retained_journal.specs.Images.{IsEarly}
 
 -- the order of a tick's turns: the one that was given, else the canonical one
 abbrev pub order_by : Option (List Seat) → List Seat → List Seat
@@ -148,34 +151,44 @@ pub record HasRun (site : Site) (kept : Retained) (ticks : List TickBlock) (run 
   pub tried : run.journal.tried ≤ run.ticks
 
 module _ (site : Site) (kept : Retained) where
-  -- the text of the ticks of one state grew to that of another
-  abbrev pub Writes : Option (List ℕ) → Option (List ℕ) → List TickBlock → List TickBlock → Type 0
-  Writes old new before after = Advances old new (text_so_far site kept before) (text_so_far site kept after)
+  -- what power cuts leave of the journal's disk, from the ticks of one state to those of another
+  pub record Stores {kind : DiskKind} (old new : Stored kind) (before after : List TickBlock) : Type 0 where
+    pub honest : kind.honest new.disk ↔ kind.honest old.disk
+    pub early : IsEarly old.journal → IsEarly new.journal
+    pub digest : new.journal.digest ≡ old.journal.digest
+    pub leaves : kind.honest old.disk → IsEarly old.journal
+        → LeavesTicks kind site kept old.journal.digest before old.disk after new.disk
 
-  abbrev pub WritesPart : Option (List ℕ) → Option (List ℕ) → List TickBlock → List TickBlock → Type 0
-  WritesPart old new before after = Breaks old new (text_so_far site kept before) (text_so_far site kept after)
+  -- the text of the ticks of one state grew to that of another
+  pub record Writes {kind : DiskKind} (old new : Outside kind) (before after : List TickBlock) : Type 0 where
+    pub text : Advances old.written new.written (text_so_far site kept before) (text_so_far site kept after)
+    pub stores : Stores old.stored new.stored before after
+
+  pub record WritesPart {kind : DiskKind} (old new : Outside kind) (before after : List TickBlock) : Type 0 where
+    pub text : Breaks old.written new.written (text_so_far site kept before) (text_so_far site kept after)
+    pub stores : Stores old.stored new.stored before after
 
   -- a line acted, and the text of the tick that it closed was written
-  pub record Acts (p : Progress) (line : Line) (old new : Option (List ℕ)) (run : Run) : Type 0 where
+  pub record Acts {kind : DiskKind} (p : Progress) (line : Line) (old new : Outside kind) (run : Run) : Type 0 where
     pub failed : Bool
     pub stands : Stands site kept (after_line site failed p (line_view line)) run
     pub wrote : Writes old new p.run (after_line site failed p (line_view line)).run
 
   -- the line `end` closed the last tick
-  pub record Finishes (p : Progress) (old new : Option (List ℕ)) (run : Run) : Type 0 where
+  pub record Finishes {kind : DiskKind} (p : Progress) (old new : Outside kind) (run : Run) : Type 0 where
     pub failed : Bool
     pub ran : HasRun site kept (closed failed p) run
     pub wrote : Writes old new p.run (closed failed p)
 
   -- a write failed in the text of the tick that the line closed
-  pub record Fails (p : Progress) (line : Line) (old new : Option (List ℕ)) (run : Run) : Type 0 where
+  pub record Fails {kind : DiskKind} (p : Progress) (line : Line) (old new : Outside kind) (run : Run) : Type 0 where
     pub failed : Bool
     pub ran : HasRun site kept (after_line site failed p (line_view line)).run run
     pub broke : WritesPart old new p.run (after_line site failed p (line_view line)).run
 
   -- how a line was taken: it acts, it ends the run, or a write failed
-  abbrev pub Takes : Progress → Line → Option (List ℕ) → Option (List ℕ) → Run → Result (Option RunEnd) Failed
-      → Type 0
+  abbrev pub Takes : {kind : DiskKind} → Progress → Line → Outside kind → Outside kind → Run
+      → Result (Option RunEnd) Failed → Type 0
   Takes p line old new run (Ok None) = (ends_with line ≡ None) × Acts p line old new run
   Takes p line old new run (Ok (Some Ended)) = (line ≡ End) × Finishes p old new run
   Takes p line old new run (Ok (Some (Refused refusal))) = ⊥
@@ -184,10 +197,11 @@ module _ (site : Site) (kept : Retained) where
   Takes p line old new run (Err failed) = Fails p line old new run
 
 -- a line that may come was taken, whatever lines came before it
-abbrev pub HasTakenLine : Line → Option (List ℕ) → Option (List ℕ) → Run → Run → Result (Option RunEnd) Failed → Type 0
-HasTakenLine line old new before run result =
+abbrev pub HasTakenLine : Line → Disks → Option (List ℕ) → Option (List ℕ) → Run → Run
+    → Result (Option RunEnd) Failed → Type 0
+HasTakenLine line disks old new before run result =
     (site : Site) (kept : Retained) (p : Progress) → Stands site kept p before → MayCome site p line
-    → Takes site kept p line old new run result
+    → Takes site kept p line (outside_before disks old before) (outside_after disks new run) run result
 
 -- the open tick was given an order of its turns
 abbrev pub HasOrder : List Seat → Run → Run → Type 0
@@ -209,18 +223,19 @@ pub record MayStepSome (step : Step) (run : Run) : Type 0 where
   pub comes : MayStep site p step
 
 -- how it was taken
-abbrev pub TakesStep : Site → Retained → Progress → Step → Option (List ℕ) → Option (List ℕ) → Run → Run
-    → Result (Option RunEnd) Failed → Type 0
+abbrev pub TakesStep : {kind : DiskKind} → Site → Retained → Progress → Step → Outside kind → Outside kind → Run
+    → Run → Result (Option RunEnd) Failed → Type 0
 TakesStep site kept p Need old new before run result = (result ≡ Ok None) × (new ≡ old) × (run ≡ before)
 TakesStep site kept p (LineStep line) old new before run result = Takes site kept p line old new run result
 TakesStep site kept p (RefusedStep refusal) old new before run result =
     (result ≡ Ok (Some (Refused refusal))) × (new ≡ old) × (run ≡ before)
 
 -- what a reader answered was taken, if it may come, whatever came before it
-abbrev pub HasTakenStep : Step → Option (List ℕ) → Option (List ℕ) → Run → Run → Result (Option RunEnd) Failed → Type 0
-HasTakenStep step old new before run result =
+abbrev pub HasTakenStep : Step → Disks → Option (List ℕ) → Option (List ℕ) → Run → Run
+    → Result (Option RunEnd) Failed → Type 0
+HasTakenStep step disks old new before run result =
     (site : Site) (kept : Retained) (p : Progress) → Stands site kept p before → MayStep site p step
-    → TakesStep site kept p step old new before run result
+    → TakesStep site kept p step (outside_before disks old before) (outside_after disks new run) before run result
 
 -- ---- bytes
 
@@ -268,27 +283,27 @@ EndsAt site bytes ReadFault = ⊥
 abbrev pub AreTicksOf : Site → List ℕ → List TickBlock → Type 0
 AreTicksOf site bytes ticks = as_recorded ticks ≡ ticks_run site bytes
 
-module _ (site : Site) (kept : Retained) (p : Progress) where
+module _ {kind : DiskKind} (site : Site) (kept : Retained) (p : Progress) where
   -- bytes more were taken, and the run goes on
-  pub record GoesOnAt (after : List ℕ) (old new : Option (List ℕ)) (reader : LineReader) (run : Run) : Type 0 where
+  pub record GoesOnAt (after : List ℕ) (old new : Outside kind) (reader : LineReader) (run : Run) : Type 0 where
     pub p' : Progress
     pub is_at : IsAt site kept after p' reader run
     pub wrote : Writes site kept old new p.run p'.run
 
   -- or it has ended
-  pub record HasEnded (after : List ℕ) (end : RunEnd) (old new : Option (List ℕ)) (run : Run) : Type 0 where
+  pub record HasEnded (after : List ℕ) (end : RunEnd) (old new : Outside kind) (run : Run) : Type 0 where
     pub ticks : List TickBlock
     pub ended : EndsAt site after end
     pub of : AreTicksOf site after ticks
     pub ran : HasRun site kept ticks run
     pub wrote : Writes site kept old new p.run ticks
 
-  abbrev pub GoesOn : List ℕ → Option (List ℕ) → Option (List ℕ) → LineReader → Run → Option RunEnd → Type 0
+  abbrev pub GoesOn : List ℕ → Outside kind → Outside kind → LineReader → Run → Option RunEnd → Type 0
   GoesOn after old new reader run None = GoesOnAt after old new reader run
   GoesOn after old new reader run (Some end) = HasEnded after end old new run
 
   -- a write failed when so much of a piece was taken
-  pub record BreaksOff (before piece : List ℕ) (old new : Option (List ℕ)) (run : Run) : Type 0 where
+  pub record BreaksOff (before piece : List ℕ) (old new : Outside kind) (run : Run) : Type 0 where
     pub front : List ℕ
     pub rest : List ℕ
     pub ticks : List TickBlock
@@ -298,21 +313,21 @@ module _ (site : Site) (kept : Retained) (p : Progress) where
     pub broke : WritesPart site kept old new p.run ticks
 
   -- the next line of a piece was taken, or the whole of it where no line ends in it
-  abbrev pub TakesNext : List ℕ → List ℕ → Option (List ℕ) → Option (List ℕ) → LineReader → Run
+  abbrev pub TakesNext : List ℕ → List ℕ → Outside kind → Outside kind → LineReader → Run
       → Result Taken Failed → Type 0
   TakesNext before piece old new reader run (Ok taken) =
       GoesOn (before ++ take taken.used piece) old new reader run taken.end
   TakesNext before piece old new reader run (Err failed) = BreaksOff before piece old new run
 
   -- a run ended in a piece
-  pub record EndsIn (before piece : List ℕ) (end : RunEnd) (old new : Option (List ℕ)) (run : Run) : Type 0 where
+  pub record EndsIn (before piece : List ℕ) (end : RunEnd) (old new : Outside kind) (run : Run) : Type 0 where
     pub front : List ℕ
     pub rest : List ℕ
     pub is : piece ≡ front ++ rest
     pub has : HasEnded (before ++ front) end old new run
 
   -- a whole piece was taken, or so much of it as the run needed to its end
-  abbrev pub TakesPiece : List ℕ → List ℕ → Option (List ℕ) → Option (List ℕ) → LineReader → Run
+  abbrev pub TakesPiece : List ℕ → List ℕ → Outside kind → Outside kind → LineReader → Run
       → Result (Option RunEnd) Failed → Type 0
   TakesPiece before piece old new reader run (Ok None) = GoesOnAt (before ++ piece) old new reader run
   TakesPiece before piece old new reader run (Ok (Some end)) = EndsIn before piece end old new run
@@ -323,12 +338,16 @@ abbrev pub TakesBehind : (Site → Retained → Progress → List ℕ → Type 0
 TakesBehind Does piece reader run = (site : Site) (kept : Retained) (before : List ℕ) (p : Progress)
     → IsAt site kept before p reader run → AreWithin (before ++ piece) → Does site kept p before
 
-abbrev pub HasTakenNext : List ℕ → Option (List ℕ) → Option (List ℕ) → LineReader → Run → LineReader → Run
+abbrev pub HasTakenNext : List ℕ → Disks → Option (List ℕ) → Option (List ℕ) → LineReader → Run → LineReader → Run
     → Result Taken Failed → Type 0
-HasTakenNext piece old new before from reader run result =
-    TakesBehind (λ site kept p bytes. TakesNext site kept p bytes piece old new reader run result) piece before from
+HasTakenNext piece disks old new before from reader run result =
+    TakesBehind (λ site kept p bytes. TakesNext site kept p bytes piece
+    (outside_before disks old from) (outside_after disks new run)
+    reader run result) piece before from
 
-abbrev pub HasTakenPiece : List ℕ → Option (List ℕ) → Option (List ℕ) → LineReader → Run → LineReader → Run
+abbrev pub HasTakenPiece : List ℕ → Disks → Option (List ℕ) → Option (List ℕ) → LineReader → Run → LineReader → Run
     → Result (Option RunEnd) Failed → Type 0
-HasTakenPiece piece old new before from reader run result =
-    TakesBehind (λ site kept p bytes. TakesPiece site kept p bytes piece old new reader run result) piece before from
+HasTakenPiece piece disks old new before from reader run result =
+    TakesBehind (λ site kept p bytes. TakesPiece site kept p bytes piece
+    (outside_before disks old from) (outside_after disks new run)
+    reader run result) piece before from

@@ -1,7 +1,11 @@
 ghost use Rattle.std.specs.Prelude.{◌≡◌, map, string_bytes};
-ghost use Rattle.panel_program.specs.Words.{command_of as command_by};
+ghost use Rattle.panel_program.specs.Words.{IsBounded, command_of as command_by, drill_by};
+ghost use Rattle.site_types.specs.Numbers.{number_of};
 
-/// What the words of a call ask for. The second word names the site.
+use panel_drill::MOST_TICKS;
+use site_types::read_number;
+
+/// What the words of a call ask for. The second word names the site, but for a drill.
 #[derive(Clone, Copy, Debug, PartialEq, Eq)]
 pub enum Command {
     /// Words that no command has.
@@ -9,11 +13,14 @@ pub enum Command {
     Check,
     Run,
     Matrix,
+    /// A drill of so many ticks, from a seed.
+    Drill { seed: u64, ticks: u64 },
 }
 
 /// The command that has these words.
 pub fn command_of(words: &[String]) -> Command
-    ensures { result ≡ command_by (map string_bytes words.now) }
+    ensures command { result ≡ command_by (map string_bytes words.now) }
+    ensures bounded { IsBounded result }
 {
     match words {
         [word, _site] => {
@@ -25,9 +32,28 @@ pub fn command_of(words: &[String]) -> Command
                 Command::Usage
             }
         }
-        [word, _site, _journal] => {
+        [word, second, third] => {
             if word.as_str() == "run" {
                 Command::Run
+            } else if word.as_str() == "drill" {
+                drill_of(second.as_str(), third.as_str())
+            } else {
+                Command::Usage
+            }
+        }
+        _ => Command::Usage,
+    }
+}
+
+// The drill of a seed and a number of ticks, where both are numbers and there are neither none nor too many of these.
+fn drill_of(seed: &str, ticks: &str) -> Command
+    ensures command { result ≡ drill_by (number_of seed.now) (number_of ticks.now) }
+    ensures bounded { IsBounded result }
+{
+    match (read_number(seed.as_bytes()), read_number(ticks.as_bytes())) {
+        (Some(seed), Some(ticks)) => {
+            if ticks >= 1 && ticks <= MOST_TICKS {
+                Command::Drill { seed, ticks }
             } else {
                 Command::Usage
             }

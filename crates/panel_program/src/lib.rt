@@ -18,8 +18,10 @@
 
 mod command;
 mod cycle_lines;
+mod drilling;
 mod journal_lines;
 mod last_lines;
+mod laws;
 mod lines;
 mod loaded;
 mod loading;
@@ -35,4 +37,5 @@ mod taken;
 mod usage;
 mod writing;
 
+pub use laws::well_made_runs_succeed;
 pub use program::panel;

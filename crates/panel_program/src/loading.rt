@@ -39,8 +39,8 @@ pub fn load<F: Shelf>(alloc: Global, name: &str, shelf: &mut F) -> Result<Loaded
     }
 }
 
-// The site that the bytes spell.
-fn read_file(alloc: Global, bytes: &[u8]) -> Result<Loaded, Stop>
+/// The site that bytes spell, with the plan of its markers and the digest of the bytes.
+pub fn read_file(alloc: Global, bytes: &[u8]) -> Result<Loaded, Stop>
     ensures reads { Reads bytes.now (site_of result) }
     ensures valid { IfOk result IsLoaded }
     ensures digest { IfOk result (λ loaded. loaded.digest ≡ digest_of bytes.now) }

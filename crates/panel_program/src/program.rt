@@ -2,14 +2,15 @@ ghost use Rattle.std.specs.Prelude.{◌≡◌, ◌≢◌, ◌⊎◌, IfSome, Ok}
 ghost use Rattle.cause_effect.specs.Stands.{IsPlanOf};
 ghost use Rattle.panel_edges.specs.Faults.{Rose};
 ghost use Rattle.panel_edges.specs.Shelves.{file_of};
-ghost use Rattle.panel_program.specs.Commands.{Answers, AnswersBy, AnswersRun, Checks, Draws};
+ghost use Rattle.panel_program.specs.Commands.{Answers, AnswersBy, AnswersRun, Checks, Draws, RunsNothing};
 ghost use Rattle.panel_program.specs.PowerCuts.{disk_of};
-ghost use Rattle.panel_program.specs.Runs.{BlamesStores, files_of, input_of};
+ghost use Rattle.panel_program.specs.Runs.{BlamesStores, files_of, streams_of};
 ghost use Rattle.program_status.specs.Statuses.{BlamesDisk, BlamesReads, BlamesWrites, IsSilentWithoutMemory};
 ghost use Rattle.program_status.specs.Statuses.{number_of};
 ghost use Rattle.site_types.specs.Valid.{IsValid};
 
 use crate::command::{Command, command_of};
+use crate::drilling::run_drill;
 use crate::lines::counts_line;
 use crate::loading::load;
 use crate::matrix::matrix_of;
@@ -34,8 +35,9 @@ pub fn panel<F: Shelf, S: Source, K: Sink, D: Disk>(
     disk: &mut D,
 ) -> Outcome
     ensures answers { Answers words.now (files_of F.files F.faults shelf.old shelf.new)
-        (disk_of D.seen D.honest D.images disk.old disk.new) (K.written out.old) (K.written out.new)
-        (input_of S.left S.read_faults input.old input.new) result }
+        (disk_of D.seen D.honest D.images D.moment D.left_since disk.old disk.new)
+        (streams_of S.left S.read_faults K.written input.old input.new out.old out.new) result }
+    ensures alone { RunsNothing words.now → (input.new ≡ input.old) × (disk.new ≡ disk.old) }
     ensures read { result.status ≡ number_of Status.ReadFault
         → Rose (F.faults shelf.old) (F.faults shelf.new)
         ⊎ Rose (S.read_faults input.old) (S.read_faults input.new) }
@@ -49,6 +51,7 @@ pub fn panel<F: Shelf, S: Source, K: Sink, D: Disk>(
         Command::Check => check(alloc, words[1].as_str(), shelf, out),
         Command::Run => run(alloc, words[1].as_str(), shelf, input, out, disk),
         Command::Matrix => matrix(alloc, words[1].as_str(), shelf, out),
+        Command::Drill { seed, ticks } => run_drill(alloc, seed, ticks, out),
     }
 }
 
@@ -116,8 +119,8 @@ fn run<F: Shelf, S: Source, K: Sink, D: Disk>(
     disk: &mut D,
 ) -> Outcome
     ensures answers { AnswersRun name.now (files_of F.files F.faults shelf.old shelf.new)
-        (disk_of D.seen D.honest D.images disk.old disk.new) (K.written out.old) (K.written out.new)
-        (input_of S.left S.read_faults input.old input.new) result }
+        (disk_of D.seen D.honest D.images D.moment D.left_since disk.old disk.new)
+        (streams_of S.left S.read_faults K.written input.old input.new out.old out.new) result }
     ensures read { result.status ≡ number_of Status.ReadFault
         → Rose (F.faults shelf.old) (F.faults shelf.new)
         ⊎ Rose (S.read_faults input.old) (S.read_faults input.new) }

@@ -7,9 +7,10 @@ ghost use Rattle.panel_edges.specs.Faults.{HasCause, Rose};
 ghost use Rattle.panel_program.specs.Disks.{KeepsOn};
 ghost use Rattle.panel_program.specs.Endings.{last_line as last_text, status_of as status_of_end};
 ghost use Rattle.panel_program.specs.Journals.{IsOpenFor};
+ghost use Rattle.panel_program.specs.Outside.{disks_of};
 ghost use Rattle.panel_program.specs.PowerCuts.{disk_after, disk_of};
 ghost use Rattle.panel_program.specs.Records.{at_beginning};
-ghost use Rattle.panel_program.specs.Runs.{BlamesStores, RanFrom, RanOver, ReadsRecord, input_of};
+ghost use Rattle.panel_program.specs.Runs.{BlamesStores, HasReadRecord, RanFrom, RanOver, streams_of};
 ghost use Rattle.panel_program.specs.Sites.{IsLoaded};
 ghost use Rattle.panel_program.specs.Stands.{HasTakenNext, HasTakenPiece, HasTakenStep, MayPiece, MayStepSome};
 ghost use Rattle.panel_program.specs.Stands.{Stands, StandsAtBeginning};
@@ -49,8 +50,8 @@ pub fn run_site<S: Source, K: Sink, D: Disk>(
 ) -> Outcome
     requires { IsLoaded loaded }
     ensures ran { RanOver loaded.site loaded.digest
-        (disk_of D.seen D.honest D.images disk.old disk.new) (K.written out.old) (K.written out.new)
-        (input_of S.left S.read_faults input.old input.new) result }
+        (disk_of D.seen D.honest D.images D.moment D.left_since disk.old disk.new)
+        (streams_of S.left S.read_faults K.written input.old input.new out.old out.new) result }
     ensures read { BlamesReads result (S.read_faults input.old) (S.read_faults input.new) }
     ensures write { BlamesWrites result (K.write_faults out.old) (K.write_faults out.new) }
     ensures memory { IsSilentWithoutMemory result (K.written out.old) (K.written out.new) }
@@ -78,9 +79,9 @@ fn run_with<S: Source, K: Sink, D: Disk>(
     requires plan { HasPlan site plan }
     requires journal { IsOpenFor site journal.kept journal }
     requires stands { StandsOn D.honest D.images disk.old journal }
-    ensures ran { RanFrom site journal (disk_after D.honest D.images disk.new)
-        (K.written out.old) (K.written out.new)
-        (input_of S.left S.read_faults input.old input.new) result }
+    ensures ran { RanFrom site journal
+        (disk_after D.seen D.honest D.images D.moment D.left_since disk.new)
+        (streams_of S.left S.read_faults K.written input.old input.new out.old out.new) result }
     ensures read { BlamesReads result (S.read_faults input.old) (S.read_faults input.new) }
     ensures write { BlamesWrites result (K.write_faults out.old) (K.write_faults out.new) }
     ensures memory { IsSilentWithoutMemory result (K.written out.old) (K.written out.new) }
@@ -118,9 +119,9 @@ fn read_record<S: Source, K: Sink, D: Disk>(
 ) -> Result<RunEnd, Failed>
     requires begins { StandsAtBeginning run.old }
     requires stands { StandsOn D.honest D.images disk.old run.old.journal }
-    ensures reads { (site : SiteOf) (kept : RetainedOf) → Stands site kept at_beginning run.old
-        → IfSome (S.left input.old) (λ bytes. ReadsRecord site kept bytes (S.left input.new)
-        (K.written out.old) (K.written out.new) run.new result) }
+    ensures reads { HasReadRecord
+        (disks_of D.honest D.images D.moment D.left_since disk.old disk.new) (streams_of S.left
+        S.read_faults K.written input.old input.new out.old out.new) run.old run.new result }
     ensures read { result ≡ Ok ReadFaultEnd
         → Rose (S.read_faults input.old) (S.read_faults input.new) }
     ensures disk { KeepsOn D.honest D.images D.faults disk.old disk.new run.old run.new }
@@ -170,8 +171,9 @@ fn take_piece<K: Sink, D: Disk>(
 ) -> Result<Option<RunEnd>, Failed>
     requires may { MayPiece piece.now reader.old run.old }
     requires stands { StandsOn D.honest D.images disk.old run.old.journal }
-    ensures takes { HasTakenPiece piece.now (K.written out.old) (K.written out.new) reader.old
-        run.old reader.new run.new result }
+    ensures takes { HasTakenPiece piece.now
+        (disks_of D.honest D.images D.moment D.left_since disk.old disk.new) (K.written out.old)
+        (K.written out.new) reader.old run.old reader.new run.new result }
     ensures disk { KeepsOn D.honest D.images D.faults disk.old disk.new run.old run.new }
     ensures cause { HasCause (K.write_faults out.old) (K.write_faults out.new) result }
 {
@@ -197,8 +199,9 @@ fn take_next<K: Sink, D: Disk>(
     requires may { MayPiece piece.now reader.old run.old }
     requires some { 0 < length piece.now }
     requires stands { StandsOn D.honest D.images disk.old run.old.journal }
-    ensures takes { HasTakenNext piece.now (K.written out.old) (K.written out.new) reader.old
-        run.old reader.new run.new result }
+    ensures takes { HasTakenNext piece.now
+        (disks_of D.honest D.images D.moment D.left_since disk.old disk.new) (K.written out.old)
+        (K.written out.new) reader.old run.old reader.new run.new result }
     ensures used { IfOk result (λ taken. (0 < taken.used) × (taken.used ≤ length piece.now)) }
     ensures disk { KeepsOn D.honest D.images D.faults disk.old disk.new run.old run.new }
     ensures cause { HasCause (K.write_faults out.old) (K.write_faults out.new) result }
@@ -218,8 +221,9 @@ fn take_step<K: Sink, D: Disk>(
 ) -> Result<Option<RunEnd>, Failed>
     requires may { MayStepSome step run.old }
     requires stands { StandsOn D.honest D.images disk.old run.old.journal }
-    ensures takes { HasTakenStep step (K.written out.old) (K.written out.new) run.old run.new
-        result }
+    ensures takes { HasTakenStep step
+        (disks_of D.honest D.images D.moment D.left_since disk.old disk.new)
+        (K.written out.old) (K.written out.new) run.old run.new result }
     ensures disk { KeepsOn D.honest D.images D.faults disk.old disk.new run.old run.new }
     ensures cause { HasCause (K.write_faults out.old) (K.write_faults out.new) result }
 {

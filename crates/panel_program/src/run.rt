@@ -7,9 +7,10 @@ ghost use Rattle.panel_core.specs.Stands.{HasPlan};
 ghost use Rattle.panel_edges.specs.Contents.{Grows, GrowsByFront};
 ghost use Rattle.panel_edges.specs.Faults.{HasCause};
 ghost use Rattle.panel_program.specs.Acting.{ClosesBadly, ClosesWell, MakesTicks, MayShow, ShowsFaces, TellsEvent};
-ghost use Rattle.panel_program.specs.Acting.{TurnsAll, failures_with};
+ghost use Rattle.panel_program.specs.Acting.{LeavesInTick, TurnsAll, failures_with};
 ghost use Rattle.panel_program.specs.Disks.{KeepsOn, TurnsOn};
 ghost use Rattle.panel_program.specs.Journals.{IsOpenFor};
+ghost use Rattle.panel_program.specs.Outside.{disks_of};
 ghost use Rattle.panel_program.specs.Records.{Progress, at_beginning};
 ghost use Rattle.panel_program.specs.Stands.{HasOrder, HasTakenLine, MayClose, MayHappen as MayTell, MayTake};
 ghost use Rattle.panel_program.specs.Stands.{OpensTick, Stands, StandsClosed, StandsSome};
@@ -145,8 +146,9 @@ impl Run {
     ) -> Result<Option<RunEnd>, Failed>
         requires may { MayTake line self.old }
         requires stands { StandsOn D.honest D.images disk.old self.old.journal }
-        ensures takes { HasTakenLine line (K.written out.old) (K.written out.new) self.old self.new
-            result }
+        ensures takes { HasTakenLine line
+            (disks_of D.honest D.images D.moment D.left_since disk.old disk.new)
+            (K.written out.old) (K.written out.new) self.old self.new result }
         ensures disk { KeepsOn D.honest D.images D.faults disk.old disk.new self.old self.new }
         ensures cause { HasCause (K.write_faults out.old) (K.write_faults out.new) result }
     {
@@ -207,9 +209,11 @@ impl Run {
         requires some { StandsSome self.old }
         requires stands { StandsOn D.honest D.images disk.old self.old.journal }
         ensures ok { OnOk result
-            (ClosesWell (K.written out.old) (K.written out.new) self.old self.new) }
+            (ClosesWell (disks_of D.honest D.images D.moment D.left_since disk.old disk.new)
+            (K.written out.old) (K.written out.new) self.old self.new) }
         ensures err { OnErr result
-            (ClosesBadly (K.written out.old) (K.written out.new) self.old self.new) }
+            (ClosesBadly (disks_of D.honest D.images D.moment D.left_since disk.old disk.new)
+            (K.written out.old) (K.written out.new) self.old self.new) }
         ensures disk { KeepsOn D.honest D.images D.faults disk.old disk.new self.old self.new }
         ensures cause { HasCause (K.write_faults out.old) (K.write_faults out.new) result }
     {
@@ -231,7 +235,9 @@ impl Run {
     fn make_turns<D: Disk>(&mut self, disk: &mut D)
         requires may { MayClose self.old }
         requires stands { StandsOn D.honest D.images disk.old self.old.journal }
-        ensures makes { MakesTicks self.old self.new }
+        ensures makes { MakesTicks
+            (disks_of D.honest D.images D.moment D.left_since disk.old disk.new)
+            self.old self.new }
         ensures room { length self.new.next.items ≡ length self.new.shown.items }
         ensures disk { KeepsOn D.honest D.images D.faults disk.old disk.new self.old self.new }
     {
@@ -248,6 +254,9 @@ impl Run {
         requires may { MayClose self.old }
         requires stands { StandsOn D.honest D.images disk.old self.old.journal }
         ensures turns { TurnsAll self.old result self.new }
+        ensures leaves { LeavesInTick
+            (disks_of D.honest D.images D.moment D.left_since disk.old disk.new)
+            self.old result self.new }
         ensures disk { TurnsOn D.honest D.images D.faults disk.old disk.new self.old.journal
             self.new.journal result }
     {
@@ -262,6 +271,9 @@ impl Run {
         requires parts { blank.parts ≡ L.parts }
         requires some { 0 < blank.parts }
         ensures turns { TurnsAll self.old result self.new }
+        ensures leaves { LeavesInTick
+            (disks_of D.honest D.images D.moment D.left_since disk.old disk.new)
+            self.old result self.new }
         ensures disk { TurnsOn D.honest D.images D.faults disk.old disk.new self.old.journal
             self.new.journal result }
     {

@@ -2,6 +2,7 @@ use Rattle.std.proofs.Common.{◌≡◌, ◌<◌, ◌≤◌, ◌+◌, ◌-◌, �
 use Rattle.panel_edges.specs.Limits.{most_record_bytes}
 use Rattle.std.proofs.lemmas.Result.{err_from_is_err_and}
 use Rattle.panel_program.specs.declared.run_end.RunEnd.{RunEnd}
+use Rattle.panel_program.specs.Outside.{disks_of, outside_after, outside_before}
 use Rattle.panel_program.specs.Records.{at_beginning}
 use Rattle.panel_program.specs.Runs.{ReadsRecord}
 use Rattle.panel_program.specs.Stands.{TakesPiece}
@@ -33,15 +34,18 @@ loop-read-init g c =
       reads = omega arith;
       writes = omega arith;
       disk = keeps_same g.D.Disk.honest g.D.Disk.images g.D.Disk.faults c.args.disk.now c.args.run.now c.args.run.now refl refl c.requires.stands;
-      so_far = λ site kept h. so_far_none site kept (g.S.Stream.left c.args.input.now) (g.K.Stream.written c.args.out.now) c.new-reader.result c.args.run.now
+      so_far = λ site kept h. so_far_none site kept (g.S.Stream.left c.args.input.now)
+          (outside_before (disks_of g.D.Disk.honest g.D.Disk.images g.D.Disk.moment g.D.Disk.left_since c.args.disk.now c.args.disk.now) (g.K.Stream.written c.args.out.now) c.args.run.now)
+          c.new-reader.result c.args.run.now
           (begins_at site kept c.new-reader.result c.args.run.now (reads site) h);
     }
 
 pub returns-in_default-clause-reads : goal.returns-in_default-clause-reads
 returns-in_default-clause-reads g c site kept h =
     let left = g.S.Stream.left c.loop-read.input in
-    let old = g.K.Stream.written c.args.out.now in
-    let mid = g.K.Stream.written c.loop-read.out in
+    let disks = disks_of g.D.Disk.honest g.D.Disk.images g.D.Disk.moment g.D.Disk.left_since c.args.disk.now c.loop-read.disk in
+    let old = outside_before disks (g.K.Stream.written c.args.out.now) c.args.run.now in
+    let mid = outside_after disks (g.K.Stream.written c.loop-read.out) c.loop-read.run in
     some_weaker (g.S.Stream.left c.args.input.now)
     (λ bytes (s : SoFar site kept bytes left old mid c.loop-read.reader c.loop-read.run c.loop-read.read).
     fault_ends site kept bytes left old mid c.loop-read.reader c.loop-read.run c.loop-read.read s (g.S.Stream.left c.read_piece.new.input)
@@ -51,8 +55,9 @@ returns-in_default-clause-reads g c site kept h =
 pub returns-then-count-eq0-clause-reads : goal.returns-then-count-eq0-clause-reads
 returns-then-count-eq0-clause-reads g c site kept h =
     let left = g.S.Stream.left c.loop-read.input in
-    let old = g.K.Stream.written c.args.out.now in
-    let mid = g.K.Stream.written c.loop-read.out in
+    let disks = disks_of g.D.Disk.honest g.D.Disk.images g.D.Disk.moment g.D.Disk.left_since c.args.disk.now c.loop-read.disk in
+    let old = outside_before disks (g.K.Stream.written c.args.out.now) c.args.run.now in
+    let mid = outside_after disks (g.K.Stream.written c.loop-read.out) c.loop-read.run in
     let lt = c.loop-read-test.true in
     some_weaker (g.S.Stream.left c.args.input.now)
     (λ bytes (s : SoFar site kept bytes left old mid c.loop-read.reader c.loop-read.run c.loop-read.read).
@@ -71,9 +76,11 @@ take_piece-requires-clause-may g c =
 pub returns-in_err-end-clause-reads : goal.returns-in_err-end-clause-reads
 returns-in_err-end-clause-reads g c site kept h =
     let left = g.S.Stream.left c.loop-read.input in
-    let old = g.K.Stream.written c.args.out.now in
-    let mid = g.K.Stream.written c.loop-read.out in
-    let new = g.K.Stream.written c.take_piece.new.out in
+    let whole = disks_of g.D.Disk.honest g.D.Disk.images g.D.Disk.moment g.D.Disk.left_since c.args.disk.now c.take_piece.new.disk in
+    let first = disks_of g.D.Disk.honest g.D.Disk.images g.D.Disk.moment g.D.Disk.left_since c.args.disk.now c.loop-read.disk in
+    let old = outside_before whole (g.K.Stream.written c.args.out.now) c.args.run.now in
+    let mid = outside_after first (g.K.Stream.written c.loop-read.out) c.loop-read.run in
+    let new = outside_after whole (g.K.Stream.written c.take_piece.new.out) c.take_piece.new.run in
     let left' = g.S.Stream.left c.read_piece.new.input in
     let piece = take c.in-Ok.count c.read_piece.new.buffer in
     let q = err_from_is_err_and c.from_residual.result c.from_residual.ensures.1 in
@@ -90,9 +97,11 @@ returns-in_err-end-clause-reads g c site kept h =
 pub returns-in-Some-clause-reads : goal.returns-in-Some-clause-reads
 returns-in-Some-clause-reads g c site kept h =
     let left = g.S.Stream.left c.loop-read.input in
-    let old = g.K.Stream.written c.args.out.now in
-    let mid = g.K.Stream.written c.loop-read.out in
-    let new = g.K.Stream.written c.take_piece.new.out in
+    let whole = disks_of g.D.Disk.honest g.D.Disk.images g.D.Disk.moment g.D.Disk.left_since c.args.disk.now c.take_piece.new.disk in
+    let first = disks_of g.D.Disk.honest g.D.Disk.images g.D.Disk.moment g.D.Disk.left_since c.args.disk.now c.loop-read.disk in
+    let old = outside_before whole (g.K.Stream.written c.args.out.now) c.args.run.now in
+    let mid = outside_after first (g.K.Stream.written c.loop-read.out) c.loop-read.run in
+    let new = outside_after whole (g.K.Stream.written c.take_piece.new.out) c.take_piece.new.run in
     let left' = g.S.Stream.left c.read_piece.new.input in
     let piece = take c.in-Ok.count c.read_piece.new.buffer in
     let fits = piece_fits c.loop-read.read c.min-most.result c.in-Ok.count piece c.loop-read-test.true c.min-most.ensures c.in-Ok.ensures.bound
@@ -120,9 +129,11 @@ returns-in-Some-clause-disk g c =
 pub loop-read-preserved : goal.loop-read-preserved
 loop-read-preserved g c =
     let left = g.S.Stream.left c.loop-read.input in
-    let old = g.K.Stream.written c.args.out.now in
-    let mid = g.K.Stream.written c.loop-read.out in
-    let new = g.K.Stream.written c.take_piece.new.out in
+    let whole = disks_of g.D.Disk.honest g.D.Disk.images g.D.Disk.moment g.D.Disk.left_since c.args.disk.now c.take_piece.new.disk in
+    let first = disks_of g.D.Disk.honest g.D.Disk.images g.D.Disk.moment g.D.Disk.left_since c.args.disk.now c.loop-read.disk in
+    let old = outside_before whole (g.K.Stream.written c.args.out.now) c.args.run.now in
+    let mid = outside_after first (g.K.Stream.written c.loop-read.out) c.loop-read.run in
+    let new = outside_after whole (g.K.Stream.written c.take_piece.new.out) c.take_piece.new.run in
     let piece = take c.in-Ok.count c.read_piece.new.buffer in
     let lt = c.loop-read-test.true in
     let most = c.min-most.ensures in
@@ -161,8 +172,9 @@ loop-read-preserved g c =
 pub returns-clause-reads : goal.returns-clause-reads
 returns-clause-reads g c site kept h =
     let left = g.S.Stream.left c.loop-read.input in
-    let old = g.K.Stream.written c.args.out.now in
-    let mid = g.K.Stream.written c.loop-read.out in
+    let disks = disks_of g.D.Disk.honest g.D.Disk.images g.D.Disk.moment g.D.Disk.left_since c.args.disk.now c.loop-read.disk in
+    let old = outside_before disks (g.K.Stream.written c.args.out.now) c.args.run.now in
+    let mid = outside_after disks (g.K.Stream.written c.loop-read.out) c.loop-read.run in
     let full = c.loop-read-test.false in
     let few = c.loop-read.invariant.few in
     some_weaker (g.S.Stream.left c.args.input.now)

@@ -4,6 +4,7 @@ use Rattle.panel_edges.specs.Limits.{most_record_bytes}
 use Rattle.site_types.specs.declared.retained.Retained.{Retained}
 use Rattle.site_types.specs.declared.site.Site.{Site}
 use Rattle.panel_program.specs.Disks.{KeepsOn}
+use Rattle.panel_program.specs.Outside.{disks_of, outside_after, outside_before}
 use Rattle.panel_program.specs.Records.{at_beginning}
 use Rattle.panel_program.specs.Stands.{Stands}
 use Rattle.panel_program.proofs.Pieces.{SoFar}
@@ -21,7 +22,9 @@ invariant-loop-read g l =
       disk : KeepsOn g.D.Disk.honest g.D.Disk.images g.D.Disk.faults l.fn.disk l.disk l.fn.run l.run;
       so_far : (site : Site) (kept : Retained) → Stands site kept at_beginning l.fn.run
           → IfSome (g.S.Stream.left l.fn.input)
-          (λ bytes. SoFar site kept bytes (g.S.Stream.left l.input) (g.K.Stream.written l.fn.out) (g.K.Stream.written l.out) l.reader l.run l.read);
+          (λ bytes. SoFar site kept bytes (g.S.Stream.left l.input)
+          (outside_before (disks_of g.D.Disk.honest g.D.Disk.images g.D.Disk.moment g.D.Disk.left_since l.fn.disk l.disk) (g.K.Stream.written l.fn.out) l.fn.run)
+          (outside_after (disks_of g.D.Disk.honest g.D.Disk.images g.D.Disk.moment g.D.Disk.left_since l.fn.disk l.disk) (g.K.Stream.written l.out) l.run) l.reader l.run l.read);
     }
 
 abbrev pub decreases-loop-read : goal.decreases-loop-read

@@ -1,7 +1,7 @@
-use Rattle.std.proofs.Common.{inr, subst, sym}
+use Rattle.std.proofs.Common.{inl, inr, refl, subst, sym}
 use Rattle.panel_program.specs.Journals.{KeepsFor}
 use Rattle.panel_program.proofs.PowerCuts.{opened_of}
-use Rattle.panel_program.proofs.Written.{some_weaker}
+use Rattle.panel_program.proofs.Written.{some_always, some_weaker}
 use Rattle.panel_program.proofs.reading.run_site.Goals as goal
 
 pub returns-in-Ok-clause-ran : goal.returns-in-Ok-clause-ran
@@ -17,3 +17,17 @@ returns-in-Ok-clause-ran g c =
       ran = ran;
     }))
     (c.run_with.ensures.ran digest seen (opened_of digest seen journal opened.fresh.same_digest opened.early))
+
+pub returns-in-Err-clause-ran : goal.returns-in-Err-clause-ran
+returns-in-Err-clause-ran g c =
+    let said = c.stop_at_journal.ensures in
+    some_always (g.S.Stream.left c.args.input.now)
+    (λ bytes. inl (record {
+      refusal = c.in-Err.refusal;
+      cause = c.in-Err.ensures.err;
+      spared = c.open.ensures.unwritten;
+      unread = record { left = refl; faults = refl };
+      says = said.says;
+      ticks = said.ticks.0;
+      failures = said.ticks.1;
+    }))

@@ -2,6 +2,7 @@ use Rattle.std.proofs.Common.{sym, subst}
 use Rattle.std.proofs.lemmas.Result.{err_from_is_err_and}
 use Rattle.record_lines.specs.Belongs.{StepBelongs}
 use Rattle.record_lines.specs.Stands.{StandsFor as ReadsFor, Feeds}
+use Rattle.panel_program.specs.Outside.{disks_of, outside_after, outside_before}
 use Rattle.panel_program.specs.Stands.{TakesNext}
 use Rattle.panel_program.proofs.Steps.{fed_next, may_step, NextBy}
 use Rattle.panel_program.proofs.reading.take_next.Goals as goal
@@ -25,8 +26,9 @@ take_step-requires-clause-may g c =
 
 pub returns-in_err-end-clause-takes : goal.returns-in_err-end-clause-takes
 returns-in_err-end-clause-takes g c site kept before p h within =
-    let old = g.K.Stream.written c.args.out.now in
-    let new = g.K.Stream.written c.take_step.new.out in
+    let disks = disks_of g.D.Disk.honest g.D.Disk.images g.D.Disk.moment g.D.Disk.left_since c.args.disk.now c.take_step.new.disk in
+    let old = outside_before disks (g.K.Stream.written c.args.out.now) c.args.run.now in
+    let new = outside_after disks (g.K.Stream.written c.take_step.new.out) c.take_step.new.run in
     let next = fed_next site _ kept before c.args.piece.now p c.feed-fed.result old new c.args.reader.now c.feed-fed.new.self c.args.run.now
     c.take_step.new.run c.take_step.result h within (c.site.ensures site kept p h.stands) c.feed-fed.ensures.feeds c.feed-fed.ensures.belongs
     (c.take_step.ensures.takes site kept p h.stands) in
@@ -36,8 +38,9 @@ returns-in_err-end-clause-takes g c site kept before p h within =
 
 pub returns-clause-takes : goal.returns-clause-takes
 returns-clause-takes g c site kept before p h within =
-    let old = g.K.Stream.written c.args.out.now in
-    let new = g.K.Stream.written c.take_step.new.out in
+    let disks = disks_of g.D.Disk.honest g.D.Disk.images g.D.Disk.moment g.D.Disk.left_since c.args.disk.now c.take_step.new.disk in
+    let old = outside_before disks (g.K.Stream.written c.args.out.now) c.args.run.now in
+    let new = outside_after disks (g.K.Stream.written c.take_step.new.out) c.take_step.new.run in
     let next = fed_next site _ kept before c.args.piece.now p c.feed-fed.result old new c.args.reader.now c.feed-fed.new.self c.args.run.now
     c.take_step.new.run c.take_step.result h within (c.site.ensures site kept p h.stands) c.feed-fed.ensures.feeds c.feed-fed.ensures.belongs
     (c.take_step.ensures.takes site kept p h.stands) in

@@ -1,6 +1,7 @@
 use Rattle.std.proofs.Common.{◌≡◌, ◌∙◌, ◌++◌, ◌==◌, ℕ, List, [], ◌∷◌, true, length, take, refl, sym, subst, arith}
 use Rattle.std.proofs.lemmas.Bool.{eqb-true}
 use Rattle.std.proofs.lemmas.Result.{err_from_is_err_and}
+use Rattle.panel_program.specs.Outside.{disks_of, outside_after, outside_before}
 use Rattle.panel_program.specs.Stands.{GoesOn, TakesPiece}
 use Rattle.panel_program.proofs.Disks.{keeps_more, keeps_same}
 use Rattle.panel_program.proofs.Pieces.{may_rest, rest_within, taking_none, taking_more, taking_ends, taking_breaks, taking_whole}
@@ -16,16 +17,19 @@ loop-rest-init g c =
       at = c.requires.may;
       later = omega arith;
       disk = keeps_same g.D.Disk.honest g.D.Disk.images g.D.Disk.faults c.args.disk.now c.args.run.now c.args.run.now refl refl c.requires.stands;
-      so_far = λ site kept before p h within. taking_none site kept p before c.args.piece.now (g.K.Stream.written c.args.out.now) c.args.reader.now
-          c.args.run.now h;
+      so_far = λ site kept before p h within. taking_none site kept p before c.args.piece.now
+          (outside_before (disks_of g.D.Disk.honest g.D.Disk.images g.D.Disk.moment g.D.Disk.left_since c.args.disk.now c.args.disk.now) (g.K.Stream.written c.args.out.now) c.args.run.now)
+          c.args.reader.now c.args.run.now h;
     }
 
 pub returns-in_err-taken-clause-takes : goal.returns-in_err-taken-clause-takes
 returns-in_err-taken-clause-takes g c site kept before p h within =
     let q = err_from_is_err_and c.from_residual.result c.from_residual.ensures.1 in
-    let old = g.K.Stream.written c.args.out.now in
-    let mid = g.K.Stream.written c.loop-rest.out in
-    let new = g.K.Stream.written c.take_next.new.out in
+    let whole = disks_of g.D.Disk.honest g.D.Disk.images g.D.Disk.moment g.D.Disk.left_since c.args.disk.now c.take_next.new.disk in
+    let first = disks_of g.D.Disk.honest g.D.Disk.images g.D.Disk.moment g.D.Disk.left_since c.args.disk.now c.loop-rest.disk in
+    let old = outside_before whole (g.K.Stream.written c.args.out.now) c.args.run.now in
+    let mid = outside_after first (g.K.Stream.written c.loop-rest.out) c.loop-rest.run in
+    let new = outside_after whole (g.K.Stream.written c.take_next.new.out) c.take_next.new.run in
     let rest = c.loop-rest.rest.now in
     let t = c.loop-rest.invariant.so_far site kept before p h within in
     let within_rest = rest_within site kept p before c.args.piece.now rest old mid new c.loop-rest.reader c.loop-rest.run t within in
@@ -40,9 +44,11 @@ returns-in_err-taken-clause-disk g c =
 
 pub returns-in-Some-clause-takes : goal.returns-in-Some-clause-takes
 returns-in-Some-clause-takes g c site kept before p h within =
-    let old = g.K.Stream.written c.args.out.now in
-    let mid = g.K.Stream.written c.loop-rest.out in
-    let new = g.K.Stream.written c.take_next.new.out in
+    let whole = disks_of g.D.Disk.honest g.D.Disk.images g.D.Disk.moment g.D.Disk.left_since c.args.disk.now c.take_next.new.disk in
+    let first = disks_of g.D.Disk.honest g.D.Disk.images g.D.Disk.moment g.D.Disk.left_since c.args.disk.now c.loop-rest.disk in
+    let old = outside_before whole (g.K.Stream.written c.args.out.now) c.args.run.now in
+    let mid = outside_after first (g.K.Stream.written c.loop-rest.out) c.loop-rest.run in
+    let new = outside_after whole (g.K.Stream.written c.take_next.new.out) c.take_next.new.run in
     let rest = c.loop-rest.rest.now in
     let used = c.in_ok-taken.taken.used in
     let t = c.loop-rest.invariant.so_far site kept before p h within in
@@ -58,9 +64,11 @@ returns-in-Some-clause-disk g c =
 
 pub loop-rest-preserved : goal.loop-rest-preserved
 loop-rest-preserved g c =
-    let old = g.K.Stream.written c.args.out.now in
-    let mid = g.K.Stream.written c.loop-rest.out in
-    let new = g.K.Stream.written c.take_next.new.out in
+    let whole = disks_of g.D.Disk.honest g.D.Disk.images g.D.Disk.moment g.D.Disk.left_since c.args.disk.now c.take_next.new.disk in
+    let first = disks_of g.D.Disk.honest g.D.Disk.images g.D.Disk.moment g.D.Disk.left_since c.args.disk.now c.loop-rest.disk in
+    let old = outside_before whole (g.K.Stream.written c.args.out.now) c.args.run.now in
+    let mid = outside_after first (g.K.Stream.written c.loop-rest.out) c.loop-rest.run in
+    let new = outside_after whole (g.K.Stream.written c.take_next.new.out) c.take_next.new.run in
     let rest = c.loop-rest.rest.now in
     let used = c.in_ok-taken.taken.used in
     let r = c.loop-rest.invariant.at in
@@ -87,6 +95,7 @@ loop-rest-preserved g c =
 
 pub returns-clause-takes : goal.returns-clause-takes
 returns-clause-takes g c site kept before p h within =
-    taking_whole site kept p before c.args.piece.now c.loop-rest.rest.now (g.K.Stream.written c.args.out.now) (g.K.Stream.written c.loop-rest.out)
-    c.loop-rest.reader c.loop-rest.run (c.loop-rest.invariant.so_far site kept before p h within)
+    let disks = disks_of g.D.Disk.honest g.D.Disk.images g.D.Disk.moment g.D.Disk.left_since c.args.disk.now c.loop-rest.disk in
+    taking_whole site kept p before c.args.piece.now c.loop-rest.rest.now (outside_before disks (g.K.Stream.written c.args.out.now) c.args.run.now)
+    (outside_after disks (g.K.Stream.written c.loop-rest.out) c.loop-rest.run) c.loop-rest.reader c.loop-rest.run (c.loop-rest.invariant.so_far site kept before p h within)
     (no_rest c.loop-rest.rest.now (sym c.is_empty.ensures ∙ c.loop-rest-test.false))

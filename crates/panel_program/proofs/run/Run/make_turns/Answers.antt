@@ -3,7 +3,9 @@ use Rattle.std.proofs.Common.{Vec}
 use Rattle.std.specs.Global.{Global}
 use Rattle.face_text.specs.declared.face.Face.{Face}
 use Rattle.panel_program.specs.declared.run.Run.{Run}
+use Rattle.panel_program.specs.Outside.{disks_of}
 use Rattle.panel_program.proofs.Stood.{failed_few, makes, may_show, same_room}
+use Rattle.panel_program.proofs.TickCuts.{stores_tick}
 use Rattle.panel_program.proofs.run.Run.make_turns.Goals as goal
 
 pub with_failure-self-requires : goal.with_failure-self-requires
@@ -20,6 +22,7 @@ show-requires g c =
 pub returns-clause-makes : goal.returns-clause-makes
 returns-clause-makes g c site kept p h short =
     let turns = c.turn_all-store.ensures.turns in
+    let disks = disks_of g.D.Disk.honest g.D.Disk.images g.D.Disk.moment g.D.Disk.left_since c.args.disk.now c.turn_all-store.new.disk in
     makes site kept c.turn_all-store.result c.args.self.now c.turn_all-store.new.self _ turns
     (record {
       system = refl;
@@ -32,6 +35,9 @@ returns-clause-makes g c site kept p h short =
     })
     (λ before stands run. ap (λ (v : Vec Face Global). v.items) c.swap.ensures.x_after
     ∙ c.show.ensures.shows site kept before stands run (ap (λ (r : Run). length r.next.items) turns.rest ∙ h.room))
+    disks
+    (λ ticks block stands. stores_tick disks site kept ticks block c.args.self.now c.turn_all-store.new.self c.turn_all-store.result stands
+    c.turn_all-store.ensures.leaves c.turn_all-store.ensures.disk.digest c.turn_all-store.ensures.disk.early turns.tried)
     p h c.requires.may.open_is short
 
 pub returns-clause-room : goal.returns-clause-room

@@ -1,0 +1,9 @@
+/// A list of the site file.
+#[derive(Clone, Copy)]
+pub(crate) enum Part {
+    Loops,
+    Zones,
+    Points,
+    Outputs,
+    Markers,
+}

@@ -1,0 +1,4 @@
+use Rattle.panel_drill.proofs.running.Running.run_tick.Given as goal
+
+abbrev pub ghosts-turn_counted : goal.ghosts-turn_counted
+ghosts-turn_counted a = record { name = a.blank.name; parts = a.blank.parts }
