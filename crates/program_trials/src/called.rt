@@ -1,0 +1,111 @@
+use crate::given::Given;
+use crate::outside::Outside;
+use crate::trickle_sink::TrickleSink;
+use crate::trickle_source::TrickleSource;
+use anyhow::{Result, bail};
+use panel_edges::{MOST_DISK_BYTES, MemoryDisk, MemoryShelf, MemorySink, MemorySource, ShelfFile};
+use panel_program::panel;
+use program_status::Outcome;
+use std::alloc::Global;
+
+/// How much text a sink has room for.
+const MOST_TEXT: usize = 20_000;
+
+/// How many calls and written bytes the log of a disk has room for.
+const MOST_CALLS: usize = 1_000;
+
+const MOST_WRITTEN: usize = 125_000;
+
+/// What came of a call, and how many calls it made of the outside.
+#[derive(Drop)]
+pub(crate) struct Called {
+    pub(crate) outcome: Outcome,
+    pub(crate) text: String,
+    pub(crate) fetches: u64,
+    pub(crate) reads: u64,
+    pub(crate) writes: u64,
+    pub(crate) disk: MemoryDisk,
+}
+
+impl Called {
+    /// Whether another call ended as this one did, with the same text.
+    pub(crate) fn is_told_by(&self, other: &Called) -> bool {
+        self.outcome == other.outcome && self.text.as_str() == other.text.as_str()
+    }
+}
+
+/// Calls `panel` over forms in memory.
+pub(crate) fn call(alloc: Global, given: Given, outside: Outside) -> Result<Called> {
+    let mut shelf = shelf_of(alloc, given, outside.fetch)?;
+    let mut input = TrickleSource {
+        source: source_of(alloc, given, outside.read)?,
+        most: outside.piece.max(1),
+    };
+    let mut out = TrickleSink {
+        sink: sink_of(alloc, outside.write)?,
+        most: outside.take.max(1),
+    };
+    let mut disk = disk_of(alloc, given, outside.disk)?;
+    let outcome = panel(
+        alloc,
+        given.words,
+        &mut shelf,
+        &mut input,
+        &mut out,
+        &mut disk,
+    );
+    let TrickleSource { source, .. } = input;
+    let TrickleSink { sink, .. } = out;
+    Ok(Called {
+        outcome,
+        fetches: shelf.calls,
+        reads: source.calls,
+        writes: sink.calls,
+        text: String::from_utf8(sink.bytes)?,
+        disk,
+    })
+}
+
+fn shelf_of(alloc: Global, given: Given, failing: u64) -> Result<MemoryShelf> {
+    let mut files = Vec::new(alloc);
+    if let (Some(name), Some(bytes)) = (given.words.get(1), given.site) {
+        files.push(ShelfFile {
+            name: name.clone()?,
+            bytes: Vec::from_slice(alloc, bytes)?,
+        })?;
+    }
+    match MemoryShelf::new(alloc, files, vec![in alloc; failing]?) {
+        Ok(shelf) => Ok(shelf),
+        Err(_) => bail!("no memory"),
+    }
+}
+
+fn source_of(alloc: Global, given: Given, failing: u64) -> Result<MemorySource> {
+    let record = Vec::from_slice(alloc, given.record)?;
+    match MemorySource::new(alloc, record, vec![in alloc; failing]?) {
+        Ok(source) => Ok(source),
+        Err(_) => bail!("no memory"),
+    }
+}
+
+fn sink_of(alloc: Global, failing: u64) -> Result<MemorySink> {
+    match MemorySink::new(alloc, MOST_TEXT, vec![in alloc; failing]?) {
+        Ok(sink) => Ok(sink),
+        Err(_) => bail!("no memory"),
+    }
+}
+
+fn disk_of(alloc: Global, given: Given, failing: (u64, u64)) -> Result<MemoryDisk> {
+    if given.journal.len() > MOST_DISK_BYTES {
+        bail!("a journal that is too long");
+    }
+    let mut fails = Vec::new(alloc);
+    for number in failing.0..=failing.1 {
+        fails.push(number)?;
+    }
+    let journal = Vec::from_slice(alloc, given.journal)?;
+    match MemoryDisk::new(alloc, journal, MOST_CALLS, MOST_WRITTEN, fails) {
+        Ok(disk) => Ok(disk),
+        Err(_) => bail!("no memory"),
+    }
+}

@@ -1,0 +1,17 @@
+/// What a call finds: its words, the files, the record and the journal.
+#[derive(Clone, Copy)]
+pub(crate) struct Given<'a> {
+    pub(crate) words: &'a [String],
+    /// The file that is on the shelf under the name in the second word, where there is one.
+    pub(crate) site: Option<&'a [u8]>,
+    pub(crate) record: &'a [u8],
+    pub(crate) journal: &'a [u8],
+}
+
+impl<'a> Given<'a> {
+    /// The same with no more of the record than so many bytes.
+    pub(crate) fn cut(self, bytes: usize) -> Given<'a> {
+        let (record, _) = self.record.split_at(bytes.min(self.record.len()));
+        Given { record, ..self }
+    }
+}

@@ -1,0 +1,34 @@
+/// What a case tries. A site is a file; a record is a history, or a file whose name ends with `.record`.
+#[derive(Clone, Copy)]
+pub(crate) enum Kind {
+    /// `call WORDS: RECORD; OPTIONS`: any words.
+    Call,
+    /// `run SITE: RECORD | RECORD; OPTIONS`: each record is run over the journal that the one before left. The options
+    /// are those of the last run, and its text is told.
+    Run,
+    /// `pieces SITE: RECORD; of 1 2`: that a record which is read in pieces of one byte, of two, gives the same text.
+    Pieces,
+    /// `short-writes SITE: RECORD; of 1 2`: the same where a write takes at most one byte, at most two.
+    ShortWrites,
+    /// `failing-reads SITE: RECORD; OPTIONS`: each read fails once.
+    FailingReads,
+    /// `failing-writes SITE: RECORD; OPTIONS`: each write fails once.
+    FailingWrites,
+    /// `failing-disk SITE: RECORD; calls 1 to 120, LINE keeps LINE`: each call of the disk in that range fails once.
+    /// What the first line acknowledges is told by the second where a file is opened again; with `drops`, isn't told.
+    FailingDisk,
+    /// `stops SITE: RECORD; OPTIONS`: what a stop at each call of the disk leaves.
+    Stops,
+}
+
+/// The kinds by name.
+pub(crate) const KINDS: [(&str, Kind); 8] = [
+    ("call", Kind::Call),
+    ("run", Kind::Run),
+    ("pieces", Kind::Pieces),
+    ("short-writes", Kind::ShortWrites),
+    ("failing-reads", Kind::FailingReads),
+    ("failing-writes", Kind::FailingWrites),
+    ("failing-disk", Kind::FailingDisk),
+    ("stops", Kind::Stops),
+];

@@ -1,0 +1,23 @@
+/// How the outside takes the calls that are made of it. A call that fails is given by its number, from 1; 0 is none.
+#[derive(Clone, Copy)]
+pub(crate) struct Outside {
+    /// How many bytes a read gives at most.
+    pub(crate) piece: usize,
+    /// How many bytes a write takes at most.
+    pub(crate) take: usize,
+    pub(crate) fetch: u64,
+    pub(crate) read: u64,
+    pub(crate) write: u64,
+    /// The first and the last of the calls of the disk that fail.
+    pub(crate) disk: (u64, u64),
+}
+
+/// One that never fails, gives what is asked for and takes what is given.
+pub(crate) const SOUND: Outside = Outside {
+    piece: 65_536,
+    take: 65_536,
+    fetch: 0,
+    read: 0,
+    write: 0,
+    disk: (0, 0),
+};

@@ -1,0 +1,97 @@
+use crate::called::{Called, call};
+use crate::given::Given;
+use crate::options::{edited, option, outside_of};
+use crate::outside::{Outside, SOUND};
+use crate::records::record_of;
+use anyhow::Result;
+use std::fs;
+use trial_cases::Case;
+
+/// A case that was read: what its calls find, and what is said of the outside.
+#[derive(Drop)]
+pub(crate) struct Trial<'a> {
+    words: Vec<String>,
+    site: Option<Vec<u8>>,
+    record: Vec<u8>,
+    journal: Vec<u8>,
+    pub(crate) outside: Outside,
+    pub(crate) options: &'a str,
+}
+
+impl<'a> Trial<'a> {
+    /// The trial of a case `KIND WORDS: RECORD; OPTIONS`, a call with these words.
+    pub(crate) fn of_words(rt: &HostRuntime, case: &Case<'a>) -> Result<Trial<'a>> {
+        let (record, options) = parts_of(case.rest);
+        Trial::read(rt, case.subject, record, options)
+    }
+
+    /// The trial of a case `KIND SITE: RECORD | RECORD; OPTIONS`, the last of these runs. Each finds the journal that
+    /// the one before left; those before the last may be of another site.
+    pub(crate) fn of_runs(rt: &HostRuntime, case: &Case<'a>) -> Result<Trial<'a>> {
+        let (records, options) = parts_of(case.rest);
+        let (before, last) = records.rsplit_once(" | ").unwrap_or(("", records));
+        let site = match option(options, "before-at") {
+            "" => case.subject,
+            other => other,
+        };
+        let words = format!(in rt.alloc(); "run {} journal", case.subject)?;
+        let mut trial = Trial::read(rt, words.as_str(), last, options)?;
+        trial.journal = edited(rt, journal_of(rt, site, before)?, options)?;
+        Ok(trial)
+    }
+
+    // A call over no journal. The file that the second word names is on the shelf, where there is one.
+    fn read(rt: &HostRuntime, words: &str, record: &str, options: &'a str) -> Result<Trial<'a>> {
+        let mut all = Vec::new(rt.alloc());
+        let mut site = None;
+        for word in words.split(' ') {
+            if word.is_empty() {
+                continue;
+            }
+            if all.len() == 1 {
+                site = fs::read(rt, word).ok();
+            }
+            all.push(String::from_str(rt.alloc(), word)?)?;
+        }
+        Ok(Trial {
+            words: all,
+            site,
+            record: record_of(rt, record)?,
+            journal: Vec::new(rt.alloc()),
+            outside: outside_of(options)?,
+            options,
+        })
+    }
+
+    pub(crate) fn given(&self) -> Given<'_> {
+        Given {
+            words: self.words.as_slice(),
+            site: match &self.site {
+                Some(site) => Some(site.as_slice()),
+                None => None,
+            },
+            record: self.record.as_slice(),
+            journal: self.journal.as_slice(),
+        }
+    }
+}
+
+// The record of a case and its options.
+fn parts_of(rest: &str) -> (&str, &str) {
+    rest.split_once("; ").unwrap_or((rest, ""))
+}
+
+// The journal that runs of a site over these records leave, each over that of the one before.
+fn journal_of(rt: &HostRuntime, site: &str, records: &str) -> Result<Vec<u8>> {
+    let mut journal = Vec::new(rt.alloc());
+    let words = format!(in rt.alloc(); "run {site} journal")?;
+    for record in records.split(" | ") {
+        if !record.is_empty() {
+            let mut trial = Trial::read(rt, words.as_str(), record, "")?;
+            trial.journal = journal;
+            let Called { disk, .. } = call(rt.alloc(), trial.given(), SOUND)?;
+            journal = disk.bytes;
+        }
+    }
+    Ok(journal)
+}
