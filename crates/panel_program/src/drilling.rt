@@ -36,13 +36,7 @@ pub fn run_drill<K: Sink>(alloc: Global, seed: u64, ticks: u64, out: &mut K) -> 
 }
 
 // Runs the drill of a site.
-fn run_over<K: Sink>(
-    alloc: Global,
-    loaded: Loaded,
-    seed: u64,
-    ticks: u64,
-    out: &mut K,
-) -> Outcome
+fn run_over<K: Sink>(alloc: Global, loaded: Loaded, seed: u64, ticks: u64, out: &mut K) -> Outcome
     requires loaded { IsLoaded loaded }
     requires drill { IsAtHand file_text loaded.site }
     requires few { ticks ≤ most_ticks }

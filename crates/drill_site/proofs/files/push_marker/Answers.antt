@@ -1,4 +1,4 @@
-use Rattle.std.proofs.Common.{◌++◌, ◌∙◌, ap, refl}
+use Rattle.std.proofs.Common.{◌++◌, ◌∙◌, ap}
 use Rattle.drill_site.specs.Files.{marker_head, term_text}
 use Rattle.drill_site.proofs.Each.{begins, grows}
 use Rattle.drill_site.proofs.files.push_marker.Goals as goal

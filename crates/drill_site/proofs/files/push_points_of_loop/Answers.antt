@@ -1,4 +1,4 @@
-use Rattle.std.proofs.Common.{◌++◌, ◌∙◌, ap, refl}
+use Rattle.std.proofs.Common.{◌∙◌}
 use Rattle.drill_site.specs.Files.{point_line}
 use Rattle.drill_site.proofs.Each.{begins, grows}
 use Rattle.drill_site.proofs.files.push_points_of_loop.Goals as goal

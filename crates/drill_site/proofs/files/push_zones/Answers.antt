@@ -1,4 +1,4 @@
-use Rattle.std.proofs.Common.{◌++◌, ◌∙◌, ap, refl}
+use Rattle.std.proofs.Common.{◌∙◌}
 use Rattle.drill_site.specs.Files.{zone_line}
 use Rattle.drill_site.proofs.Each.{begins, grows}
 use Rattle.drill_site.proofs.files.push_zones.Goals as goal
