@@ -18,16 +18,16 @@ use trial_records::{Block, answers_of};
 
 /// What a record told, tick by tick, and what befell by then.
 #[derive(Drop)]
-pub(crate) struct Played {
-    pub(crate) told: Vec<Told>,
-    pub(crate) moments: Vec<Moment>,
+pub struct Played {
+    pub told: Vec<Told>,
+    pub moments: Vec<Moment>,
     /// In how many ticks Keep's turn failed.
-    pub(crate) failed: u32,
+    pub failed: u32,
 }
 
 /// What the system tells. A tick whose order isn't given has the canonical or the reversed one, and the calls of the
 /// disk of these numbers fail.
-pub(crate) fn by_system(
+pub fn by_system(
     alloc: Global,
     site: Site,
     blocks: &[Block],
@@ -93,7 +93,7 @@ fn turn_of(seat: Seat, failed: bool) -> Moment {
 }
 
 /// What the plain program tells of these moments, tick by tick.
-pub(crate) fn by_rules(alloc: Global, site: &Site, moments: &[Moment]) -> Result<Vec<Told>>
+pub fn by_rules(alloc: Global, site: &Site, moments: &[Moment]) -> Result<Vec<Told>>
     requires { IsValid site.now }
 {
     match timeline(alloc, site, &Retained::empty(), moments) {

@@ -3,6 +3,7 @@
 ghost use Rattle.tick_units.specs.Orders.{IsPanelCount};
 ghost use Rattle.site_types.specs.Valid.{IsValid};
 
+use crate::pace::Pace;
 use anyhow::Result;
 use rand_pcg::Pcg32;
 use site_types::{Output, OutputKind, Site};
@@ -10,19 +11,25 @@ use std::alloc::Global;
 use tick_units::{Order, Seat, Task};
 use trial_cases::{Lines, below};
 
-const LAST: u64 = 60;
-
-/// A drawn record: in each tick events of points, cables, supplies, links, outputs and operations, and in most a drawn
+/// A drawn record: in its ticks events of points, cables, supplies, links, outputs and operations, and in most a drawn
 /// order of turns.
-pub(crate) fn drawn_record(alloc: Global, site: &Site, draws: &mut Pcg32) -> Result<String>
+pub(crate) fn drawn_record(
+    alloc: Global,
+    site: &Site,
+    pace: &Pace,
+    draws: &mut Pcg32,
+) -> Result<String>
     requires { IsValid site.now }
 {
     let mut lines = Lines::new(alloc);
-    for tick in 1..=LAST {
+    for tick in 1..=pace.ticks {
         lines.count("tick ", tick);
         lines.say("\n");
         if below(draws, 4) > 0 {
             say_order(alloc, &mut lines, site.panels, draws)?;
+        }
+        if pace.one_in > 1 && below(draws, pace.one_in) > 0 {
+            continue;
         }
         for _event in 0..below(draws, 3) {
             say_report(alloc, &mut lines, site, draws)?;

@@ -12,15 +12,15 @@ use trial_records::answers_of;
 
 /// What was told in a tick: what each panel showed, and what was answered, as text.
 #[derive(Drop, PartialEq)]
-pub(crate) struct Told {
+pub struct Told {
     /// By panel.
-    pub(crate) faces: Vec<Face>,
-    pub(crate) answers: String,
+    pub faces: Vec<Face>,
+    pub answers: String,
 }
 
 impl Told {
     /// What a system told in the tick that ended last.
-    pub(crate) fn by_system(alloc: Global, own: &Installation, panels: u8) -> Result<Told>
+    pub fn by_system(alloc: Global, own: &Installation, panels: u8) -> Result<Told>
         requires between { IsBetween panels own.now }
         requires count { IsPanelCount panels }
     {
@@ -33,7 +33,7 @@ impl Told {
     }
 
     /// What these faces show, with these answers.
-    pub(crate) fn by_faces(
+    pub fn by_faces(
         alloc: Global,
         faces: &[Face],
         answers: String,
@@ -49,7 +49,7 @@ impl Told {
     }
 
     /// What is told otherwise than before, and the answers, on one line; empty where there is neither.
-    pub(crate) fn words(
+    pub fn words(
         &self,
         alloc: Global,
         site: &Site,
@@ -70,4 +70,14 @@ impl Told {
         }
         lines.done()
     }
+}
+
+/// The first place at which two lists of ticks differ.
+pub fn first_other(some: &[Told], others: &[Told]) -> Option<usize> {
+    for place in 0..some.len().max(others.len()) {
+        if some.get(place) != others.get(place) {
+            return Some(place);
+        }
+    }
+    None
 }
