@@ -9,11 +9,13 @@
 
 mod drawn_records;
 mod drawn_run;
+mod history_blocks;
 mod pace;
 mod played;
 mod told;
 
 pub use drawn_run::{DrawnRun, drawn_run};
+pub use history_blocks::history_blocks;
 pub use pace::Pace;
 pub use played::{Played, by_rules, by_system};
 pub use told::{Told, first_other};
