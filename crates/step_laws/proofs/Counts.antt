@@ -1,24 +1,25 @@
 -- How many markers depend on a fact that changed, of none that changed and of one zone.
-use Rattle.std.proofs.Common.{◌≡◌, ◌<◌, ◌==◌, ◌||◌, ◌+◌, ℕ, zero, suc, Bool, true, false, List, [], ◌∷◌, refl, sym, ap, subst, ◌∙◌, arith}
+use Rattle.std.proofs.Common.{◌≡◌, ◌≢◌, ◌≤◌, ◌<◌, inl, inr, ◌==◌, ◌||◌, ◌+◌, ℕ, zero, suc, Bool, true, false, List, [], ◌∷◌, refl, sym, ap, subst, ◌∙◌, arith}
 use Rattle.std.specs.Prelude.{slice_get, length}
 use Rattle.std.specs.List.{list_any, IsDistinct}
+use Rattle.std.proofs.lemmas.Bool.Decides.{eqb_tells}
 use Rattle.tick_units.specs.Orders.{canonical_seats}
 use Rattle.site_types.specs.declared.marker.Marker.{Marker}
 use Rattle.site_types.specs.declared.site.Site.{Site}
 use Rattle.site_types.specs.declared.term.Term.{Term}
 use Rattle.site_types.specs.declared.term.Term.TheVariants.{Zone as ZoneTerm, Manual as ManualTerm, Fault as FaultTerm, Marker as MarkerTerm}
 use Rattle.cause_effect.specs.Changes.{differ, IsNumberOf, RoseByNumberOf}
-use Rattle.cause_effect.specs.Cycles.{has_term, is_among, is_marker, terms_of}
+use Rattle.cause_effect.specs.Cycles.{has_term, is_marker, terms_of}
 use Rattle.cause_effect.specs.Written.{AreTwo}
 use Rattle.cause_effect.proofs.Counted.{one_number}
 use Rattle.cause_effect.proofs.Equations.{has_within}
-use Rattle.cause_effect.proofs.Truths.{equal_number, number_is}
+use Rattle.cause_effect.proofs.Truths.{equal_number}
 use Rattle.panel_effects.specs.ChangedFacts.{DependsOnChangedFact, at_once, by_marker, RoseByBoth, RoseByFacts, has_changed_fact, is_changed_fact}
 use Rattle.panel_effects.specs.Stands.{facts_at_effect}
 use Rattle.panel_rules.specs.Markers.{Facts, hand_facts}
 use Rattle.panel_rules.specs.Moments.{Moment}
 use Rattle.panel_core.specs.StepCounts.{RisesOver}
-use Rattle.step_laws.specs.WrittenTurns.{AreAlike, ReleasesZone, ReleasesByHand, FromTurnToTurn, UnchangedNoStep, ByDetectorTwoSteps, ByCallPointFourSteps, at_effect}
+use Rattle.step_laws.specs.WrittenTurns.{AreAlike, UnchangedNoStep, ByDetectorTwoSteps, ByCallPointFourSteps, at_effect}
 
 -- ---- none
 
@@ -48,6 +49,12 @@ none_of site before after none = record {
 }
 
 -- ---- two markers
+
+number_apart : (m n : ℕ) → m ≢ n → (m == n) ≡ false
+number_apart m n apart = elim (eqb_tells m n) [
+  | inl same ↦ absurd (apart same.1)
+  | inr other ↦ other.0
+]
 
 last_of_or : (b : Bool) → (b || false) ≡ true → b ≡ true
 last_of_or true h = refl
@@ -97,7 +104,11 @@ module _ (site : Site) (hall lab : ℕ) (two : AreTwo site hall lab) (before aft
   each changed zero h =
       at_once 0 (first_terms ∙ ap (λ b. b || (differ (before.released lab) (after.released lab) || false)) changed)
   each changed (suc zero) h = at_once 1 (second_terms ∙ ap (λ b. b || false) changed)
-  each changed (suc (suc m)) h = cc h
+  each changed (suc (suc m)) h = absurd (far (suc (suc m)) (omega arith) h)
+    where
+      far : (m : ℕ) → 2 ≤ m → ((m == 0) || ((m == 1) || false)) ≡ true → ⊥
+      far m much h = let e : ((m == 0) || ((m == 1) || false)) ≡ false =
+          rw (number_apart m 0 (λ e. omega (arith, much, e)), number_apart m 1 (λ e. omega (arith, much, e))) refl in cc (e, h)
 
   both : differ (before.released hall) (after.released hall) ≡ true → IsNumberOf (DependsOnChangedFact site before after) 2
   unfolding IsDistinct
@@ -115,7 +126,14 @@ module _ (site : Site) (hall lab : ℕ) (two : AreTwo site hall lab) (before aft
 at_one_turn : (site : Site) (facts : ℕ → List Moment → Facts) (before : List Moment) (failed : Bool) (earlier later : ℕ)
     → RisesOver site facts failed (canonical_seats 1) before earlier later
     → RoseByFacts site (facts_at_effect facts 1 before) (facts 1 (at_effect before)) earlier later
-at_one_turn site facts before failed earlier later rises = ?
+at_one_turn site facts before failed earlier later rises =
+    let link = rises.2.2.2.2.2 in
+    let effect = link.2 in
+    let keep = effect.2.2 in
+    let start : link.0 ≡ earlier = link.1 ∙ rises.2.2.2.2.1 ∙ rises.2.2.2.1 ∙ rises.2.2.1 ∙ rises.2.1 ∙ rises.1 in
+    let end : effect.0 ≡ later = sym (keep.2 ∙ keep.1 ∙ effect.2.1) in
+    subst (λ n. RoseByFacts site (facts_at_effect facts 1 before) (facts 1 (at_effect before)) n later) start
+    (subst (λ n. RoseByFacts site (facts_at_effect facts 1 before) (facts 1 (at_effect before)) link.0 n) end effect.1)
 
 rose : (IsSo : ℕ → Type 0) (count earlier later : ℕ) → IsNumberOf IsSo count → RoseByNumberOf IsSo earlier later → later ≡ earlier + count
 rose IsSo count earlier later is rises = rises.1 ∙ ap (λ n. earlier + n) (one_number IsSo rises.0 count rises.2 is)

@@ -1,5 +1,5 @@
 -- Written cases of steps: what the turns of one panel's tick, in canonical order, ask of the counter.
-use Rattle.std.specs.Prelude.{◌≡◌, ◌+◌, ◌==◌, ℕ, Bool, false, List, [], ◌∷◌}
+use Rattle.std.specs.Prelude.{◌≡◌, ◌+◌, ◌==◌, ℕ, Bool, false, List, ◌∷◌}
 use Rattle.tick_units.specs.declared.task.Task.TheVariants.{Poll, Decide, Supply, Desk, Hold, Link}
 use Rattle.tick_units.specs.Orders.{canonical_seats}
 use Rattle.site_types.specs.declared.site.Site.{Site}
