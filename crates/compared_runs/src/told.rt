@@ -33,11 +33,7 @@ impl Told {
     }
 
     /// What these faces show, with these answers.
-    pub fn by_faces(
-        alloc: Global,
-        faces: &[Face],
-        answers: String,
-    ) -> Result<Told, AllocError> {
+    pub fn by_faces(alloc: Global, faces: &[Face], answers: String) -> Result<Told, AllocError> {
         let mut all = Vec::new(alloc);
         for face in faces {
             all.push(*face)?;
@@ -49,12 +45,7 @@ impl Told {
     }
 
     /// What is told otherwise than before, and the answers, on one line; empty where there is neither.
-    pub fn words(
-        &self,
-        alloc: Global,
-        site: &Site,
-        before: Option<&Told>,
-    ) -> Result<String> {
+    pub fn words(&self, alloc: Global, site: &Site, before: Option<&Told>) -> Result<String> {
         let mut lines = Lines::new(alloc);
         for (place, is) in self.faces.iter().enumerate() {
             let was = match before.and_then(|told| told.faces.get(place)) {

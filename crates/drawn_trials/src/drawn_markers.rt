@@ -25,7 +25,10 @@ fn say_output(lines: &mut Lines, panel: u64, number: u64, markers: u64, draws: &
     lines.count("[[output]]\npanel = ", panel);
     lines.count("\nname = \"o", panel);
     lines.count("-", number);
-    lines.count("\"\nnumber = ", number.saturating_mul(16).saturating_sub(below(draws, 16)));
+    lines.count(
+        "\"\nnumber = ",
+        number.saturating_mul(16).saturating_sub(below(draws, 16)),
+    );
     lines.say("\nkind = \"");
     lines.say(match below(draws, 4) {
         0 => "sounder",
@@ -34,17 +37,14 @@ fn say_output(lines: &mut Lines, panel: u64, number: u64, markers: u64, draws: &
         _ => "relay",
     });
     lines.count("\"\nwhen = \"m", between(draws, 1, markers));
-    lines.count("\"\ndelay = ", below(draws, 2).saturating_mul(below(draws, 20)));
+    lines.count(
+        "\"\ndelay = ",
+        below(draws, 2).saturating_mul(below(draws, 20)),
+    );
     lines.say("\n");
 }
 
-fn say_marker(
-    lines: &mut Lines,
-    marker: u64,
-    markers: u64,
-    counts: &[Counts],
-    draws: &mut Pcg32,
-) {
+fn say_marker(lines: &mut Lines, marker: u64, markers: u64, counts: &[Counts], draws: &mut Pcg32) {
     let terms = between(draws, 1, 4);
     lines.count("[[marker]]\nname = \"m", marker);
     match below(draws, 4) {
@@ -74,7 +74,10 @@ fn say_term(lines: &mut Lines, marker: u64, markers: u64, counts: &[Counts], dra
     match below(draws, 8) {
         0 => lines.count("\"fault:", panel),
         1 if marker < markers => {
-            lines.count("\"marker:m", between(draws, marker.saturating_add(1), markers));
+            lines.count(
+                "\"marker:m",
+                between(draws, marker.saturating_add(1), markers),
+            );
         }
         kind => {
             lines.say(if kind <= 3 { "\"manual:z" } else { "\"zone:z" });

@@ -59,7 +59,10 @@ fn say_zones(lines: &mut Lines, format: u64, panel: u64, zones: u64, draws: &mut
         lines.count("[[zone]]\npanel = ", panel);
         lines.count("\nname = \"z", panel);
         lines.count("-", number);
-        lines.count("\"\nnumber = ", number.saturating_mul(10).saturating_sub(below(draws, 10)));
+        lines.count(
+            "\"\nnumber = ",
+            number.saturating_mul(10).saturating_sub(below(draws, 10)),
+        );
         lines.say("\n");
         if is_second {
             say_type(lines, format, kind);
@@ -114,13 +117,20 @@ fn say_loops(lines: &mut Lines, panel: u64, zones: u64, draws: &mut Pcg32) {
         lines.say("]\n");
         for section in 0..sections {
             for place in 0..between(draws, 1, 3) {
-                let address = section.saturating_mul(8).saturating_add(place).saturating_add(1);
+                let address = section
+                    .saturating_mul(8)
+                    .saturating_add(place)
+                    .saturating_add(1);
                 say_point(lines, panel, line, address, draws);
                 lines.count("zone = \"z", panel);
                 lines.count("-", zone.saturating_add(1));
                 lines.say("\"\n");
             }
-            zone = if zone.saturating_add(1) < zones { zone.saturating_add(1) } else { 0 };
+            zone = if zone.saturating_add(1) < zones {
+                zone.saturating_add(1)
+            } else {
+                0
+            };
         }
     }
 }

@@ -24,9 +24,13 @@ pub(crate) fn all_asked(alloc: Global, moments: &[Moment], told: &[Told]) -> Res
     for moment in moments {
         match moment {
             Moment::Began => tick = tick.saturating_add(1),
-            Moment::Happened(Event::Op {
-                panel, operation, ..
-            }) => asked.push(Asked {
+            Moment::Happened(
+                Event::Op {
+                    panel,
+                    operation,
+                    ..
+                },
+            ) => asked.push(Asked {
                 tick,
                 panel: *panel,
                 operation: *operation,

@@ -17,9 +17,33 @@ pub(crate) fn note_faults(alloc: Global, run: &Run, tally: &mut Tally) -> Result
         let panel = before.saturating_add(1);
         let waits = run.site.waits;
         note_supply(alloc, run, panel, SupplyKind::Mains, 0, waits.mains, tally)?;
-        note_supply(alloc, run, panel, SupplyKind::Standby, 1, waits.standby, tally)?;
-        note_supply(alloc, run, panel, SupplyKind::Voltage, 2, waits.voltage, tally)?;
-        note_supply(alloc, run, panel, SupplyKind::Charger, 3, waits.charger, tally)?;
+        note_supply(
+            alloc,
+            run,
+            panel,
+            SupplyKind::Standby,
+            1,
+            waits.standby,
+            tally,
+        )?;
+        note_supply(
+            alloc,
+            run,
+            panel,
+            SupplyKind::Voltage,
+            2,
+            waits.voltage,
+            tally,
+        )?;
+        note_supply(
+            alloc,
+            run,
+            panel,
+            SupplyKind::Charger,
+            3,
+            waits.charger,
+            tally,
+        )?;
     }
     note_pieces(alloc, run, tally)?;
     note_links(alloc, run, tally)
@@ -83,12 +107,14 @@ fn note_pieces(alloc: Global, run: &Run, tally: &mut Tally) -> Result<()> {
     for moment in run.moments {
         match *moment {
             Moment::Began => tick = tick.saturating_add(1),
-            Moment::Happened(Event::Cable {
-                panel,
-                line,
-                piece,
-                state,
-            }) => {
+            Moment::Happened(
+                Event::Cable {
+                    panel,
+                    line,
+                    piece,
+                    state,
+                },
+            ) => {
                 let stands = piece_track(alloc, run, panel, line, piece, state)?;
                 if held_at(&stands, tick) {
                     note_piece(run, panel, line, state, tick, tally);
@@ -126,10 +152,16 @@ fn note_piece(run: &Run, panel: u8, line: u8, state: PieceState, tick: u64, tall
     match state {
         PieceState::Sound => {}
         PieceState::Open => {
-            tally.note("open piece is shown", bit < 8 && has_bit_8(faults.broken, bit))
+            tally.note(
+                "open piece is shown",
+                bit < 8 && has_bit_8(faults.broken, bit),
+            )
         }
         PieceState::Short => {
-            tally.note("short piece is shown", bit < 8 && has_bit_8(faults.shorted, bit))
+            tally.note(
+                "short piece is shown",
+                bit < 8 && has_bit_8(faults.shorted, bit),
+            )
         }
     }
 }
@@ -171,7 +203,10 @@ fn has_place(mask: u8, number: u64) -> bool {
 
 // The link on the way up from a panel after so many, where panel 0 is the last one.
 fn link_on(panels: u64, panel: u64, step: u64) -> u64 {
-    let place = panel.saturating_add(panels).saturating_add(step).saturating_sub(1);
+    let place = panel
+        .saturating_add(panels)
+        .saturating_add(step)
+        .saturating_sub(1);
     if panels == 0 {
         0
     } else {

@@ -60,11 +60,11 @@ fn shows_output(face: &Face, output: &Output) -> bool {
 // An output that isn't disabled, and no sounder of a panel at which a silence was done.
 fn may_sound(run: &Run, place: usize, output: &Output, now: u64) -> bool {
     let is_sounder = matches!(output.kind, OutputKind::Sounder);
-    let is_off = run.settings().in_force(Setting::OutputOff(place), Tick(now));
-    let was_silenced = run
-        .done
-        .iter()
-        .any(|done| done.panel == output.panel && done.operation == Operation::Silence);
+    let is_off = run
+        .settings()
+        .in_force(Setting::OutputOff(place), Tick(now));
+    let was_silenced = run.done.iter().any(|done| done.panel == output.panel
+        && done.operation == Operation::Silence);
     !is_off && !(is_sounder && was_silenced)
 }
 

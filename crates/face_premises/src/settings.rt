@@ -23,7 +23,12 @@ pub(crate) fn note_settings(run: &Run, tally: &mut Tally) {
             note_setting(run, Setting::OutputOff(place), now, tally);
         }
         for before in 0..run.site.panels {
-            note_setting(run, Setting::DelaysOff(before.saturating_add(1)), now, tally);
+            note_setting(
+                run,
+                Setting::DelaysOff(before.saturating_add(1)),
+                now,
+                tally,
+            );
         }
     }
     for asked in &run.asked {
@@ -35,7 +40,10 @@ pub(crate) fn note_settings(run: &Run, tally: &mut Tally) {
 fn note_setting(run: &Run, setting: Setting, now: u64, tally: &mut Tally) {
     if run.settings().in_force(setting, Tick(now)) {
         let face = run.face(now, panel_of(run.site, setting));
-        tally.note("settings are shown", shows_setting(run.site, &face, setting));
+        tally.note(
+            "settings are shown",
+            shows_setting(run.site, &face, setting),
+        );
     }
 }
 
@@ -53,8 +61,7 @@ fn note_accepted(run: &Run, asked: &Asked, tally: &mut Tally) {
             return;
         }
         let face = run.face(now, asked.panel);
-        let is_kept =
-            shows_setting(run.site, &face, setting) == value_set(asked.operation);
+        let is_kept = shows_setting(run.site, &face, setting) == value_set(asked.operation);
         tally.note("accepted is shown", is_kept);
         if asked.tick.saturating_add(disablement) <= now {
             tally.note("disablement is shown", is_kept);
@@ -64,9 +71,7 @@ fn note_accepted(run: &Run, asked: &Asked, tally: &mut Tally) {
 
 // Whether another operation on a setting was done after a tick and before another one.
 fn was_set_between(run: &Run, setting: Setting, first: u64, now: u64) -> bool {
-    run.done
-        .iter()
-        .any(|done| is_on(setting, done) && first < done.tick.0 && done.tick.0 < now)
+    run.done.iter().any(|done| is_on(setting, done) && first < done.tick.0 && done.tick.0 < now)
 }
 
 // Whether Keep's turn failed in a tick or the next one.

@@ -23,7 +23,10 @@ pub(crate) fn point_signals(alloc: Global, run: &Run) -> Result<Vec<Vec<bool>>> 
         })?;
         let sound = track(alloc, run.moments, true, |event| match *event {
             Event::Cable {
-                panel, line, state, ..
+                panel,
+                line,
+                state,
+                ..
             } if panel == point.panel && line == point.line && state != PieceState::Sound => {
                 Some(false)
             }
@@ -104,13 +107,7 @@ fn settled_by_point(
 }
 
 /// Since when one detector of a zone of type A signals by itself.
-pub(crate) fn settled_by_itself(
-    run: &Run,
-    own: &[bool],
-    verify: u64,
-    floor: u64,
-    now: u64,
-) -> u64 {
+pub(crate) fn settled_by_itself(run: &Run, own: &[bool], verify: u64, floor: u64, now: u64) -> u64 {
     let profile = run.site.profile();
     let two_rounds = profile.round().saturating_mul(2);
     let length = verify.saturating_add(two_rounds).saturating_sub(1);

@@ -10,12 +10,7 @@ use site_types::{Operation, Rule, Zone, has_bit_32};
 use tick_units::Tick;
 
 /// Notes what held of each zone at the end of each tick.
-pub(crate) fn note_zones(
-    run: &Run,
-    signals: &[Vec<bool>],
-    shown: &[Vec<u64>],
-    tally: &mut Tally,
-) {
+pub(crate) fn note_zones(run: &Run, signals: &[Vec<bool>], shown: &[Vec<u64>], tally: &mut Tally) {
     for now in 1..=run.last {
         for (place, zone) in run.site.zones.as_slice().iter().enumerate() {
             let settled = entry(shown, place, now);

@@ -60,7 +60,10 @@ fn say_point(lines: &mut Lines, panel: u64, place: u64)
 
 // The sounder of a panel, and the marker that asks for it.
 fn say_output(lines: &mut Lines, panel: u64) {
-    lines.count("[[output]]\nnumber = 1\nkind = \"sounder\"\npanel = ", panel);
+    lines.count(
+        "[[output]]\nnumber = 1\nkind = \"sounder\"\npanel = ",
+        panel,
+    );
     lines.count("\nname = \"bells-", panel);
     lines.count("\"\nwhen = \"any-", panel);
     lines.count("\"\n[[marker]]\nkind = \"any\"\nname = \"any-", panel);
