@@ -7,15 +7,15 @@
 //! the system, and here it is tried.
 #![tactic(auto)]
 
+mod drawing;
 mod drawn_records;
-mod drawn_run;
-mod history_blocks;
+mod histories;
 mod pace;
 mod played;
 mod told;
 
-pub use drawn_run::{DrawnRun, drawn_run};
-pub use history_blocks::history_blocks;
+pub use drawing::{DrawnRun, drawn_run};
+pub use histories::history_blocks;
 pub use pace::Pace;
 pub use played::{Played, by_rules, by_system};
 pub use told::{Told, first_other};
