@@ -1,6 +1,7 @@
 //! The clauses on faults.
 
 use crate::run::Run;
+use crate::settings::has_point;
 use crate::tally::Tally;
 use crate::tracks::{held_at, run_up_to, track};
 use anyhow::Result;
@@ -64,9 +65,7 @@ fn note_points(alloc: Global, run: &Run, tally: &mut Tally) -> Result<()> {
                 || settings.in_force(Setting::ZoneOff(plan.zone as usize), Tick(now));
             if run_up_to(&gone, now) > run.site.profile().fault() && !is_off {
                 let missing = run.face(now, plan.panel).faults.missing;
-                let is_known = plan.line >= 1 && plan.line <= 4 && plan.address >= 1;
-                let is_shown = is_known && missing.contains(plan.line, plan.address);
-                tally.note("away point is missing", is_shown);
+                tally.note("away point is missing", has_point(&missing, plan));
             }
         }
     }
@@ -175,24 +174,30 @@ fn note_links(alloc: Global, run: &Run, tally: &mut Tally) -> Result<()> {
             _ => None,
         })?)?;
     }
-    let panels = run.site.panels as u64;
     for now in 1..=run.last {
-        for panel in 1..=panels {
-            let shown = run.face(now, panel as u8).faults;
-            for step in 0..2 {
-                let link = link_on(panels, panel.saturating_add(step).saturating_sub(1), 0);
-                if is_down(&down, link, now, 1) {
-                    tally.note("link is shown", has_place(shown.links, link));
-                }
-            }
-            for other in 1..=panels {
-                if is_cut_off(run, &down, panel, other, now) {
-                    tally.note("cut off panel is silent", has_place(shown.silent, other));
-                }
-            }
+        for before in 0..run.site.panels {
+            note_panel(run, &down, before.saturating_add(1), now, tally);
         }
     }
     Ok(())
+}
+
+// The two links of a panel, and the panels that are cut off from it.
+fn note_panel(run: &Run, down: &[Vec<bool>], panel: u8, now: u64, tally: &mut Tally) {
+    let panels = run.site.panels as u64;
+    let at = panel as u64;
+    let shown = run.face(now, panel).faults;
+    for step in 0..2 {
+        let link = link_on(panels, at.saturating_add(step).saturating_sub(1), 0);
+        if is_down(down, link, now, 1) {
+            tally.note("link is shown", has_place(shown.links, link));
+        }
+    }
+    for other in 1..=panels {
+        if is_cut_off(run, down, at, other, now) {
+            tally.note("cut off panel is silent", has_place(shown.silent, other));
+        }
+    }
 }
 
 // Whether the bit of a number is set.

@@ -6,7 +6,7 @@ use crate::tally::Tally;
 use face_text::Face;
 use panel_settings::{Setting, setting_of, value_set};
 use plain_history::{Moment, is_on};
-use site_types::{Site, has_bit_32};
+use site_types::{Point, PointSet, Site, has_bit_32};
 use tick_units::Tick;
 
 /// Notes which settings were in force at the end of each tick, and which operations were accepted by then.
@@ -107,10 +107,7 @@ fn panel_of(site: &Site, setting: Setting) -> u8 {
 fn shows_setting(site: &Site, face: &Face, setting: Setting) -> bool {
     match setting {
         Setting::PointOff(place) => match site.points.get(place) {
-            Some(point) => {
-                let is_known = point.line >= 1 && point.line <= 4 && point.address >= 1;
-                is_known && face.points_off.contains(point.line, point.address)
-            }
+            Some(point) => has_point(&face.points_off, point),
             None => false,
         },
         Setting::ZoneOff(place) => match site.zones.get(place) {
@@ -128,6 +125,15 @@ fn shows_setting(site: &Site, face: &Face, setting: Setting) -> bool {
         Setting::DelaysOff(_) => face.delays_off,
         Setting::Counter(_) => false,
     }
+}
+
+/// Whether a set has a point.
+pub(crate) fn has_point(set: &PointSet, point: &Point) -> bool {
+    point.line >= 1
+        && point.line <= 4
+        && point.address >= 1
+        && point.address <= 192
+        && set.contains(point.line, point.address)
 }
 
 fn has_number(mask: u32, number: u8) -> bool {
