@@ -1,11 +1,12 @@
-//! Trials over drawn sites: the system and the plain program of the rules over records that are drawn for sites that are
-//! drawn, and how often what the clauses of `System::face` ask for held in them.
+//! Trials over drawn sites: the system and the plain program of the rules over records that are drawn for drawn sites,
+//! and how often what the clauses of `System::face` ask for held in them.
 //!
-//! `sites 60 ticks, one in 1: 20 from seed 1` draws 20 sites, a record of 60 ticks for each in which something may befall
-//! in every tick, orders and failing calls of the disk, and compares the whole face of each panel, the answers and the
-//! failed turns of Keep, tick by tick. `history SITE: tick 1, point d1 gone, tick 201` plays a written history at a site
-//! file. Behind each of the two stands whether the plain program tells the same; what held in all of them is counted, and
-//! `premises` prints the counts of those so far. The head of trial_cases says how a list of cases is written.
+//! `sites 60 ticks, one in 6: 20 from seed 1` draws 20 sites, a record of 60 ticks for each in which something may
+//! befall in one tick of six, orders and failing calls of the disk, and compares the whole face of each panel, the
+//! answers and the failed turns of Keep, tick by tick. `history SITE: tick 1, point d1 gone, tick 201` plays a written
+//! history at a site file. Behind each of the two stands whether the plain program tells the same. What held in all of
+//! them is counted, and `premises` prints the counts so far. The head of trial_cases says how a list of cases is
+//! written.
 #![tactic(auto)]
 
 mod cases;

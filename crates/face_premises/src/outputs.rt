@@ -38,7 +38,7 @@ pub(crate) fn note_outputs(
                 tally.note("due output is on", is_shown);
             }
             if delay > 0 && is_asked_through {
-                tally.note("delayed output is on", is_shown);
+                tally.note("due output with a delay is on", is_shown);
             }
             if delay == 0 && held_at(&signalled, now) {
                 tally.note("signalled output is on", is_shown);

@@ -2,7 +2,8 @@ use anyhow::Result;
 use std::alloc::Global;
 use trial_cases::Lines;
 
-/// The clauses, in the order in which `System::face` has them. An open and a short piece are counted for themselves.
+/// The clauses, in the order in which `System::face` has them. An open piece and a short one are counted apart, and the
+/// outputs with a delay once more.
 const CLAUSES: [&str; 24] = [
     "due zone is shown",
     "shown zone is caused",
@@ -12,6 +13,7 @@ const CLAUSES: [&str; 24] = [
     "lone zone is shown",
     "stands again",
     "due output is on",
+    "due output with a delay is on",
     "indicated output is on",
     "signalled output is on",
     "on output is caused",
@@ -27,7 +29,6 @@ const CLAUSES: [&str; 24] = [
     "fire is counted",
     "counter adds up",
     "cleared counter adds up",
-    "delayed output is on",
 ];
 
 /// How often what a clause asks for held, and how often what it promises was not told then.
