@@ -1,16 +1,18 @@
 //! Drawn records with operations and a failing disk, compared with what the plain program makes of them.
 
-use crate::both::{by_rules, by_system};
-use crate::drawn_records::drawn_record;
-use crate::operations::first_other;
 use anyhow::Result;
+use compared_runs::{Pace, drawn_run, first_other};
 use rand_pcg::Pcg32;
-use std::alloc::{AllocError, Global};
-use trial_cases::{Case, Sample, below, otherwise, site_at};
-use trial_records::blocks_of;
+use trial_cases::{Case, Sample, otherwise, site_at};
 
 /// The stream of numbers that is drawn from.
 const STREAM: u64 = 55;
+
+/// Something is reported in each tick.
+const PACE: Pace = Pace {
+    ticks: 60,
+    one_in: 1,
+};
 
 /// What drawn records had in them.
 #[derive(Clone, Copy)]
@@ -51,11 +53,8 @@ fn is_same(rt: &HostRuntime, name: &str, seed: u64, tried: &mut Tried) -> Result
     let alloc = rt.alloc();
     let mut draws = Pcg32::new(seed, STREAM);
     let site = site_at(rt, name)?;
-    let record = drawn_record(alloc, &site, &mut draws)?;
-    let blocks = blocks_of(alloc, &site, &record)?;
-    let fails = drawn_fails(alloc, &mut draws)?;
-    let played = by_system(alloc, site_at(rt, name)?, &blocks, false, fails)?;
-    let plain = by_rules(alloc, &site, &played.moments)?;
+    let run = drawn_run(alloc, &site, site_at(rt, name)?, &PACE, &mut draws)?;
+    let played = &run.played;
     tried.failed = tried.failed.saturating_add(played.failed);
     for told in &played.told {
         tried.answered = tried
@@ -67,14 +66,5 @@ fn is_same(rt: &HostRuntime, name: &str, seed: u64, tried: &mut Tried) -> Result
             .changed
             .saturating_add((two[0].faces != two[1].faces) as u32);
     }
-    Ok(first_other(&played.told, &plain).is_none())
-}
-
-// Up to eight calls of the disk behind those of the opening. A new journal is mended by calls 5 to 72.
-fn drawn_fails(alloc: Global, draws: &mut Pcg32) -> Result<Vec<u64>, AllocError> {
-    let mut fails = Vec::new(alloc);
-    for _call in 0..below(draws, 9) {
-        fails.push(below(draws, 200).saturating_add(5))?;
-    }
-    Ok(fails)
+    Ok(first_other(&played.told, &run.plain).is_none())
 }

@@ -1,8 +1,7 @@
 //! Records with operations, each compared with what the plain program makes of it.
 
-use crate::both::{by_rules, by_system};
-use crate::told::Told;
 use anyhow::{Result, bail};
+use compared_runs::{Told, by_rules, by_system, first_other};
 use site_types::Site;
 use std::alloc::Global;
 use std::fs;
@@ -70,8 +69,8 @@ pub(crate) fn say_operations(rt: &HostRuntime, case: &Case) -> Result<String> {
     lines.done()
 }
 
-// The ticks in which something is told.
-fn say_all(alloc: Global, lines: &mut Lines, site: &Site, told: &[Told]) -> Result<()> {
+/// The ticks in which something is told.
+pub(crate) fn say_all(alloc: Global, lines: &mut Lines, site: &Site, told: &[Told]) -> Result<()> {
     let mut before: Option<&Told> = None;
     let mut tick: u64 = 1;
     for now in told {
@@ -83,14 +82,4 @@ fn say_all(alloc: Global, lines: &mut Lines, site: &Site, told: &[Told]) -> Resu
         tick = tick.saturating_add(1);
     }
     Ok(())
-}
-
-/// The first place at which two lists differ.
-pub(crate) fn first_other(some: &[Told], others: &[Told]) -> Option<usize> {
-    for place in 0..some.len().max(others.len()) {
-        if some.get(place) != others.get(place) {
-            return Some(place);
-        }
-    }
-    None
 }

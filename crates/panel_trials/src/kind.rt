@@ -5,16 +5,10 @@ pub(crate) enum Kind {
     Zones,
     /// Drawn records: what is due is shown, and nothing is shown without a cause.
     DrawnZones,
-    /// How much a panel's parts have taken, every address of four loops being asked.
-    FullLoops,
-    /// How much lies in a lane.
-    Lane,
 }
 
 /// The kinds by name.
-pub(crate) const KINDS: [(&str, Kind); 4] = [
+pub(crate) const KINDS: [(&str, Kind); 2] = [
     ("zones", Kind::Zones),
     ("drawn-zones", Kind::DrawnZones),
-    ("full-loops", Kind::FullLoops),
-    ("lane", Kind::Lane),
 ];

@@ -1,4 +1,4 @@
-//! Trials of a whole panel: what it shows of its zones over records of points, and how its lanes fill.
+//! Trials of a whole panel: what it shows of its zones over records of points.
 //!
 //! `Kind` of src/kind has the kinds of cases, and the head of trial_cases how a list of cases and a history are
 //! written. `driven_panel` drives a system with its journal tick by tick. Records with operations are tried by
@@ -7,13 +7,11 @@
 
 mod due_zones;
 mod kind;
-mod lane_counts;
 mod shown_zones;
 
 use anyhow::Result;
 use due_zones::due_at_end;
 use kind::{KINDS, Kind};
-use lane_counts::{lane_lengths, taken_of_full_loops};
 use rand_pcg::Pcg32;
 use shown_zones::say_zones_shown;
 use std::process::ExitCode;
@@ -31,8 +29,6 @@ fn answer(rt: &HostRuntime, kind: Kind, case: &Case) -> Result<String> {
     match kind {
         Kind::Zones => both_orders(rt, case),
         Kind::DrawnZones => try_records(rt, case),
-        Kind::FullLoops => taken_of_full_loops(rt.alloc(), case.rest),
-        Kind::Lane => lane_lengths(rt.alloc(), case.rest),
     }
 }
 

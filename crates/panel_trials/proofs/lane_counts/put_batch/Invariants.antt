@@ -1,5 +1,0 @@
-use Rattle.std.proofs.Common.{◌≡◌}
-use Rattle.panel_trials.proofs.lane_counts.put_batch.Given as goal
-
-abbrev pub invariant-loop-item : goal.invariant-loop-item
-invariant-loop-item l = (l.lane.quota ≡ 32) × (l.lane.capacity ≡ 64)

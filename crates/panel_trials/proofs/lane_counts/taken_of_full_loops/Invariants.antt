@@ -1,5 +1,0 @@
-use Rattle.driven_panel.specs.Installations.{IsBetween}
-use Rattle.panel_trials.proofs.lane_counts.taken_of_full_loops.Given as goal
-
-abbrev pub invariant-loop-word : goal.invariant-loop-word
-invariant-loop-word l = IsBetween l.panels l.own
