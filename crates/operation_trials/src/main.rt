@@ -7,8 +7,8 @@
 //! order isn't given has the reversed one, else the canonical one; the disk's calls 75 and 76 fail, of which opening a
 //! new journal takes the first four. For each tick in which there is something to tell, what panels show and what is
 //! answered is printed, and then whether the plain program of the definitions tells the same.
-//! `system SITE: tick 1, point d9 alarm, tick 1202` prints what the system alone tells of a history, which may be so long
-//! that the plain program would take too much time.
+//! `system SITE: tick 1, point d9 alarm, tick 1202` prints what the system alone tells of a history, which may be so
+//! long that the plain program would take too much time.
 //! `drawn-operations SITE: 10 from seed 1` compares ten drawn records in the same way.
 #![tactic(auto)]
 
