@@ -1,0 +1,86 @@
+//! What the database answers, as the keeper's caller gets it.
+
+ghost use Rattle.std.specs.Prelude.{◌≡◌, ◌↔◌, ℕ, List, None, IfSome, max, Some};
+ghost use Rattle.service_keepers.specs.Tables.{later_day};
+ghost use Rattle.sqlite.specs.Order.{column};
+ghost use Rattle.register_sqlite.specs.Faults.{CountsFaults};
+ghost use Rattle.register_sqlite.specs.Values.{IsLabel, IsNumber};
+
+use panel_edges::Label;
+use service_keepers::{KeepFault, Visit};
+use sqlite::types::ValueRef;
+use sqlite::{Error, ErrorCode, Row};
+
+// What a refusal of the database is: want of memory, or else a fault.
+pub(crate) fn fault_of(error: Error) -> KeepFault
+    ensures { (result ≡ KeepFault.NoMemory) ↔ (error ≡ Error.SqliteFailure ErrorCode.OutOfMemory) }
+{
+    match error {
+        Error::SqliteFailure(ErrorCode::OutOfMemory) => KeepFault::NoMemory,
+        _ => KeepFault::Failed,
+    }
+}
+
+// Counts an answer that is a fault.
+pub(crate) fn count<T: Drop>(faults: &mut u64, answer: &Result<T, KeepFault>)
+    ensures { CountsFaults faults.old faults.new answer.now }
+{
+    if let Err(KeepFault::Failed) = answer {
+        *faults = faults.saturating_add(1);
+    }
+}
+
+// The number in a place of a row, or None where a number of 32 bits isn't there.
+pub(crate) fn number_at(row: &Row, at: usize) -> Option<u32>
+    ensures some { IfSome result (IsNumber (column row.now at)) }
+    ensures none { result ≡ None → (number : ℕ) → ¬ IsNumber (column row.now at) number }
+{
+    match row.get_ref(at) {
+        Ok(ValueRef::Int(number)) => match u32::try_from(number) {
+            Ok(number) => Some(number),
+            Err(_) => None,
+        },
+        _ => None,
+    }
+}
+
+// The text in a place of a row, or None where a text that a label holds isn't there.
+pub(crate) fn label_at(row: &Row, at: usize) -> Option<Label>
+    ensures some { IfSome result (λ label. IsLabel (column row.now at) label.bytes) }
+    ensures none { result ≡ None → (text : List ℕ) → ¬ IsLabel (column row.now at) text }
+{
+    match row.get_ref(at) {
+        Ok(ValueRef::Text(bytes)) => match str::from_utf8(bytes) {
+            Ok(text) => match Label::from(text) {
+                Ok(label) => Some(label),
+                Err(_) => None,
+            },
+            Err(_) => None,
+        },
+        _ => None,
+    }
+}
+
+// The visit of a number whose day and engineer a row has, or None where a visit can't hold them.
+pub(crate) fn visit_of(number: u32, row: &Row) -> Option<Visit>
+    ensures some { IfSome result (λ visit. (visit.number ≡ number) × IsNumber (column row.now 0) visit.day
+        × IsLabel (column row.now 1) visit.engineer.bytes) }
+    ensures none { result ≡ None → (day : ℕ) (engineer : List ℕ) → IsNumber (column row.now 0) day
+        → ¬ IsLabel (column row.now 1) engineer }
+{
+    Some(Visit {
+        number,
+        day: number_at(row, 0)?,
+        engineer: label_at(row, 1)?,
+    })
+}
+
+// The later of a day, where there is one, and another.
+pub(crate) fn later(last: Option<u32>, day: u32) -> u32
+    ensures { Some result ≡ later_day last day }
+{
+    match last {
+        Some(last) => last.max(day),
+        None => day,
+    }
+}
