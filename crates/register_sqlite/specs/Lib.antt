@@ -1,2 +1,5 @@
 pub mod Faults
+pub mod Schema
+pub mod Stored
+pub mod Texts
 pub mod Values
