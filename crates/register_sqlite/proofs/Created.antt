@@ -1,5 +1,5 @@
 -- What the two texts that make the tables make of an empty database.
-use Rattle.std.proofs.Common.{◌≡◌, ℕ, Bool, true, false, cond, List, [], ◌∷◌, map, Some, None, Ok, Result, refl, sym, ap, subst, ◌∙◌}
+use Rattle.std.proofs.Common.{◌≡◌, ℕ, Bool, true, false, cond, [], map, Ok, refl, sym, ap, subst, ◌∙◌}
 use Rattle.sqlite_schema.specs.declared.command.Command.TheVariants.{CreateTable}
 use Rattle.sqlite.specs.Change.{created, next_tree}
 use Rattle.sqlite.specs.Does.{Tally, lacks_sequence}
@@ -58,9 +58,8 @@ tests_created old new count has h =
     let no_visits : new.now.trees 0 ≡ [] = ap (λ (d : Database). d.trees 0) now ∙ kept.0 ∙ has.empty in
     let no_tests : new.now.trees 1 ≡ [] = ap (λ (d : Database). d.trees 1) now ∙ subst (λ s. first.0.trees (next_tree s) ≡ []) has.schema made.empty in
     let none : tables_in new.now.trees ≡ no_tables =
-        ap (λ rows. record { visits = map Rattle.register_sqlite.specs.Stored.visit_in rows; tests = map Rattle.register_sqlite.specs.Stored.test_in (new.now.trees 1) }) no_visits
-        ∙ ap (λ rows. record { visits = []; tests = map Rattle.register_sqlite.specs.Stored.test_in rows }) no_tests in
-    (
+    ap (λ rows. record { visits = map Rattle.register_sqlite.specs.Stored.visit_in rows; tests = map Rattle.register_sqlite.specs.Stored.test_in (new.now.trees 1) }) no_visits
+    ∙ ap (λ rows. record { visits = []; tests = map Rattle.register_sqlite.specs.Stored.test_in rows }) no_tests in (
       record {
         schema = ap (λ (d : Database). d.schema) now ∙ schema;
         settled = committed_now old new old.in_transaction has.autocommit w.shown.committed_is;

@@ -1,14 +1,13 @@
 -- What the two texts that put a row make of a register.
-use Rattle.std.proofs.Common.{◌≡◌, ◌⊎◌, inl, inr, ℕ, ◌+◌, pos, Bool, true, false, List, [], ◌∷◌, ◌++◌, length, map, Some, None, Ok, Option, Result, refl, sym, ap, subst, ◌∙◌, arith, IsTrue}
+use Rattle.std.proofs.Common.{◌≡◌, ◌⊎◌, ℕ, pos, List, [], ◌∷◌, None, Ok, Option, refl, ap, subst, ◌∙◌}
 use Rattle.std.specs.Prelude.{ℤ}
 use Rattle.sqlite_value.specs.Order.{Row}
 use Rattle.sqlite_value.specs.declared.value.Value.TheVariants.{Null, Int, Text}
 use Rattle.sqlite_schema.specs.declared.command.Conflict.TheVariants.{Abort}
 use Rattle.sqlite_schema.specs.declared.command.Command.TheVariants.{InsertOr}
 use Rattle.sqlite_schema.specs.declared.command.Source.TheVariants.{Values}
-use Rattle.sqlite_schema.specs.declared.schema.Keys.TheVariants.{Enforced}
-use Rattle.sqlite_rules.specs.Edit.{with_rowid, edit_of, edited, next_rowid}
-use Rattle.sqlite_rules.specs.declared.error.Rowids.TheVariants.{Chosen, Given}
+use Rattle.sqlite_rules.specs.Edit.{with_rowid, next_rowid}
+use Rattle.sqlite_rules.specs.declared.error.Rowids.TheVariants.{Chosen}
 use Rattle.sqlite.specs.Cast.{cast, cast_row}
 use Rattle.sqlite_schema.specs.declared.schema.Kind.TheVariants.{Integer}
 use Rattle.sqlite.specs.Does.{Does, Tally}
@@ -19,15 +18,10 @@ use Rattle.sqlite.specs.declared.run.Mode.{Mode}
 use Rattle.service_keepers.specs.Tables.{TestRow, VisitRow}
 use Rattle.register_sqlite.specs.Schema.{register_schema, tests_table, visits_table}
 use Rattle.register_sqlite.specs.Stored.{stored_test, stored_visit}
+use Rattle.register_sqlite.specs.Texts.{test_params, visit_params}
 use Rattle.register_sqlite.proofs.Compared.{cast_null, cast_number}
 use Rattle.register_sqlite.proofs.Parts.{PassesOver, PutsRow, do_nothing, same_value, tried, went}
 use Rattle.register_sqlite.proofs.Understood.{test_terms, visit_terms}
-
-abbrev pub visit_params : VisitRow → Row
-visit_params visit = Int (pos visit.number) ∷ Int (pos visit.day) ∷ Text visit.engineer ∷ []
-
-abbrev pub test_params : TestRow → Row
-test_params test = Int (pos test.visit) ∷ Text test.point ∷ []
 
 pub visit_cast : (visit : VisitRow) → cast_row visits_table (Int (pos visit.number) ∷ Null ∷ Int (pos visit.day) ∷ Text visit.engineer ∷ []) ≡ stored_visit visit
 visit_cast visit =
@@ -69,7 +63,7 @@ module _ (limit : Option ℕ) (mode : Mode) (db : Trees) (text : List ℕ) (tall
       let new_is = ap (with_rowid Chosen (db 0)) (visit_cast visit) in
       let tries = subst (λ new. Tries task Abort do_nothing new db (Ok first.0)) new_is first.1 in
       let trees : done.0.trees ≡ first.0.trees =
-          ap (λ (w : Written). w.trees) (same_value last.2) ∙ same_value last.1 ∙ ap (λ (p : Written × ℤ). p.0.trees) (same_value first.2) in
+      ap (λ (w : Written). w.trees) (same_value last.2) ∙ same_value last.1 ∙ ap (λ (p : Written × ℤ). p.0.trees) (same_value first.2) in
       (first.0, tried task (stored_visit visit) db first.0 (λ news. refl) tries, now ∙ ap (λ trees. record { schema = register_schema; trees = trees }) trees)
 
   pub test_written : (test : TestRow)
@@ -91,5 +85,5 @@ module _ (limit : Option ℕ) (mode : Mode) (db : Trees) (text : List ℕ) (tall
       let new_is = ap (with_rowid Chosen (db 1)) (test_source_cast test) ∙ ap (λ id. Int id ∷ Int (pos test.visit) ∷ Text test.point ∷ []) next in
       let tries = subst (λ new. Tries task Abort do_nothing new db (Ok first.0)) new_is first.1 in
       let trees : done.0.trees ≡ first.0.trees =
-          ap (λ (w : Written). w.trees) (same_value last.2) ∙ same_value last.1 ∙ ap (λ (p : Written × ℤ). p.0.trees) (same_value first.2) in
+      ap (λ (w : Written). w.trees) (same_value last.2) ∙ same_value last.1 ∙ ap (λ (p : Written × ℤ). p.0.trees) (same_value first.2) in
       (first.0, tried task (stored_test place test) db first.0 (λ news. refl) tries, now ∙ ap (λ trees. record { schema = register_schema; trees = trees }) trees)

@@ -1,7 +1,7 @@
 -- What putting a visit or a test makes of the rows.
-use Rattle.std.proofs.Common.{◌≡◌, ◌⊎◌, ◌&&◌, ◌||◌, inl, inr, ℕ, zero, suc, ◌+◌, ◌<◌, ◌≤◌, pos, Bool, true, false, not, List, [], ◌∷◌, ◌++◌, length, map, Option, Some, None, refl, sym, ap, subst, ◌∙◌, arith}
+use Rattle.std.proofs.Common.{◌≡◌, ◌&&◌, ◌||◌, inl, inr, ℕ, ◌+◌, ◌≤◌, pos, Bool, true, false, not, List, [], ◌∷◌, ◌++◌, length, map, Option, Some, None, refl, sym, ap, subst, ◌∙◌, arith}
 use Rattle.std.specs.Prelude.{◌==◌, ◌+ℤ◌, ℤ, is_none, if◌then◌else◌}
-use Rattle.std.specs.List.{find, fold, list_any}
+use Rattle.std.specs.List.{fold}
 use Rattle.std.specs.Ordering.{is_eq}
 use Rattle.std.specs.Str.{bytes_eq}
 use Rattle.std.specs.declared.cmp.Ordering.{Ordering}
@@ -15,11 +15,10 @@ use Rattle.sqlite_value.specs.Keys.{plain, first_key}
 use Rattle.sqlite_value.specs.Order.{Row, value_cmp}
 use Rattle.sqlite_value.specs.declared.keys.Collation.{Collation}
 use Rattle.sqlite_value.specs.declared.keys.Collation.TheVariants.{Binary}
-use Rattle.sqlite_value.specs.declared.value.Value.{Value}
-use Rattle.sqlite_value.specs.declared.value.Value.TheVariants.{Null, Int, Text}
+use Rattle.sqlite_value.specs.declared.value.Value.TheVariants.{Int, Text}
 use Rattle.sqlite_value.proofs.KeyLemmas.{first_key-plain}
 use Rattle.sqlite_schema.specs.Rules.{equal}
-use Rattle.sqlite_rules.specs.Edit.{id_in, next_rowid}
+use Rattle.sqlite_rules.specs.Edit.{id_in}
 use Rattle.sqlite_rules.specs.Keys.{conflicts}
 use Rattle.sqlite_rules.specs.Lists.{Has}
 use Rattle.sqlite_trees.specs.Tree.{put_row, rowid}
@@ -86,11 +85,11 @@ pub found_visit : (visit : VisitRow) (visits : List VisitRow) (row : Row) → Ha
 found_visit visit [] row has clash = absurd has
 found_visit visit (other ∷ rest) row (inl same) clash =
     let hit : (other.number == visit.number) ≡ true = sym (visit_conflicts visit other)
-        ∙ subst (λ r. conflicts None (tests_index ∷ []) visits_table (stored_visit visit) r ≡ true) same clash in
+    ∙ subst (λ r. conflicts None (tests_index ∷ []) visits_table (stored_visit visit) r ≡ true) same clash in
     (other, rw hit refl)
 found_visit visit (other ∷ rest) row (inr has) clash =
     let more = found_visit visit rest row has clash in
-    elim (cases_Bool (other.number == visit.number)) [ | inl hit ↦ (other, rw hit refl) | inr missed ↦ (more.0, rw missed more.1) ]
+    elim (cases_Bool (other.number == visit.number)) [ inl hit ↦ (other, rw hit refl) | inr missed ↦ (more.0, rw missed more.1) ]
 
 pub none_found : (visit : VisitRow) (visits : List VisitRow)
     → ((row : Row) → Has (map stored_visit visits) row → conflicts None (tests_index ∷ []) visits_table (stored_visit visit) row ≡ true → ⊥)
@@ -163,12 +162,12 @@ pub found_test : (place last : ℕ) (tests : List TestRow) (test : TestRow) (row
 found_test place last [] test row low has clash = absurd has
 found_test place last (first ∷ rest) test row low (inl same) clash =
     let either : ((place == last) || is_same_test test first) ≡ true = sym (test_conflicts last place test first)
-        ∙ subst (λ r. conflicts None (tests_index ∷ []) tests_table (stored_test last test) r ≡ true) same clash in
+    ∙ subst (λ r. conflicts None (tests_index ∷ []) tests_table (stored_test last test) r ≡ true) same clash in
     let hit : is_same_test test first ≡ true = ap (λ b. b || is_same_test test first) (sym (apart place last (omega (arith, low)))) ∙ either in
     rw hit refl
 found_test place last (first ∷ rest) test row low (inr has) clash =
     let more = found_test (place + 1) last rest test row (omega (arith, low)) has clash in
-    elim (cases_Bool (is_same_test test first)) [ | inl hit ↦ rw hit refl | inr missed ↦ rw missed more ]
+    elim (cases_Bool (is_same_test test first)) [ inl hit ↦ rw hit refl | inr missed ↦ rw missed more ]
 
 pub no_test : (place last : ℕ) (tests : List TestRow) (test : TestRow)
     → ((row : Row) → Has (stored_tests place tests) row → conflicts None (tests_index ∷ []) tests_table (stored_test last test) row ≡ true → ⊥)
@@ -196,7 +195,7 @@ distinct_tests_with (first ∷ rest) test distinct none =
     let passed = or_parts (is_same_test test first) (has_test test rest) none in
     let other : is_same_test first test ≡ false = same_test_symm first test ∙ passed.0 in
     let gone : has_test first (rest ++ test ∷ []) ≡ has_test first rest =
-        list_any-append (is_same_test first) rest (test ∷ []) ∙ rw other (or_false (has_test first rest)) in
+    list_any-append (is_same_test first) rest (test ∷ []) ∙ rw other (or_false (has_test first rest)) in
     and_from (not (has_test first (rest ++ test ∷ []))) (are_distinct_tests (rest ++ test ∷ [])) (ap not gone ∙ parts.0) (distinct_tests_with rest test parts.1 passed.1)
   where
     or_false : (b : Bool) → (b || false) ≡ b

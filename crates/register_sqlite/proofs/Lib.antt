@@ -1,3 +1,4 @@
+pub mod Asked
 pub mod Compared
 pub mod Created
 pub mod Inserted
@@ -6,4 +7,5 @@ pub mod Parts
 pub mod Queried
 pub mod Registered
 pub mod States
+pub mod Steady
 pub mod Understood

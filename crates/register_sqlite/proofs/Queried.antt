@@ -1,24 +1,23 @@
 -- What the two texts that read answer over a register.
-use Rattle.std.proofs.Common.{◌≡◌, ◌&&◌, ◌||◌, inl, inr, ℕ, ◌+◌, ◌≤◌, pos, Bool, true, false, List, [], ◌∷◌, ◌++◌, length, map, Some, None, Ok, Option, refl, sym, ap, subst, ◌∙◌, arith}
-use Rattle.std.specs.Prelude.{◌==◌, if◌then◌else◌, is_none, max, option_map, filter, flat_map, nat_lt}
+use Rattle.std.proofs.Common.{◌≡◌, ◌&&◌, ◌||◌, inl, inr, ℕ, ◌+◌, pos, Bool, true, false, List, [], ◌∷◌, length, map, Some, None, Option, refl, sym, ap, subst, ◌∙◌, arith}
+use Rattle.std.specs.Prelude.{◌==◌, if◌then◌else◌, is_none, filter, flat_map, nat_lt}
 use Rattle.std.specs.List.{filter_map, fold, list_all, list_any}
 use Rattle.std.specs.List.Sorted.{IsPermutation}
 use Rattle.std.specs.Option.{option_to_list}
-use Rattle.std.specs.Str.{bytes_eq}
 use Rattle.std.proofs.lemmas.Bool.{and_parts, cases_Bool}
 use Rattle.std.proofs.lemmas.List.Sorted.{length_permutation, list_any-IsPermutation}
 use Rattle.std.proofs.lemmas.Option.{none-some}
-use Rattle.sqlite_value.specs.Order.{Row, column}
+use Rattle.sqlite_value.specs.Order.{Row}
 use Rattle.sqlite_value.specs.declared.value.Value.TheVariants.{Int, Text}
 use Rattle.sqlite_sql.specs.Term.{Env, holds}
 use Rattle.sqlite.specs.Program.{overlay}
 use Rattle.sqlite.specs.Query.{IsAnswer, Output, output, page}
-use Rattle.sqlite.specs.Command.TheVariants.{Select}
 use Rattle.sqlite.specs.State.{Shown, State}
 use Rattle.sqlite.proofs.Callers.{one_permutation, reads_as}
-use Rattle.service_keepers.specs.Tables.{Tables, TestRow, VisitRow, day_of_test, have_distinct_numbers, last_day_of, last_of_days, later_day, tests_point, visit_numbered}
+use Rattle.service_keepers.specs.Tables.{TestRow, VisitRow, day_of_test, have_distinct_numbers, last_day_of, last_of_days, later_day, tests_point, visit_numbered}
+use Rattle.register_sqlite.specs.Days.{day_shown}
 use Rattle.register_sqlite.specs.Schema.{register_schema}
-use Rattle.register_sqlite.specs.Stored.{IsRegister, number_in, stored_test, stored_tests, stored_visit, tables_in}
+use Rattle.register_sqlite.specs.Stored.{IsRegister, stored_test, stored_tests, stored_visit, tables_in}
 use Rattle.register_sqlite.specs.Texts.{select_tests_text, select_visit_text}
 use Rattle.register_sqlite.proofs.Compared.{equal_numbers, equal_texts}
 use Rattle.register_sqlite.proofs.Understood.{select_tests_command, select_tests_plain, select_tests_unlisted, select_visit_command, select_visit_plain, select_visit_unlisted, tests_query, visit_query}
@@ -97,7 +96,7 @@ module _ (old new : State) (register : IsRegister old) (rows : List Row) where
       let reads = reads_as select_visit_text params old new register_schema register.schema _ select_visit_command select_visit_plain select_visit_unlisted rows h in
       let a : IsAnswer visit_query (overlay old.now.trees []) params rows = reads.answer Rattle.sqlite_value.specs.declared.value.Value.TheVariants.Null in
       let matched = ap (flat_map (λ (r : Row). if list_all (holds (params ∷ r ∷ [])) visit_query.filter then (params ∷ r ∷ []) ∷ [] else [])) register.visits
-          ∙ matching_visits number visits ∙ ap (map (visit_env params)) (one_left number visits register.distinct.visits) in
+      ∙ matching_visits number visits ∙ ap (map (visit_env params)) (one_left number visits register.distinct.visits) in
       let kept = a.distinct ∙ ap (map (output visit_query)) (a.grouped ∙ matched) in
       let listed = kept ∙ outputs params found in
       let ordered = one_in_order found a.ordered (subst (λ k. IsPermutation k a.ordered) listed a.same) in
@@ -168,10 +167,6 @@ any_of_map : {X Y : Type 0} (p : Y → Bool) (f : X → Y) (xs : List X) → lis
 any_of_map p f [] = refl
 any_of_map p f (x ∷ xs) = ap (λ b. p (f x) || b) (any_of_map p f xs)
 
--- the day of the visit whose number a row shows
-abbrev pub day_shown : List VisitRow → Row → Option ℕ
-day_shown visits row = option_map (λ (v : VisitRow). v.day) (visit_numbered (number_in (column row 0)) visits)
-
 module _ (old new : State) (register : IsRegister old) (rows : List Row) where
   pub last_day_shown : (point : List ℕ) → Shown select_tests_text (Text point ∷ []) old new rows
       → last_of_days (filter_map (day_shown (tables_in old.now.trees).visits) rows) ≡ last_day_of point (tables_in old.now.trees)
@@ -182,14 +177,14 @@ module _ (old new : State) (register : IsRegister old) (rows : List Row) where
       let reads = reads_as select_tests_text params old new register_schema register.schema _ select_tests_command select_tests_plain select_tests_unlisted rows h in
       let a : IsAnswer tests_query (overlay old.now.trees []) params rows = reads.answer Rattle.sqlite_value.specs.declared.value.Value.TheVariants.Null in
       let matched = ap (λ all. map (output tests_query) (flat_map (λ (r : Row). if list_all (holds (params ∷ r ∷ [])) tests_query.filter then (params ∷ r ∷ []) ∷ [] else []) all)) register.tests
-          ∙ matching_tests point 1 tests in
+      ∙ matching_tests point 1 tests in
       let kept = a.distinct ∙ ap (map (output tests_query)) a.grouped ∙ matched in
       let perm = subst (λ k. IsPermutation k a.ordered) kept a.same in
       let row_days = day_shown visits in
       same_reach _ _ (λ at.
-        let q : Row → Bool = λ row. reaches (row_days row) at in
-        days_reach (filter_map row_days rows) None at ∙ any_of_some row_days at rows ∙ ap (list_any q) a.shown ∙ any_of_map q (λ (p : Output). p.1) a.ordered
-        ∙ sym (list_any-IsPermutation (λ (p : Output). q p.1) (map test_output (filter (tests_point point) tests)) a.ordered perm)
-        ∙ any_of_map (λ (p : Output). q p.1) test_output (filter (tests_point point) tests)
-        ∙ sym (any_of_some (day_of_test visits) at (filter (tests_point point) tests))
-        ∙ sym (days_reach (filter_map (day_of_test visits) (filter (tests_point point) tests)) None at))
+      let q : Row → Bool = λ row. reaches (row_days row) at in
+      days_reach (filter_map row_days rows) None at ∙ any_of_some row_days at rows ∙ ap (list_any q) a.shown ∙ any_of_map q (λ (p : Output). p.1) a.ordered
+      ∙ sym (list_any-IsPermutation (λ (p : Output). q p.1) (map test_output (filter (tests_point point) tests)) a.ordered perm)
+      ∙ any_of_map (λ (p : Output). q p.1) test_output (filter (tests_point point) tests)
+      ∙ sym (any_of_some (day_of_test visits) at (filter (tests_point point) tests))
+      ∙ sym (days_reach (filter_map (day_of_test visits) (filter (tests_point point) tests)) None at))

@@ -1,7 +1,6 @@
 -- A register that a visit or a test was put into is one still, and has it.
 use Rattle.std.proofs.Common.{◌≡◌, ◌≢◌, ◌⊎◌, inl, inr, ℕ, ◌+◌, pos, Bool, true, false, cond, List, [], ◌∷◌, ◌++◌, length, map, Some, None, Ok, Option, Result, refl, sym, ap, subst, ◌∙◌, arith, IsTrue}
 use Rattle.sqlite_value.specs.Order.{Row}
-use Rattle.sqlite_schema.specs.declared.command.Command.{Command}
 use Rattle.sqlite_schema.specs.declared.command.Conflict.TheVariants.{Abort}
 use Rattle.sqlite_schema.specs.declared.command.Command.TheVariants.{InsertOr}
 use Rattle.sqlite_schema.specs.declared.command.Source.TheVariants.{Values}
@@ -11,16 +10,16 @@ use Rattle.sqlite_trees.specs.Tree.{put_row}
 use Rattle.sqlite.specs.Does.{Does}
 use Rattle.sqlite.specs.Effect.{Database}
 use Rattle.sqlite.specs.Listing.{understood}
-use Rattle.sqlite.specs.Rows.{Written, nothing}
-use Rattle.sqlite.specs.State.{Executes, State, Writes, mode_of}
+use Rattle.sqlite.specs.Rows.{Written}
+use Rattle.sqlite.specs.State.{Executes, State, mode_of}
 use Rattle.sqlite.specs.Tree.{Trees}
 use Rattle.sqlite.proofs.Callers.{runs_as, statement_of}
 use Rattle.service_keepers.specs.Keeping.{PutsTest, PutsVisit}
-use Rattle.service_keepers.specs.Tables.{AreDistinct, Tables, TestRow, VisitRow, are_distinct_tests, has_test, have_distinct_numbers, visit_numbered}
+use Rattle.service_keepers.specs.Tables.{AreDistinct, Tables, TestRow, VisitRow, are_distinct_tests, have_distinct_numbers, visit_numbered}
 use Rattle.register_sqlite.specs.Schema.{register_schema}
 use Rattle.register_sqlite.specs.Stored.{IsRegister, stored_test, stored_tests, stored_visit, tables_in, test_in, visit_in}
-use Rattle.register_sqlite.specs.Texts.{insert_test_text, insert_visit_text}
-use Rattle.register_sqlite.proofs.Inserted.{test_cast, test_params, test_written, tests_task, visit_cast, visit_params, visit_written, visits_task}
+use Rattle.register_sqlite.specs.Texts.{insert_test_text, insert_visit_text, test_params, visit_params}
+use Rattle.register_sqlite.proofs.Inserted.{test_cast, test_written, tests_task, visit_cast, visit_written, visits_task}
 use Rattle.register_sqlite.proofs.Kept.{distinct_numbers_with, distinct_tests_with, found_test, found_visit, next_place, no_test, none_found, put_among, put_last, unstored_tests, unstored_visits}
 use Rattle.register_sqlite.proofs.Parts.{PassesOver, PutsRow, do_nothing}
 use Rattle.register_sqlite.proofs.Understood.{insert_test_command, insert_test_plain, insert_visit_command, insert_visit_plain, test_terms, visit_terms}
@@ -44,8 +43,7 @@ module _ (old new : State) (register : IsRegister old) (one : Written) (now : ne
   -- where nothing was put
   same_register : one.trees ≡ old.now.trees → IsRegister new × (tables_in new.now.trees ≡ tables_in old.now.trees)
   same_register same =
-      let trees : new.now.trees ≡ old.now.trees = trees_are ∙ same in
-      (
+      let trees : new.now.trees ≡ old.now.trees = trees_are ∙ same in (
         record {
           schema = ap (λ (d : Database). d.schema) now;
           settled = committed;
@@ -65,8 +63,7 @@ module _ (old new : State) (register : IsRegister old) (one : Written) (now : ne
       let first_now : new.now.trees 0 ≡ map stored_visit visits = ap (λ (t : Trees). t 0) trees_are ∙ first in
       let second_now : new.now.trees 1 ≡ stored_tests 1 tests = ap (λ (t : Trees). t 1) trees_are ∙ second in
       let are_visits : (tables_in new.now.trees).visits ≡ visits = ap (map visit_in) first_now ∙ unstored_visits visits in
-      let are_tests : (tables_in new.now.trees).tests ≡ tests = ap (map test_in) second_now ∙ unstored_tests 1 tests in
-      (
+      let are_tests : (tables_in new.now.trees).tests ≡ tests = ap (map test_in) second_now ∙ unstored_tests 1 tests in (
         record {
           schema = ap (λ (d : Database). d.schema) now;
           settled = committed;

@@ -1,5 +1,5 @@
 -- What stays of a register whatever a text did that failed or only read.
-use Rattle.std.proofs.Common.{◌≡◌, ◌⊎◌, inl, inr, ℕ, Bool, true, false, List, [], append-nil, Some, None, Ok, Err, Option, Result, refl, sym, ap, subst, ◌∙◌, IsTrue}
+use Rattle.std.proofs.Common.{◌≡◌, inl, inr, ℕ, false, List, append-nil, map, Some, None, Err, Option, sym, ap, subst, ◌∙◌, IsTrue}
 use Rattle.std.proofs.lemmas.Bool.{cases_Bool}
 use Rattle.sqlite_value.specs.Order.{Row}
 use Rattle.sqlite_schema.specs.declared.command.Returning.{Returning}
@@ -9,14 +9,9 @@ use Rattle.sqlite.specs.Effect.{Database}
 use Rattle.sqlite.specs.Given.{IsPlain}
 use Rattle.sqlite.specs.Listing.{understood}
 use Rattle.sqlite.specs.State.{Executes, ExecutesIn, Fails, FailsToQuery, FailsToShow, IsNotRun, IsRolledBack, IsUnchanged, RunsCommand, Shown, State, shows_rows}
+use Rattle.service_keepers.specs.Tables.{AreDistinct}
 use Rattle.register_sqlite.specs.Schema.{register_schema}
-use Rattle.register_sqlite.specs.Stored.{IsRegister}
-
--- the register is there as it was
-pub record Stays (old new : State) : Type 0 where
-  pub register : IsRegister new
-  pub same : new.now ≡ old.now
-  pub was_open : IsTrue old.is_open
+use Rattle.register_sqlite.specs.Stored.{IsRegister, Stays, stored_tests, stored_visit, tables_in}
 
 module _ (old new : State) (register : IsRegister old) (open_now : IsTrue new.is_open) where
   stays : IsTrue old.is_open → new.now ≡ old.now → new.committed ≡ old.now → new.in_transaction ≡ false → Stays old new
@@ -25,9 +20,9 @@ module _ (old new : State) (register : IsRegister old) (open_now : IsTrue new.is
       schema = ap (λ (d : Database). d.schema) now ∙ register.schema;
       settled = committed ∙ sym now;
       autocommit = autocommit;
-      visits = subst (λ (d : Database). d.trees 0 ≡ Rattle.std.specs.Prelude.map Rattle.register_sqlite.specs.Stored.stored_visit (Rattle.register_sqlite.specs.Stored.tables_in d.trees).visits) (sym now) register.visits;
-      tests = subst (λ (d : Database). d.trees 1 ≡ Rattle.register_sqlite.specs.Stored.stored_tests 1 (Rattle.register_sqlite.specs.Stored.tables_in d.trees).tests) (sym now) register.tests;
-      distinct = subst (λ (d : Database). Rattle.service_keepers.specs.Tables.AreDistinct (Rattle.register_sqlite.specs.Stored.tables_in d.trees)) (sym now) register.distinct;
+      visits = subst (λ (d : Database). d.trees 0 ≡ map stored_visit (tables_in d.trees).visits) (sym now) register.visits;
+      tests = subst (λ (d : Database). d.trees 1 ≡ stored_tests 1 (tables_in d.trees).tests) (sym now) register.tests;
+      distinct = subst (λ (d : Database). AreDistinct (tables_in d.trees)) (sym now) register.distinct;
     };
     same = now;
     was_open = was;

@@ -1,5 +1,5 @@
 -- The two tables of the register, as the database reads the texts that make them.
-use Rattle.std.specs.Prelude.{◌++◌, true, false, List, [], ◌∷◌, Some, None, codes, ℕ, Bool}
+use Rattle.std.specs.Prelude.{true, false, List, [], ◌∷◌, Some, None, codes, ℕ, Bool}
 use Rattle.sqlite_value.specs.Keys.{plain}
 use Rattle.sqlite_value.specs.declared.keys.Collation.TheVariants.{Binary}
 use Rattle.sqlite_value.specs.declared.value.Value.TheVariants.{Null}

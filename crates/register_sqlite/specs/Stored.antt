@@ -1,10 +1,13 @@
 -- The rows in which the database keeps the register, and when it keeps one.
-use Rattle.std.specs.Prelude.{◌≡◌, ◌≢◌, ℕ, ◌+◌, pos, Bool, false, List, [], ◌∷◌, map, IfOk, IfSome, Option, None, Some, option_map, Result, OnOk, OnErr}
+use Rattle.std.specs.Prelude.{◌≡◌, ℕ, ◌+◌, pos, false, List, [], ◌∷◌, map, IfOk, IsTrue, Result, OnOk, OnErr}
 use Rattle.sqlite_value.specs.Order.{Row, bytes, column}
 use Rattle.sqlite_value.specs.declared.value.Value.{Value}
 use Rattle.sqlite_value.specs.declared.value.Value.TheVariants.{Null, Int, Text}
 use Rattle.sqlite.specs.Tree.{Trees}
-use Rattle.sqlite.specs.State.{State}
+use Rattle.sqlite.specs.Held.{Held, state}
+use Rattle.sqlite.specs.State.{HasCleanDisk, State}
+use Rattle.sqlite.specs.Store.{Ghosts}
+use Rattle.service_keepers.specs.declared.keep_fault.KeepFault.{KeepFault}
 use Rattle.service_keepers.specs.Tables.{AreDistinct, Tables, TestRow, VisitRow}
 use Rattle.register_sqlite.specs.Schema.{register_schema}
 
@@ -47,3 +50,26 @@ pub record IsRegister (s : State) : Type 0 where
   pub visits : s.now.trees 0 ≡ map stored_visit (tables_in s.now.trees).visits
   pub tests : s.now.trees 1 ≡ stored_tests 1 (tables_in s.now.trees).tests
   pub distinct : AreDistinct (tables_in s.now.trees)
+
+-- a register is there as it was
+pub record Stays (old new : State) : Type 0 where
+  pub register : IsRegister new
+  pub same : new.now ≡ old.now
+  pub was_open : IsTrue old.is_open
+
+-- ---- what a call makes of a register and answers
+
+-- its tables are changed by a step where the call is answered Ok, and else are as they were
+pub record Changes (step : Tables → Tables → Type 0) (old new : State) (result : Result (Unit {0}) KeepFault) : Type 0 where
+  pub register : IsRegister new
+  pub ok : OnOk result (step (tables_in old.now.trees) (tables_in new.now.trees))
+  pub err : OnErr result (tables_in new.now.trees ≡ tables_in old.now.trees)
+
+-- the register stays, and what is answered is so of its tables
+pub record Answers {T : Type 0} (IsSo : T → Tables → Type 0) (old new : State) (result : Result T KeepFault) : Type 0 where
+  pub stays : Stays old new
+  pub so : IfOk result (λ answer. IsSo answer (tables_in old.now.trees))
+
+-- a store neither fails nor loses what was written, as memory never does
+abbrev pub IsSteady : {S : Type 0} → Ghosts S → Type 0
+IsSteady {S} store = (held : Held S) → HasCleanDisk (state store held) × IsTrue (state store held).is_open

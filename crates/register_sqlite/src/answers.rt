@@ -1,9 +1,10 @@
 //! What the database answers, as the keeper's caller gets it.
 
-ghost use Rattle.std.specs.Prelude.{◌≡◌, ◌↔◌, ℕ, List, None, IfSome, max, Some};
-ghost use Rattle.service_keepers.specs.Tables.{later_day};
+ghost use Rattle.std.specs.Prelude.{◌≡◌, ◌↔◌, ℕ, List, IfSome, option_map};
+ghost use Rattle.service_keepers.specs.declared.visit.Visit.{Visit};
 ghost use Rattle.sqlite.specs.Order.{column};
 ghost use Rattle.register_sqlite.specs.Faults.{CountsFaults};
+ghost use Rattle.register_sqlite.specs.Days.{later_or};
 ghost use Rattle.register_sqlite.specs.Values.{IsLabel, IsNumber};
 
 use panel_edges::Label;
@@ -75,12 +76,23 @@ pub(crate) fn visit_of(number: u32, row: &Row) -> Option<Visit>
     })
 }
 
-// The later of a day, where there is one, and another.
-pub(crate) fn later(last: Option<u32>, day: u32) -> u32
-    ensures { Some result ≡ later_day last day }
+// The day of a visit, where there is one.
+pub(crate) fn day_of(visit: Option<Visit>) -> Option<u32>
+    ensures { result ≡ option_map (λ (visit : Visit). visit.day) visit }
 {
-    match last {
-        Some(last) => last.max(day),
-        None => day,
+    match visit {
+        Some(visit) => Some(visit.day),
+        None => None,
+    }
+}
+
+// The later of two days, of which either may be missing.
+pub(crate) fn later(last: Option<u32>, day: Option<u32>) -> Option<u32>
+    ensures { result ≡ later_or last day }
+{
+    match (last, day) {
+        (Some(last), Some(day)) => Some(last.max(day)),
+        (None, Some(day)) => Some(day),
+        (last, None) => last,
     }
 }

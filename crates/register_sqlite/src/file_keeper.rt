@@ -16,23 +16,23 @@ impl TableKeeper<FileStore<File>> {
     {
         TableKeeper {
             place: DatabaseFile { rt, path },
-            conn: None,
+            database: None,
             faults: 0,
         }
     }
 
     // Opens the database where it isn't open.
     fn open(&mut self) -> Result<(), KeepFault>
-        ensures open { OnOk result (IsSome self.new.conn) }
+        ensures open { OnOk result (IsSome self.new.database) }
         ensures count { self.new.faults ≡ self.old.faults }
     {
-        if self.conn.is_none() {
+        if self.database.is_none() {
             let mut conn = match Connection::open(&self.place.rt, self.place.path.as_str()) {
                 Ok(conn) => conn,
                 Err(error) => return Err(fault_of(error)),
             };
             make_tables(&mut conn)?;
-            self.conn = Some(conn);
+            self.database = Some(conn);
         }
         Ok(())
     }
@@ -52,7 +52,7 @@ impl Keeper for TableKeeper<FileStore<File>> {
     fn put_visit(&mut self, visit: &Visit) -> Result<(), KeepFault>
         ensures { CountsFaults self.old.faults self.new.faults result }
     {
-        let answer = match (self.open(), &mut self.conn) {
+        let answer = match (self.open(), &mut self.database) {
             (Ok(()), Some(conn)) => asking::put_visit(conn, visit),
             (Ok(()), None) => unreachable!(),
             (Err(fault), _) => Err(fault),
@@ -64,7 +64,7 @@ impl Keeper for TableKeeper<FileStore<File>> {
     fn find_visit(&mut self, number: u32) -> Result<Option<Visit>, KeepFault>
         ensures { CountsFaults self.old.faults self.new.faults result }
     {
-        let answer = match (self.open(), &mut self.conn) {
+        let answer = match (self.open(), &mut self.database) {
             (Ok(()), Some(conn)) => asking::find_visit(conn, number),
             (Ok(()), None) => unreachable!(),
             (Err(fault), _) => Err(fault),
@@ -76,7 +76,7 @@ impl Keeper for TableKeeper<FileStore<File>> {
     fn put_test(&mut self, visit: u32, point: &Label) -> Result<(), KeepFault>
         ensures { CountsFaults self.old.faults self.new.faults result }
     {
-        let answer = match (self.open(), &mut self.conn) {
+        let answer = match (self.open(), &mut self.database) {
             (Ok(()), Some(conn)) => asking::put_test(conn, visit, point),
             (Ok(()), None) => unreachable!(),
             (Err(fault), _) => Err(fault),
@@ -88,7 +88,7 @@ impl Keeper for TableKeeper<FileStore<File>> {
     fn last_day(&mut self, point: &Label) -> Result<Option<u32>, KeepFault>
         ensures { CountsFaults self.old.faults self.new.faults result }
     {
-        let answer = match (self.open(), &mut self.conn) {
+        let answer = match (self.open(), &mut self.database) {
             (Ok(()), Some(conn)) => asking::last_day(conn, point),
             (Ok(()), None) => unreachable!(),
             (Err(fault), _) => Err(fault),

@@ -1,17 +1,24 @@
+use crate::memory_database::MemoryDatabase;
 use sqlite::{Alter, Connection, File, FileStore, MemStore};
 use std::alloc::Global;
 
-/// A store of databases, and what a keeper needs to open one there.
+/// A store of databases: what a keeper needs to open one there, and what it has once it is open.
 pub trait TableStore: Alter + Drop {
     type Place: Drop;
+
+    type Database: Drop;
 }
 
 impl TableStore for MemStore {
     type Place = Global;
+
+    type Database = MemoryDatabase;
 }
 
 impl TableStore for FileStore<File> {
     type Place = DatabaseFile;
+
+    type Database = Connection<FileStore<File>>;
 }
 
 /// A file that has a database or shall get one.
@@ -25,6 +32,6 @@ pub struct DatabaseFile {
 #[derive(Drop)]
 pub struct TableKeeper<S: TableStore> {
     pub(crate) place: S::Place,
-    pub(crate) conn: Option<Connection<S>>,
+    pub(crate) database: Option<S::Database>,
     pub(crate) faults: u64,
 }
