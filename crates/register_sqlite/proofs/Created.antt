@@ -5,11 +5,12 @@ use Rattle.sqlite.specs.Change.{created, next_tree}
 use Rattle.sqlite.specs.Does.{Tally, lacks_sequence}
 use Rattle.sqlite.specs.Effect.{Database}
 use Rattle.sqlite.specs.State.{Executes, State}
+use Rattle.sqlite.specs.Tree.{Trees}
 use Rattle.sqlite_catalog.specs.Change.{KeepsRows}
 use Rattle.sqlite.proofs.Callers.{runs_as}
-use Rattle.service_keepers.specs.Tables.{no_tables}
+use Rattle.service_keepers.specs.Tables.{AreDistinct, no_tables}
 use Rattle.register_sqlite.specs.Schema.{no_schema, register_schema, tests_table, visits_schema, visits_table}
-use Rattle.register_sqlite.specs.Stored.{IsRegister, stored_tests, stored_visit, tables_in}
+use Rattle.register_sqlite.specs.Stored.{IsRegister, stored_tests, stored_visit, tables_in, test_in, visit_in}
 use Rattle.register_sqlite.specs.Texts.{create_tests_text, create_visits_text}
 use Rattle.register_sqlite.proofs.Parts.{same_value, went}
 use Rattle.register_sqlite.proofs.Understood.{tests_command, tests_defined, tests_made, tests_plain, visits_command, visits_defined, visits_made, visits_plain}
@@ -43,6 +44,11 @@ visits_created old new count has autocommit h =
       autocommit = w.shown.mode ∙ autocommit;
     }
 
+both_empty : (trees : Trees) → trees 0 ≡ [] → trees 1 ≡ [] → tables_in trees ≡ no_tables
+both_empty trees first second =
+    ap (λ rows. record { visits = map visit_in rows; tests = map test_in (trees 1) }) first
+    ∙ ap (λ rows. record { visits = []; tests = map test_in rows }) second
+
 pub tests_created : (old new : State) (count : ℕ) → HasVisits old → Executes create_tests_text [] old new (Ok count) → IsRegister new × (tables_in new.now.trees ≡ no_tables)
 tests_created old new count has h =
     let w = runs_as create_tests_text [] old new visits_schema has.schema CreateTable tests_command tests_plain count h in
@@ -57,16 +63,14 @@ tests_created old new count has h =
     let kept = subst (λ s. KeepsRows s.tables old.now.trees first.0.trees) has.schema made.others in
     let no_visits : new.now.trees 0 ≡ [] = ap (λ (d : Database). d.trees 0) now ∙ kept.0 ∙ has.empty in
     let no_tests : new.now.trees 1 ≡ [] = ap (λ (d : Database). d.trees 1) now ∙ subst (λ s. first.0.trees (next_tree s) ≡ []) has.schema made.empty in
-    let none : tables_in new.now.trees ≡ no_tables =
-    ap (λ rows. record { visits = map Rattle.register_sqlite.specs.Stored.visit_in rows; tests = map Rattle.register_sqlite.specs.Stored.test_in (new.now.trees 1) }) no_visits
-    ∙ ap (λ rows. record { visits = []; tests = map Rattle.register_sqlite.specs.Stored.test_in rows }) no_tests in (
+    let none : tables_in new.now.trees ≡ no_tables = both_empty new.now.trees no_visits no_tests in (
       record {
         schema = ap (λ (d : Database). d.schema) now ∙ schema;
         settled = committed_now old new old.in_transaction has.autocommit w.shown.committed_is;
         autocommit = w.shown.mode ∙ has.autocommit;
         visits = no_visits ∙ sym (ap (map stored_visit) (ap (λ t. t.visits) none));
         tests = no_tests ∙ sym (ap (stored_tests 1) (ap (λ t. t.tests) none));
-        distinct = subst Rattle.service_keepers.specs.Tables.AreDistinct (sym none) (record { visits = refl; tests = refl });
+        distinct = subst AreDistinct (sym none) (record { visits = refl; tests = refl });
       },
       none,
     )

@@ -25,7 +25,8 @@ pub(crate) fn fail_each(rt: &HostRuntime, site: &Site, line: &str) -> Result<Str
         answer_step(rt, site, &register, &mut sound, step, &mut wanted)?;
     }
     let wanted = wanted.done()?;
-    for number in 1..=sound.calls {
+    for earlier in 0..sound.calls {
+        let number = earlier.saturating_add(1);
         let mut keeper = keeper_failing(alloc, &[number])?;
         let mut told = Lines::new(alloc);
         for step in line.split(", ") {
