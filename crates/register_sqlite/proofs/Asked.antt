@@ -16,15 +16,15 @@ use Rattle.service_keepers.specs.Tables.{Tables, TestRow, VisitRow, last_day_of,
 use Rattle.service_keepers.specs.declared.keep_fault.KeepFault.{KeepFault}
 use Rattle.service_keepers.specs.declared.visit.Visit.{Visit}
 use Rattle.register_sqlite.specs.Days.{day_shown, later_or}
-use Rattle.register_sqlite.specs.Stored.{Answers, Changes, IsRegister, Stays, number_in, tables_in}
+use Rattle.register_sqlite.specs.Stored.{AnswersOf, Changes, IsRegister, KeepsRegister, number_in, tables_in}
 use Rattle.register_sqlite.specs.Texts.{insert_test_text, insert_visit_text, number_params, point_params, select_tests_text, select_visit_text, test_params, visit_params}
-use Rattle.register_sqlite.specs.Values.{IsLabel, IsNumber}
+use Rattle.register_sqlite.specs.Values.{IsVisitLabel, IsVisitNumber}
 use Rattle.register_sqlite.proofs.Queried.{last_day_shown, shown_visit, visit_shown}
 use Rattle.register_sqlite.proofs.Registered.{test_registered, visit_registered}
 use Rattle.register_sqlite.proofs.States.{execute_fails, query_fails, read}
 use Rattle.register_sqlite.proofs.Understood.{select_tests_plain, select_visit_plain}
 
-pub stays_then : (a b c : State) → Stays a b → Stays b c → Stays a c
+pub stays_then : (a b c : State) → KeepsRegister a b → KeepsRegister b c → KeepsRegister a c
 stays_then a b c p q = record { register = q.register; same = q.same ∙ p.same; was_open = p.was_open }
 
 -- ---- the visit of a number
@@ -37,7 +37,7 @@ numbered number (visit ∷ rest) kept found = elim (cases_Bool (visit.number == 
 ]
 
 read_visit : (found : Option VisitRow) (rows : List Row) (row : Row) (visit : Visit) → rows ≡ map shown_visit (option_to_list found) → Some row ≡ slice_get rows 0
-    → ((kept : VisitRow) → found ≡ Some kept → kept.number ≡ visit.number) → IsNumber (column row 0) visit.day → IsLabel (column row 1) visit.engineer.bytes
+    → ((kept : VisitRow) → found ≡ Some kept → kept.number ≡ visit.number) → IsVisitNumber (column row 0) visit.day → IsVisitLabel (column row 1) visit.engineer.bytes
     → Some (visit_row visit) ≡ found
 read_visit None rows row visit are first number day engineer = absurd (none-some row (sym (first ∙ ap (λ xs. slice_get xs 0) are)))
 read_visit (Some kept) rows row visit are first number day engineer =
@@ -67,38 +67,38 @@ module _ (old new : State) (opened : IsTrue new.is_open) (register : IsRegister 
       let stays = execute_fails old new register opened sql params e h in
       record { register = stays.register; ok = tt; err = ap (λ (d : Database). tables_in d.trees) stays.same }
 
-  pub ask_fails : {T : Type 0} (IsSo : T → Tables → Type 0) (sql : List ℕ) (params : Row) (e : Error) (fault : KeepFault) → FailsToQuery sql params old new e → Answers IsSo old new (Err fault)
+  pub ask_fails : {T : Type 0} (IsSo : T → Tables → Type 0) (sql : List ℕ) (params : Row) (e : Error) (fault : KeepFault) → FailsToQuery sql params old new e → AnswersOf IsSo old new (Err fault)
   ask_fails IsSo sql params e fault h = record { stays = query_fails old new register opened sql params e h; so = tt }
 
   module _ (number : ℕ) (rows : List Row) (h : Shown select_visit_text (number_params number) old new rows) where
     abbrev IsVisit : Option Visit → Tables → Type 0
     IsVisit visit kept = option_map visit_row visit ≡ visit_numbered number kept.visits
 
-    stay : Stays old new
+    stay : KeepsRegister old new
     stay = read old new register opened select_visit_text (number_params number) select_visit_plain rows h
 
-    pub visit_answered : (row : Row) (visit : Visit) → Some row ≡ slice_get rows 0 → visit.number ≡ number → IsNumber (column row 0) visit.day
-        → IsLabel (column row 1) visit.engineer.bytes → Answers IsVisit old new (Ok (Some visit))
+    pub visit_answered : (row : Row) (visit : Visit) → Some row ≡ slice_get rows 0 → visit.number ≡ number → IsVisitNumber (column row 0) visit.day
+        → IsVisitLabel (column row 1) visit.engineer.bytes → AnswersOf IsVisit old new (Ok (Some visit))
     visit_answered row visit first same day engineer = record {
       stays = stay;
       so = read_visit _ rows row visit (visit_shown old new register rows number h) first (λ kept found. numbered number _ kept found ∙ sym same) day engineer;
     }
 
-    pub none_answered : None ≡ slice_get rows 0 → Answers IsVisit old new (Ok None)
+    pub none_answered : None ≡ slice_get rows 0 → AnswersOf IsVisit old new (Ok None)
     none_answered none = record { stays = stay; so = no_visit _ rows (visit_shown old new register rows number h) none }
 
-    pub row_refused : (fault : KeepFault) → Answers IsVisit old new (Err fault)
+    pub row_refused : (fault : KeepFault) → AnswersOf IsVisit old new (Err fault)
     row_refused fault = record { stays = stay; so = tt }
 
 -- ---- the last day of a point
 
 pub refused_too : {T U : Type 0} (IsThis : T → Tables → Type 0) (IsThat : U → Tables → Type 0) (old new : State) (fault other : KeepFault)
-    → Answers IsThis old new (Err fault) → Answers IsThat old new (Err other)
+    → AnswersOf IsThis old new (Err fault) → AnswersOf IsThat old new (Err other)
 refused_too IsThis IsThat old new fault other h = record { stays = h.stays; so = tt }
 
-pub day_answered : (old new : State) (number : ℕ) (row : Row) (found : Option Visit) → IsNumber (column row 0) number
-    → Answers (λ (visit : Option Visit) kept. option_map visit_row visit ≡ visit_numbered number kept.visits) old new (Ok found)
-    → Answers (λ (day : Option ℕ) kept. day ≡ day_shown kept.visits row) old new (Ok (option_map (λ (v : Visit). v.day) found))
+pub day_answered : (old new : State) (number : ℕ) (row : Row) (found : Option Visit) → IsVisitNumber (column row 0) number
+    → AnswersOf (λ (visit : Option Visit) kept. option_map visit_row visit ≡ visit_numbered number kept.visits) old new (Ok found)
+    → AnswersOf (λ (day : Option ℕ) kept. day ≡ day_shown kept.visits row) old new (Ok (option_map (λ (v : Visit). v.day) found))
 day_answered old new number row found is h =
     let visits = (tables_in old.now.trees).visits in
     record {
@@ -127,16 +127,16 @@ module _ (old mid new : State) (register : IsRegister old) (opened : IsTrue mid.
   abbrev IsLast : Option ℕ → Tables → Type 0
   IsLast day kept = day ≡ last_day_of point kept
 
-  pub tests_stay : Stays old mid
+  pub tests_stay : KeepsRegister old mid
   tests_stay = read old mid register opened select_tests_text (point_params point) select_tests_plain rows h
 
-  pub last_refused : (fault : KeepFault) → Stays mid new → Answers IsLast old new (Err fault)
+  pub last_refused : (fault : KeepFault) → KeepsRegister mid new → AnswersOf IsLast old new (Err fault)
   last_refused fault stays = record { stays = stays_then old mid new tests_stay stays; so = tt }
 
-  pub last_answered : (items : List Row) (at : ℕ) (last : Option ℕ) → items ≡ rows → length items ≤ at → Stays mid new
+  pub last_answered : (items : List Row) (at : ℕ) (last : Option ℕ) → items ≡ rows → length items ≤ at → KeepsRegister mid new
       → fold later_day last (filter_map (day_shown (tables_in mid.now.trees).visits) (drop at items))
       ≡ fold later_day None (filter_map (day_shown (tables_in mid.now.trees).visits) items)
-      → Answers IsLast old new (Ok last)
+      → AnswersOf IsLast old new (Ok last)
   last_answered items at last are end stays all =
       let visits = ap (λ (d : Database). (tables_in d.trees).visits) tests_stay.same in
       let done = ap (λ rest. fold later_day last (filter_map (day_shown (tables_in mid.now.trees).visits) rest)) (drop_all at items end) in

@@ -9,11 +9,11 @@ use Rattle.sqlite.specs.Tree.{Trees}
 use Rattle.sqlite_catalog.specs.Change.{KeepsRows}
 use Rattle.sqlite.proofs.Callers.{runs_as}
 use Rattle.service_keepers.specs.Tables.{AreDistinct, no_tables}
-use Rattle.register_sqlite.specs.Schema.{no_schema, register_schema, tests_table, visits_schema, visits_table}
+use Rattle.register_sqlite.specs.Schema.{no_schema, register_schema, tests_table, visits_table}
 use Rattle.register_sqlite.specs.Stored.{IsRegister, stored_tests, stored_visit, tables_in, test_in, visit_in}
 use Rattle.register_sqlite.specs.Texts.{create_tests_text, create_visits_text}
 use Rattle.register_sqlite.proofs.Parts.{same_value, went}
-use Rattle.register_sqlite.proofs.Understood.{tests_command, tests_defined, tests_made, tests_plain, visits_command, visits_defined, visits_made, visits_plain}
+use Rattle.register_sqlite.proofs.Understood.{tests_command, tests_defined, tests_made, tests_plain, visits_command, visits_defined, visits_made, visits_plain, visits_schema}
 
 committed_now : (old new : State) (b : Bool) → b ≡ false → new.committed ≡ cond b old.committed new.now → new.committed ≡ new.now
 committed_now old new true is e = absurd (let clash : true ≡ false = is in cc)

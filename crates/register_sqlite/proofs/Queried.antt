@@ -20,7 +20,8 @@ use Rattle.register_sqlite.specs.Schema.{register_schema}
 use Rattle.register_sqlite.specs.Stored.{IsRegister, stored_test, stored_tests, stored_visit, tables_in}
 use Rattle.register_sqlite.specs.Texts.{select_tests_text, select_visit_text}
 use Rattle.register_sqlite.proofs.Compared.{equal_numbers, equal_texts}
-use Rattle.register_sqlite.proofs.Understood.{select_tests_command, select_tests_plain, select_tests_unlisted, select_visit_command, select_visit_plain, select_visit_unlisted, tests_query, visit_query}
+use Rattle.register_sqlite.proofs.Understood.{select_tests_command, select_tests_plain, select_tests_unlisted, tests_query}
+use Rattle.register_sqlite.proofs.Understood.{select_visit_command, select_visit_plain, select_visit_unlisted, visit_query}
 
 and_true : (b : Bool) → (b && true) ≡ b
 and_true true = refl

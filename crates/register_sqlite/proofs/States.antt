@@ -11,10 +11,10 @@ use Rattle.sqlite.specs.Listing.{understood}
 use Rattle.sqlite.specs.State.{Executes, ExecutesIn, Fails, FailsToQuery, FailsToShow, IsNotRun, IsRolledBack, IsUnchanged, RunsCommand, Shown, State, shows_rows}
 use Rattle.service_keepers.specs.Tables.{AreDistinct}
 use Rattle.register_sqlite.specs.Schema.{register_schema}
-use Rattle.register_sqlite.specs.Stored.{IsRegister, Stays, stored_tests, stored_visit, tables_in}
+use Rattle.register_sqlite.specs.Stored.{IsRegister, KeepsRegister, stored_tests, stored_visit, tables_in}
 
 module _ (old new : State) (register : IsRegister old) (open_now : IsTrue new.is_open) where
-  stays : IsTrue old.is_open → new.now ≡ old.now → new.committed ≡ old.now → new.in_transaction ≡ false → Stays old new
+  stays : IsTrue old.is_open → new.now ≡ old.now → new.committed ≡ old.now → new.in_transaction ≡ false → KeepsRegister old new
   stays was now committed autocommit = record {
     register = record {
       schema = ap (λ (d : Database). d.schema) now ∙ register.schema;
@@ -28,23 +28,23 @@ module _ (old new : State) (register : IsRegister old) (open_now : IsTrue new.is
     was_open = was;
   }
 
-  pub unchanged : IsUnchanged old new → Stays old new
+  pub unchanged : IsUnchanged old new → KeepsRegister old new
   unchanged h = stays h.0.was_open h.0.now_is (h.0.committed_is ∙ register.settled) (h.0.mode ∙ register.autocommit)
 
-  rolled_back : IsRolledBack old new → Stays old new
+  rolled_back : IsRolledBack old new → KeepsRegister old new
   rolled_back h =
       let undone = h.undone open_now in
       stays (h.was_open open_now) (undone.0 ∙ register.settled) (undone.1 ∙ register.settled) h.autocommit
 
-  failed : (big : Type 0) (e : Error) → Fails old new big e → Stays old new
+  failed : (big : Type 0) (e : Error) → Fails old new big e → KeepsRegister old new
   failed big e h = rolled_back h.3
 
-  not_run : (sql : List ℕ) (params : Row) (e : Error) → IsNotRun old new sql params e → Stays old new
+  not_run : (sql : List ℕ) (params : Row) (e : Error) → IsNotRun old new sql params e → KeepsRegister old new
   unfolding IsNotRun
   not_run sql params e (inl h) = unchanged h.1
   not_run sql params e (inr h) = failed ⊥ e h
 
-  pub execute_fails : (sql : List ℕ) (params : Row) (e : Error) → Executes sql params old new (Err e) → Stays old new
+  pub execute_fails : (sql : List ℕ) (params : Row) (e : Error) → Executes sql params old new (Err e) → KeepsRegister old new
   unfolding ExecutesIn
   execute_fails sql params e (inl h) = not_run sql params e h
   execute_fails sql params e (inr h) = elim (cases_Bool (shows_rows false h.0)) [
@@ -52,22 +52,22 @@ module _ (old new : State) (register : IsRegister old) (open_now : IsTrue new.is
     | inr runs ↦ command_fails (rw runs at h.2)
   ]
     where
-      command_fails : RunsCommand old new sql h.0 (timed params h.0.formats h.1.now) (Err e) → Stays old new
+      command_fails : RunsCommand old new sql h.0 (timed params h.0.formats h.1.now) (Err e) → KeepsRegister old new
       command_fails (inl refused) = unchanged refused.1
       command_fails (inr stopped) = failed _ e stopped
 
-  pub query_fails : (sql : List ℕ) (params : Row) (e : Error) → FailsToQuery sql params old new e → Stays old new
+  pub query_fails : (sql : List ℕ) (params : Row) (e : Error) → FailsToQuery sql params old new e → KeepsRegister old new
   unfolding FailsToQuery
   query_fails sql params e (inl h) = not_run sql params e h
   query_fails sql params e (inr h) = refused h.0.returning h.2
     where
-      refused : (returning : Option Returning) → FailsToShow old new sql h.0 (timed params h.0.formats h.1.now) e returning → Stays old new
+      refused : (returning : Option Returning) → FailsToShow old new sql h.0 (timed params h.0.formats h.1.now) e returning → KeepsRegister old new
       refused None shown = unchanged shown.3
       refused (Some what) (inl stopped) = unchanged stopped.1
       refused (Some what) (inr stopped) = failed _ e stopped
 
   -- a text that reads changes nothing
-  pub read : (sql : List ℕ) (params : Row) → IsPlain (understood register_schema sql) → (rows : List Row) → Shown sql params old new rows → Stays old new
+  pub read : (sql : List ℕ) (params : Row) → IsPlain (understood register_schema sql) → (rows : List Row) → Shown sql params old new rows → KeepsRegister old new
   unfolding Shown
   read sql params plain rows h =
       let known = sym h.1.is ∙ ap (λ s. understood s sql) register.schema in

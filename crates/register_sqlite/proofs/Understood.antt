@@ -8,6 +8,7 @@ use Rattle.sqlite_sql.specs.declared.ops.BinaryOp.TheVariants.{Compare}
 use Rattle.sqlite_sql.specs.declared.ops.CompareOp.TheVariants.{Eq}
 use Rattle.sqlite_sql.specs.Term.{Term, lit, col, op2}
 use Rattle.sqlite_sql.specs.Query.{Query, inner, end}
+use Rattle.sqlite_schema.specs.declared.schema.Schema.{Schema}
 use Rattle.sqlite_schema.specs.declared.command.Command.TheVariants.{InsertOr, Select, CreateTable}
 use Rattle.sqlite_schema.specs.declared.command.Conflict.TheVariants.{Abort}
 use Rattle.sqlite_schema.specs.declared.command.Source.TheVariants.{Values}
@@ -17,9 +18,13 @@ use Rattle.sqlite.proofs.Callers.{IsPlain, command_of, statement_of}
 use Rattle.sqlite_catalog.specs.Change.{created}
 use Rattle.sqlite_tied.specs.Compute.{everything}
 use Rattle.register_sqlite.proofs.Parts.{do_nothing}
-use Rattle.register_sqlite.specs.Schema.{no_schema, register_schema, tests_index, tests_table, visits_schema, visits_table}
+use Rattle.register_sqlite.specs.Schema.{no_schema, register_schema, tests_index, tests_table, visits_table}
 use Rattle.register_sqlite.specs.Texts.{create_tests_text, create_visits_text, insert_test_text, insert_visit_text}
 use Rattle.register_sqlite.specs.Texts.{select_tests_text, select_visit_text}
+
+-- after the first text
+abbrev pub visits_schema : Schema
+visits_schema = record { tables = visits_table ∷ []; indexes = []; views = [] }
 
 pub visits_command : command_of (understood no_schema create_visits_text) ≡ CreateTable
 unfolding understood everything
@@ -41,7 +46,9 @@ pub visits_made : created no_schema visits_table ≡ visits_schema
 visits_made = refl
 
 pub tests_made : created visits_schema (record tests_table { tree = 0 }) ≡ register_schema
-tests_made = ap (λ digits. record register_schema { indexes = record tests_index { name = codes "sqlite_autoindex_" ++ (codes "tests" ++ (codes "_" ++ digits)) } ∷ [] }) (decimal_digit 1 (omega arith))
+tests_made =
+    ap (λ digits. record register_schema { indexes = record tests_index { name = codes "sqlite_autoindex_" ++ (codes "tests" ++ (codes "_" ++ digits)) } ∷ [] })
+    (decimal_digit 1 (omega arith))
 
 -- ---- what is written
 

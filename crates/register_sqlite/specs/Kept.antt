@@ -10,7 +10,10 @@ tables_kept None = no_tables
 tables_kept (Some database) = database.register
 
 -- what is told keeps nothing twice
-pub told_distinct : (database : Option MemoryDatabase) (kept : Tables) → Some (tables_kept database) ≡ Some kept → AreDistinct kept
-told_distinct None kept told = subst AreDistinct (same_Some no_tables kept told) (record { visits = refl; tests = refl })
+pub told_distinct : (database : Option MemoryDatabase) (kept : Tables)
+    → Some (tables_kept database) ≡ Some kept → AreDistinct kept
+told_distinct None kept told =
+    subst AreDistinct (same_Some no_tables kept told) (record { visits = refl; tests = refl })
 told_distinct (Some database) kept told =
-    subst AreDistinct (same_Some database.register kept told) (record { visits = database.numbers; tests = database.pairs })
+    subst AreDistinct (same_Some database.register kept told)
+    (record { visits = database.numbers; tests = database.pairs })

@@ -62,8 +62,5 @@ tests_index = record {
 abbrev pub no_schema : Schema
 no_schema = record { tables = []; indexes = []; views = [] }
 
-abbrev pub visits_schema : Schema
-visits_schema = record { tables = visits_table ∷ []; indexes = []; views = [] }
-
 abbrev pub register_schema : Schema
 register_schema = record { tables = visits_table ∷ tests_table ∷ []; indexes = tests_index ∷ []; views = [] }

@@ -8,8 +8,8 @@ use Rattle.sqlite.specs.Held.{Held, state}
 use Rattle.sqlite.specs.State.{HasCleanDisk, State}
 use Rattle.sqlite.specs.Store.{Ghosts}
 use Rattle.service_keepers.specs.declared.keep_fault.KeepFault.{KeepFault}
-use Rattle.service_keepers.specs.Tables.{AreDistinct, Tables, TestRow, VisitRow}
-use Rattle.register_sqlite.specs.Schema.{register_schema}
+use Rattle.service_keepers.specs.Tables.{AreDistinct, Tables, TestRow, VisitRow, no_tables}
+use Rattle.register_sqlite.specs.Schema.{no_schema, register_schema}
 
 -- the number that a value is
 abbrev pub number_in : Value → ℕ
@@ -22,7 +22,8 @@ stored_visit visit = Int (pos visit.number) ∷ Null ∷ Int (pos visit.day) ∷
 
 -- the visit that a row is
 abbrev pub visit_in : Row → VisitRow
-visit_in row = record { number = number_in (column row 0); day = number_in (column row 2); engineer = bytes (column row 3) }
+visit_in row =
+    record { number = number_in (column row 0); day = number_in (column row 2); engineer = bytes (column row 3) }
 
 -- a test's row, by its place among the tests
 abbrev pub stored_test : ℕ → TestRow → Row
@@ -51,8 +52,16 @@ pub record IsRegister (s : State) : Type 0 where
   pub tests : s.now.trees 1 ≡ stored_tests 1 (tables_in s.now.trees).tests
   pub distinct : AreDistinct (tables_in s.now.trees)
 
+-- nothing was ever written
+abbrev pub IsNoDatabase : State → Type 0
+IsNoDatabase s = (s.now.schema ≡ no_schema) × (s.in_transaction ≡ false)
+
+-- a register whose tables are empty
+abbrev pub IsEmptyRegister : State → Type 0
+IsEmptyRegister s = IsRegister s × (tables_in s.now.trees ≡ no_tables)
+
 -- a register is there as it was
-pub record Stays (old new : State) : Type 0 where
+pub record KeepsRegister (old new : State) : Type 0 where
   pub register : IsRegister new
   pub same : new.now ≡ old.now
   pub was_open : IsTrue old.is_open
@@ -60,14 +69,16 @@ pub record Stays (old new : State) : Type 0 where
 -- ---- what a call makes of a register and answers
 
 -- its tables are changed by a step where the call is answered Ok, and else are as they were
-pub record Changes (step : Tables → Tables → Type 0) (old new : State) (result : Result (Unit {0}) KeepFault) : Type 0 where
+pub record Changes (step : Tables → Tables → Type 0) (old new : State)
+    (result : Result (Unit {0}) KeepFault) : Type 0 where
   pub register : IsRegister new
   pub ok : OnOk result (step (tables_in old.now.trees) (tables_in new.now.trees))
   pub err : OnErr result (tables_in new.now.trees ≡ tables_in old.now.trees)
 
 -- the register stays, and what is answered is so of its tables
-pub record Answers {T : Type 0} (IsSo : T → Tables → Type 0) (old new : State) (result : Result T KeepFault) : Type 0 where
-  pub stays : Stays old new
+pub record AnswersOf {T : Type 0} (IsSo : T → Tables → Type 0) (old new : State)
+    (result : Result T KeepFault) : Type 0 where
+  pub stays : KeepsRegister old new
   pub so : IfOk result (λ answer. IsSo answer (tables_in old.now.trees))
 
 -- a store neither fails nor loses what was written, as memory never does

@@ -4,9 +4,9 @@ use Rattle.sqlite.specs.declared.types.Value.{Value}
 use Rattle.sqlite.specs.declared.types.Value.TheVariants.{Int, Text}
 
 -- a value is this number, which has 32 bits
-abbrev pub IsNumber : Value → ℕ → Type 0
-IsNumber value number = (value ≡ Int (pos number)) × (number < 2 ^ 32)
+abbrev pub IsVisitNumber : Value → ℕ → Type 0
+IsVisitNumber value number = (value ≡ Int (pos number)) × (number < 2 ^ 32)
 
 -- a value is this text, which a label holds
-abbrev pub IsLabel : Value → List ℕ → Type 0
-IsLabel value text = (value ≡ Text text) × IsUtf8 text × (length text ≤ 16)
+abbrev pub IsVisitLabel : Value → List ℕ → Type 0
+IsVisitLabel value text = (value ≡ Text text) × IsUtf8 text × (length text ≤ 16)

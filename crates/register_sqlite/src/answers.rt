@@ -5,7 +5,7 @@ ghost use Rattle.service_keepers.specs.declared.visit.Visit.{Visit};
 ghost use Rattle.sqlite.specs.Order.{column};
 ghost use Rattle.register_sqlite.specs.Faults.{CountsFaults};
 ghost use Rattle.register_sqlite.specs.Days.{later_or};
-ghost use Rattle.register_sqlite.specs.Values.{IsLabel, IsNumber};
+ghost use Rattle.register_sqlite.specs.Values.{IsVisitLabel, IsVisitNumber};
 
 use panel_edges::Label;
 use service_keepers::{KeepFault, Visit};
@@ -33,8 +33,8 @@ pub(crate) fn count<T: Drop>(faults: &mut u64, answer: &Result<T, KeepFault>)
 
 // The number in a place of a row, or None where a number of 32 bits isn't there.
 pub(crate) fn number_at(row: &Row, at: usize) -> Option<u32>
-    ensures some { IfSome result (IsNumber (column row.now at)) }
-    ensures none { result ≡ None → (number : ℕ) → ¬ IsNumber (column row.now at) number }
+    ensures some { IfSome result (IsVisitNumber (column row.now at)) }
+    ensures none { result ≡ None → (number : ℕ) → ¬ IsVisitNumber (column row.now at) number }
 {
     match row.get_ref(at) {
         Ok(ValueRef::Int(number)) => match u32::try_from(number) {
@@ -47,8 +47,8 @@ pub(crate) fn number_at(row: &Row, at: usize) -> Option<u32>
 
 // The text in a place of a row, or None where a text that a label holds isn't there.
 pub(crate) fn label_at(row: &Row, at: usize) -> Option<Label>
-    ensures some { IfSome result (λ label. IsLabel (column row.now at) label.bytes) }
-    ensures none { result ≡ None → (text : List ℕ) → ¬ IsLabel (column row.now at) text }
+    ensures some { IfSome result (λ label. IsVisitLabel (column row.now at) label.bytes) }
+    ensures none { result ≡ None → (text : List ℕ) → ¬ IsVisitLabel (column row.now at) text }
 {
     match row.get_ref(at) {
         Ok(ValueRef::Text(bytes)) => match str::from_utf8(bytes) {
@@ -64,10 +64,11 @@ pub(crate) fn label_at(row: &Row, at: usize) -> Option<Label>
 
 // The visit of a number whose day and engineer a row has, or None where a visit can't hold them.
 pub(crate) fn visit_of(number: u32, row: &Row) -> Option<Visit>
-    ensures some { IfSome result (λ visit. (visit.number ≡ number) × IsNumber (column row.now 0) visit.day
-        × IsLabel (column row.now 1) visit.engineer.bytes) }
-    ensures none { result ≡ None → (day : ℕ) (engineer : List ℕ) → IsNumber (column row.now 0) day
-        → ¬ IsLabel (column row.now 1) engineer }
+    ensures some { IfSome result (λ visit. (visit.number ≡ number)
+        × IsVisitNumber (column row.now 0) visit.day
+        × IsVisitLabel (column row.now 1) visit.engineer.bytes) }
+    ensures none { result ≡ None → (day : ℕ) (engineer : List ℕ)
+        → IsVisitNumber (column row.now 0) day → ¬ IsVisitLabel (column row.now 1) engineer }
 {
     Some(Visit {
         number,

@@ -1,14 +1,13 @@
 //! The calls of a keeper over an open database, and what they make of one that is a register, in a
 //! store that never fails.
 
-ghost use Rattle.std.specs.Prelude.{◌≡◌, false, OnOk, option_map};
+ghost use Rattle.std.specs.Prelude.{◌≡◌, OnOk, option_map};
 ghost use Rattle.service_keepers.specs.Keeping.{PutsTest, PutsVisit};
 ghost use Rattle.service_keepers.specs.Rows.{test_of, visit_row};
-ghost use Rattle.service_keepers.specs.Tables.{last_day_of, no_tables, visit_numbered};
+ghost use Rattle.service_keepers.specs.Tables.{last_day_of, visit_numbered};
 ghost use Rattle.sqlite.specs.Held.{state};
 ghost use Rattle.register_sqlite.specs.Days.{day_shown};
-ghost use Rattle.register_sqlite.specs.Schema.{no_schema};
-ghost use Rattle.register_sqlite.specs.Stored.{Answers, Changes, IsRegister, IsSteady, tables_in};
+ghost use Rattle.register_sqlite.specs.Stored.{AnswersOf, Changes, IsEmptyRegister, IsNoDatabase, IsRegister, IsSteady};
 
 use crate::answers::{day_of, fault_of, later, number_at, visit_of};
 use crate::statements::{
@@ -20,9 +19,8 @@ use sqlite::{Alter, Connection, Row};
 
 // Makes the two tables where they aren't there.
 pub(crate) fn make_tables<S: Alter>(conn: &mut Connection<S>) -> Result<(), KeepFault>
-    ensures { IsSteady S.Store → (state S.Store conn.old).now.schema ≡ no_schema
-        → (state S.Store conn.old).in_transaction ≡ false → OnOk result (IsRegister (state S.Store conn.new)
-        × (tables_in (state S.Store conn.new).now.trees ≡ no_tables)) }
+    ensures { IsSteady S.Store → IsNoDatabase (state S.Store conn.old)
+        → OnOk result (IsEmptyRegister (state S.Store conn.new)) }
 {
     match create_visits(conn) {
         Ok(_) => match create_tests(conn) {
@@ -35,7 +33,8 @@ pub(crate) fn make_tables<S: Alter>(conn: &mut Connection<S>) -> Result<(), Keep
 
 pub(crate) fn put_visit<S: Alter>(conn: &mut Connection<S>, visit: &Visit) -> Result<(), KeepFault>
     ensures { IsSteady S.Store → IsRegister (state S.Store conn.old)
-        → Changes (PutsVisit (visit_row visit.now)) (state S.Store conn.old) (state S.Store conn.new) result }
+        → Changes (PutsVisit (visit_row visit.now))
+        (state S.Store conn.old) (state S.Store conn.new) result }
 {
     match insert_visit(conn, visit) {
         Ok(_) => Ok(()),
@@ -48,7 +47,8 @@ pub(crate) fn find_visit<S: Alter>(
     number: u32,
 ) -> Result<Option<Visit>, KeepFault>
     ensures { IsSteady S.Store → IsRegister (state S.Store conn.old)
-        → Answers (λ visit kept. option_map visit_row visit ≡ visit_numbered number kept.visits) (state S.Store conn.old) (state S.Store conn.new) result }
+        → AnswersOf (λ visit kept. option_map visit_row visit ≡ visit_numbered number kept.visits)
+        (state S.Store conn.old) (state S.Store conn.new) result }
 {
     match select_visit(conn, number) {
         Ok(rows) => match rows.first() {
@@ -68,7 +68,8 @@ pub(crate) fn put_test<S: Alter>(
     point: &Label,
 ) -> Result<(), KeepFault>
     ensures { IsSteady S.Store → IsRegister (state S.Store conn.old)
-        → Changes (PutsTest (test_of visit point.now)) (state S.Store conn.old) (state S.Store conn.new) result }
+        → Changes (PutsTest (test_of visit point.now))
+        (state S.Store conn.old) (state S.Store conn.new) result }
 {
     match insert_test(conn, visit, point) {
         Ok(_) => Ok(()),
@@ -79,7 +80,7 @@ pub(crate) fn put_test<S: Alter>(
 // The day of the visit whose number a row has, where that visit is kept.
 fn day_of_row<S: Alter>(conn: &mut Connection<S>, row: &Row) -> Result<Option<u32>, KeepFault>
     ensures { IsSteady S.Store → IsRegister (state S.Store conn.old)
-        → Answers (λ day kept. day ≡ day_shown kept.visits row.now)
+        → AnswersOf (λ day kept. day ≡ day_shown kept.visits row.now)
         (state S.Store conn.old) (state S.Store conn.new) result }
 {
     let Some(number) = number_at(row, 0) else {
@@ -96,7 +97,8 @@ pub(crate) fn last_day<S: Alter>(
     point: &Label,
 ) -> Result<Option<u32>, KeepFault>
     ensures { IsSteady S.Store → IsRegister (state S.Store conn.old)
-        → Answers (λ day kept. day ≡ last_day_of point.now.bytes kept) (state S.Store conn.old) (state S.Store conn.new) result }
+        → AnswersOf (λ day kept. day ≡ last_day_of point.now.bytes kept)
+        (state S.Store conn.old) (state S.Store conn.new) result }
 {
     let rows = match select_tests(conn, point) {
         Ok(rows) => rows,

@@ -29,7 +29,8 @@ impl MemoryDatabase {
     }
 
     pub(crate) fn put_visit(&mut self, visit: &Visit) -> Result<(), KeepFault>
-        ensures ok { OnOk result (PutsVisit (visit_row visit.now) self.old.register self.new.register) }
+        ensures ok { OnOk result
+            (PutsVisit (visit_row visit.now) self.old.register self.new.register) }
         ensures err { OnErr result (self.new.register ≡ self.old.register) }
     {
         self.register.put_visit(visit)

@@ -22,8 +22,8 @@ const CALLS: u64 = 40;
 /// least, so none is made more often.
 const MAY_FAIL: u64 = 240;
 
-/// Whether each history is answered alike over a keeper that fails, one that doesn't and one over a database, and leaves
-/// the same rows over the first two.
+/// Whether each history is answered alike over a keeper that fails, one that doesn't and one over a database, and
+/// leaves the same rows over the first two.
 pub(crate) fn try_calls(alloc: Global, site: &Site, line: &str) -> Result<String>
     requires { IsValid site.now }
 {

@@ -12,7 +12,9 @@ pub invariant_of-self : goal.invariant_of-self
 invariant_of-self c = (c.find_visit.ensures memory_is_steady c.self.invariant).stays.register
 
 pub returns-clause-found : goal.returns-clause-found
-returns-clause-found c = subst (λ old. IfOk c.find_visit.result (λ visit. option_map visit_row visit ≡ visit_numbered c.args.number old.visits)) c.self.view_is (c.find_visit.ensures memory_is_steady c.self.invariant).so
+returns-clause-found c =
+    subst (λ old. IfOk c.find_visit.result (λ visit. option_map visit_row visit ≡ visit_numbered c.args.number old.visits)) c.self.view_is
+    (c.find_visit.ensures memory_is_steady c.self.invariant).so
 
 pub returns-clause-same : goal.returns-clause-same
 returns-clause-same c =
