@@ -5,6 +5,7 @@ ghost use Rattle.site_types.specs.Valid.{IsValid};
 use crate::telling::{say_import_refusal, say_points, say_refusal, say_table};
 use anyhow::{Context, Result, bail};
 use register_import::import_csv;
+use register_sqlite::TableKeeper;
 use service_keepers::{Keeper, MemoryKeeper, Visit};
 use service_register::{Register, RegisterRefusal};
 use site_types::{Site, read_name};
@@ -13,7 +14,7 @@ use std::fs;
 use trial_cases::{Lines, Words};
 
 /// What each call answers over a keeper of which steps say which of its calls fail: `fails 3, visit 7 20000 kim`. A
-/// step `import FILE` imports a file.
+/// step `import FILE` imports a file. Where none is to fail, a keeper over a database has to answer the same.
 pub(crate) fn make_calls(rt: &HostRuntime, site: &Site, line: &str) -> Result<String>
     requires { IsValid site.now }
 {
@@ -24,26 +25,72 @@ pub(crate) fn make_calls(rt: &HostRuntime, site: &Site, line: &str) -> Result<St
     let Ok(mut keeper) = MemoryKeeper::new(alloc, Vec::new(alloc)) else {
         bail!("no memory");
     };
+    let mut may_fail = false;
     let mut lines = Lines::new(alloc);
     for step in line.split(", ") {
         match step.strip_prefix("fails ") {
-            Some(number) => keeper.fails.push(number.parse::<u64>()?)?,
-            None => {
-                lines.say("    ");
-                lines.say(step);
-                lines.say(": ");
-                match step.strip_prefix("import ") {
-                    Some(name) => import(rt, site, &mut keeper, name, &mut lines)?,
-                    None => make_call(alloc, site, &register, &mut keeper, step, &mut lines)?,
-                }
-                lines.say("\n");
+            Some(number) => {
+                may_fail = true;
+                keeper.fails.push(number.parse::<u64>()?)?;
             }
+            None => say_step(rt, site, &register, &mut keeper, step, &mut lines)?,
         }
     }
-    lines.done()
+    let told = lines.done()?;
+    if !may_fail {
+        let mut tables = TableKeeper::in_memory(alloc);
+        let mut others = Lines::new(alloc);
+        for step in line.split(", ") {
+            say_step(rt, site, &register, &mut tables, step, &mut others)?;
+        }
+        if others.done()?.as_str() != told.as_str() {
+            bail!("otherwise over tables: {line}");
+        }
+    }
+    Ok(told)
 }
 
-/// Makes the call that a step spells, and says what it answers.
+// A line of its own for a step: the step, and what its call answers.
+fn say_step<R: Keeper>(
+    rt: &HostRuntime,
+    site: &Site,
+    register: &Register,
+    keeper: &mut R,
+    step: &str,
+    lines: &mut Lines,
+) -> Result<()>
+    requires { IsValid site.now }
+{
+    lines.say("    ");
+    lines.say(step);
+    lines.say(": ");
+    answer_step(rt, site, register, keeper, step, lines)?;
+    lines.say("\n");
+    Ok(())
+}
+
+/// Makes the call that a step spells, be it an import of a file, and says what it answers.
+pub(crate) fn answer_step<R: Keeper>(
+    rt: &HostRuntime,
+    site: &Site,
+    register: &Register,
+    keeper: &mut R,
+    step: &str,
+    lines: &mut Lines,
+) -> Result<()>
+    requires { IsValid site.now }
+{
+    match step.strip_prefix("import ") {
+        Some(name) => {
+            let bytes = fs::read(rt, name).context(format_args!("reading {name}"))?;
+            say_import(rt.alloc(), site, keeper, &bytes, lines);
+            Ok(())
+        }
+        None => make_call(rt.alloc(), site, register, keeper, step, lines),
+    }
+}
+
+/// Makes the call that a step spells, and says what it answers. A step `rows` imports the rows behind it.
 pub(crate) fn make_call<R: Keeper>(
     alloc: Global,
     site: &Site,
@@ -51,9 +98,15 @@ pub(crate) fn make_call<R: Keeper>(
     keeper: &mut R,
     step: &str,
     lines: &mut Lines,
-) -> Result<()> {
+) -> Result<()>
+    requires { IsValid site.now }
+{
     let mut words = Words::of(step);
     match words.next() {
+        "rows" => {
+            let file = file_of(alloc, step)?;
+            say_import(alloc, site, keeper, file.as_bytes(), lines);
+        }
         "visit" => say_done(lines, register.visit(alloc, keeper, &visit_of(&mut words)?)),
         "tested" => {
             let visit = words.next().parse::<u32>()?;
@@ -72,25 +125,34 @@ pub(crate) fn make_call<R: Keeper>(
     Ok(())
 }
 
-// Imports a file, and says how much it has or why it is refused.
-fn import<R: Keeper>(
-    rt: &HostRuntime,
+// Imports the rows of a file, and says how much it has or why it is refused.
+fn say_import<R: Keeper>(
+    alloc: Global,
     site: &Site,
     keeper: &mut R,
-    name: &str,
+    bytes: &[u8],
     lines: &mut Lines,
-) -> Result<()>
+)
     requires { IsValid site.now }
 {
-    let bytes = fs::read(rt, name).context(format_args!("reading {name}"))?;
-    match import_csv(rt.alloc(), site, keeper, &bytes) {
+    match import_csv(alloc, site, keeper, bytes) {
         Ok(imported) => {
             lines.count("imported visits ", imported.visits as u64);
             lines.count(" tests ", imported.tests as u64);
         }
         Err(refusal) => say_import_refusal(lines, refusal),
     }
-    Ok(())
+}
+
+// The file that has these rows behind the header.
+fn file_of(alloc: Global, step: &str) -> Result<String> {
+    let mut file = Lines::new(alloc);
+    file.say("visit,day,engineer,point\n");
+    for row in step.split(' ').skip(1) {
+        file.say(row);
+        file.say("\n");
+    }
+    file.done()
 }
 
 // The visit that words spell: its number, its day and the engineer.

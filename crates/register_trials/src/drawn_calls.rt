@@ -1,10 +1,11 @@
-//! Drawn calls of which some fail and are made again, against a keeper that never fails.
+//! Drawn calls of which some fail and are made again, against a keeper that never fails and one over a database.
 
 ghost use Rattle.site_types.specs.Valid.{IsValid};
 
 use crate::calls::make_call;
 use anyhow::{Result, bail};
 use rand_pcg::Pcg32;
+use register_sqlite::TableKeeper;
 use service_keepers::{MemoryKeeper, SoundMemoryKeeper};
 use service_register::Register;
 use site_types::Site;
@@ -21,7 +22,8 @@ const CALLS: u64 = 40;
 /// least, so none is made more often.
 const MAY_FAIL: u64 = 240;
 
-/// Whether each history leaves the same rows over a keeper that fails as over one that doesn't.
+/// Whether each history is answered alike over a keeper that fails, one that doesn't and one over a database, and
+/// leaves the same rows over the first two.
 pub(crate) fn try_calls(alloc: Global, site: &Site, line: &str) -> Result<String>
     requires { IsValid site.now }
 {
@@ -45,7 +47,9 @@ pub(crate) fn try_calls(alloc: Global, site: &Site, line: &str) -> Result<String
 }
 
 // How many calls of the keeper failed in a drawn history, if what is answered and kept is as over the sound one.
-fn faults_of(alloc: Global, site: &Site, register: &Register, seed: u64) -> Result<Option<u64>> {
+fn faults_of(alloc: Global, site: &Site, register: &Register, seed: u64) -> Result<Option<u64>>
+    requires { IsValid site.now }
+{
     let mut draws = Pcg32::new(seed, STREAM);
     let (Ok(mut sound), Ok(mut keeper)) = (
         SoundMemoryKeeper::new(alloc),
@@ -53,11 +57,17 @@ fn faults_of(alloc: Global, site: &Site, register: &Register, seed: u64) -> Resu
     ) else {
         bail!("no memory");
     };
+    let mut tables = TableKeeper::in_memory(alloc);
     for _call in 0..CALLS {
         let step = drawn_step(alloc, &mut draws)?;
         let mut wanted = Lines::new(alloc);
         make_call(alloc, site, register, &mut sound, &step, &mut wanted)?;
-        if !agrees(alloc, site, register, &mut keeper, &step, &wanted.done()?)? {
+        let wanted = wanted.done()?;
+        let mut told = Lines::new(alloc);
+        make_call(alloc, site, register, &mut tables, &step, &mut told)?;
+        if told.done()?.as_str() != wanted.as_str()
+            || !agrees(alloc, site, register, &mut keeper, &step, &wanted)?
+        {
             return Ok(None);
         }
     }
@@ -76,7 +86,9 @@ fn agrees(
     keeper: &mut MemoryKeeper,
     step: &str,
     wanted: &str,
-) -> Result<bool> {
+) -> Result<bool>
+    requires { IsValid site.now }
+{
     for _try in 0..MAY_FAIL {
         let before = keeper.faults;
         let mut told = Lines::new(alloc);
@@ -101,25 +113,54 @@ fn drawn_fails(alloc: Global, draws: &mut Pcg32) -> Result<Vec<u64>> {
 
 // A call with few numbers, days and points, so that many are of one visit.
 fn drawn_step(alloc: Global, draws: &mut Pcg32) -> Result<String> {
-    let visit = below(draws, 6);
-    let day = 20_000 + below(draws, 3);
-    let engineer = ["kim", "lee"][below(draws, 2) as usize];
-    let point = ["m1", "d2", "d9", "d17", "d18"][below(draws, 5) as usize];
     let mut step = Lines::new(alloc);
-    match below(draws, 8) {
+    match below(draws, 9) {
         0 | 1 | 2 => {
-            step.count("visit ", visit);
-            step.count(" ", day);
+            step.count("visit ", below(draws, 6));
+            step.count(" ", drawn_day(draws));
             step.say(" ");
-            step.say(engineer);
+            step.say(drawn_engineer(draws));
         }
         3 | 4 | 5 => {
-            step.count("tested ", visit);
+            step.count("tested ", below(draws, 6));
             step.say(" ");
-            step.say(point);
+            step.say(drawn_point(draws));
         }
-        6 => step.count("untested ", day),
-        _ => step.count("export ", day),
+        6 => step.count("untested ", drawn_day(draws)),
+        7 => step.count("export ", drawn_day(draws)),
+        _ => {
+            step.say("rows");
+            for _row in 0..below(draws, 4) {
+                step.count(" ", below(draws, 6));
+                step.count(",", drawn_day(draws));
+                step.say(",");
+                step.say(drawn_engineer(draws));
+                step.say(",");
+                step.say(drawn_point(draws));
+            }
+        }
     }
     step.done()
+}
+
+fn drawn_day(draws: &mut Pcg32) -> u64 {
+    below(draws, 3).saturating_add(20_000)
+}
+
+fn drawn_engineer(draws: &mut Pcg32) -> &'static str {
+    match below(draws, 2) {
+        0 => "kim",
+        _ => "lee",
+    }
+}
+
+// A point of the site, or seldom another name.
+fn drawn_point(draws: &mut Pcg32) -> &'static str {
+    match below(draws, 9) {
+        0 | 1 => "m1",
+        2 | 3 => "d2",
+        4 | 5 => "d9",
+        6 | 7 => "d17",
+        _ => "d18",
+    }
 }

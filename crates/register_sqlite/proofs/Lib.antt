@@ -1,0 +1,11 @@
+pub mod Asked
+pub mod Compared
+pub mod Created
+pub mod Inserted
+pub mod Kept
+pub mod Parts
+pub mod Queried
+pub mod Registered
+pub mod States
+pub mod Steady
+pub mod Understood

@@ -1,0 +1,25 @@
+use Rattle.sqlite.specs.Held.{state}
+use Rattle.sqlite.specs.Steps.{over_memory}
+use Rattle.std.proofs.Common.{subst}
+use Rattle.register_sqlite.specs.Stored.{tables_in}
+use Rattle.register_sqlite.proofs.Steady.{memory_is_steady}
+use Rattle.std.specs.Prelude.{◌≡◌, OnErr, OnOk}
+use Rattle.service_keepers.specs.Keeping.{PutsVisit}
+use Rattle.service_keepers.specs.Rows.{visit_row}
+use Rattle.register_sqlite.proofs.memory_register.MemoryRegister.put_visit.Goals as goal
+
+pub invariant_of-self : goal.invariant_of-self
+invariant_of-self c = (c.put_visit.ensures memory_is_steady c.self.invariant).register
+
+pub returns-clause-ok : goal.returns-clause-ok
+returns-clause-ok c =
+    subst (λ old. OnOk c.put_visit.result (PutsVisit (visit_row c.args.visit.now) old (tables_in (state over_memory c.put_visit.new.conn).now.trees))) c.self.view_is
+    (c.put_visit.ensures memory_is_steady c.self.invariant).ok
+
+pub returns-clause-err : goal.returns-clause-err
+returns-clause-err c =
+    subst (λ old. OnErr c.put_visit.result (tables_in (state over_memory c.put_visit.new.conn).now.trees ≡ old)) c.self.view_is
+    (c.put_visit.ensures memory_is_steady c.self.invariant).err
+
+pub returns-clause-distinct : goal.returns-clause-distinct
+returns-clause-distinct c = (c.put_visit.ensures memory_is_steady c.self.invariant).register.distinct

@@ -1,0 +1,31 @@
+//! The keeper of the service register over a database of SQLite's format, in memory or in a file.
+//!
+//! A [`TableKeeper`] meets the contract of `Keeper`. It opens its database at its first call, makes the tables `visits`
+//! and `tests` where they aren't there, and asks it by four statements, each of which reads or writes one table alone
+//! (src/statements has the six texts, each in a function of its own).
+//!
+//! - *Tables over memory.* A keeper in memory tells what it keeps: the rows of its two tables, as the texts' meaning
+//!   makes them. Each call meets the clauses of `Keeper` on them, so what the register promises holds over it.
+//! - *Nothing over a file.* Of a file nothing is told, since nothing is known of the rows that it had.
+//! - *When it fails.* The count of faults rises by one exactly in the calls that answer `KeepFault::Failed`: where the
+//!   database refused the opening or a text for another cause than memory, or handed out a value that a visit can't
+//!   hold. Want of memory is `KeepFault::NoMemory` and no fault.
+//! - *Nothing is overwritten.* A row whose key is there is passed over by the statement itself.
+//!
+//! Begin with [`TableKeeper::in_memory`] and [`TableKeeper::at`]; `IsRegister` of specs/Stored says when a database
+//! is a register. That the database refuses none of the texts is tried and not proved. The last day of a point costs a
+//! look at each row of `tests` and a look-up for each visit that tested it.
+#![tactic(auto)]
+
+mod answers;
+mod asking;
+mod file_keeper;
+mod memory_database;
+mod memory_keeper;
+mod memory_register;
+mod statements;
+mod table_keeper;
+
+pub use memory_database::MemoryDatabase;
+pub use memory_register::MemoryRegister;
+pub use table_keeper::{DatabaseFile, TableKeeper, TableStore};
