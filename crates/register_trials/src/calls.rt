@@ -37,17 +37,48 @@ pub(crate) fn make_calls(rt: &HostRuntime, site: &Site, line: &str) -> Result<St
         }
     }
     let told = lines.done()?;
-    if !may_fail {
-        let mut tables = TableKeeper::in_memory(alloc);
-        let mut others = Lines::new(alloc);
-        for step in line.split(", ") {
-            say_step(rt, site, &register, &mut tables, step, &mut others)?;
-        }
-        if others.done()?.as_str() != told.as_str() {
-            bail!("otherwise over tables: {line}");
-        }
+    if !may_fail && make_table_calls(rt, site, line)?.as_str() != told.as_str() {
+        bail!("otherwise over tables: {line}");
     }
     Ok(told)
+}
+
+/// What each call answers over a keeper whose database is in a file, whose name comes first.
+pub(crate) fn make_file_calls(rt: &HostRuntime, site: &Site, line: &str) -> Result<String>
+    requires { IsValid site.now }
+{
+    let Some((name, steps)) = line.split_once(", ") else {
+        bail!("no call: {line}");
+    };
+    let mut keeper = TableKeeper::at(*rt, String::from_str(rt.alloc(), name)?);
+    answer_steps(rt, site, &mut keeper, steps)
+}
+
+/// What each call answers over a keeper whose database is in memory.
+pub(crate) fn make_table_calls(rt: &HostRuntime, site: &Site, line: &str) -> Result<String>
+    requires { IsValid site.now }
+{
+    let mut keeper = TableKeeper::in_memory(rt.alloc());
+    answer_steps(rt, site, &mut keeper, line)
+}
+
+// What each call answers.
+fn answer_steps<R: Keeper>(
+    rt: &HostRuntime,
+    site: &Site,
+    keeper: &mut R,
+    line: &str,
+) -> Result<String>
+    requires { IsValid site.now }
+{
+    let Ok(register) = Register::new(rt.alloc(), site) else {
+        bail!("no memory");
+    };
+    let mut lines = Lines::new(rt.alloc());
+    for step in line.split(", ") {
+        say_step(rt, site, &register, keeper, step, &mut lines)?;
+    }
+    lines.done()
 }
 
 // A line of its own for a step: the step, and what its call answers.

@@ -10,7 +10,7 @@ mod kind;
 mod telling;
 
 use anyhow::Result;
-use calls::make_calls;
+use calls::{make_calls, make_file_calls, make_table_calls};
 use drawn_calls::try_calls;
 use each_failure::fail_each;
 use kind::{KINDS, Kind};
@@ -26,6 +26,8 @@ fn answer(rt: &HostRuntime, kind: Kind, case: &Case) -> Result<String> {
     let site = site_at(rt, case.subject)?;
     match kind {
         Kind::Calls => make_calls(rt, &site, case.rest),
+        Kind::OverFile => make_file_calls(rt, &site, case.rest),
+        Kind::OverMemory => make_table_calls(rt, &site, case.rest),
         Kind::EachFailure => fail_each(rt, &site, case.rest),
         Kind::DrawnCalls => try_calls(alloc, &site, case.rest),
     }
