@@ -20,7 +20,7 @@ use Rattle.program_status.specs.declared.outcome.Outcome.{Outcome}
 use Rattle.panel_program.specs.declared.run.Run.{Run}
 use Rattle.panel_program.specs.declared.run_end.RunEnd.{RunEnd}
 use Rattle.panel_program.specs.declared.run_end.RunEnd.TheVariants.{ReadFault}
-use Rattle.program_status.specs.declared.status.Status.TheVariants.{NoMemory, WriteFault}
+use Rattle.program_status.specs.declared.status.Status.TheVariants.{WriteFault}
 use Rattle.program_status.specs.Statuses.{number_of}
 use Rattle.panel_program.specs.Endings.{end_of, within_limit, status_of, last_line}
 use Rattle.panel_program.specs.Journals.{KeepsFor, journal_status, journal_text}
