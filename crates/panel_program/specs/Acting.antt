@@ -88,5 +88,5 @@ abbrev pub ClosesBadly : Disks → Option (List ℕ) → Option (List ℕ) → R
 ClosesBadly disks written written' old run =
     (site : Site) (kept : Retained) (p : Progress) → Stands site kept p old
     → AreFew (moments (closed false p))
-    → Closes (λ failed. WritesPart site kept (outside_before disks written old) (outside_after disks written' run) p.run
-    (closed failed p)) site kept p run
+    → Closes (λ failed. (part : WritesPart site kept (outside_before disks written old) (outside_after disks written' run)
+    p.run (closed failed p)) × (part.whole ≡ p.run)) site kept p run
