@@ -9,7 +9,7 @@ use Rattle.site_types.specs.declared.event.Event.{Event}
 use Rattle.site_types.specs.declared.retained.Retained.{Retained}
 use Rattle.site_types.specs.declared.site.Site.{Site}
 use Rattle.panel_edges.specs.declared.failed.Failed.{Failed}
-use Rattle.panel_rules.specs.Moments.{TickBlock, moments}
+use Rattle.panel_rules.specs.Moments.{moments}
 use Rattle.record_lines.specs.Belongs.{Belongs}
 use Rattle.record_lines.specs.Judged.{line_view}
 use Rattle.record_lines.specs.declared.line.Line.{Line}
@@ -20,7 +20,7 @@ use Rattle.panel_program.specs.declared.run_end.RunEnd.TheVariants.{Ended}
 use Rattle.panel_program.specs.Acting.{ClosesBadly, ClosesWell, TellsEvent}
 use Rattle.panel_program.specs.Records.{Progress, after_line, closed, new_block, with_order}
 use Rattle.panel_program.specs.Outside.{Disks, Outside, outside_after, outside_before, stored_new, stored_old}
-use Rattle.panel_program.specs.Stands.{AreFew, HasRun, MayCome, OpensTick, Stands, StandsClosed, Takes, WritesPart}
+use Rattle.panel_program.specs.Stands.{AreFew, HasRun, MayCome, OpensTick, Stands, StandsClosed, Takes, BreaksTick}
 use Rattle.panel_program.proofs.Cuts.{stores_as, writes_same}
 use Rattle.panel_program.proofs.Progresses.{closed_length, same_moments}
 use Rattle.panel_program.proofs.Stood.{has_run}
@@ -80,15 +80,11 @@ module _ (disks : Disks) (site : Site) (kept : Retained) (p : Progress) where
         record { failed = done.failed; ran = has_run site kept (closed done.failed p) None run done.stands; wrote = done.wrote },
       )
 
-  -- a write failed in the text of the first tick behind those that were run
-  abbrev PartOf : Outside disks.kind → Outside disks.kind → List TickBlock → Type 0
-  PartOf old new ticks = (part : WritesPart site kept old new p.run ticks) × (part.whole ≡ p.run)
-
   failed_by : (line : Line) (old new : Outside disks.kind) (run : Run) (result : Result (Option RunEnd) Failed) (failed : Bool) → IsErr result
       → (after_line site failed p (line_view line)).run ≡ closed failed p → Stands site kept (record { run = closed failed p; block = None }) run
-      → PartOf old new (closed failed p) → Takes site kept p line old new run result
+      → BreaksTick site kept old new p.run (closed failed p) → Takes site kept p line old new run result
   failed_by line old new run (Err f) failed err same stands broke =
-      let part = subst (PartOf old new) (sym same) broke in
+      let part = subst (BreaksTick site kept old new p.run) (sym same) broke in
       record {
         failed = failed;
         ran = subst (λ ts. HasRun site kept ts run) (sym same) (has_run site kept (closed failed p) None run stands);

@@ -145,8 +145,8 @@ module _ (site : Site) (kept : Retained) (digest : List ℕ) (disk : JournalDisk
     pub told : Grows old mid (text_so_far site kept run)
     pub says : Says (status_of end) (last_line outcome.ticks end) mid new outcome.status
 
-  -- A write failed in the text of the last of these ticks, which the last line of these bytes closed: it wrote a front of
-  -- that behind the text of the ticks before, and no more of the record was read than comes at a time.
+  -- A write failed in the text of the last of these ticks, which the last line of these bytes closed: it wrote a front
+  -- of that behind the text of the ticks before, and no more of the record was read than comes at a time.
   pub record RanUntil : Type 0 where
     pub consumed : List ℕ
     pub rest : List ℕ

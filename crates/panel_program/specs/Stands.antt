@@ -1,5 +1,6 @@
 -- What a run stands for, after some lines of its record.
-use Rattle.std.specs.Prelude.{◌≡◌, ◌+◌, ◌-◌, ◌*◌, ◌^◌, ◌<◌, ◌≤◌, ◌↔◌, ℕ, Bool, true, false, List, ◌∷◌, ◌++◌, length, take}
+use Rattle.std.specs.Prelude.{◌≡◌, ◌+◌, ◌-◌, ◌*◌, ◌^◌, ◌<◌, ◌≤◌, ◌↔◌, ℕ, Bool, true, false, List, ◌∷◌, ◌++◌, length}
+use Rattle.std.specs.Prelude.{take}
 use Rattle.std.specs.Prelude.{Option, Some, None, Result, Ok, Err, is_some}
 use Rattle.tick_units.specs.declared.seat.Seat.{Seat}
 use Rattle.tick_units.specs.Orders.{IsOrder, canonical_seats}
@@ -173,6 +174,10 @@ module _ (site : Site) (kept : Retained) where
     pub grew : Advances old.written mid (text_so_far site kept before) (text_so_far site kept whole)
     pub broke : Breaks mid new.written (text_so_far site kept whole) (text_so_far site kept after)
     pub stores : Stores old.stored new.stored before after
+
+  -- a write failed in the text of the first tick behind those before
+  abbrev pub BreaksTick : {kind : DiskKind} → Outside kind → Outside kind → List TickBlock → List TickBlock → Type 0
+  BreaksTick old new before after = (part : WritesPart old new before after) × (part.whole ≡ before)
 
   -- a line acted, and the text of the tick that it closed was written
   pub record Acts {kind : DiskKind} (p : Progress) (line : Line) (old new : Outside kind) (run : Run) : Type 0 where

@@ -99,7 +99,8 @@ returns-in_err-end-clause-reads g c site kept h =
     subst (ReadsRecord site kept bytes left' old new c.take_piece.new.run) (sym q.1)
     (piece_breaks site kept bytes left old mid c.loop-read.reader c.loop-read.run c.loop-read.read s piece left' new
     c.take_piece.new.run c.in-Ok.ensures.bytes
-    (piece_short c.loop-read.read c.min-most.result c.in-Ok.count piece c.min-most.ensures c.in-Ok.ensures.bound c.in-Ok.ensures.count) fits (c.in_err-end.ensures.takes site kept s.consumed s.now s.is_at within)))
+    (piece_short c.loop-read.read c.min-most.result c.in-Ok.count piece c.min-most.ensures c.in-Ok.ensures.bound c.in-Ok.ensures.count) fits
+    (c.in_err-end.ensures.takes site kept s.consumed s.now s.is_at within)))
     (c.loop-read.invariant.so_far site kept h)
 
 pub returns-in-Some-clause-reads : goal.returns-in-Some-clause-reads

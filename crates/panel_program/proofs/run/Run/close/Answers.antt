@@ -7,7 +7,7 @@ use Rattle.panel_program.specs.declared.run.Run.{Run}
 use Rattle.panel_program.specs.Outside.{DiskKind, Outside, disks_of, outside_after, outside_before}
 use Rattle.panel_program.specs.Writings.{Breaks}
 use Rattle.panel_program.specs.Records.{Progress, closed, moments_in}
-use Rattle.panel_program.specs.Stands.{Stands, Stores, Writes, WritesPart, after_close}
+use Rattle.panel_program.specs.Stands.{Stands, Stores, Writes, BreaksTick, after_close}
 use Rattle.panel_program.proofs.Closing.{one_more, shut_closes, told_more}
 use Rattle.panel_program.proofs.Written.{stays}
 use Rattle.site_commands.proofs.Results.{on_ok, on_err}
@@ -17,7 +17,7 @@ use Rattle.panel_program.proofs.run.Run.close.Goals as goal
 part_of : {kind : DiskKind} (site : Site) (kept : Retained) (run : Run) (p : Progress) → Stands site kept p run → run.is_open ≡ true → (failed : Bool)
     (old new : Outside kind) → Breaks old.written new.written (text_so_far site kept p.run) (text_so_far site kept (closed failed p))
     → Stores site kept old.stored new.stored p.run (closed failed p)
-    → (part : WritesPart site kept old new p.run (closed failed p)) × (part.whole ≡ p.run)
+    → BreaksTick site kept old new p.run (closed failed p)
 part_of site kept run p h open_is failed old new text stores =
     let more = one_more site kept run p.run p.block h open_is failed in (
       record {
@@ -64,8 +64,7 @@ returns-clause-err g c =
     told_more disks (GrowsByFront old new) site c.site.result.now kept c.args.self.now c.make_turns.new.self c.as_slice.result.now
     c.as_slice-2.result.now c.answers.result.now c.answers.ensures
     (c.site.ensures site kept (moments_in (after_close made.failed p)) made.stands.system) c.as_slice.ensures.value c.as_slice-2.ensures.value wrote
-    (λ ts us. (part : WritesPart site kept (outside_before disks old c.args.self.now) (outside_after disks new c.make_turns.new.self) ts us)
-    × (part.whole ≡ ts))
+    (BreaksTick site kept (outside_before disks old c.args.self.now) (outside_after disks new c.make_turns.new.self))
     p c.write.new.page h c.if-not-self.false made
     (λ text stores. part_of site kept c.args.self.now p h c.if-not-self.false made.failed (outside_before disks old c.args.self.now)
     (outside_after disks new c.make_turns.new.self) text stores))
