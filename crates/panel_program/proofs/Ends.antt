@@ -16,7 +16,7 @@ use Rattle.panel_program.specs.Records.{progress_of, ticks_run}
 use Rattle.panel_program.specs.Endings.{end_of, end_in, end_by, end_without, within_limit}
 use Rattle.panel_program.specs.Stands.{EndsAt, IsGoing}
 use Rattle.panel_program.specs.Runs.{EndsRun}
-use Rattle.panel_program.proofs.Growths.{Grown, grown}
+use Rattle.record_readings.proofs.Growths.{Grown, grown}
 
 -- within the limit these bytes go on with some of the rest
 pub record Within (bytes consumed : List ℕ) : Type 0 where

@@ -21,13 +21,14 @@ use Rattle.panel_program.specs.declared.run_end.RunEnd.{RunEnd}
 use Rattle.panel_program.specs.declared.run_end.RunEnd.TheVariants.{Ended, Refused, TooManyBytes, ReadFault}
 use Rattle.panel_program.specs.Records.{Progress, after_line, closed, moments_in, progress_of, recorded}
 use Rattle.run_text.specs.Failures.{as_recorded}
-use Rattle.panel_program.specs.Ahead.{AreTicksOf, EndsOneLine}
+use Rattle.record_readings.specs.OneLine.{EndsOneLine}
+use Rattle.panel_program.specs.Ahead.{AreTicksOf}
 use Rattle.panel_program.specs.Stands.{AreFew, AreWithin, BreaksOff, GoesOn, HasRun, IsAt, IsGoing, IsNext, IsSmall, MayStep, Stands, Takes, TakesStep, Writes}
 use Rattle.panel_program.proofs.Numbers.{counted, few_lines, next_of}
 use Rattle.panel_program.proofs.Progresses.{line_moments, progress_length, progress_more, recorded_length, recorded_line}
 use Rattle.panel_program.specs.Outside.{DiskKind, Outside}
 use Rattle.panel_program.proofs.Cuts.{writes_same}
-use Rattle.panel_program.proofs.LineEnds.{one_line}
+use Rattle.record_readings.proofs.LineEnds.{one_line}
 use Rattle.panel_program.proofs.Stood.{has_run}
 
 -- ---- what may come

@@ -1,17 +1,22 @@
 -- Where a line more is read with some bytes, the last of them ends a line, and no other does.
 use Rattle.std.proofs.Common.{◌≡◌, ◌∙◌, ◌+◌, ◌<◌, ◌≤◌, ◌++◌, ◌==◌, ◌&&◌, not, ℕ, zero, suc, Bool, true, false, List, [], ◌∷◌}
-use Rattle.std.proofs.Common.{length, take, Option, Some, None, Result, Ok, Err, refl, sym, ap, arith, length-append}
+use Rattle.std.proofs.Common.{length, take, Option, Some, None, Result, Ok, Err, refl, sym, ap, subst, arith, length-append}
+use Rattle.std.proofs.Common.{◌⊎◌, append_assoc, if◌then◌else◌, inl, inr}
 use Rattle.std.specs.List.{fold, list_all}
 use Rattle.std.proofs.lemmas.Bool.{eqb-true}
 use Rattle.site_types.specs.declared.site.Site.{Site}
 use Rattle.record_lines.specs.Judged.{judged}
-use Rattle.record_lines.specs.Lines.{Cut, Reading, at_start, begun, by_bytes, by_ending, byte_refusal, cut, lines_read, next_line}
-use Rattle.record_lines.specs.Lines.{reading_of, refused_rest, rest_by_ending, verdict, with_byte}
+use Rattle.record_lines.specs.Lines.{Cut, Reading, at_start, begun, by_bytes, by_ending, byte_refusal, cut, is_printable, lines_read, next_line}
+use Rattle.record_lines.specs.Lines.{reading_of, refusal_within, refused_rest, with_rest, rest_by_ending, verdict, with_byte}
 use Rattle.record_lines.specs.Stands.{IsFirst}
 use Rattle.record_lines.specs.declared.line.Line.{Line}
 use Rattle.record_lines.specs.declared.over.Over.{Over}
+use Rattle.record_lines.specs.declared.over.Over.TheVariants.{Refused}
+use Rattle.record_lines.specs.declared.refusal.Refusal.{Refusal}
 use Rattle.record_lines.specs.declared.why.Why.{Why}
-use Rattle.panel_program.specs.Ahead.{EndsOneLine, is_within_line}
+use Rattle.record_lines.specs.declared.why.Why.TheVariants.{LineTooLong, NotAscii}
+use Rattle.record_lines.proofs.Cuts.{cut_more}
+use Rattle.record_readings.specs.OneLine.{EndsOneLine, is_within_line}
 
 -- ---- how many lines bytes end
 
@@ -180,3 +185,75 @@ one_line site before piece used place line going first more =
       is = taken ∙ ap (λ b. text ++ b ∷ []) (ends_line parts.0 some);
       within = none_ends text none;
     }
+
+-- bytes that brought no line end none, where neither the end nor a refusal has come
+pub no_line : (site : Site) (before more : List ℕ) → (reading_of site before).ending ≡ None → (reading_of site (before ++ more)).ending ≡ None
+    → (reading_of site (before ++ more)).lines ≡ (reading_of site before).lines → list_all is_within_line more ≡ true
+no_line site before more going still same =
+    let old = read_all site before going in
+    let new = read_all site (before ++ more) still in
+    let count = ap (λ (ls : List Line). length ls) same in
+    let sum = ends_append before more in
+    none_ends more (omega (arith, old, new, count, sum))
+
+-- ---- the bytes of a refused line
+
+byte_whys : (room : ℕ) (text : List ℕ) (why : Why) → refusal_within room text ≡ Some why → (why ≡ LineTooLong) ⊎ (why ≡ NotAscii)
+byte_whys room [] why e = absurd cc
+byte_whys zero (byte ∷ text) why e = inl cc
+byte_whys (suc room) (byte ∷ text) why e = by (is_printable byte) e (byte_whys room text why)
+  where
+    by : (b : Bool) → (if b then refusal_within room text else Some NotAscii) ≡ Some why
+        → (refusal_within room text ≡ Some why → (why ≡ LineTooLong) ⊎ (why ≡ NotAscii)) → (why ≡ LineTooLong) ⊎ (why ≡ NotAscii)
+    by true e rest = rest e
+    by false e rest = inr cc
+
+same_refusal : (number : ℕ) (why : Why) (refusal : Refusal) → Some (Refused (record { line = number; why = why })) ≡ Some (Refused refusal) → why ≡ refusal.why
+same_refusal number why refusal e =
+    let told : Refusal = record { line = number; why = why } in
+    let same : told ≡ refusal = cc in
+    ap (λ (r : Refusal). r.why) same
+
+-- a refusal of what has come of a line is one of its bytes
+rest_whys : (a : Reading) (text : List ℕ) (refusal : Refusal) → a.ending ≡ None → (rest_by_ending a text a.ending).ending ≡ Some (Refused refusal)
+    → (refusal.why ≡ LineTooLong) ⊎ (refusal.why ≡ NotAscii)
+rest_whys a text refusal going e =
+    by (byte_refusal text) refl (sym (ap (λ (o : Option Over). (rest_by_ending a text o).ending) going) ∙ e)
+  where
+    by : (o : Option Why) → byte_refusal text ≡ o → (refused_rest a o).ending ≡ Some (Refused refusal)
+        → (refusal.why ≡ LineTooLong) ⊎ (refusal.why ≡ NotAscii)
+    by None is h = absurd (let no_way = sym going ∙ h in cc)
+    by (Some why) is h =
+        subst (λ w. (w ≡ LineTooLong) ⊎ (w ≡ NotAscii)) (same_refusal a.number why refusal h) (byte_whys 512 text why is)
+
+neither : (why : Why) → (why ≡ LineTooLong → ⊥) → (why ≡ NotAscii → ⊥) → (why ≡ LineTooLong) ⊎ (why ≡ NotAscii) → ⊥
+neither why long ascii (inl h) = long h
+neither why long ascii (inr h) = ascii h
+
+-- the bytes of a line that is refused for another cause than its bytes
+pub refused_line : (site : Site) (before piece : List ℕ) (used place : ℕ) (refusal : Refusal) → (reading_of site before).ending ≡ None
+    → IsFirst site before piece used place → (reading_of site (before ++ take used piece)).ending ≡ Some (Refused refusal)
+    → (refusal.why ≡ LineTooLong → ⊥) → (refusal.why ≡ NotAscii → ⊥) → EndsOneLine (take used piece)
+refused_line site before piece used place refusal going first ended long ascii =
+    let parts = take_one place piece first.within in
+    let last = first.last in
+    let count_is : used ≡ suc place = omega (arith, last) in
+    let taken = ap (λ n. take n piece) count_is ∙ parts.1 in
+    let text = take place piece in
+    let old = read_all site before going in
+    let still = read_all site (before ++ text) first.going in
+    let same = ap (λ (ls : List Line). length ls) first.same in
+    let sum = ends_append before text in
+    let none : ends text ≡ 0 = omega (arith, old, still, same, sum) in
+    record { text = text; is = taken ∙ ap (λ b. text ++ b ∷ []) (by parts.0 (parts.0 == 10) refl taken); within = none_ends text none }
+  where
+    by : (b : ℕ) (end : Bool) → (b == 10) ≡ end → take used piece ≡ take place piece ++ b ∷ [] → b ≡ 10
+    by b true is taken = eqb-true b 10 is
+    by b false is taken =
+        let bytes = before ++ take place piece in
+        let all : before ++ take used piece ≡ bytes ++ b ∷ [] = ap (λ xs. before ++ xs) taken ∙ sym (append_assoc before (take place piece) (b ∷ [])) in
+        let a = whole_lines site bytes in
+        let more : reading_of site (before ++ take used piece) ≡ with_rest a ((cut bytes).rest ++ b ∷ []) =
+        ap (reading_of site) all ∙ ap (λ (c : Cut). with_rest (lines_read site c.whole) c.rest) (cut_more bytes b is) in
+        let a_going = rest_going site a (cut bytes).rest a.ending refl first.going in
+        absurd (neither refusal.why long ascii (rest_whys a ((cut bytes).rest ++ b ∷ []) refusal a_going (ap (λ (r : Reading). r.ending) (sym more) ∙ ended)))

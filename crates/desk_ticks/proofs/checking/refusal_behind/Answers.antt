@@ -1,0 +1,57 @@
+use Rattle.std.proofs.Common.{◌∙◌, ◌+◌, ◌++◌, sym, subst, arith}
+use Rattle.desk_ticks.specs.Blocks.{first_line}
+use Rattle.desk_ticks.proofs.Behind.{IsRead, goes, none_read, some_left, stops, told_so, uses_fit, uses_some}
+use Rattle.desk_ticks.proofs.checking.refusal_behind.Goals as goal
+
+pub begin-requires-clause-fresh : goal.begin-requires-clause-fresh
+begin-requires-clause-fresh c = c.new-reader.ensures c.args.site.now
+
+pub loop-left-init : goal.loop-left-init
+loop-left-init c = none_read c.args.site.now c.args.rest.now c.begin.new.reader c.begin.ensures.stands c.begin.ensures.reads
+
+pub returns-in-Some : goal.returns-in-Some
+returns-in-Some c =
+    let site = c.args.site.now in
+    let left = c.loop-left.left.now in
+    let h = c.loop-left.invariant in
+    let some = some_left left (sym c.is_empty.ensures ∙ c.loop-left-test.true) in
+    let feeds = c.feed-fed.ensures.feeds (first_line site ++ h.front) h.reads in
+    let told = told_so site c.args.rest.now left c.loop-left.reader c.feed-fed.new.self c.loop-left.number c.feed-fed.result h some feeds in
+    sym
+    (stops site c.args.rest.now left c.loop-left.reader c.feed-fed.new.self c.loop-left.number c.feed-fed.result h some feeds c.feed-fed.result.step
+    c.in-Some.refusal told (sym c.stop_at.ensures ∙ c.in-Some.is))
+
+pub split_at-requires : goal.split_at-requires
+split_at-requires c =
+    let site = c.args.site.now in
+    let left = c.loop-left.left.now in
+    let h = c.loop-left.invariant in
+    let some = some_left left (sym c.is_empty.ensures ∙ c.loop-left-test.true) in
+    let feeds = c.feed-fed.ensures.feeds (first_line site ++ h.front) h.reads in
+    let told = told_so site c.args.rest.now left c.loop-left.reader c.feed-fed.new.self c.loop-left.number c.feed-fed.result h some feeds in
+    uses_fit site (first_line site ++ h.front) left c.feed-fed.result.used c.feed-fed.result.step told.1
+
+pub loop-left-smaller : goal.loop-left-smaller
+loop-left-smaller c =
+    let site = c.args.site.now in
+    let left = c.loop-left.left.now in
+    let h = c.loop-left.invariant in
+    let some = some_left left (sym c.is_empty.ensures ∙ c.loop-left-test.true) in
+    let feeds = c.feed-fed.ensures.feeds (first_line site ++ h.front) h.reads in
+    let told = told_so site c.args.rest.now left c.loop-left.reader c.feed-fed.new.self c.loop-left.number c.feed-fed.result h some feeds in
+    let more = uses_some site (first_line site ++ h.front) left c.feed-fed.result.used c.feed-fed.result.step some told.1 in
+    let fits = uses_fit site (first_line site ++ h.front) left c.feed-fed.result.used c.feed-fed.result.step told.1 in
+    let back = c.split_at.ensures.back_len in
+    omega (arith, more, fits, back)
+
+pub loop-left-preserved : goal.loop-left-preserved
+loop-left-preserved c =
+    let site = c.args.site.now in
+    let left = c.loop-left.left.now in
+    let h = c.loop-left.invariant in
+    let some = some_left left (sym c.is_empty.ensures ∙ c.loop-left-test.true) in
+    let feeds = c.feed-fed.ensures.feeds (first_line site ++ h.front) h.reads in
+    let told = told_so site c.args.rest.now left c.loop-left.reader c.feed-fed.new.self c.loop-left.number c.feed-fed.result h some feeds in
+    subst (λ xs. IsRead site c.args.rest.now xs c.feed-fed.new.self (c.loop-left.number + 1)) (sym c.split_at.ensures.back)
+    (goes site c.args.rest.now left c.loop-left.reader c.feed-fed.new.self c.loop-left.number c.feed-fed.result h some feeds c.feed-fed.result.step told
+    (sym c.stop_at.ensures ∙ c.in-None.is))
