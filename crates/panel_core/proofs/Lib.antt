@@ -31,3 +31,6 @@ pub mod Shows
 pub mod WholeFaces
 pub mod ZonesShown
 pub mod PromisedFaces
+-- which panels are marked
+pub mod FacesAlike
+pub mod Marked
