@@ -158,8 +158,9 @@ module _ {order : List Seat} {journal : Journal} {old between : System} {place :
           }
 
       -- and each panel that isn't marked then shows what it showed at the end of the tick before
-      pub all_marked : MarksTurnsFrom old order 0 place between → MarksKept between journal store after → MarksTurnsFrom after order (place + 1) end last
-          → AreMarked site kept before old → AreMarked site kept (and_turns (has_failed store) order before) last
+      pub all_marked : MarksTurnsFrom old order 0 place between.changed → MarksKept between journal store after.changed
+          → MarksTurnsFrom after order (place + 1) end last.changed → AreMarked site kept before old.changed
+          → AreMarked site kept (and_turns (has_failed store) order before) last.changed
       all_marked front keep back marked =
           let failed = has_failed store in
           let is = parted failed ∙ same_turns failed false (drop (place + 1) order) (Kept failed ∷ then) rest_panels in
@@ -169,7 +170,7 @@ module _ {order : List Seat} {journal : Journal} {old between : System} {place :
           back site kept (Kept failed ∷ then) turned.stands
           (front_turns site.panels order (place + 1) end (Kept failed ∷ then) (second.since (let inside = within in omega (arith, inside))) second.within
           behind_run) mid in
-          subst (λ ms. AreMarked site kept ms last) (ap (λ xs. and_turns false xs (Kept failed ∷ then)) rest_is ∙ sym is) late
+          subst (λ ms. AreMarked site kept ms last.changed) (ap (λ xs. and_turns false xs (Kept failed ∷ then)) rest_is ∙ sym is) late
 
       -- the order by the place of Keep
       whole_order : (seats_between 0 place order ++ get_or order place keep_seat ∷ []) ++ drop (place + 1) order ≡ order

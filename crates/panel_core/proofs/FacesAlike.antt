@@ -177,12 +177,12 @@ module _ (site : Site) (kept : Retained) (panel : ℕ) where
       → face_of site kept panel (moment ∷ before) ≡ face_of site kept panel before
   face_stays moment before same h counter =
       let done = applied site kept before in
-      let then = applied site kept (moment ∷ before) in
+      let now = applied site kept (moment ∷ before) in
       let later = subst (λ ds. Alike ds (moment ∷ before) done before) (applied_stays site kept moment before same) h in
       faces_alike (moment ∷ before) before
-      (alike_then (done_so_far site kept (moment ∷ before)) then (done_so_far site kept before) (moment ∷ before) (moment ∷ before) before
+      (alike_then (done_so_far site kept (moment ∷ before)) now (done_so_far site kept before) (moment ∷ before) (moment ∷ before) before
       (alike_now (moment ∷ before))
-      (alike_then then done (done_so_far site kept before) (moment ∷ before) before before later
+      (alike_then now done (done_so_far site kept before) (moment ∷ before) before before later
       (alike_back (done_so_far site kept before) done before before (alike_now before))))
       (force_stays moment before same) counter
 
@@ -206,6 +206,9 @@ module _ (site : Site) (kept : Retained) (panel : ℕ) where
     unseen_turn other Supply unseen = record { alarms = refl; firsts = refl; faults = refl; on = refl; confirmed = refl; buzzer = refl }
     unseen_turn other Desk unseen = record { alarms = refl; firsts = refl; faults = refl; on = refl; confirmed = refl; buzzer = refl }
     unseen_turn other Effect unseen = record { alarms = refl; firsts = refl; faults = refl; on = refl; confirmed = refl; buzzer = refl }
+    unseen_turn other Hold unseen = elim unseen [ ]
+    unseen_turn other Link unseen = elim unseen [ ]
+    unseen_turn other Drive unseen = elim unseen [ ]
     unseen_turn other Keep unseen = record { alarms = refl; firsts = refl; faults = refl; on = refl; confirmed = refl; buzzer = refl }
 
     pub unseen_keep : (failed : Bool) → Alike done (Kept failed ∷ before) done before
@@ -217,6 +220,7 @@ module _ (site : Site) (kept : Retained) (panel : ℕ) where
     unseen_event (SupplyEvent at kind bad) unseen = record { alarms = refl; firsts = refl; faults = refl; on = refl; confirmed = refl; buzzer = refl }
     unseen_event (LinkEvent link up) unseen = record { alarms = refl; firsts = refl; faults = refl; on = refl; confirmed = refl; buzzer = refl }
     unseen_event (Op at code operation) unseen = record { alarms = refl; firsts = refl; faults = refl; on = refl; confirmed = refl; buzzer = refl }
+    unseen_event (Confirmed output) unseen = elim unseen [ ]
 
     -- a confirmation of an output of another panel
     pub confirmed_elsewhere : (output : ℕ) (plan : Output) → slice_get site.outputs output ≡ Some plan → plan.panel ≢ panel
@@ -228,12 +232,15 @@ module _ (site : Site) (kept : Retained) (panel : ℕ) where
       on = refl;
       confirmed = where_same site panel _ _ (λ o at.
           ap (λ b. is_confirmed_in (on_run site (facts_of site kept done) kept done o before) (if b then tick_of before ∷ confirmations o before else confirmations o before))
-          (elim (eqb_tells output o) [
-            | inl t ↦ absurd (apart (ap panel_of_plan (sym is) ∙ ap (panel_of_output site) t.1 ∙ at))
-            | inr t ↦ t.0
-          ]));
+          (another o at));
       buzzer = refl;
     }
+      where
+        another : (o : ℕ) → panel_of_output site o ≡ panel → (output == o) ≡ false
+        another o at = elim (eqb_tells output o) [
+          | inl t ↦ absurd (apart (ap panel_of_plan (sym is) ∙ ap (panel_of_output site) t.1 ∙ at))
+          | inr t ↦ t.0
+        ]
 
     -- turns at other panels
     pub hold_elsewhere : (other : ℕ) → (other == panel) ≡ false → Alike done (Turned other Hold ∷ before) done before
@@ -255,18 +262,20 @@ module _ (site : Site) (kept : Retained) (panel : ℕ) where
 
     pub link_elsewhere : (other : ℕ) → (other == panel) ≡ false → Alike done (Turned other Link ∷ before) done before
     link_elsewhere other e = record {
-      alarms = ap (λ kept_words. map (λ source. (if source == panel then latest_word site kept done (tells_fault site kept done) panel before
-          else word_made site kept done (tells_fault site kept done) source (kept_words source)).alarm) (range_with_len 1 most_panels)) kept_stays;
-      firsts = ap (λ kept_words. map (λ source. (if source == panel then latest_word site kept done (tells_fault site kept done) panel before
-          else word_made site kept done (tells_fault site kept done) source (kept_words source)).first) (range_with_len 1 most_panels)) kept_stays;
+      alarms = ap (λ shown. map shown (range_with_len 1 most_panels)) (fun_ext (λ source.
+          ap (λ made. (if source == panel then latest_word site kept done (tells_fault site kept done) panel before
+          else word_made site kept done (tells_fault site kept done) source made).alarm) (kept_stays source)));
+      firsts = ap (λ shown. map shown (range_with_len 1 most_panels)) (fun_ext (λ source.
+          ap (λ made. (if source == panel then latest_word site kept done (tells_fault site kept done) panel before
+          else word_made site kept done (tells_fault site kept done) source made).first) (kept_stays source)));
       faults = refl;
       on = refl;
       confirmed = refl;
       buzzer = refl;
     }
       where
-        kept_stays : (λ source. kept_at site.panels panel source (Turned other Link ∷ before)) ≡ (λ source. kept_at site.panels panel source before)
-        kept_stays = fun_ext (λ source. rw e refl)
+        kept_stays : (source : ℕ) → kept_at site.panels panel source (Turned other Link ∷ before) ≡ kept_at site.panels panel source before
+        kept_stays source = rw e refl
 
     pub drive_elsewhere : (other : ℕ) → (other == panel) ≡ false → Alike done (Turned other Drive ∷ before) done before
     drive_elsewhere other e = record {

@@ -32,5 +32,6 @@ pub mod WholeFaces
 pub mod ZonesShown
 pub mod PromisedFaces
 -- which panels are marked
+pub mod ShownByHold
 pub mod FacesAlike
 pub mod Marked

@@ -67,8 +67,8 @@ not_false true e = refl
 not_false false e = cc
 
 -- marks that are as they were
-same_mark : {old new : System} → new.changed ≡ old.changed → (panel : ℕ) → is_marked new panel ≡ false → is_marked old panel ≡ false
-same_mark same panel unmarked = ap (λ marks. slice_index_or marks (panel - 1) false) (sym same) ∙ unmarked
+same_mark : (new old : List Bool) → new ≡ old → (panel : ℕ) → is_marked new panel ≡ false → is_marked old panel ≡ false
+same_mark new old same panel unmarked = ap (λ marks. is_marked marks panel) (sym same) ∙ unmarked
 
 -- a panel whose task may have its turn can be looked at, before it and after it
 pub may_look : {panel : ℕ} {task : Task} {system : System} → MayTurnTask panel task system → HasPanel panel system
@@ -86,37 +86,37 @@ may_look_again {panel} {task} may made = record {
 
 -- ---- where nothing is shown, no mark is raised
 
-pub unseen_marks : {old new : System} (panel : ℕ) (task : Task) → IsUnseen task → new.changed ≡ old.changed → MarksTurn old panel task new
-unseen_marks panel task unseen same site kept before h run marked p member unmarked =
+pub unseen_marks : (old : System) (marks : List Bool) (panel : ℕ) (task : Task) → IsUnseen task → marks ≡ old.changed → MarksTurn old panel task marks
+unseen_marks old marks panel task unseen same site kept before h run marked p member unmarked =
     face_stays site kept p (Turned panel task) before refl (unseen_turn site kept p (applied site kept before) before panel task unseen) refl
-    ∙ marked p member (same_mark same p unmarked)
+    ∙ marked p member (same_mark marks old.changed same p unmarked)
 
-pub unseen_event_marks : {old new : System} (event : Event) → IsUnseenEvent event → new.changed ≡ old.changed → MarksEvent old event new
-unseen_event_marks event unseen same site kept before h marked p member unmarked =
+pub unseen_event_marks : (old : System) (marks : List Bool) (event : Event) → IsUnseenEvent event → marks ≡ old.changed → MarksEvent old event marks
+unseen_event_marks old marks event unseen same site kept before h marked p member unmarked =
     face_stays site kept p (Happened event) before refl (unseen_event site kept p (applied site kept before) before event unseen) refl
-    ∙ marked p member (same_mark same p unmarked)
+    ∙ marked p member (same_mark marks old.changed same p unmarked)
 
 -- a seat's turn is that of its task
-pub seat_marks : {old new : System} (seat : Seat) (task : Task) → seat.task ≡ task → task ≢ Keep → MarksTurn old seat.panel task new
-    → MarksTurns old (seat ∷ []) new
-seat_marks {old} {new} seat task is other made site kept before h run marked =
+pub seat_marks : (old : System) (marks : List Bool) (seat : Seat) (task : Task) → seat.task ≡ task → task ≢ Keep → MarksTurn old seat.panel task marks
+    → MarksTurns old (seat ∷ []) marks
+seat_marks old marks seat task is other made site kept before h run marked =
     let moment = ap (turn_of false seat.panel) is ∙ turn_is false seat.panel task other in
-    subst (λ m. AreMarked site kept (m ∷ before) new) (sym moment)
+    subst (λ m. AreMarked site kept (m ∷ before) marks) (sym moment)
     (made site kept before h (subst (λ m. IsRun site.panels (m ∷ before)) moment run) marked)
 
 -- ---- where something is shown, the panel is marked unless it is as it was
 
-module _ {old turned new : System} {panel : ℕ} {task : Task} {differs : Bool} (same : turned.changed ≡ old.changed)
+module _ (old turned new : System) (panel : ℕ) (task : Task) (differs : Bool) (same : turned.changed ≡ old.changed)
     (raises : RaisesMark turned panel differs new) where
-  unraised : (p : ℕ) → is_marked new p ≡ false → is_marked old p ≡ false
-  unraised p unmarked = same_mark same p (raises.unmarked p unmarked)
+  unraised : (p : ℕ) → is_marked new.changed p ≡ false → is_marked old.changed p ≡ false
+  unraised p unmarked = same_mark turned.changed old.changed same p (raises.unmarked p unmarked)
 
   -- the face of another panel stays, and its own where what the part shows is as it was
   turn_marks : ((site : Site) (kept : Retained) (before : List Moment) (p : ℕ) → (panel == p) ≡ false
       → face_of site kept p (Turned panel task ∷ before) ≡ face_of site kept p before)
       → ((site : Site) (kept : Retained) (before : List Moment) → StandsFor site kept before old → IsRun site.panels (Turned panel task ∷ before)
       → differs ≡ false → face_of site kept panel (Turned panel task ∷ before) ≡ face_of site kept panel before)
-      → MarksTurn old panel task new
+      → MarksTurn old panel task new.changed
   turn_marks elsewhere own site kept before h run marked p member unmarked =
       elim (eqb_tells panel p) [
         | inl t ↦
@@ -127,13 +127,13 @@ module _ {old turned new : System} {panel : ℕ} {task : Task} {differs : Bool} 
       own_face : panel ≡ p → face_of site kept p (Turned panel task ∷ before) ≡ face_of site kept p before
       own_face e =
           subst (λ q. face_of site kept q (Turned panel task ∷ before) ≡ face_of site kept q before) e
-          (own site kept before h run (raises.same (subst (λ q. is_marked new q ≡ false) (sym e) unmarked)))
+          (own site kept before h run (raises.same (subst (λ q. is_marked new.changed q ≡ false) (sym e) unmarked)))
 
 pub hold_marks : {old turned new : System} {panel : ℕ} {differs : Bool} (shown shown' : HoldShown) → turned.changed ≡ old.changed
     → RaisesMark turned panel differs new → MakesTaskTurn old panel Hold turned → ShowsByHold old panel shown → ShowsByHold turned panel shown'
-    → (differs ≡ false → shown' ≡ shown) → MarksTurn old panel Hold new
+    → (differs ≡ false → shown' ≡ shown) → MarksTurn old panel Hold new.changed
 hold_marks {old} {turned} {new} {panel} {differs} shown shown' same raises made was is tells =
-    turn_marks same raises
+    turn_marks old turned new panel Hold differs same raises
     (λ site kept before p e.
     face_stays site kept p (Turned panel Hold) before refl (hold_elsewhere site kept p (applied site kept before) before panel e) refl)
     (λ site kept before h run alike. (
@@ -153,9 +153,9 @@ hold_marks {old} {turned} {new} {panel} {differs} shown shown' same raises made 
 
 pub link_marks : {old turned new : System} {panel : ℕ} {differs : Bool} (shown shown' : ShownZones) → turned.changed ≡ old.changed
     → RaisesMark turned panel differs new → MakesTaskTurn old panel Link turned → ShowsZones old panel shown → ShowsZones turned panel shown'
-    → (differs ≡ false → shown' ≡ shown) → MarksTurn old panel Link new
+    → (differs ≡ false → shown' ≡ shown) → MarksTurn old panel Link new.changed
 link_marks {old} {turned} {new} {panel} {differs} shown shown' same raises made was is tells =
-    turn_marks same raises
+    turn_marks old turned new panel Link differs same raises
     (λ site kept before p e.
     face_stays site kept p (Turned panel Link) before refl (link_elsewhere site kept p (applied site kept before) before panel e) refl)
     (λ site kept before h run alike. (
@@ -174,9 +174,9 @@ link_marks {old} {turned} {new} {panel} {differs} shown shown' same raises made 
 
 pub drive_marks : {old turned new : System} {panel : ℕ} {differs : Bool} (shown shown' : OutputsShown) → turned.changed ≡ old.changed
     → RaisesMark turned panel differs new → MakesTaskTurn old panel Drive turned → ShowsByDrive old panel shown → ShowsByDrive turned panel shown'
-    → (differs ≡ false → shown' ≡ shown) → MarksTurn old panel Drive new
+    → (differs ≡ false → shown' ≡ shown) → MarksTurn old panel Drive new.changed
 drive_marks {old} {turned} {new} {panel} {differs} shown shown' same raises made was is tells =
-    turn_marks same raises
+    turn_marks old turned new panel Drive differs same raises
     (λ site kept before p e.
     face_stays site kept p (Turned panel Drive) before refl (drive_elsewhere site kept p (applied site kept before) before panel e) refl)
     (λ site kept before h run alike. (
@@ -194,32 +194,32 @@ drive_marks {old} {turned} {new} {panel} {differs} shown shown' same raises made
 
 -- ---- a confirmation, a turn of Keep, the beginning of a tick
 
-pub confirmation_marks : {old heard new : System} (event : Event) (output : ℕ) (plan : Output) → heard.changed ≡ old.changed
+pub confirmation_marks : {heard new : System} (marks : List Bool) (event : Event) (output : ℕ) (plan : Output) → heard.changed ≡ marks
     → RaisesMark heard plan.panel true new → event ≡ Confirmed output → (site : Site) (kept : Retained) (before : List Moment)
-    → slice_get site.outputs output ≡ Some plan → AreMarked site kept before old → AreMarked site kept (Happened event ∷ before) new
-confirmation_marks {old} {heard} {new} event output plan same raises is site kept before at marked p member unmarked =
+    → slice_get site.outputs output ≡ Some plan → AreMarked site kept before marks → AreMarked site kept (Happened event ∷ before) new.changed
+confirmation_marks {heard} {new} marks event output plan same raises is site kept before at marked p member unmarked =
     subst (λ e. ShowsSame site kept (Happened e ∷ before) p) (sym is)
     (elim (eqb_tells plan.panel p) [
-      | inl t ↦ absurd (let raised = raises.same (subst (λ q. is_marked new q ≡ false) (sym t.1) unmarked) in cc)
+      | inl t ↦ absurd (let raised = raises.same (subst (λ q. is_marked new.changed q ≡ false) (sym t.1) unmarked) in cc)
       | inr t ↦
           face_stays site kept p (Happened (Confirmed output)) before refl
           (confirmed_elsewhere site kept p (applied site kept before) before output plan at t.1) refl
-          ∙ marked p member (same_mark same p (raises.unmarked p unmarked))
+          ∙ marked p member (same_mark heard.changed marks same p (raises.unmarked p unmarked))
     ])
 
-pub keep_marks : {old noted new : System} {differ : Bool} (site : Site) (kept : Retained) (before : List Moment) (failed : Bool)
-    → noted.changed ≡ old.changed → RaisesMarks noted differ new → (differ ≡ false → noted.counts.counters ≡ old.counts.counters)
-    → StandsFor site kept before old → StandsFor site kept (Kept failed ∷ before) noted → AreMarked site kept before old
-    → AreMarked site kept (Kept failed ∷ before) new
-keep_marks site kept before failed same raises tells h noted marked p member unmarked =
+pub keep_marks : {old after new : System} {differ : Bool} (site : Site) (kept : Retained) (before : List Moment) (failed : Bool)
+    → after.changed ≡ old.changed → RaisesMarks after differ new → (differ ≡ false → after.counts.counters ≡ old.counts.counters)
+    → StandsFor site kept before old → StandsFor site kept (Kept failed ∷ before) after → AreMarked site kept before old.changed
+    → AreMarked site kept (Kept failed ∷ before) new.changed
+keep_marks {old} {after} {new} {differ} site kept before failed same raises tells h noted marked p member unmarked =
     let few = h.valid.forms.panels.1 in
     let counters = sym noted.counts.counters ∙ tells (raises.same p member.0 (let last = member.1 in omega (arith, few, last)) unmarked) ∙ h.counts.counters in
     face_stays site kept p (Kept failed) before refl (unseen_keep site kept p (applied site kept before) before failed)
     (ap (λ xs. slice_index xs (p - 1)) counters)
-    ∙ marked p member (same_mark same p (raises.unmarked p unmarked))
+    ∙ marked p member (same_mark after.changed old.changed same p (raises.unmarked p unmarked))
 
 so_many_done : (tick : ℕ) (ds : List DoneOperation) (older : List Done) → length (with_done tick ds older) ≡ length ds + length older
-so_many_done tick [] older = refl
+so_many_done tick [] older = omega arith
 so_many_done tick (d ∷ ds) older = let more = so_many_done tick ds (done_from tick d ∷ older) in omega (arith, more)
 
 empty_of : (ds : List DoneOperation) → length ds ≡ 0 → ds ≡ []
@@ -242,10 +242,14 @@ module _ (site : Site) (kept : Retained) (before : List Moment) (old : System) (
       let count = so_many_done (tick_of before) old.desk.done.items unsettled.older in
       omega (arith, e, count)
 
-  pub begun_marks : (new : System) (none : Bool) → new.changed ≡ replicate 8 (not none) → (none ≡ true → length old.desk.done.items ≡ 0)
-      → AreMarked site kept (Began ∷ before) new
-  begun_marks new none marks tells p member unmarked =
-      let few = h.valid.forms.panels.1 in
-      let here = sym (get_or-replicate 8 (p - 1) (not none) false (omega (arith, few, member.0, member.1)))
-      ∙ ap (λ xs. slice_index_or xs (p - 1) false) (sym marks) ∙ unmarked in
-      face_stays_begun site kept p before (none_done (empty_of old.desk.done.items (tells (not_false none here))))
+  module _ (none : Bool) (p : ℕ) (member : IsPanel site.panels p) where
+    mark_is : slice_index_or (replicate 8 (not none)) (p - 1) false ≡ not none
+    mark_is = let few = h.valid.forms.panels.1 in get_or-replicate 8 (p - 1) (not none) false (omega (arith, few, member.0, member.1))
+
+    pub begun_marks : (none ≡ true → length old.desk.done.items ≡ 0) → slice_index_or (replicate 8 (not none)) (p - 1) false ≡ false
+        → ShowsSame site kept (Began ∷ before) p
+    begun_marks tells unmarked =
+        face_stays_begun site kept p before (none_done (empty_of old.desk.done.items (tells (not_false none (sym mark_is ∙ unmarked)))))
+
+    pub begun_unmarked : none ≡ true → slice_index_or (replicate 8 (not none)) (p - 1) false ≡ false
+    begun_unmarked e = mark_is ∙ ap not e

@@ -21,7 +21,7 @@ impl System {
         requires may { MayKeep journal.old self.old }
         requires stands { Stands D.honest D.images disk.old journal.old }
         ensures kept { KeepsTurn self.old journal.old result journal.new self.new }
-        ensures marks { MarksKept self.old journal.old result self.new }
+        ensures marks { MarksKept self.old journal.old result self.new.changed }
         ensures stands { Stands D.honest D.images disk.new journal.new }
         ensures same { TriesAtMostOnce journal.old journal.new }
         ensures early { IsEarly journal.old → IsEarly journal.new }
@@ -39,7 +39,8 @@ impl System {
         let store = keep_turn(journal, disk, &batch);
         let counters = self.counts.counters;
         self.note_kept(store, &entries, journal);
-        self.mark_all(!are_same(&self.counts.counters, &counters));
+        let now_kept = self.counts.counters;
+        self.mark_all(!are_same(&now_kept, &counters));
         store
     }
 

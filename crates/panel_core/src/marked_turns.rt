@@ -16,7 +16,7 @@ impl System {
     pub(crate) fn marked_hold_turn(&mut self, panel: u8)
         requires { MayTurnTask panel Hold self.old }
         ensures turn { MakesTaskTurn self.old panel Hold self.new }
-        ensures marks { MarksTurn self.old panel Hold self.new }
+        ensures marks { MarksTurn self.old panel Hold self.new.changed }
     {
         let before = self.shown_by_hold(panel);
         self.hold_turn(panel);
@@ -27,7 +27,7 @@ impl System {
     pub(crate) fn marked_link_turn(&mut self, panel: u8)
         requires { MayTurnTask panel Link self.old }
         ensures turn { MakesTaskTurn self.old panel Link self.new }
-        ensures marks { MarksTurn self.old panel Link self.new }
+        ensures marks { MarksTurn self.old panel Link self.new.changed }
     {
         let before = self.zones_shown(panel);
         self.link_turn(panel);
@@ -38,7 +38,7 @@ impl System {
     pub(crate) fn marked_drive_turn(&mut self, panel: u8)
         requires { MayTurnTask panel Drive self.old }
         ensures turn { MakesTaskTurn self.old panel Drive self.new }
-        ensures marks { MarksTurn self.old panel Drive self.new }
+        ensures marks { MarksTurn self.old panel Drive self.new.changed }
     {
         let before = self.shown_by_drive(panel);
         self.drive_turn(panel);

@@ -10,7 +10,7 @@ impl System {
     /// Whether a panel is marked. Where it isn't, its face is that of the end of the tick before.
     pub fn has_changed(&self, panel: u8) -> bool
         requires { HasPanel panel self.now }
-        ensures marked { result ≡ is_marked self.now panel }
+        ensures marked { result ≡ is_marked self.now.changed panel }
         ensures same { TellsSame self.now panel result }
     {
         self.changed[panel as usize - 1]

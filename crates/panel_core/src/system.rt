@@ -75,8 +75,8 @@ impl System {
     pub fn begin(&mut self, tick: Tick)
         requires { MayBegin self.old }
         ensures begins { BeginsTick self.old tick.0 self.new }
-        ensures marks { MarksAnew self.old tick.0 self.new }
-        ensures unmarked { MarksNone self.old self.new }
+        ensures marks { MarksAnew self.old self.new.changed }
+        ensures unmarked { MarksNone self.old self.new.changed }
     {
         let none_done = self.desk.done().is_empty();
         self.apply_done();
@@ -90,7 +90,7 @@ impl System {
     pub fn event(&mut self, event: &Event)
         requires { MayHappen event.now self.old }
         ensures takes { TakesEvent self.old event.now self.new }
-        ensures marks { MarksEvent self.old event.now self.new }
+        ensures marks { MarksEvent self.old event.now self.new.changed }
     {
         self.desk.event(&self.site, event);
         match *event {

@@ -33,7 +33,7 @@ impl System {
         // The steps are the markers that depend on what changed since each panel's turn of Effect before.
         ensures steps { CountsAllTurns self.old order.now journal.old result steps.old steps.new }
         // A panel that isn't marked after them shows what it showed at the end of the tick before.
-        ensures marks { MarksAllTurns self.old order.now journal.old result self.new }
+        ensures marks { MarksAllTurns self.old order.now journal.old result self.new.changed }
         ensures stands { Stands D.honest D.images disk.new journal.new }
         ensures same { TriesAtMostOnce journal.old journal.new }
         ensures early { IsEarly journal.old → IsEarly journal.new }
@@ -58,7 +58,7 @@ impl System {
         requires { MayTurnFrom order.now from self.old }
         ensures turns { MakesTurnsFrom self.old order.now from result self.new }
         ensures steps { CountsTurnsFrom self.old order.now from result steps.old steps.new }
-        ensures marks { MarksTurnsFrom self.old order.now from result self.new }
+        ensures marks { MarksTurnsFrom self.old order.now from result self.new.changed }
         ensures few { result ≤ 65 }
     {
         for place in from..order.len() {
@@ -76,7 +76,7 @@ impl System {
         requires { MayTurnSeat seat self.old }
         ensures turns { MakesTurns self.old (seat ∷ []) self.new }
         ensures steps { CountsTurn self.old seat.panel seat.task steps.old steps.new }
-        ensures marks { MarksTurns self.old (seat ∷ []) self.new }
+        ensures marks { MarksTurns self.old (seat ∷ []) self.new.changed }
     {
         let panel = seat.panel;
         match seat.task {

@@ -20,3 +20,4 @@ pub mod Succeeding
 pub mod Matrices
 pub mod Naming
 pub mod Faces
+pub mod SameFaces

@@ -120,19 +120,19 @@ returns-in-Op-clause-takes c site kept before h =
     other_done site kept before system c.event.new.self system.ring event _ h after c.in-Op.is h.ring tt
 
 pub returns-in-Point-clause-marks : goal.returns-in-Point-clause-marks
-returns-in-Point-clause-marks c = unseen_event_marks c.args.event.now (rw c.in-Point.is tt) refl
+returns-in-Point-clause-marks c = unseen_event_marks c.args.self.now c.args.self.now.changed c.args.event.now (rw c.in-Point.is tt) refl
 
 pub returns-in-Cable-clause-marks : goal.returns-in-Cable-clause-marks
-returns-in-Cable-clause-marks c = unseen_event_marks c.args.event.now (rw c.in-Cable.is tt) refl
+returns-in-Cable-clause-marks c = unseen_event_marks c.args.self.now c.args.self.now.changed c.args.event.now (rw c.in-Cable.is tt) refl
 
 pub returns-in-Supply-clause-marks : goal.returns-in-Supply-clause-marks
-returns-in-Supply-clause-marks c = unseen_event_marks c.args.event.now (rw c.in-Supply.is tt) refl
+returns-in-Supply-clause-marks c = unseen_event_marks c.args.self.now c.args.self.now.changed c.args.event.now (rw c.in-Supply.is tt) refl
 
 pub returns-in-Link-clause-marks : goal.returns-in-Link-clause-marks
-returns-in-Link-clause-marks c = unseen_event_marks c.args.event.now (rw c.in-Link.is tt) refl
+returns-in-Link-clause-marks c = unseen_event_marks c.args.self.now c.args.self.now.changed c.args.event.now (rw c.in-Link.is tt) refl
 
 pub returns-in-Op-clause-marks : goal.returns-in-Op-clause-marks
-returns-in-Op-clause-marks c = unseen_event_marks c.args.event.now (rw c.in-Op.is tt) refl
+returns-in-Op-clause-marks c = unseen_event_marks c.args.self.now c.args.self.now.changed c.args.event.now (rw c.in-Op.is tt) refl
 
 pub returns-in-Confirmed-clause-marks : goal.returns-in-Confirmed-clause-marks
 returns-in-Confirmed-clause-marks c site kept before h =
@@ -142,7 +142,7 @@ returns-in-Confirmed-clause-marks c site kept before h =
     let has = ap (λ s. has_event s event) (sym h.same ∙ c.requires.stands.same) ∙ c.requires.has in
     let p = output_panel site kept before system event i.output c.as_slice-in-Confirmed.result.now c.index-as_slice-output.result c.index_mut-parts-in-Confirmed.result.now
     h has i.is c.as_slice-in-Confirmed.ensures c.index-as_slice-output.is c.index_mut-parts-in-Confirmed.ensures.value in
-    confirmation_marks event i.output c.index-as_slice-output.result refl c.mark.ensures i.is site kept before p.is
+    confirmation_marks system.changed event i.output c.index-as_slice-output.result refl c.mark.ensures i.is site kept before p.is
 
 pub mark-requires : goal.mark-requires
 mark-requires c =

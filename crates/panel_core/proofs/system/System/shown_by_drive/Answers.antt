@@ -8,7 +8,7 @@ returns c site kept before h run =
     let panel = c.args.panel in
     let done = applied site kept before in
     let facts = facts_of site kept done in
-    let stands = asked_panel site kept before c.args.self.now panel c.index-drive.result.now c.requires h c.index-drive.ensures in
+    let stands = asked_panel site kept before c.args.self.now panel c.index.result.now c.requires h c.index.ensures in
     record {
       on = c.on.ensures site facts kept done panel before stands.drives;
       confirmed = c.confirmed.ensures site facts kept done panel before stands.drives h.valid run h.events;

@@ -13,7 +13,7 @@ returns c site kept before h run =
     let panel = c.args.panel in
     let done = applied site kept before in
     let turns = hold_turns site kept done panel before in
-    let stands = asked_panel site kept before c.args.self.now panel c.index-hold.result.now c.requires h c.index-hold.ensures in
+    let stands = asked_panel site kept before c.args.self.now panel c.index.result.now c.requires h c.index.ensures in
     let word = c.word-word.ensures site kept panel done turns stands.holds ∙ word_held site kept done panel before h.valid stands.member run in
     record {
       alarms = ap (λ (w : Word). w.alarm) word;

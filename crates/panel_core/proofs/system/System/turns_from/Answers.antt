@@ -68,7 +68,7 @@ loop-place-preserved g c =
           let turned = subst (IsRun site.panels) next run in
           let so_far = and_turns false (seats_between from i order) before in
           let earlier = before_turns site.panels false (seat ∷ []) so_far turned in
-          subst (λ moments. AreMarked site kept moments c.turn_of.new.self) (sym next)
+          subst (λ moments. AreMarked site kept moments c.turn_of.new.self.changed) (sym next)
           (c.turn_of.ensures.marks site kept so_far (inv.turns site kept before h earlier) turned (inv.marks site kept before h earlier marked)));
       steps = λ site kept before h run. (
           let next = turns_next order from i seat before inv.since c.seat-seat.ensures in

@@ -10,6 +10,6 @@ invariant-loop-place g l = record {
   since : l.from ≤ l.place;
   panels : AreOfPanels (seats_between l.from l.place l.order);
   turns : MakesTurns l.fn.self (seats_between l.from l.place l.order) l.self;
-  marks : MarksTurns l.fn.self (seats_between l.from l.place l.order) l.self;
+  marks : MarksTurns l.fn.self (seats_between l.from l.place l.order) l.self.changed;
   steps : CountsTurnsFrom l.fn.self l.order l.from l.place l.initial.steps l.steps;
 }
