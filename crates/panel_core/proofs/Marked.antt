@@ -1,5 +1,5 @@
 -- Marks: what a call raises, and that each panel that isn't marked shows what it showed.
-use Rattle.std.proofs.Common.{◌≡◌, ◌≢◌, ◌∙◌, ◌+◌, ◌-◌, ◌<◌, ◌≤◌, ◌==◌, ℕ, Bool, true, false, List, [], ◌∷◌, Some, length}
+use Rattle.std.proofs.Common.{◌≡◌, ◌≢◌, ◌∙◌, ◌+◌, ◌-◌, ◌==◌, ℕ, Bool, true, false, List, [], ◌∷◌, Some, length}
 use Rattle.std.proofs.Common.{inl, inr, refl, sym, ap, subst, arith, slice_get, replicate}
 use Rattle.std.specs.Prelude.{not, slice_index, slice_index_or}
 use Rattle.std.proofs.lemmas.Bool.Decides.{eqb_tells}
@@ -15,9 +15,8 @@ use Rattle.site_types.specs.declared.site.Site.{Site}
 use Rattle.site_types.specs.Done.{Done}
 use Rattle.operation_desk.specs.declared.done_operation.DoneOperation.{DoneOperation}
 use Rattle.operation_desk.specs.Requests.{done_from, with_done}
-use Rattle.panel_rules.specs.Batches.{kept_after}
 use Rattle.panel_rules.specs.Faces.{buzzer_of}
-use Rattle.panel_rules.specs.Moments.{Moment, Began, Happened, Turned, Kept, IsPanel, IsRun, and_turns, turn_of, tick_of}
+use Rattle.panel_rules.specs.Moments.{Moment, Began, Happened, Turned, Kept, IsPanel, IsRun, turn_of, tick_of}
 use Rattle.panel_rules.specs.Outputs.{is_confirmed_out, is_on, outputs_where}
 use Rattle.panel_rules.specs.Run.{facts_of, faults_of, tells_fault}
 use Rattle.panel_rules.specs.Timeline.{face_of}
@@ -28,7 +27,7 @@ use Rattle.panel_core.specs.declared.shown_zones.ShownZones.{ShownZones}
 use Rattle.panel_core.specs.declared.system.System.{System}
 use Rattle.panel_core.specs.Applied.{applied, done_so_far}
 use Rattle.panel_core.specs.Changes.{MakesTaskTurn}
-use Rattle.panel_core.specs.Marks.{AreMarked, MarksEvent, MarksTurn, MarksTurns, RaisesMark, RaisesMarks, ShowsSame, before_tick, is_marked}
+use Rattle.panel_core.specs.Marks.{AreMarked, MarksEvent, MarksTurn, MarksTurns, RaisesMark, RaisesMarks, ShowsSame, is_marked}
 use Rattle.panel_core.specs.PartsShown.{ShowsByDrive, ShowsByHold}
 use Rattle.panel_core.specs.ShownFaces.{ShowsZones}
 use Rattle.panel_core.specs.Stands.{HasPanel, MayTurnTask, StandsFor}

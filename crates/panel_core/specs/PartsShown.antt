@@ -1,8 +1,5 @@
 -- What the parts of a panel show of it, with the operations that are in force.
-use Rattle.std.specs.Prelude.{◌≡◌, ℕ, List, map}
-use Rattle.std.specs.List.{range_with_len}
-use Rattle.site_types.specs.declared.fault_set.FaultSet.{FaultSet}
-use Rattle.site_types.specs.declared.buzzer.Buzzer.{Buzzer}
+use Rattle.std.specs.Prelude.{◌≡◌, ℕ, List}
 use Rattle.site_types.specs.declared.retained.Retained.{Retained}
 use Rattle.site_types.specs.declared.site.Site.{Site}
 use Rattle.site_types.specs.declared.word.Word.{Word}

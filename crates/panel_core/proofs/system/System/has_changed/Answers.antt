@@ -1,4 +1,3 @@
-use Rattle.std.proofs.Common.{arith}
 use Rattle.panel_core.proofs.Shows.{asked_member}
 use Rattle.panel_core.proofs.system.System.has_changed.Goals as goal
 

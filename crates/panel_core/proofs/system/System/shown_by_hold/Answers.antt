@@ -1,11 +1,11 @@
-use Rattle.std.proofs.Common.{◌∙◌, ap, arith}
+use Rattle.std.proofs.Common.{◌∙◌, ap}
 use Rattle.site_types.specs.declared.word.Word.{Word}
 use Rattle.hold_calls.specs.Turns.{hold_turns}
 use Rattle.hold_calls.proofs.FaultsHeld.{faults_held}
 use Rattle.hold_calls.proofs.NewsHeld.{buzzer_held}
 use Rattle.hold_calls.proofs.WordsHeld.{word_held}
 use Rattle.panel_core.specs.Applied.{applied}
-use Rattle.panel_core.proofs.Shows.{asked_panel, place_within}
+use Rattle.panel_core.proofs.Shows.{asked_panel}
 use Rattle.panel_core.proofs.system.System.shown_by_hold.Goals as goal
 
 pub returns : goal.returns
