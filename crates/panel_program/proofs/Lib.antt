@@ -20,4 +20,3 @@ pub mod Succeeding
 pub mod Matrices
 pub mod Naming
 pub mod Faces
-pub mod SameFaces

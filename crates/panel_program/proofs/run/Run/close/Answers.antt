@@ -1,4 +1,4 @@
-use Rattle.std.proofs.Common.{◌∙◌, refl, sym}
+use Rattle.std.proofs.Common.{refl}
 use Rattle.panel_edges.specs.Contents.{Grows, GrowsByFront}
 use Rattle.panel_program.specs.Outside.{disks_of, outside_after, outside_before}
 use Rattle.panel_program.specs.Records.{moments_in}
@@ -42,6 +42,3 @@ returns-clause-err g c =
     (WritesPart site kept (outside_before disks old c.args.self.now) (outside_after disks new c.make_turns.new.self)) p c.write.new.page h c.if-not-self.false made
     (λ text stores. record { text = text; stores = stores }))
     c.write.ensures.err
-
-pub write-requires-clause-same : goal.write-requires-clause-same
-write-requires-clause-same g c none = c.as_slice.ensures.value ∙ c.make_turns.ensures.same none ∙ sym c.as_slice-2.ensures.value
