@@ -17,7 +17,9 @@ use Rattle.panel_core.specs.Stands.{StandsFor}
 module _ (site : Site) (kept : Retained) (panel : ℕ) (before : List Moment) where
   -- the latest word of the panel
   abbrev pub own_word : Word
-  own_word = latest_word site kept (applied site kept before) (tells_fault site kept (applied site kept before)) panel before
+  own_word =
+      latest_word site kept (applied site kept before) (tells_fault site kept (applied site kept before)) panel
+      before
 
   -- Hold shows its zones, faults and buzzer
   pub record HoldShows (shown : HoldShown) : Type 0 where

@@ -102,19 +102,29 @@ pub returns-in-Drive-clause-marks : goal.returns-in-Drive-clause-marks
 returns-in-Drive-clause-marks g c = seat_marks c.args.self.now c.marked_drive_turn.new.self.changed c.args.seat Drive c.in-Drive.is (λ e. cc) c.marked_drive_turn.ensures.marks
 
 pub returns-in-Poll-clause-marks : goal.returns-in-Poll-clause-marks
-returns-in-Poll-clause-marks g c = seat_marks c.args.self.now c.poll_turn.new.self.changed c.args.seat Poll c.in-Poll.is (λ e. cc) (unseen_marks c.args.self.now c.poll_turn.new.self.changed c.args.seat.panel Poll tt c.poll_turn.ensures.same)
+returns-in-Poll-clause-marks g c =
+    seat_marks c.args.self.now c.poll_turn.new.self.changed c.args.seat Poll c.in-Poll.is (λ e. cc)
+    (unseen_marks c.args.self.now c.poll_turn.new.self.changed c.args.seat.panel Poll tt c.poll_turn.ensures.same)
 
 pub returns-in-Decide-clause-marks : goal.returns-in-Decide-clause-marks
-returns-in-Decide-clause-marks g c = seat_marks c.args.self.now c.decide_turn.new.self.changed c.args.seat Decide c.in-Decide.is (λ e. cc) (unseen_marks c.args.self.now c.decide_turn.new.self.changed c.args.seat.panel Decide tt c.decide_turn.ensures.same)
+returns-in-Decide-clause-marks g c =
+    seat_marks c.args.self.now c.decide_turn.new.self.changed c.args.seat Decide c.in-Decide.is (λ e. cc)
+    (unseen_marks c.args.self.now c.decide_turn.new.self.changed c.args.seat.panel Decide tt c.decide_turn.ensures.same)
 
 pub returns-in-Supply-clause-marks : goal.returns-in-Supply-clause-marks
-returns-in-Supply-clause-marks g c = seat_marks c.args.self.now c.supply_turn.new.self.changed c.args.seat Supply c.in-Supply.is (λ e. cc) (unseen_marks c.args.self.now c.supply_turn.new.self.changed c.args.seat.panel Supply tt c.supply_turn.ensures.same)
+returns-in-Supply-clause-marks g c =
+    seat_marks c.args.self.now c.supply_turn.new.self.changed c.args.seat Supply c.in-Supply.is (λ e. cc)
+    (unseen_marks c.args.self.now c.supply_turn.new.self.changed c.args.seat.panel Supply tt c.supply_turn.ensures.same)
 
 pub returns-in-Effect-clause-marks : goal.returns-in-Effect-clause-marks
-returns-in-Effect-clause-marks g c = seat_marks c.args.self.now c.effect_turn.new.self.changed c.args.seat Effect c.in-Effect.is (λ e. cc) (unseen_marks c.args.self.now c.effect_turn.new.self.changed c.args.seat.panel Effect tt c.effect_turn.ensures.same)
+returns-in-Effect-clause-marks g c =
+    seat_marks c.args.self.now c.effect_turn.new.self.changed c.args.seat Effect c.in-Effect.is (λ e. cc)
+    (unseen_marks c.args.self.now c.effect_turn.new.self.changed c.args.seat.panel Effect tt c.effect_turn.ensures.same)
 
 pub returns-in-Desk-clause-marks : goal.returns-in-Desk-clause-marks
-returns-in-Desk-clause-marks g c = seat_marks c.args.self.now c.args.self.now.changed c.args.seat Desk c.in-Desk.is (λ e. cc) (unseen_marks c.args.self.now c.args.self.now.changed c.args.seat.panel Desk tt refl)
+returns-in-Desk-clause-marks g c =
+    seat_marks c.args.self.now c.args.self.now.changed c.args.seat Desk c.in-Desk.is (λ e. cc)
+    (unseen_marks c.args.self.now c.args.self.now.changed c.args.seat.panel Desk tt refl)
 
 pub returns-in-Keep-clause-marks : goal.returns-in-Keep-clause-marks
 returns-in-Keep-clause-marks g c = absurd (c.requires.panels c.in-Keep.is)
