@@ -19,6 +19,7 @@ use Rattle.panel_rules.specs.Storing.{keep_answer}
 use Rattle.panel_core.specs.declared.system.System.{System}
 use Rattle.panel_core.specs.Changes.{AreOfPanels, MakesTurnsFrom, seats_between}
 use Rattle.panel_core.specs.Keeping.{HasTurned, KeepsRun, KeepsTurn, LeavesWithBatch, MayKeep, MayTurnAll, before_keep, has_failed, store_of}
+use Rattle.panel_core.specs.Marks.{AreMarked, MarksKept, MarksTurnsFrom}
 use Rattle.panel_core.specs.PowerCuts.{IsLeftOver, OpensToFront, OpensToFrontOr}
 use Rattle.panel_core.specs.Stands.{MayTurnFrom, StandsFor}
 use Rattle.panel_core.specs.StepCounts.{CountsTurnsFrom, RisesOver, facts_in_force}
@@ -155,6 +156,21 @@ module _ {order : List Seat} {journal : Journal} {old between : System} {place :
                 ∙ ap (λ ms. store_of (keep_answer failed (batch site kept ms)))
                 (sym (panels_leave_keep failed rest (Kept failed ∷ then) rest_panels) ∙ ap before_keep (sym (parted failed)));
           }
+
+      -- and each panel that isn't marked then shows what it showed at the end of the tick before
+      pub all_marked : MarksTurnsFrom old order 0 place between.changed → MarksKept between journal store after.changed
+          → MarksTurnsFrom after order (place + 1) end last.changed → AreMarked site kept before old.changed
+          → AreMarked site kept (and_turns (has_failed store) order before) last.changed
+      all_marked front keep back marked =
+          let failed = has_failed store in
+          let is = parted failed ∙ same_turns failed false (drop (place + 1) order) (Kept failed ∷ then) rest_panels in
+          let early = front site kept before h (front_turns site.panels order 0 place before (omega arith) first.within run) marked in
+          let mid = keep site kept then stands_between keeps_between keep_run few_between early in
+          let late =
+          back site kept (Kept failed ∷ then) turned.stands
+          (front_turns site.panels order (place + 1) end (Kept failed ∷ then) (second.since (let inside = within in omega (arith, inside))) second.within
+          behind_run) mid in
+          subst (λ ms. AreMarked site kept ms last.changed) (ap (λ xs. and_turns false xs (Kept failed ∷ then)) rest_is ∙ sym is) late
 
       -- the order by the place of Keep
       whole_order : (seats_between 0 place order ++ get_or order place keep_seat ∷ []) ++ drop (place + 1) order ≡ order

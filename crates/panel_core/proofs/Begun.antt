@@ -39,7 +39,7 @@ use Rattle.output_drive.specs.declared.drive.Drive.{Drive as DrivePart}
 -- ---- settings
 
 -- what was done before a tick sets the same in it and in the next one
-past_force : (site : Site) (kept : Retained) (setting : Setting) (tick : ℕ) (done : List Done) → AreBefore tick done
+pub past_force : (site : Site) (kept : Retained) (setting : Setting) (tick : ℕ) (done : List Done) → AreBefore tick done
     → in_force site kept setting tick done ≡ in_force site kept setting (tick + 1) done
 past_force site kept setting tick [] past = refl
 past_force site kept setting tick (d ∷ done) past =

@@ -31,3 +31,7 @@ pub mod Shows
 pub mod WholeFaces
 pub mod ZonesShown
 pub mod PromisedFaces
+-- which panels are marked
+pub mod ShownByHold
+pub mod FacesAlike
+pub mod Marked

@@ -9,3 +9,5 @@ pub mod StepCounts
 pub mod ShownZones
 pub mod ShownFaces
 pub mod PromisedFaces
+pub mod PartsShown
+pub mod Marks

@@ -40,7 +40,7 @@ impl System {
     }
 
     // The zones of each panel that a panel shows.
-    fn zones_shown(&self, panel: u8) -> ShownZones
+    pub(crate) fn zones_shown(&self, panel: u8) -> ShownZones
         requires { HasPanel panel self.now }
         ensures { ShowsZones self.now panel result }
     {

@@ -14,12 +14,14 @@ impl System {
     ghost use Rattle.panel_core.specs.Entries.{TellsEntries};
     ghost use Rattle.panel_core.specs.Keeping.{IsLeftBatch, KeepsTurn, LeavesWithBatch, NotesKept};
     ghost use Rattle.panel_core.specs.Keeping.{MayKeep, MayMakeBatch, MayNoteKept};
+    ghost use Rattle.panel_core.specs.Marks.{MarksKept};
 
     // Keep has its turn: what isn't kept yet is committed, and the operations that wait get their answers.
     pub(crate) fn keep<D: Disk>(&mut self, journal: &mut Journal, disk: &mut D) -> Store
         requires may { MayKeep journal.old self.old }
         requires stands { Stands D.honest D.images disk.old journal.old }
         ensures kept { KeepsTurn self.old journal.old result journal.new self.new }
+        ensures marks { MarksKept self.old journal.old result self.new.changed }
         ensures stands { Stands D.honest D.images disk.new journal.new }
         ensures same { TriesAtMostOnce journal.old journal.new }
         ensures early { IsEarly journal.old → IsEarly journal.new }
@@ -35,7 +37,10 @@ impl System {
         let entries = entries_of(self.panels.as_slice());
         let batch = self.left_batch(&entries);
         let store = keep_turn(journal, disk, &batch);
+        let counters = self.counts.counters;
         self.note_kept(store, &entries, journal);
+        let now_kept = self.counts.counters;
+        self.mark_all(!are_same(&now_kept, &counters));
         store
     }
 
@@ -55,7 +60,8 @@ impl System {
     // The operations that wait get their answers, and what is kept is noted unless Keep failed.
     fn note_kept(&mut self, store: Store, entries: &[u64; 8], journal: &Journal)
         requires { MayNoteKept store self.old }
-        ensures { NotesKept self.old store entries.now journal.now self.new }
+        ensures notes { NotesKept self.old store entries.now journal.now self.new }
+        ensures same { self.new.changed ≡ self.old.changed }
     {
         let failed = has_failed(store);
         self.desk.keep(failed);
@@ -68,7 +74,14 @@ impl System {
     }
 }
 
+ghost use Rattle.std.specs.Prelude.{true};
 ghost use Rattle.panel_core.specs.Keeping.{has_failed as answers_failed};
+
+fn are_same(counters: &[u32; 8], others: &[u32; 8]) -> bool
+    ensures { result ≡ true → counters.now ≡ others.now }
+{
+    counters == others
+}
 
 fn has_failed(store: Store) -> bool
     ensures { result ≡ answers_failed store }

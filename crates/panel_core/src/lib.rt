@@ -15,6 +15,8 @@
 //! failure it tries again in the next tick. Whatever a power cut then leaves opens to a front of the run, and
 //! [`fronts_hold_acknowledged`] says what each of these holds. [`System::face`] is all that a panel shows, the zones of
 //! other panels by the words that it keeps of them; its clauses say what the rules promise of it, and how soon.
+//! [`System::has_changed`] tells which panels may show something else than at the end of the tick before: each is
+//! marked in the call that changes what it shows, so no faces need to be compared.
 //!
 //! Within a panel two lanes join Poll, Decide and Hold; they never hold more than 64 items, so no turn has an
 //! answer for a full lane.
@@ -26,9 +28,13 @@
 #![tactic(auto)]
 
 mod faces;
+mod hold_shown;
 mod keeping;
 mod kept_counts;
 mod laws;
+mod marked_turns;
+mod marks;
+mod outputs_shown;
 mod parts;
 mod shown_zones;
 mod system;

@@ -29,12 +29,15 @@ pub struct System {
     /// The settings that are in force.
     pub(crate) settings: Retained,
     pub(crate) counts: KeptCounts,
+    /// The panels that may show something else than at the end of the tick before, panel 1 being the first.
+    pub(crate) changed: [bool; 8],
 }
 
 impl System {
     ghost use Rattle.panel_core.specs.Changes.{AppliesAllDone, AppliesToAll, BeginsTick, HasSameDesk};
     ghost use Rattle.panel_core.specs.Changes.{AnswersAsRuled, BeginsOutputs, TakesEvent};
     ghost use Rattle.panel_core.specs.Heard.{HearsOf};
+    ghost use Rattle.panel_core.specs.Marks.{MarksAnew, MarksEvent, MarksNone};
     ghost use Rattle.hold_calls.specs.Lanes.{taken_by};
     ghost use Rattle.panel_core.specs.ShownZones.{ShowsCausedZones, ShowsDueZones, ShowsLoneSignals};
     ghost use Rattle.panel_core.specs.ShownZones.{ShowsOwnFirsts, ShowsOwnZones};
@@ -64,24 +67,30 @@ impl System {
             desk: Desk::new(),
             settings,
             counts: KeptCounts::at_opening(kept),
+            changed: [true; 8],
         })
     }
 
     /// A tick begins, and what was done in the one that ends comes in force.
     pub fn begin(&mut self, tick: Tick)
         requires { MayBegin self.old }
-        ensures { BeginsTick self.old tick.0 self.new }
+        ensures begins { BeginsTick self.old tick.0 self.new }
+        ensures marks { MarksAnew self.old self.new.changed }
+        ensures unmarked { MarksNone self.old self.new.changed }
     {
+        let none_done = self.desk.done().is_empty();
         self.apply_done();
         self.begin_outputs();
         self.desk.begin(tick);
         self.tick = tick;
+        self.changed = [!none_done; 8];
     }
 
     /// An event happens in the tick that began last, before its turns.
     pub fn event(&mut self, event: &Event)
         requires { MayHappen event.now self.old }
-        ensures { TakesEvent self.old event.now self.new }
+        ensures takes { TakesEvent self.old event.now self.new }
+        ensures marks { MarksEvent self.old event.now self.new.changed }
     {
         self.desk.event(&self.site, event);
         match *event {
@@ -108,6 +117,7 @@ impl System {
                 let plan = self.site.outputs.as_slice()[output as usize];
                 let parts = &mut self.panels[plan.panel as usize - 1];
                 parts.confirm(plan.number);
+                self.mark(plan.panel, true);
             }
             Event::Op { .. } => {}
         }

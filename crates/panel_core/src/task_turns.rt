@@ -1,5 +1,7 @@
 //! The turns of a panel's tasks, but for Desk's and Keep's.
 
+ghost use Rattle.std.specs.Prelude.{◌≡◌};
+
 use crate::system::System;
 use cause_effect::Steps;
 use panel_effects::facts_heard;
@@ -13,7 +15,8 @@ impl System {
 
     pub(crate) fn poll_turn(&mut self, panel: u8)
         requires { MayTurnTask panel Poll self.old }
-        ensures { MakesTaskTurn self.old panel Poll self.new }
+        ensures turn { MakesTaskTurn self.old panel Poll self.new }
+        ensures same { self.new.changed ≡ self.old.changed }
     {
         let parts = &mut self.panels[panel as usize - 1];
         parts.poll_turn(self.tick);
@@ -21,7 +24,8 @@ impl System {
 
     pub(crate) fn decide_turn(&mut self, panel: u8)
         requires { MayTurnTask panel Decide self.old }
-        ensures { MakesTaskTurn self.old panel Decide self.new }
+        ensures turn { MakesTaskTurn self.old panel Decide self.new }
+        ensures same { self.new.changed ≡ self.old.changed }
     {
         let parts = &mut self.panels[panel as usize - 1];
         parts.decide_turn(self.tick);
@@ -29,7 +33,8 @@ impl System {
 
     pub(crate) fn supply_turn(&mut self, panel: u8)
         requires { MayTurnTask panel Supply self.old }
-        ensures { MakesTaskTurn self.old panel Supply self.new }
+        ensures turn { MakesTaskTurn self.old panel Supply self.new }
+        ensures same { self.new.changed ≡ self.old.changed }
     {
         let parts = &mut self.panels[panel as usize - 1];
         parts.supply_turn(self.tick);
@@ -38,7 +43,8 @@ impl System {
     // Hold, with what the ring tells of panels and links.
     pub(crate) fn hold_turn(&mut self, panel: u8)
         requires { MayTurnTask panel Hold self.old }
-        ensures { MakesTaskTurn self.old panel Hold self.new }
+        ensures turn { MakesTaskTurn self.old panel Hold self.new }
+        ensures same { self.new.changed ≡ self.old.changed }
     {
         let limit = self.site.profile().silent();
         let silent = self.ring.silent(panel, self.tick, limit);
@@ -50,7 +56,8 @@ impl System {
     // Link gives the panel's latest word to the ring, and takes what its neighbours keep.
     pub(crate) fn link_turn(&mut self, panel: u8)
         requires { MayTurnTask panel Link self.old }
-        ensures { MakesTaskTurn self.old panel Link self.new }
+        ensures turn { MakesTaskTurn self.old panel Link self.new }
+        ensures same { self.new.changed ≡ self.old.changed }
     {
         let word = self.panels[panel as usize - 1].hold.word();
         self.ring.turn(self.tick, panel, word);
@@ -60,6 +67,7 @@ impl System {
     pub(crate) fn effect_turn<L: Ledger>(&mut self, panel: u8, steps: &mut Steps<L>)
         requires { MayTurnTask panel Effect self.old }
         ensures turn { MakesTaskTurn self.old panel Effect self.new }
+        ensures same { self.new.changed ≡ self.old.changed }
         ensures steps { CountsTurn self.old panel Effect steps.old steps.new }
     {
         let facts = facts_heard(&self.ring, self.site.panels, panel);
@@ -70,7 +78,8 @@ impl System {
     // Drive, with the outputs that are disabled.
     pub(crate) fn drive_turn(&mut self, panel: u8)
         requires { MayTurnTask panel Drive self.old }
-        ensures { MakesTaskTurn self.old panel Drive self.new }
+        ensures turn { MakesTaskTurn self.old panel Drive self.new }
+        ensures same { self.new.changed ≡ self.old.changed }
     {
         let place = panel as usize - 1;
         let off = self.settings.outputs[place];

@@ -14,6 +14,7 @@ use tick_units::{Order, Seat, Task};
 impl System {
     ghost use Rattle.panel_core.specs.Changes.{MakesTurns, MakesTurnsFrom};
     ghost use Rattle.panel_core.specs.Keeping.{LeavesAfterTurns, LeavesInTurns, MakesAllTurns, MayTurnAll};
+    ghost use Rattle.panel_core.specs.Marks.{MarksAllTurns, MarksTurns, MarksTurnsFrom};
     ghost use Rattle.panel_core.specs.Stands.{MayTurnFrom, MayTurnSeat};
     ghost use Rattle.panel_core.specs.StepCounts.{CountsAllTurns, CountsTurn, CountsTurnsFrom};
 
@@ -31,6 +32,8 @@ impl System {
         ensures turns { MakesAllTurns self.old order.now journal.old result journal.new self.new }
         // The steps are the markers that depend on what changed since each panel's turn of Effect before.
         ensures steps { CountsAllTurns self.old order.now journal.old result steps.old steps.new }
+        // A panel that isn't marked after them shows what it showed at the end of the tick before.
+        ensures marks { MarksAllTurns self.old order.now journal.old result self.new.changed }
         ensures stands { Stands D.honest D.images disk.new journal.new }
         ensures same { TriesAtMostOnce journal.old journal.new }
         ensures early { IsEarly journal.old → IsEarly journal.new }
@@ -55,6 +58,7 @@ impl System {
         requires { MayTurnFrom order.now from self.old }
         ensures turns { MakesTurnsFrom self.old order.now from result self.new }
         ensures steps { CountsTurnsFrom self.old order.now from result steps.old steps.new }
+        ensures marks { MarksTurnsFrom self.old order.now from result self.new.changed }
         ensures few { result ≤ 65 }
     {
         for place in from..order.len() {
@@ -72,6 +76,7 @@ impl System {
         requires { MayTurnSeat seat self.old }
         ensures turns { MakesTurns self.old (seat ∷ []) self.new }
         ensures steps { CountsTurn self.old seat.panel seat.task steps.old steps.new }
+        ensures marks { MarksTurns self.old (seat ∷ []) self.new.changed }
     {
         let panel = seat.panel;
         match seat.task {
@@ -79,10 +84,10 @@ impl System {
             Task::Decide => self.decide_turn(panel),
             Task::Supply => self.supply_turn(panel),
             Task::Desk => self.desk.turn(&self.site, &self.settings, panel),
-            Task::Hold => self.hold_turn(panel),
-            Task::Link => self.link_turn(panel),
+            Task::Hold => self.marked_hold_turn(panel),
+            Task::Link => self.marked_link_turn(panel),
             Task::Effect => self.effect_turn(panel, steps),
-            Task::Drive => self.drive_turn(panel),
+            Task::Drive => self.marked_drive_turn(panel),
             Task::Keep => {}
         }
     }

@@ -15,4 +15,4 @@ pub returns : goal.returns
 returns c =
     let h = c.requires in
     happens c.args.panels c.args.own.now _ c.args.event.now h (let few = c.if-own-ge1000000.false in omega (arith, few))
-    (c.event.ensures h.site nothing_retained h.before h.after.stands)
+    (c.event.ensures.takes h.site nothing_retained h.before h.after.stands)

@@ -10,8 +10,8 @@ overflow_sub-place c = c.requires.member.0
 pub index_mut-parts-requires : goal.index_mut-parts-requires
 index_mut-parts-requires c = let there = place_there c.requires in omega (arith, there)
 
-pub returns : goal.returns
-returns c site kept before h run =
+pub returns-clause-turn : goal.returns-clause-turn
+returns-clause-turn c site kept before h run =
     let panel = c.args.panel in
     system_after c.requires h (λ e. cc) (λ e. cc) c.drive_turn.new.self
     (c.drive_turn.ensures site kept (applied site kept before) panel before

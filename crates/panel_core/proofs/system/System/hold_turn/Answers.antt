@@ -24,8 +24,8 @@ links_down-links-requires c = ring_there c.requires
 pub hold_turn-requires : goal.hold_turn-requires
 hold_turn-requires c = parts_may_turn c.requires c.index_mut-parts.result.now c.index_mut-parts.ensures.value
 
-pub returns : goal.returns
-returns c site kept before h run =
+pub returns-clause-turn : goal.returns-clause-turn
+returns-clause-turn c site kept before h run =
     let panel = c.args.panel in
     let done = applied site kept before in
     let here = member_here c.requires h in

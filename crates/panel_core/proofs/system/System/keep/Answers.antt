@@ -4,6 +4,8 @@ use Rattle.retained_journal.specs.Images.{MayLeaveOr}
 use Rattle.panel_edges.specs.Crashes.{LeavesOnly}
 use Rattle.panel_core.specs.Entries.{TellsEntries}
 use Rattle.panel_core.proofs.KeepTurns.{answers_by, can_commit, can_make, keeps_by, torn_by}
+use Rattle.panel_core.specs.Keeping.{has_failed}
+use Rattle.panel_core.proofs.Marked.{keep_marks, not_false, stands_raised}
 use Rattle.panel_core.proofs.system.System.keep.Goals as goal
 
 pub left_batch-batch-requires-clause-may : goal.left_batch-batch-requires-clause-may
@@ -29,8 +31,9 @@ returns-clause-kept g c site kept before h keeps run few =
     let turned = subst (λ changes. AnswersTurn changes old store new) is c.keep_turn-store.ensures.answers in
     let now = keeps_by site kept before old new store keeps.keeps turned in
     record {
-      stands = c.note_kept.ensures site kept before h (subst (λ panels. TellsEntries panels c.entries_of-entries.result) c.as_slice.ensures.value c.entries_of-entries.ensures.told)
-          run now;
+      stands = stands_raised c.mark_all.ensures.rest site kept _
+          (c.note_kept.ensures.notes site kept before h (subst (λ panels. TellsEntries panels c.entries_of-entries.result) c.as_slice.ensures.value c.entries_of-entries.ensures.told)
+          run now);
       keeps = record {
         keeps = now;
         wide = c.keep_turn-store.ensures.same.wide ∙ keeps.wide;
@@ -38,6 +41,18 @@ returns-clause-kept g c site kept before h keeps run few =
       };
       answers = answers_by site kept before old new store turned;
     }
+
+pub returns-clause-marks : goal.returns-clause-marks
+returns-clause-marks g c site kept before h keeps run few marked =
+    let store = c.keep_turn-store.result in
+    let old = c.args.journal.now in
+    let is = c.left_batch-batch.ensures site kept before h run.0 few in
+    let turned = subst (λ changes. AnswersTurn changes old store c.keep_turn-store.new.journal) is c.keep_turn-store.ensures.answers in
+    let now = keeps_by site kept before old c.keep_turn-store.new.journal store keeps.keeps turned in
+    let noted =
+    c.note_kept.ensures.notes site kept before h (subst (λ panels. TellsEntries panels c.entries_of-entries.result) c.as_slice.ensures.value c.entries_of-entries.ensures.told)
+    run now in
+    keep_marks site kept before (has_failed store) c.note_kept.ensures.same c.mark_all.ensures (λ alike. c.are_same.ensures (not_false _ alike)) h noted marked
 
 pub returns-clause-moments : goal.returns-clause-moments
 returns-clause-moments g c honest site kept before h keeps run few room =

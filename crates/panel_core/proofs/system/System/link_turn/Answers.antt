@@ -16,8 +16,8 @@ index-requires c = let there = place_there c.requires in omega (arith, there)
 pub turn-requires : goal.turn-requires
 turn-requires c = ring_there c.requires
 
-pub returns : goal.returns
-returns c site kept before h run =
+pub returns-clause-turn : goal.returns-clause-turn
+returns-clause-turn c site kept before h run =
     let panel = c.args.panel in
     let done = applied site kept before in
     let here = member_here c.requires h in

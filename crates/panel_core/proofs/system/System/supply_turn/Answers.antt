@@ -11,6 +11,6 @@ index_mut-parts-requires c = let there = place_there c.requires in omega (arith,
 pub supply_turn-requires : goal.supply_turn-requires
 supply_turn-requires c = parts_may_turn c.requires c.index_mut-parts.result.now c.index_mut-parts.ensures.value
 
-pub returns : goal.returns
-returns c =
+pub returns-clause-turn : goal.returns-clause-turn
+returns-clause-turn c =
     made_by_parts c.requires c.index_mut-parts.result.now c.supply_turn.new.self c.index_mut-parts.ensures.value (λ e. cc) (λ e. cc) c.supply_turn.ensures

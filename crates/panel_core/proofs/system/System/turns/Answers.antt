@@ -1,4 +1,4 @@
-use Rattle.panel_core.proofs.AllTurns.{all_counted, all_turned, front_then, fronts_then, may_begin, may_keep, may_rest}
+use Rattle.panel_core.proofs.AllTurns.{all_counted, all_marked, all_turned, front_then, fronts_then, may_begin, may_keep, may_rest}
 use Rattle.panel_core.proofs.system.System.turns.Goals as goal
 
 pub turns_from-place-requires : goal.turns_from-place-requires
@@ -38,3 +38,10 @@ returns-clause-moments g c honest site kept before h keeps run few room =
     let keep = c.keep-store in
     fronts_then c.requires.may c.turns_from-place.ensures.turns h keeps run few keep.result keep.new.journal keep.new.self keep.ensures.kept
     c.turns_from.ensures.turns g.D.Disk.moment g.D.Disk.left_since c.args.disk.now keep.new.disk (keep.ensures.moments honest) room
+
+pub returns-clause-marks : goal.returns-clause-marks
+returns-clause-marks g c site kept before h keeps run few marked =
+    let keep = c.keep-store in
+    let front = c.turns_from-place in
+    all_marked c.requires.may front.ensures.turns h keeps run few keep.result keep.new.journal keep.new.self keep.ensures.kept c.turns_from.ensures.turns
+    front.ensures.marks keep.ensures.marks c.turns_from.ensures.marks marked

@@ -4,6 +4,7 @@ use Rattle.panel_rules.proofs.Counting.{each_more}
 use Rattle.tick_units.specs.declared.seat.Seat.{Seat}
 use Rattle.tick_units.specs.declared.task.Task.TheVariants.{Keep}
 use Rattle.panel_core.specs.Changes.{AreOfPanels, seats_between}
+use Rattle.panel_core.specs.Marks.{AreMarked}
 use Rattle.panel_core.specs.Stands.{StandsFor}
 use Rattle.panel_core.specs.StepCounts.{RisesAt, RisesOver, facts_in_force}
 use Rattle.panel_core.proofs.StepsCounted.{applied_over, rises_more}
@@ -16,6 +17,7 @@ loop-place-init g c = record {
   since = omega arith;
   panels = rw (between_none c.args.order.now c.args.from) tt;
   turns = λ site kept before h run. rw (between_none c.args.order.now c.args.from) h;
+  marks = λ site kept before h run marked. rw (between_none c.args.order.now c.args.from) marked;
   steps = λ site kept before h run. rw (between_none c.args.order.now c.args.from) refl;
 }
 
@@ -61,6 +63,13 @@ loop-place-preserved g c =
           subst (λ moments. StandsFor site kept moments c.turn_of.new.self) (sym next)
           (c.turn_of.ensures.turns site kept (and_turns false (seats_between from i order) before)
           (inv.turns site kept before h (before_turns site.panels false (seat ∷ []) (and_turns false (seats_between from i order) before) turned)) turned));
+      marks = λ site kept before h run marked. (
+          let next = turns_next order from i seat before inv.since c.seat-seat.ensures in
+          let turned = subst (IsRun site.panels) next run in
+          let so_far = and_turns false (seats_between from i order) before in
+          let earlier = before_turns site.panels false (seat ∷ []) so_far turned in
+          subst (λ moments. AreMarked site kept moments c.turn_of.new.self.changed) (sym next)
+          (c.turn_of.ensures.marks site kept so_far (inv.turns site kept before h earlier) turned (inv.marks site kept before h earlier marked)));
       steps = λ site kept before h run. (
           let next = turns_next order from i seat before inv.since c.seat-seat.ensures in
           let turned = subst (IsRun site.panels) next run in

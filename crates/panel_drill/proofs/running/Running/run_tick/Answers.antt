@@ -10,7 +10,7 @@ pub tell-requires : goal.tell-requires
 tell-requires c =
     let r = c.requires in
     may_tell r.site r.seed r.ticks c.begin.new.self
-    (c.begin.ensures r.site nothing_retained (before r.site r.seed r.ticks) r.is_at.system
+    (c.begin.ensures.begins r.site nothing_retained (before r.site r.seed r.ticks) r.is_at.system
     (next_tick r.site r.seed r.ticks c.args.tick.0 r.next) (may_run r.site r.seed r.ticks))
 
 pub turn_counted-requires-clause-may : goal.turn_counted-requires-clause-may
@@ -18,7 +18,7 @@ turn_counted-requires-clause-may c =
     let r = c.requires in
     let drew = c.next_tick-drawn.ensures r.seed r.ticks r.is_at.drawer in
     let stands =
-    c.begin.ensures r.site nothing_retained (before r.site r.seed r.ticks) r.is_at.system (next_tick r.site r.seed r.ticks c.args.tick.0 r.next)
+    c.begin.ensures.begins r.site nothing_retained (before r.site r.seed r.ticks) r.is_at.system (next_tick r.site r.seed r.ticks c.args.tick.0 r.next)
     (may_run r.site r.seed r.ticks) in
     may_turn r.site r.seed r.ticks c.args.self.now _ c.next_tick-drawn.result r.is_at drew.drew r.few refl r.is_at.disk refl refl
     (c.tell.ensures r.site (began r.site r.seed r.ticks) stands)
@@ -27,6 +27,6 @@ pub returns : goal.returns
 returns c site seed ticks h few is =
     let drew = c.next_tick-drawn.ensures seed ticks h.drawer in
     let stands =
-    c.begin.ensures site nothing_retained (before site seed ticks) h.system (next_tick site seed ticks c.args.tick.0 is) (may_run site seed ticks) in
+    c.begin.ensures.begins site nothing_retained (before site seed ticks) h.system (next_tick site seed ticks c.args.tick.0 is) (may_run site seed ticks) in
     made site seed ticks c.args.self.now _ c.next_tick-drawn.result h drew.drew few refl h.disk refl refl
     (c.tell.ensures site (began site seed ticks) stands) c.turn_counted.new.self c.turn_counted.ensures.turns drew.stands

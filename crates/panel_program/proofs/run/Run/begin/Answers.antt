@@ -20,5 +20,5 @@ pub returns-clause-opens : goal.returns-clause-opens
 returns-clause-opens c site kept ticks h tick few short =
     let count = tick_moments ticks in
     begun site kept ticks c.args.self.now c.begin.new.self h
-    (c.begin.ensures site kept (moments ticks) h.system (omega (arith, tick, count)) (records_are_runs site.panels ticks h.ordered))
+    (c.begin.ensures.begins site kept (moments ticks) h.system (omega (arith, tick, count)) (records_are_runs site.panels ticks h.ordered))
     (omega (arith, tick, few)) short

@@ -23,7 +23,7 @@ event-requires c =
 pub returns-then-self-clause-tells : goal.returns-then-self-clause-tells
 returns-then-self-clause-tells c site kept p h short =
     told site kept p c.args.self.now (event_view c.args.event) c.event.new.self h c.if-self.true
-    (stands_for_view site kept c.args.event (moments_in p) c.event.new.self (c.event.ensures site kept (moments_in p) h.system)) short
+    (stands_for_view site kept c.args.event (moments_in p) c.event.new.self (c.event.ensures.takes site kept (moments_in p) h.system)) short
 
 pub returns-else-self-clause-tells : goal.returns-else-self-clause-tells
 returns-else-self-clause-tells c site kept p h short = untold site kept p c.args.self.now (event_view c.args.event) h c.if-self.false
