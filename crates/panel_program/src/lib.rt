@@ -17,22 +17,16 @@
 #![tactic(auto)]
 
 mod command;
-mod cycle_lines;
 mod drilling;
 mod journal_lines;
 mod last_lines;
 mod laws;
 mod lines;
-mod loaded;
-mod loading;
-mod matrix;
 mod program;
 mod reading;
 mod run;
 mod run_end;
-mod site_lines;
 mod sized;
-mod stop;
 mod taken;
 mod usage;
 mod writing;
