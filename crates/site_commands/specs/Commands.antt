@@ -1,5 +1,5 @@
 -- What the commands on a site file answer.
-use Rattle.std.specs.Prelude.{◌≡◌, ◌⊎◌, ◌×◌, ℕ, List, Option, IfSome, Result, Ok, Err}
+use Rattle.std.specs.Prelude.{◌≡◌, ◌⊎◌, ℕ, List, Option, IfSome, Result, Ok, Err}
 use Rattle.panel_edges.specs.Faults.{Rose}
 use Rattle.panel_edges.specs.Shelves.{file_of}
 use Rattle.site_types.specs.declared.site.Site.{Site}

@@ -1,5 +1,5 @@
 -- The files of a shelf, as a command finds them.
-use Rattle.std.specs.Prelude.{◌×◌, ℕ, List, Option}
+use Rattle.std.specs.Prelude.{ℕ, List, Option}
 
 -- the files that a shelf tells, where it tells them, and how many of its reads have failed before a call and after it
 pub record Files : Type 0 where

@@ -2,8 +2,8 @@
 //!
 //! [`load`] gives the site of a name with the plan of its markers and the digest of its file, or why there is none:
 //! `Loads` of specs/Sites says which, by what stands under the name. [`stop_with`] ends a command that has no site,
-//! with the line that specs/Refusals gives. [`tell_counts`] tells a site's counts and [`tell_matrix`] which outputs each zone
-//! asks for; `Checks` and `Draws` of specs/Commands say what they write and how they end.
+//! with the line that specs/Refusals gives. [`tell_counts`] tells a site's counts and [`tell_matrix`] which outputs
+//! each zone asks for; `Checks` and `Draws` of specs/Commands say what they write and how they end.
 #![tactic(auto)]
 
 mod commands;
