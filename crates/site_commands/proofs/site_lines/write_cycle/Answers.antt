@@ -2,7 +2,7 @@ use Rattle.std.proofs.Common.{subst}
 use Rattle.std.proofs.lemmas.Result.{err_from_is_err_and}
 use Rattle.panel_edges.specs.Contents.{Grows, GrowsByFront}
 use Rattle.panel_edges.proofs.Growing.{front_more, front_longer}
-use Rattle.site_commands.proofs.Written.{on_err}
+use Rattle.site_commands.proofs.Results.{on_err}
 use Rattle.site_commands.proofs.site_lines.write_cycle.Goals as goal
 
 pub returns-in_err-write_all-clause-err : goal.returns-in_err-write_all-clause-err
