@@ -1,5 +1,6 @@
 -- The disks of a move, as it finds and leaves them.
-use Rattle.std.specs.Prelude.{◌≡◌, ℕ, List, Option}
+use Rattle.std.specs.Prelude.{◌≡◌, ◌↔◌, ℕ, List, Option}
+use Rattle.retained_journal.specs.Outcomes.{SparesFull, UnlessEmpty}
 
 -- what a disk told of its bytes before a call, whether the call left it alone, whether what is said of a crash holds of
 -- it, and which files a crash may leave after the call
@@ -21,3 +22,10 @@ module _ {D : Type 0} (seen : D → Option (List ℕ)) (honest : D → Type 0) (
   abbrev pub disks_of : D → D → D → D → Disks
   disks_of old new target_old target_new =
       record { journal = disk_call old new; target = disk_call target_old target_new }
+
+  -- nothing is written to a file that isn't empty, so a crash leaves what it might have left before; and what is said of
+  -- a crash holds of the disk after the call as before it
+  pub record Spares (moment : D → ℕ) (left_since : D → ℕ → List ℕ → Type 0) (old new : D) : Type 0 where
+    pub same : UnlessEmpty (seen old) (seen new ≡ seen old)
+    pub left : SparesFull honest seen moment left_since images old new
+    pub kept_honest : honest new ↔ honest old

@@ -1,12 +1,11 @@
 //! The steps of a move.
 
-ghost use Rattle.std.specs.Prelude.{◌≡◌, ◌≢◌, ◌⊎◌, ◌↔◌};
-ghost use Rattle.journal_move.specs.Disks.{disk_call, disks_of};
+ghost use Rattle.std.specs.Prelude.{◌≡◌, ◌≢◌, ◌⊎◌, ◌≤◌};
+ghost use Rattle.journal_move.specs.Disks.{Spares, disk_call, disks_of};
 ghost use Rattle.journal_move.specs.Moves.{AnswersMove, EndsAtTarget, MovesBetween, file_of_site};
 ghost use Rattle.panel_edges.specs.Faults.{Rose};
 ghost use Rattle.program_status.specs.Statuses.{BlamesDisk, BlamesReads, BlamesWrites, IsSilentWithoutMemory};
 ghost use Rattle.program_status.specs.Statuses.{number_of};
-ghost use Rattle.retained_journal.specs.Outcomes.{SparesFull, UnlessEmpty};
 ghost use Rattle.site_commands.specs.Files.{files_of};
 ghost use Rattle.site_commands.specs.Sites.{IsLoaded};
 ghost use Rattle.site_types.specs.Changes.{AreCounters};
@@ -42,15 +41,11 @@ pub fn move_journal<F: Shelf, K: Sink, D: Disk>(
         ⊎ Rose (D.faults target.old) (D.faults target.new) }
     ensures memory { IsSilentWithoutMemory result (K.written out.old) (K.written out.new) }
     ensures before_target { result.status ≡ number_of Status.NoMemory → target.new ≡ target.old }
-    ensures journal_seen { UnlessEmpty (D.seen disk.old) (D.seen disk.new ≡ D.seen disk.old) }
-    ensures journal_spared { SparesFull D.honest D.seen D.moment D.left_since D.images
-        disk.old disk.new }
-    ensures target_seen { UnlessEmpty (D.seen target.old)
-        (D.seen target.new ≡ D.seen target.old) }
-    ensures target_spared { SparesFull D.honest D.seen D.moment D.left_since D.images
+    ensures ticks { (result.ticks ≡ 0) × (result.store_failures ≡ 0) }
+    ensures journal { Spares D.seen D.honest D.images D.moment D.left_since disk.old disk.new }
+    ensures spares { Spares D.seen D.honest D.images D.moment D.left_since
         target.old target.new }
-    ensures honest { (D.honest disk.new ↔ D.honest disk.old)
-        × (D.honest target.new ↔ D.honest target.old) }
+    ensures later { D.faults disk.old ≤ D.faults disk.new }
 {
     let old = match load(alloc, old_name, shelf) {
         Ok(loaded) => loaded,
@@ -83,15 +78,11 @@ fn move_between<K: Sink, D: Disk>(
         ⊎ Rose (D.faults target.old) (D.faults target.new) }
     ensures memory { IsSilentWithoutMemory result (K.written out.old) (K.written out.new) }
     ensures before_target { result.status ≡ number_of Status.NoMemory → target.new ≡ target.old }
-    ensures journal_seen { UnlessEmpty (D.seen disk.old) (D.seen disk.new ≡ D.seen disk.old) }
-    ensures journal_spared { SparesFull D.honest D.seen D.moment D.left_since D.images
-        disk.old disk.new }
-    ensures target_seen { UnlessEmpty (D.seen target.old)
-        (D.seen target.new ≡ D.seen target.old) }
-    ensures target_spared { SparesFull D.honest D.seen D.moment D.left_since D.images
+    ensures ticks { (result.ticks ≡ 0) × (result.store_failures ≡ 0) }
+    ensures journal { Spares D.seen D.honest D.images D.moment D.left_since disk.old disk.new }
+    ensures spares { Spares D.seen D.honest D.images D.moment D.left_since
         target.old target.new }
-    ensures honest { (D.honest disk.new ↔ D.honest disk.old)
-        × (D.honest target.new ↔ D.honest target.old) }
+    ensures later { D.faults disk.old ≤ D.faults disk.new }
 {
     match Journal::open(disk, old.digest, old.site.format == 2) {
         Ok((journal, _)) => move_kept(alloc, old, new, journal.kept(), out, target),
@@ -119,10 +110,9 @@ fn move_kept<K: Sink, D: Disk>(
     ensures disk { BlamesDisk result (D.faults target.old) (D.faults target.new) }
     ensures memory { IsSilentWithoutMemory result (K.written out.old) (K.written out.new) }
     ensures before_target { result.status ≡ number_of Status.NoMemory → target.new ≡ target.old }
-    ensures seen { UnlessEmpty (D.seen target.old) (D.seen target.new ≡ D.seen target.old) }
-    ensures spared { SparesFull D.honest D.seen D.moment D.left_since D.images
+    ensures ticks { (result.ticks ≡ 0) × (result.store_failures ≡ 0) }
+    ensures spares { Spares D.seen D.honest D.images D.moment D.left_since
         target.old target.new }
-    ensures honest { D.honest target.new ↔ D.honest target.old }
 {
     let carried = carry(&old.site, &new.site, kept);
     let Ok(text) = moved_text(alloc, &old.site, &new.site, kept, &carried) else {
