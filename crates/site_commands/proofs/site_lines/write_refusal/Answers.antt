@@ -1,7 +1,7 @@
 use Rattle.std.proofs.Common.{◌++◌, ◌∙◌, sym, ap, subst}
 use Rattle.std.specs.Prelude.{OnOk, OnErr, codes}
 use Rattle.panel_edges.specs.Contents.{Grows, GrowsByFront}
-use Rattle.site_commands.specs.Refusals.{named_text, refusal_text}
+use Rattle.site_commands.specs.Refusals.{named_text, range_text, refusal_text}
 use Rattle.site_commands.proofs.site_lines.write_refusal.Goals as goal
 
 pub returns-in-Missing-clause-ok : goal.returns-in-Missing-clause-ok
@@ -21,6 +21,12 @@ returns-in-Unknown-clause-ok g c =
     subst (λ text. OnOk c.write_key-in-Unknown.result (Grows (g.K.Stream.written c.args.out.now) (g.K.Stream.written c.write_key-in-Unknown.new.out) text))
     (ap (λ name. named_text (c.args.word.now ++ codes " 4 ") name (codes "\n")) c.as_str-in-Unknown.ensures ∙ ap (refusal_text c.args.word.now) (sym c.in-Unknown.is))
     c.write_key-in-Unknown.ensures.ok
+
+pub returns-in-OutOfRange-clause-err : goal.returns-in-OutOfRange-clause-err
+returns-in-OutOfRange-clause-err g c =
+    subst (λ text. OnErr c.write_range.result (GrowsByFront (g.K.Stream.written c.args.out.now) (g.K.Stream.written c.write_range.new.out) text))
+    (ap (λ key. range_text c.args.word.now key c.in-OutOfRange.number.now) c.as_str-in-OutOfRange.ensures ∙ ap (refusal_text c.args.word.now)
+    (sym c.in-OutOfRange.is)) c.write_range.ensures.err
 
 pub returns-in-Twice-clause-ok : goal.returns-in-Twice-clause-ok
 returns-in-Twice-clause-ok g c =
