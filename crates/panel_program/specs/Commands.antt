@@ -1,9 +1,7 @@
 -- What each command answers.
-use Rattle.std.specs.Prelude.{◌≡◌, ◌≢◌, ◌⊎◌, ℕ, List, [], ◌∷◌, Option, IfSome, Result, Ok, Err, map}
+use Rattle.std.specs.Prelude.{◌≡◌, ◌≢◌, ◌⊎◌, ℕ, List, [], ◌∷◌, Option, Result, Ok, Err, map}
 use Rattle.std.specs.Prelude.{String, string_bytes}
 use Rattle.std.specs.declared.alloc.Global.{Global}
-use Rattle.panel_edges.specs.Faults.{Rose}
-use Rattle.panel_edges.specs.Shelves.{file_of}
 use Rattle.site_types.specs.declared.site.Site.{Site}
 use Rattle.drill_site.specs.Files.{drill_file}
 use Rattle.journal_move.specs.Disks.{Disks}
@@ -12,17 +10,15 @@ use Rattle.panel_drill.specs.Drills.{drill_line}
 use Rattle.panel_program.specs.declared.command.Command.{Command}
 use Rattle.panel_program.specs.declared.command.Command.TheVariants.{Usage, Check, Run, Matrix, Drill, Move}
 use Rattle.program_status.specs.declared.outcome.Outcome.{Outcome}
-use Rattle.program_status.specs.declared.status.Status.{Status}
 use Rattle.program_status.specs.declared.status.Status.TheVariants as exit
 use Rattle.site_commands.specs.declared.stop.Stop.{Stop}
 use Rattle.panel_program.specs.Usage.{usage_line}
 use Rattle.site_commands.specs.Refusals.{stop_status, stop_text}
-use Rattle.site_commands.specs.Matrix.{IsMatrix}
 use Rattle.panel_program.specs.PowerCuts.{JournalDisk}
 use Rattle.panel_program.specs.Runs.{RanOver, Streams}
 use Rattle.site_commands.specs.Commands.{AnswersOver, Checks, Draws, RanNothing, Tells}
 use Rattle.site_commands.specs.Files.{Files}
-use Rattle.site_commands.specs.Sites.{IsAtHand, Loads, file_digest}
+use Rattle.site_commands.specs.Sites.{IsAtHand}
 use Rattle.program_status.specs.Sayings.{Says}
 use Rattle.panel_program.specs.Words.{command_of}
 
