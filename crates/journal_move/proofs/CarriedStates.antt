@@ -23,17 +23,16 @@ use Rattle.site_types.specs.Valid.{IsOutput, IsPoint, IsValid, IsZone}
 use Rattle.site_types.proofs.ValidSites.{output_at, output_numbers, point_at, point_numbers, zone_numbers}
 
 -- each change that comes of a list can be kept
+keep_next : {X : Type 0} (wide : Bool) (change : X → Change) (x : X) (rest : List X) → CanKeep wide (change x) → CanKeepAll wide (map change rest)
+    → (b : Bool) → CanKeepAll wide (map change (if b then x ∷ rest else rest))
+keep_next wide change x rest this others true = (this, others)
+keep_next wide change x rest this others false = others
+
 keep_all : {X : Type 0} (wide : Bool) (change : X → Change) (test : X → Bool) (xs : List X)
     → ((k : ℕ) (x : X) → slice_get xs k ≡ Some x → CanKeep wide (change x)) → CanKeepAll wide (map change (filter test xs))
 keep_all wide change test [] can = tt
-keep_all wide change test (x ∷ xs) can = by (test x)
-  where
-    rest : CanKeepAll wide (map change (filter test xs))
-    rest = keep_all wide change test xs (λ k y at. can (suc k) y at)
-
-    by : (b : Bool) → CanKeepAll wide (map change (if b then x ∷ filter test xs else filter test xs))
-    by true = (can 0 x refl, rest)
-    by false = rest
+keep_all wide change test (x ∷ xs) can =
+    keep_next wide change x (filter test xs) (can 0 x refl) (keep_all wide change test xs (λ k y at. can (suc k) y at)) (test x)
 
 both_kept : (wide : Bool) (xs ys : List Change) → CanKeepAll wide xs → CanKeepAll wide ys → CanKeepAll wide (xs ++ ys)
 both_kept wide [] ys a b = b
@@ -54,8 +53,8 @@ zeros (suc n) zero = omega arith
 zeros (suc n) (suc k) = zeros n k
 
 small_front : (panels : ℕ) (counters behind : List ℕ) → AreCounters counters → AreCounters behind → AreCounters (take panels counters ++ behind)
-small_front zero counters behind small rest = rest
-small_front (suc panels) [] behind small rest = rest
+small_front zero counters behind small rest k = rest k
+small_front (suc panels) [] behind small rest k = rest k
 small_front (suc panels) (counter ∷ counters) behind small rest zero = small 0
 small_front (suc panels) (counter ∷ counters) behind small rest (suc k) = small_front panels counters behind (λ j. small (suc j)) rest k
 

@@ -1,5 +1,5 @@
 ghost use Rattle.std.specs.Prelude.{◌≡◌, ◌⊎◌};
-ghost use Rattle.journal_move.specs.Disks.{Spares, disks_of};
+ghost use Rattle.journal_move.specs.Disks.{Spares};
 ghost use Rattle.panel_edges.specs.Faults.{Rose};
 ghost use Rattle.panel_program.specs.Commands.{Answers, AnswersRun, KeepsNothing, MovesNothing, RunsNothing};
 ghost use Rattle.panel_program.specs.Commands.{call_disks};
@@ -33,8 +33,7 @@ pub fn panel<F: Shelf, S: Source, K: Sink, D: Disk>(
     target: &mut D,
 ) -> Outcome
     ensures answers { Answers words.now (files_of F.files F.faults shelf.old shelf.new) (call_disks
-        (disk_of D.seen D.honest D.images D.moment D.left_since disk.old disk.new)
-        (disks_of D.seen D.honest D.images disk.old disk.new target.old target.new))
+        D.seen D.honest D.images D.moment D.left_since disk.old disk.new target.old target.new)
         (streams_of S.left S.read_faults K.written input.old input.new out.old out.new) result }
     ensures input_alone { RunsNothing words.now → input.new ≡ input.old }
     ensures disk_alone { KeepsNothing words.now → disk.new ≡ disk.old }

@@ -29,20 +29,46 @@ create-requires-clause-narrow g c =
 pub returns-in_default-clause-ends : goal.returns-in_default-clause-ends
 returns-in_default-clause-ends g c =
     let told = c.after.ensures in
-    inl (
-      record {
-        alone = refl;
-        silent =
-            record {
-              status = ap (λ (o : Outcome). o.status) told;
-              ticks = ap (λ (o : Outcome). o.ticks) told;
-              failures = ap (λ (o : Outcome). o.store_failures) told;
-              same = refl;
-            };
-      },
-    )
+    inl (record {
+      alone = refl;
+      silent = record {
+        status = ap (λ (o : Outcome). o.status) told;
+        ticks = ap (λ (o : Outcome). o.ticks) told;
+        failures = ap (λ (o : Outcome). o.store_failures) told;
+        same = refl;
+      };
+    })
 
 pub returns-in_default-clause-spares : goal.returns-in_default-clause-spares
 returns-in_default-clause-spares g c =
     spares_alone g.D.Disk.seen g.D.Disk.honest g.D.Disk.images g.D.Disk.moment g.D.Disk.left_since c.args.target.now
     (g.met.D.Disk.only_now c.args.target.now)
+
+pub returns-in-Ok-create-clause-ends : goal.returns-in-Ok-create-clause-ends
+returns-in-Ok-create-clause-ends g c =
+    let old = g.K.Stream.written c.args.out.now in
+    let new = g.K.Stream.written c.say.new.out in
+    let created = c.in-Ok-create.ensures in
+    inr (inr (record {
+      empty = was_empty c.args.new.now.digest c.carry-carried.result (g.D.Disk.seen c.args.target.now) (g.D.Disk.seen c.create.new.disk) created.made;
+      made = λ honest bytes is.
+          subst (λ (s : Retained). opened _ c.args.new.now.digest bytes ≡ Opens s) c.carry-carried.ensures
+          (created.ok (c.create.ensures.honest.0 honest) bytes is);
+      tells = record {
+        says = subst (λ text. Says Done text old new c.say.result.status) (c.as_slice.ensures ∙ c.in-Ok.ensures) c.say.ensures.says;
+        ticks = c.say.ensures.ticks.0;
+        failures = c.say.ensures.ticks.1;
+      };
+    }))
+
+pub returns-in-Err-clause-ends : goal.returns-in-Err-clause-ends
+returns-in-Err-clause-ends g c =
+    inr (inl (record {
+      refusal = c.in-Err.refusal;
+      cause = c.in-Err.ensures.err;
+      tells = record {
+        says = c.stop_at_target.ensures.says;
+        ticks = c.stop_at_target.ensures.ticks.0;
+        failures = c.stop_at_target.ensures.ticks.1;
+      };
+    }))
