@@ -1,5 +1,6 @@
 -- What a changed site takes over of a state that a slot keeps can be kept in a slot for it.
-use Rattle.std.proofs.Common.{inl, inr, ◌≡◌, ◌≢◌, ◌⊎◌, ◌+◌, ◌-◌, ◌*◌, ◌<◌, ◌≤◌, ◌==◌, ℕ, zero, suc, Bool, true, false, List, [], ◌∷◌, ◌++◌, take, replicate, get_or, slice_index, refl, sym, ◌∙◌, ap, subst, arith, if◌then◌else◌, Some}
+use Rattle.std.proofs.Common.{inl, inr, ◌≡◌, ◌≢◌, ◌⊎◌, ◌+◌, ◌-◌, ◌*◌, ◌<◌, ◌≤◌, ◌==◌, ℕ, zero, suc, Bool, true}
+use Rattle.std.proofs.Common.{false, List, [], ◌∷◌, ◌++◌, take, replicate, get_or, slice_index, refl, sym, ◌∙◌, ap, subst, arith, if◌then◌else◌, Some}
 use Rattle.std.specs.Prelude.{map, All, slice_get}
 use Rattle.std.specs.List.{filter}
 use Rattle.std.proofs.lemmas.Bool.Decides.{eqb_tells}

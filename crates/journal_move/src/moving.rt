@@ -20,8 +20,8 @@ use site_commands::{Loaded, load, stop_with, stop_with_old};
 use site_types::{Retained, carry};
 use std::alloc::Global;
 
-/// Makes in `target` a journal for the new site with what the journal on `disk` keeps of the old one, and tells what was
-/// dropped and the numbers set. `target` is made after all memory was taken.
+/// Makes in `target` a journal for the new site with what the journal on `disk` keeps of the old one, and tells what
+/// was dropped and the numbers set. `target` is made after all memory was taken.
 pub fn move_journal<F: Shelf, K: Sink, D: Disk>(
     alloc: Global,
     old_name: &str,
@@ -31,9 +31,8 @@ pub fn move_journal<F: Shelf, K: Sink, D: Disk>(
     disk: &mut D,
     target: &mut D,
 ) -> Outcome
-    ensures answers { AnswersMove old_name.now new_name.now
-        (files_of F.files F.faults shelf.old shelf.new)
-        (disks_of D.seen D.honest D.images disk.old disk.new target.old target.new)
+    ensures answers { AnswersMove old_name.now new_name.now (files_of F.files F.faults shelf.old
+        shelf.new) (disks_of D.seen D.honest D.images disk.old disk.new target.old target.new)
         (K.written out.old) (K.written out.new) result }
     ensures read { BlamesReads result (F.faults shelf.old) (F.faults shelf.new) }
     ensures write { BlamesWrites result (K.write_faults out.old) (K.write_faults out.new) }
@@ -65,10 +64,9 @@ fn move_from<F: Shelf, K: Sink, D: Disk>(
     target: &mut D,
 ) -> Outcome
     requires { IsLoaded old.now }
-    ensures answers { MovesOn (file_of_site old.now) new_name.now
-        (files_of F.files F.faults shelf.old shelf.new)
-        (disks_of D.seen D.honest D.images disk.old disk.new target.old target.new)
-        (K.written out.old) (K.written out.new) result }
+    ensures answers { MovesOn (file_of_site old.now) new_name.now (files_of F.files F.faults
+        shelf.old shelf.new) (disks_of D.seen D.honest D.images disk.old disk.new target.old
+        target.new) (K.written out.old) (K.written out.new) result }
     ensures read { BlamesReads result (F.faults shelf.old) (F.faults shelf.new) }
     ensures write { BlamesWrites result (K.write_faults out.old) (K.write_faults out.new) }
     ensures disk { result.status ≡ number_of Status.DiskFault

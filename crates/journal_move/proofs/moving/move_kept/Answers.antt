@@ -1,4 +1,4 @@
-use Rattle.std.proofs.Common.{◌≡◌, ◌∙◌, inl, inr, ap, refl, subst, sym}
+use Rattle.std.proofs.Common.{◌≡◌, ◌==◌, ◌∙◌, inl, inr, ap, refl, subst, sym}
 use Rattle.program_status.specs.declared.outcome.Outcome.{Outcome}
 use Rattle.program_status.specs.declared.status.Status.TheVariants.{Done}
 use Rattle.program_status.specs.Sayings.{Says}
@@ -23,7 +23,7 @@ create-requires-clause-points g c =
 
 pub create-requires-clause-narrow : goal.create-requires-clause-narrow
 create-requires-clause-narrow g c =
-    subst (λ (s : Retained). HasNarrowPoints _ s.points) (sym c.carry-carried.ensures)
+    subst (λ (s : Retained). HasNarrowPoints (c.args.new.now.site.format == 2) s.points) (sym c.carry-carried.ensures)
     (carried_keeps c.args.old.now.site c.args.new.now.site c.args.kept.now c.requires.new.valid c.requires.counters).narrow
 
 pub returns-in_default-clause-ends : goal.returns-in_default-clause-ends
@@ -52,7 +52,7 @@ returns-in-Ok-create-clause-ends g c =
     inr (inr (record {
       empty = was_empty c.args.new.now.digest c.carry-carried.result (g.D.Disk.seen c.args.target.now) (g.D.Disk.seen c.create.new.disk) created.made;
       made = λ honest bytes is.
-          subst (λ (s : Retained). opened _ c.args.new.now.digest bytes ≡ Opens s) c.carry-carried.ensures
+          subst (λ (s : Retained). opened (c.args.new.now.site.format == 2) c.args.new.now.digest bytes ≡ Opens s) c.carry-carried.ensures
           (created.ok (c.create.ensures.honest.0 honest) bytes is);
       tells = record {
         says = subst (λ text. Says Done text old new c.say.result.status) (c.as_slice.ensures ∙ c.in-Ok.ensures) c.say.ensures.says;
@@ -61,8 +61,8 @@ returns-in-Ok-create-clause-ends g c =
       };
     }))
 
-pub returns-in-Err-clause-ends : goal.returns-in-Err-clause-ends
-returns-in-Err-clause-ends g c =
+pub returns-clause-ends : goal.returns-clause-ends
+returns-clause-ends g c =
     inr (inl (record {
       refusal = c.in-Err.refusal;
       cause = c.in-Err.ensures.err;
