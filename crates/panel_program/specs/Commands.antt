@@ -68,8 +68,8 @@ pub record CallDisks : Type 1 where
   pub both : Disks
 
 module _ {D : Type 0} where
-  abbrev pub call_disks : (D → Option (List ℕ)) → (D → Type 0) → (D → List ℕ → Type 0) → (D → ℕ) → (D → ℕ → List ℕ → Type 0)
-      → D → D → D → D → CallDisks
+  abbrev pub call_disks : (D → Option (List ℕ)) → (D → Type 0) → (D → List ℕ → Type 0) → (D → ℕ)
+      → (D → ℕ → List ℕ → Type 0) → D → D → D → D → CallDisks
   call_disks seen honest images moment left_since old new target_old target_new =
       record {
         journal = disk_of seen honest images moment left_since old new;
