@@ -1,6 +1,6 @@
 ghost use Rattle.std.specs.Prelude.{◌≡◌, List, ℕ, Bool, true, false, Option, IfOk, OnErr, is_ok};
 ghost use Rattle.panel_edges.specs.Faults.{HasCause};
-ghost use Rattle.desk_doors.specs.Doors.{Told, Gives, HandsBack, StillTells, told_of};
+ghost use Rattle.desk_doors.specs.Doors.{ToldConn, Gives, HandsBack, StillTells, conn_told};
 
 use panel_edges::{Failed, Sink, Source};
 
@@ -9,10 +9,10 @@ pub trait Door {
     type Conn: Source + Sink + Drop;
 
     /// The connections that wait, in the order in which they are given, where they are told.
-    ghost waiting: { Self → Option (List Told) };
+    ghost waiting: { Self → Option (List ToldConn) };
 
     /// The connections that were handed back, in that order, where they are told.
-    ghost handed: { Self → Option (List Told) };
+    ghost handed: { Self → Option (List ToldConn) };
 
     /// Whether the connection that was given last is not handed back yet.
     ghost is_out: { Self → Bool };
@@ -31,7 +31,7 @@ pub trait Door {
     fn next(&mut self) -> Result<Self::Conn, Failed>
         requires { Self.is_out self.old ≡ false }
         ensures given { IfOk result (λ conn. Gives (Self.waiting self.old) (Self.waiting self.new)
-            (told_of (Self.Conn.left conn) (Self.Conn.written conn))) }
+            (conn_told (Self.Conn.left conn) (Self.Conn.written conn))) }
         ensures err { OnErr result (Self.waiting self.new ≡ Self.waiting self.old) }
         ensures handed { StillTells (Self.handed self.old) (Self.handed self.new) }
         ensures out { Self.is_out self.new ≡ is_ok result }
@@ -41,7 +41,7 @@ pub trait Door {
     fn finish(&mut self, conn: Self::Conn)
         requires { Self.is_out self.old ≡ true }
         ensures handed { HandsBack (Self.handed self.old) (Self.handed self.new)
-            (told_of (Self.Conn.left conn) (Self.Conn.written conn)) }
+            (conn_told (Self.Conn.left conn) (Self.Conn.written conn)) }
         ensures waiting { Self.waiting self.new ≡ Self.waiting self.old }
         ensures out { Self.is_out self.new ≡ false }
         ensures same { Self.faults self.new ≡ Self.faults self.old };

@@ -1,5 +1,4 @@
 ghost use Rattle.std.specs.Prelude.{◌≡◌, ◌≤◌, true, false, Some, None, length, map, IfOk, if◌then◌else◌, List, []};
-ghost use Rattle.desk_doors.specs.Doors.{Told};
 ghost use Rattle.desk_doors.specs.MemoryDoors.{given_back, not_given, told_sound_conn};
 
 use crate::doors::Door;
