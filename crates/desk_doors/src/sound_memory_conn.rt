@@ -57,8 +57,8 @@ impl Source for SoundMemoryConn {
             (drop self.new.input.at self.new.input.bytes.items) into.new) }
         ensures output { self.new.output ≡ self.old.output }
         // It never fails.
-        ensures count { result
-            ≡ Ok (min (length into.old) (length (drop self.old.input.at self.old.input.bytes.items))) }
+        ensures count { let left = drop self.old.input.at self.old.input.bytes.items in
+            result ≡ Ok (min (length into.old) (length left)) }
     {
         self.input.read(into)
     }
@@ -70,8 +70,9 @@ impl Sink for SoundMemoryConn {
         // It never fails and takes the whole piece.
         ensures whole { result ≡ Ok (length piece.now) }
         ensures input { self.new.input ≡ self.old.input }
-        ensures passed { self.new.output.passed ≡ (self.old.output.passed
-            || nat_lt self.old.output.room (length self.old.output.bytes.items + length piece.now)) }
+        ensures passed { let told = length self.old.output.bytes.items + length piece.now in
+            self.new.output.passed
+            ≡ (self.old.output.passed || nat_lt self.old.output.room told) }
         ensures kept { self.new.output.bytes.items ≡ (if self.new.output.passed
             then self.old.output.bytes.items else self.old.output.bytes.items ++ piece.now) }
     {
