@@ -1,8 +1,7 @@
 -- How many keys an object has.
 use Rattle.std.proofs.Common.{◌≡◌, ◌∙◌, ℕ, List, Some, length, ap, sym}
 use Rattle.std.specs.Prelude.{◌==◌}
-use Rattle.serde_json.specs.Data.{Data, Members}
-use Rattle.serde_json.specs.Events.{members_len}
+use Rattle.serde_json.specs.Data.{Data}
 use Rattle.serde_json.specs.Find.{as_object}
 use Rattle.serde_json.specs.View.{members_view}
 use Rattle.serde_json.proofs.Views.{Entry, members_len-members_view}

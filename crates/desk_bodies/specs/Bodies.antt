@@ -1,5 +1,5 @@
 -- What the bodies of requests say, in the words of the library that reads JSON.
-use Rattle.std.specs.Prelude.{◌≡◌, ◌==◌, ◌^◌, nat_le, nat_lt, ℕ, Bool, true, false, List, [], ◌∷◌, codes}
+use Rattle.std.specs.Prelude.{◌≡◌, ◌==◌, ◌^◌, nat_le, nat_lt, ℕ, Bool, false, List, [], ◌∷◌, codes}
 use Rattle.std.specs.Prelude.{Option, Some, None, if◌then◌else◌}
 use Rattle.std.specs.Option.{option_and_then}
 use Rattle.std.specs.Str.{IsUtf8, bytes_eq}
