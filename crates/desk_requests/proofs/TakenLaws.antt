@@ -1,6 +1,5 @@
 -- What is taken of a connection where reading stops.
-use Rattle.std.proofs.Common.{◌≡◌, ◌<◌, ◌≤◌, ◌+◌, ◌∙◌, ℕ, List, [], ◌++◌, Option, refl, inl, inr, ap, sym, subst, arith, length, drop, length-append, append-nil}
-use Rattle.std.specs.Prelude.{IfSome}
+use Rattle.std.proofs.Common.{◌≡◌, ◌<◌, ◌≤◌, ◌+◌, ◌∙◌, ℕ, List, ◌++◌, Option, refl, inl, inr, ap, sym, subst, arith, length, drop, length-append, append-nil}
 use Rattle.httparse.specs.Grammar.{HasNoRequest, MayBecomeRequest, print_request}
 use Rattle.panel_edges.specs.Contents.{Consumes}
 use Rattle.panel_edges.proofs.Shrinking.{consumes_more, consumes_same}
@@ -12,7 +11,6 @@ use Rattle.desk_requests.specs.declared.asking.Asking.{Asking}
 use Rattle.desk_requests.specs.declared.request_room.RequestRoom.{RequestRoom}
 use Rattle.desk_requests.specs.declared.status.Status.{Status}
 use Rattle.desk_requests.specs.declared.status.Status.TheVariants.{BadRequest}
-use Rattle.desk_requests.specs.declared.taken.Request.{Request}
 use Rattle.desk_requests.specs.declared.taken.Taken.{Taken}
 use Rattle.desk_requests.specs.declared.taken.Taken.TheVariants.{Asked, Refused, Ended, ReadFault}
 use Rattle.desk_requests.proofs.HeadLaws.{begins_more, none_in_full}

@@ -1,4 +1,4 @@
-use Rattle.std.proofs.Common.{◌≡◌, ◌∙◌, sym, add-one}
+use Rattle.std.proofs.Common.{◌∙◌, sym, add-one}
 use Rattle.httparse.specs.Borrowed.{header_parts}
 use Rattle.desk_requests.proofs.FieldValues.{has_at, none_more}
 use Rattle.desk_requests.proofs.asking.has_field.Goals as goal

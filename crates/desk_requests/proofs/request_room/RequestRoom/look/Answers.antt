@@ -1,4 +1,4 @@
-use Rattle.std.proofs.Common.{◌<◌, ◌∙◌, arith, inl, length, refl, subst}
+use Rattle.std.proofs.Common.{◌<◌, arith, inl, length, refl, subst}
 use Rattle.desk_requests.specs.Heads.{IsNoHead}
 use Rattle.desk_requests.proofs.HeadLaws.{field_count, none_with_many}
 use Rattle.desk_requests.proofs.request_room.RequestRoom.look.Goals as goal
