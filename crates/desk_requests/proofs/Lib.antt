@@ -1,0 +1,4 @@
+pub mod FieldValues
+pub mod HeadLaws
+pub mod ReadPieces
+pub mod TakenLaws
