@@ -6,6 +6,8 @@ import sys
 import tempfile
 
 SECONDS, CLOCK, RESIDENT = 5, 30, 20 * 1024
+# the tree of a hostile document takes up to some 200 bytes for each of its own
+SMALL, RESIDENT_OF_A_BYTE = 65_536, 1 / 4
 BATCH = 16
 Call = collections.namedtuple("Call", "words site input journal expected")
 
@@ -95,7 +97,7 @@ class Caller:
         self.child.stdin.flush()
         return list(zip(self.desks, calls))
 
-    def answer(self, desk):
+    def answer(self, desk, call):
         """The status of a call that was begun, and its text; raises what is unexpected of every call."""
         status, seconds, resident = self.child.stdout.readline().split()
         status, seconds, errors = int(status), float(seconds), desk.read(2)
@@ -105,7 +107,8 @@ class Caller:
             raise Unexpected(f"on standard error: {errors[:200]}")
         if seconds > SECONDS:
             raise Unexpected(f"{seconds:.1f} seconds of processor time")
-        if int(resident) > RESIDENT:
+        size = len(call.site)
+        if int(resident) > RESIDENT + (RESIDENT_OF_A_BYTE * size if size > SMALL else 0):
             raise Unexpected(f"{int(resident)} kB of resident memory")
         self.resident = max(self.resident, int(resident))
         return os.WEXITSTATUS(status), desk.read(1)

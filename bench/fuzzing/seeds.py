@@ -61,6 +61,6 @@ def stored(caller):
 
 def is_accepted(site, caller):
     """Whether the program reads a stored site; the cases beside it say so too."""
-    [(desk, _)] = caller.begin([Call(["check", "SITE"], site.bytes, b"", None, None)])
-    status, text = caller.answer(desk)
+    [(desk, call)] = caller.begin([Call(["check", "SITE"], site.bytes, b"", None, None)])
+    status, text = caller.answer(desk, call)
     return status == 0 and text.startswith(b"ok ")

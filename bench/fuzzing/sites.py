@@ -7,12 +7,17 @@ from .changes import LIMITS, TOKENS, changed
 
 REFUSALS = re.compile(rb"refused site (1|10|[234] \S+|5 \S+ -?[0-9]+|[6-9] \S+( \S+)*|11( [a-z][a-z0-9-]*)+)\n")
 
-def expect_site(call, status, text):
-    found = site_judge.parsed(call.site)
+def expect_form(call, status, text):
+    """What holds of each answer to a site file, whatever is in it."""
     if status == 3 and not REFUSALS.fullmatch(text) or status not in (0, 3):
         raise Unexpected(f"status {status}, a refusal of no form: {text[:200]}")
     if (text == b"refused site 10\n") != (len(call.site) > 1_048_576):
         raise Unexpected(f"another refusal by the length: {text[:200]}")
+
+
+def expect_site(call, status, text):
+    expect_form(call, status, text)
+    found = site_judge.parsed(call.site)
     if found is None or deepest(found) >= 79 or has_strange_values(found) or len(call.site) > 1_048_576:
         return
     judged = site_judge.judged(found)
