@@ -17,6 +17,5 @@ pub mod Steps
 pub mod Readings
 pub mod Outcomes
 pub mod Succeeding
-pub mod Matrices
 pub mod Naming
 pub mod Faces

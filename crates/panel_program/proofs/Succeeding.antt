@@ -21,15 +21,17 @@ use Rattle.program_status.specs.Statuses.{number_of}
 use Rattle.run_text.specs.SoFar.{text_so_far}
 use Rattle.panel_program.specs.declared.run_end.RunEnd.{RunEnd}
 use Rattle.panel_program.specs.declared.run_end.RunEnd.TheVariants.{Ended, Refused as RefusedEnd, TooManyBytes, ReadFault as ReadFaultEnd}
-use Rattle.panel_program.specs.declared.stop.Stop.{Stop}
-use Rattle.panel_program.specs.declared.stop.Stop.TheVariants.{Absent, Refused, Cycle, ReadFault, NoMemory}
-use Rattle.panel_program.specs.Commands.{Answers, AnswersBy, AnswersCommand, Runs, site_word}
+use Rattle.site_commands.specs.declared.stop.Stop.{Stop}
+use Rattle.site_commands.specs.declared.stop.Stop.TheVariants.{Absent, Refused, Cycle, ReadFault, NoMemory}
+use Rattle.panel_program.specs.Commands.{Answers, AnswersCommand, Runs, site_word}
+use Rattle.site_commands.specs.Commands.{AnswersBy}
 use Rattle.panel_program.specs.Endings.{last_line, status_of}
-use Rattle.panel_program.specs.Runs.{EndsRun, Files, Ran, RanOn, StopsAtJournal, Streams}
+use Rattle.panel_program.specs.Runs.{EndsRun, Ran, RanOn, StopsAtJournal, Streams}
+use Rattle.site_commands.specs.Files.{Files}
 use Rattle.panel_program.specs.PowerCuts.{JournalDisk}
 use Rattle.panel_program.specs.Journals.{journal_status, journal_text}
-use Rattle.panel_program.specs.Refusals.{refusal_status, refusal_text}
-use Rattle.panel_program.specs.Sites.{Loads, file_digest}
+use Rattle.site_commands.specs.Refusals.{refusal_status, refusal_text}
+use Rattle.site_commands.specs.Sites.{Loads, file_digest}
 use Rattle.panel_program.specs.Successes.{IsWellMade, NothingFails, SucceedsWellMade}
 
 -- ---- a site without a cycle has none to tell

@@ -1,19 +1,11 @@
 -- What was written, step by step.
-use Rattle.std.proofs.Common.{◌∙◌, ◌++◌, List, ℕ, [], Option, Some, None, Result, Ok, Err, sym, ap, subst, append_assoc, append-nil, inl, inr}
-use Rattle.std.specs.Prelude.{OnOk, OnErr, IfSome}
+use Rattle.std.proofs.Common.{◌∙◌, ◌++◌, List, ℕ, [], Option, Some, None, sym, ap, subst, append_assoc, append-nil, inl, inr}
+use Rattle.std.specs.Prelude.{IfSome}
 use Rattle.panel_edges.specs.Contents.{Grows, GrowsByFront}
 use Rattle.panel_edges.proofs.Growing.{grows_none, grows_more, front_more}
 use Rattle.program_status.specs.declared.status.Status.{Status}
 use Rattle.panel_program.specs.Writings.{Advances, Breaks}
 use Rattle.program_status.specs.Sayings.{Says}
-
-pub on_err : {T E : Type 0} {P Q : Type 0} (r : Result T E) → (P → Q) → OnErr r P → OnErr r Q
-on_err (Ok x) f h = h
-on_err (Err e) f h = f h
-
-pub on_ok : {T E : Type 0} {P Q : Type 0} (r : Result T E) → (P → Q) → OnOk r P → OnOk r Q
-on_ok (Ok x) f h = f h
-on_ok (Err e) f h = h
 
 pub some_weaker : {A : Type 0} {P Q : A → Type 0} (o : Option A) → ((x : A) → P x → Q x) → IfSome o P → IfSome o Q
 some_weaker None f h = h

@@ -1,11 +1,9 @@
 pub mod Words
-pub mod Lines
-pub mod Matrix
+pub mod Usage
 pub mod Records
 pub mod Endings
 pub mod Writings
 pub mod Journals
-pub mod Refusals
 pub mod Outside
 pub mod Stands
 pub mod Acting
@@ -13,7 +11,5 @@ pub mod Disks
 pub mod Pages
 pub mod PowerCuts
 pub mod Runs
-pub mod Sites
 pub mod Commands
 pub mod Successes
-pub mod Cycles

@@ -20,7 +20,7 @@ use Rattle.program_status.specs.declared.outcome.Outcome.{Outcome}
 use Rattle.panel_program.specs.declared.run.Run.{Run}
 use Rattle.panel_program.specs.declared.run_end.RunEnd.{RunEnd}
 use Rattle.panel_program.specs.declared.run_end.RunEnd.TheVariants.{ReadFault}
-use Rattle.program_status.specs.declared.status.Status.TheVariants.{NoMemory, WriteFault}
+use Rattle.program_status.specs.declared.status.Status.TheVariants.{WriteFault}
 use Rattle.program_status.specs.Statuses.{number_of}
 use Rattle.panel_program.specs.Endings.{end_of, within_limit, status_of, last_line}
 use Rattle.panel_program.specs.Journals.{KeepsFor, journal_status, journal_text}
@@ -29,6 +29,7 @@ use Rattle.panel_program.specs.PowerCuts.{IsJournalOf, JournalDisk, LeavesAcknow
 use Rattle.panel_program.specs.Records.{at_beginning, ticks_run}
 use Rattle.panel_program.specs.Stands.{AreTicksOf, HasRun, IsGoing, Stands, Writes, WritesPart}
 use Rattle.run_text.specs.SoFar.{text_so_far}
+use Rattle.site_commands.specs.Commands.{RanNothing}
 use Rattle.run_text.specs.Failures.{failures}
 use Rattle.program_status.specs.Sayings.{Says}
 
@@ -115,27 +116,10 @@ pub record BlamesStores (outcome : Outcome) (before after : ℕ) : Type 0 where
   pub later : before ≤ after
   pub failed : after < 2 ^ 64 - 1 → outcome.store_failures + before ≤ after
 
--- the files that a shelf tells, where it tells them, and how many of its reads have failed before a call and after it
-pub record Files : Type 0 where
-  pub held : Option (List (List ℕ × List ℕ))
-  pub faults_before : ℕ
-  pub faults_after : ℕ
-
-abbrev pub files_of : {F : Type 0} → (F → Option (List (List ℕ × List ℕ))) → (F → ℕ) → F → F → Files
-files_of held faults old new =
-    record { held = held old; faults_before = faults old; faults_after = faults new }
-
 -- nothing was read of an input
 pub record IsUnread (input : Input) : Type 0 where
   pub left : input.after ≡ input.before
   pub faults : input.faults_after ≡ input.faults_before
-
--- memory ran out before anything was written
-pub record RanNothing (old new : Option (List ℕ)) (outcome : Outcome) : Type 0 where
-  pub status : outcome.status ≡ number_of NoMemory
-  pub ticks : outcome.ticks ≡ 0
-  pub failures : outcome.store_failures ≡ 0
-  pub same : new ≡ old
 
 module _ (site : Site) (kept : Retained) (digest : List ℕ) (disk : JournalDisk) (input : Input) (bytes : List ℕ) (old
     new : Option (List ℕ)) (outcome : Outcome) where

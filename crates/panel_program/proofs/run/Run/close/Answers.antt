@@ -4,7 +4,7 @@ use Rattle.panel_program.specs.Outside.{disks_of, outside_after, outside_before}
 use Rattle.panel_program.specs.Records.{moments_in}
 use Rattle.panel_program.specs.Stands.{Writes, WritesPart, after_close}
 use Rattle.panel_program.proofs.Closing.{shut_closes, told_more}
-use Rattle.panel_program.proofs.Written.{on_ok, on_err}
+use Rattle.site_commands.proofs.Results.{on_ok, on_err}
 use Rattle.panel_program.proofs.run.Run.close.Goals as goal
 
 pub returns-then-not-self-clause-ok : goal.returns-then-not-self-clause-ok
