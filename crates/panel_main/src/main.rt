@@ -1,7 +1,8 @@
 //! The program `panel`: real files and streams for the call `panel` of panel_program, which promises the rest.
 //!
-//! It takes the words behind its name, opens the file that the third of them names as the journal's disk, and ends with
-//! the status of the outcome. No clause speaks of a real file or stream, so there is none here.
+//! It takes the words behind its name, and ends with the status of the outcome. The journal's disk is the file that the
+//! third word names, for a move the fourth, whose fifth names the file in which the new journal is made. A file is opened
+//! when `panel` first calls its disk. No clause speaks of a real file or stream, so there is none here.
 #![tactic(auto)]
 
 use panel_edges::{FileDisk, FileShelf, StdSink, StdSource};
@@ -22,10 +23,15 @@ fn main(rt: HostRuntime) -> ExitCode {
     let Ok(words) = words_of(&rt) else {
         return ExitCode::from(Status::NoMemory.number());
     };
-    let Ok(journal) = journal_of(rt.alloc(), words.as_slice()) else {
+    let place = if is_move(words.as_slice()) { 3 } else { 2 };
+    let Ok(journal) = word_at(rt.alloc(), words.as_slice(), place) else {
+        return ExitCode::from(Status::NoMemory.number());
+    };
+    let Ok(new_journal) = word_at(rt.alloc(), words.as_slice(), 4) else {
         return ExitCode::from(Status::NoMemory.number());
     };
     let mut disk = FileDisk::at(&rt, journal);
+    let mut target = FileDisk::at(&rt, new_journal);
     let mut shelf = FileShelf::new(&rt, rt.alloc());
     let mut input = StdSource::new(&rt);
     let mut out = StdSink::new(&rt);
@@ -36,6 +42,7 @@ fn main(rt: HostRuntime) -> ExitCode {
         &mut input,
         &mut out,
         &mut disk,
+        &mut target,
     );
     ExitCode::from(outcome.status)
 }
@@ -58,9 +65,17 @@ fn words_of(rt: &HostRuntime) -> Result<Vec<String>, AllocError> {
     Ok(words)
 }
 
-// The word that names the journal of a run. Other commands open none.
-fn journal_of(alloc: Global, words: &[String]) -> Result<String, AllocError> {
-    match words.get(2) {
+// Whether the words are those of a move, which names two journals.
+fn is_move(words: &[String]) -> bool {
+    match words.first() {
+        Some(word) => word.as_str() == "move",
+        None => false,
+    }
+}
+
+// The word at a place, empty where there is none.
+fn word_at(alloc: Global, words: &[String], place: usize) -> Result<String, AllocError> {
+    match words.get(place) {
         Some(word) => word.clone(),
         None => Ok(String::new(alloc)),
     }

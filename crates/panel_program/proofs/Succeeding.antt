@@ -23,13 +23,13 @@ use Rattle.panel_program.specs.declared.run_end.RunEnd.{RunEnd}
 use Rattle.panel_program.specs.declared.run_end.RunEnd.TheVariants.{Ended, Refused as RefusedEnd, TooManyBytes, ReadFault as ReadFaultEnd}
 use Rattle.site_commands.specs.declared.stop.Stop.{Stop}
 use Rattle.site_commands.specs.declared.stop.Stop.TheVariants.{Absent, Refused, Cycle, ReadFault, NoMemory}
-use Rattle.panel_program.specs.Commands.{Answers, AnswersCommand, Runs, site_word}
+use Rattle.panel_program.specs.Commands.{Answers, AnswersCommand, CallDisks, Runs, names_of, site_word}
 use Rattle.site_commands.specs.Commands.{AnswersBy}
 use Rattle.panel_program.specs.Endings.{last_line, status_of}
 use Rattle.panel_program.specs.Runs.{EndsRun, Ran, RanOn, StopsAtJournal, Streams}
 use Rattle.site_commands.specs.Files.{Files}
 use Rattle.panel_program.specs.PowerCuts.{JournalDisk}
-use Rattle.panel_program.specs.Journals.{journal_status, journal_text}
+use Rattle.journal_refusals.specs.JournalTexts.{journal_status, journal_text}
 use Rattle.site_commands.specs.Refusals.{refusal_status, refusal_text}
 use Rattle.site_commands.specs.Sites.{Loads, file_digest}
 use Rattle.panel_program.specs.Successes.{IsWellMade, NothingFails, SucceedsWellMade}
@@ -113,17 +113,18 @@ module _ (words : List (String Global)) (files : Files) (disk : JournalDisk) (st
       let is = made.site.accepted refusal loads in
       without_memory
       (said exit.NoMemory _ streams.old streams.new
-      (subst (λ r. Says (refusal_status r) (refusal_text r) streams.old streams.new outcome.status) is did.says))
+      (subst (λ r. Says (refusal_status r) (refusal_text (codes "refused site") r) streams.old streams.new outcome.status) is did.says))
   by_result (Err (Cycle line)) loads did = cycle_free loads.site loads.markers (made.site.free loads.site loads.spelled) loads.cycle
   by_result (Ok site) loads did =
       ran site loads.spelled
       (subst (λ o. IfSome o (λ bytes. Ran site (digest_of made.file) disk streams.input bytes streams.old streams.new outcome)) made.input did)
 
-pub succeed : (words : List (String Global)) (files : Files) (disk : JournalDisk) (streams : Streams) (outcome : Outcome)
-    → Answers words files disk streams outcome → SucceedsWellMade words files disk streams outcome
-succeed words files disk streams outcome answers written written' stored stored' made fine =
+pub succeed : (words : List (String Global)) (files : Files) (disks : CallDisks) (streams : Streams) (outcome : Outcome)
+    → Answers words files disks streams outcome → SucceedsWellMade words files disks.journal streams outcome
+succeed words files disks streams outcome answers written written' stored stored' made fine =
     let name = site_word (map string_bytes words) in
-    let by_command = subst (λ command. AnswersCommand command name files disk streams outcome) made.runs answers in
+    let disk = disks.journal in
+    let by_command = subst (λ command. AnswersCommand command (names_of (map string_bytes words)) files disks streams outcome) made.runs answers in
     let by_shelf =
     subst
     (λ o. IfSome o (λ held. AnswersBy (Rose files.faults_before files.faults_after) (file_of name held)

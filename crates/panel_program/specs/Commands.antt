@@ -4,9 +4,11 @@ use Rattle.std.specs.Prelude.{String, string_bytes}
 use Rattle.std.specs.declared.alloc.Global.{Global}
 use Rattle.site_types.specs.declared.site.Site.{Site}
 use Rattle.drill_site.specs.Files.{drill_file}
+use Rattle.journal_move.specs.Disks.{Disks}
+use Rattle.journal_move.specs.Moves.{AnswersMove}
 use Rattle.panel_drill.specs.Drills.{drill_line}
 use Rattle.panel_program.specs.declared.command.Command.{Command}
-use Rattle.panel_program.specs.declared.command.Command.TheVariants.{Usage, Check, Run, Matrix, Drill}
+use Rattle.panel_program.specs.declared.command.Command.TheVariants.{Usage, Check, Run, Matrix, Drill, Move}
 use Rattle.program_status.specs.declared.outcome.Outcome.{Outcome}
 use Rattle.program_status.specs.declared.status.Status.TheVariants as exit
 use Rattle.site_commands.specs.declared.stop.Stop.{Stop}
@@ -25,6 +27,11 @@ abbrev pub site_word : List (List ℕ) → List ℕ
 site_word (word ∷ site ∷ rest) = site
 site_word _ = []
 
+-- the word that names the site to which another is moved
+abbrev pub new_site_word : List (List ℕ) → List ℕ
+new_site_word (word ∷ old ∷ new ∷ rest) = new
+new_site_word _ = []
+
 -- one text was written, after so many ticks
 pub record TellsAfter (ticks : ℕ) (text : List ℕ) (old new : Option (List ℕ)) (outcome : Outcome) : Type 0 where
   pub says : Says exit.Done text old new outcome.status
@@ -37,32 +44,58 @@ Runs digest disk streams outcome (Ok site) = RanOver site digest disk streams ou
 Runs digest disk streams outcome (Err stop) =
     Tells (stop_status stop) (stop_text stop) streams.old streams.new outcome
 
+abbrev pub AnswersRun : List ℕ → Files → JournalDisk → Streams → Outcome → Type 0
+AnswersRun name files disk streams outcome =
+    AnswersOver files name (λ digest. Runs digest disk streams outcome)
+
 -- a drill tells the line of its site and seed after its ticks, or memory ran out
 abbrev pub Drills : ℕ → ℕ → Option (List ℕ) → Option (List ℕ) → Outcome → Type 0
 Drills seed ticks old new outcome =
     RanNothing old new outcome
     ⊎ ((site : Site) × IsAtHand drill_file site × TellsAfter ticks (drill_line site seed ticks) old new outcome)
 
--- what a command answers: on its words alone, or by the files where the shelf tells them; a run by the bytes of the
--- record, where the input tells them, and by what the journal's disk holds
-abbrev pub AnswersCommand : Command → List ℕ → Files → JournalDisk → Streams → Outcome → Type 0
-AnswersCommand Usage name files disk streams outcome = Tells exit.Usage usage_line streams.old streams.new outcome
-AnswersCommand Check name files disk streams outcome =
-    AnswersOver files name (λ digest. Checks streams.old streams.new outcome)
-AnswersCommand Matrix name files disk streams outcome =
-    AnswersOver files name (λ digest. Draws streams.old streams.new outcome)
-AnswersCommand Run name files disk streams outcome =
-    AnswersOver files name (λ digest. Runs digest disk streams outcome)
-AnswersCommand (Drill seed ticks) name files disk streams outcome =
-    Drills seed ticks streams.old streams.new outcome
+-- the sites that the words of a call name: the one, or the old one and the new one
+pub record SiteNames : Type 0 where
+  pub site : List ℕ
+  pub new_site : List ℕ
 
-abbrev pub AnswersRun : List ℕ → Files → JournalDisk → Streams → Outcome → Type 0
-AnswersRun = AnswersCommand Run
+abbrev pub names_of : List (List ℕ) → SiteNames
+names_of words = record { site = site_word words; new_site = new_site_word words }
+
+-- the disk of the journal, and both disks of a move
+pub record CallDisks : Type 1 where
+  pub journal : JournalDisk
+  pub both : Disks
+
+abbrev pub call_disks : JournalDisk → Disks → CallDisks
+call_disks journal both = record { journal = journal; both = both }
+
+-- what a command answers: on its words alone, or by the files where the shelf tells them; a run by the bytes of the
+-- record, where the input tells them, and by what the journal's disk holds; a move by what its two disks hold
+abbrev pub AnswersCommand : Command → SiteNames → Files → CallDisks → Streams → Outcome → Type 0
+AnswersCommand Usage names files disks streams outcome = Tells exit.Usage usage_line streams.old streams.new outcome
+AnswersCommand Check names files disks streams outcome =
+    AnswersOver files names.site (λ digest. Checks streams.old streams.new outcome)
+AnswersCommand Matrix names files disks streams outcome =
+    AnswersOver files names.site (λ digest. Draws streams.old streams.new outcome)
+AnswersCommand Run names files disks streams outcome = AnswersRun names.site files disks.journal streams outcome
+AnswersCommand (Drill seed ticks) names files disks streams outcome =
+    Drills seed ticks streams.old streams.new outcome
+AnswersCommand Move names files disks streams outcome =
+    AnswersMove names.site names.new_site files disks.both streams.old streams.new outcome
 
 -- what a call with these words answers
-abbrev pub Answers : List (String Global) → Files → JournalDisk → Streams → Outcome → Type 0
-Answers words = AnswersCommand (command_of (map string_bytes words)) (site_word (map string_bytes words))
+abbrev pub Answers : List (String Global) → Files → CallDisks → Streams → Outcome → Type 0
+Answers words = AnswersCommand (command_of (map string_bytes words)) (names_of (map string_bytes words))
 
--- a command that runs no site leaves its input unread and its disk alone
+-- a command that runs no site leaves its input unread
 abbrev pub RunsNothing : List (String Global) → Type 0
 RunsNothing words = command_of (map string_bytes words) ≢ Run
+
+-- one that moves nothing leaves the second disk alone
+abbrev pub MovesNothing : List (String Global) → Type 0
+MovesNothing words = command_of (map string_bytes words) ≢ Move
+
+-- and one that does neither the first one too
+abbrev pub KeepsNothing : List (String Global) → Type 0
+KeepsNothing words = RunsNothing words × MovesNothing words

@@ -23,7 +23,8 @@ use Rattle.panel_program.specs.declared.run_end.RunEnd.TheVariants.{ReadFault}
 use Rattle.program_status.specs.declared.status.Status.TheVariants.{WriteFault}
 use Rattle.program_status.specs.Statuses.{number_of}
 use Rattle.panel_program.specs.Endings.{end_of, within_limit, status_of, last_line}
-use Rattle.panel_program.specs.Journals.{KeepsFor, journal_status, journal_text}
+use Rattle.journal_refusals.specs.JournalTexts.{journal_status, journal_text}
+use Rattle.panel_program.specs.Journals.{KeepsFor}
 use Rattle.panel_program.specs.Outside.{DiskKind, Disks, Outside, outside_after, outside_before}
 use Rattle.panel_program.specs.PowerCuts.{IsJournalOf, JournalDisk, LeavesAcknowledged}
 use Rattle.panel_program.specs.Records.{at_beginning, ticks_run}

@@ -19,7 +19,8 @@ use Rattle.program_status.specs.declared.status.Status.TheVariants.{Done, NoMemo
 use Rattle.program_status.specs.Statuses.{BlamesDisk, BlamesWrites, IsSilentWithoutMemory, number_of}
 use Rattle.panel_program.specs.declared.command.Command.TheVariants.{Run}
 use Rattle.panel_program.specs.declared.run_end.RunEnd.TheVariants.{Ended}
-use Rattle.panel_program.specs.Commands.{Answers, site_word}
+use Rattle.journal_move.specs.Disks.{disks_of}
+use Rattle.panel_program.specs.Commands.{Answers, call_disks, site_word}
 use Rattle.panel_program.specs.Endings.{end_of}
 use Rattle.panel_program.specs.PowerCuts.{JournalDisk, disk_of}
 use Rattle.panel_program.specs.Runs.{Streams}
@@ -77,6 +78,7 @@ SucceedsWellMade words files disk streams outcome = (written written' stored sto
 abbrev pub WellMadeRunsSucceed : {D : Type 0} → (D → Option (List ℕ)) → (D → Type 0) → (D → List ℕ → Type 0)
     → (D → ℕ) → (D → ℕ → List ℕ → Type 0) → Type 0
 WellMadeRunsSucceed {D} seen honest images moment left_since = (words : List (String Global)) (files : Files)
-    (old new : D) (streams : Streams) (outcome : Outcome)
-    → Answers words files (disk_of seen honest images moment left_since old new) streams outcome
+    (old new other other' : D) (streams : Streams) (outcome : Outcome)
+    → Answers words files (call_disks (disk_of seen honest images moment left_since old new)
+    (disks_of seen honest images old new other other')) streams outcome
     → SucceedsWellMade words files (disk_of seen honest images moment left_since old new) streams outcome

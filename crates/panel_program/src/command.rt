@@ -15,6 +15,8 @@ pub enum Command {
     Matrix,
     /// A drill of so many ticks, from a seed.
     Drill { seed: u64, ticks: u64 },
+    /// A move from the site that the second word names to the one that the third names.
+    Move,
 }
 
 /// The command that has these words.
@@ -37,6 +39,13 @@ pub fn command_of(words: &[String]) -> Command
                 Command::Run
             } else if word.as_str() == "drill" {
                 drill_of(second.as_str(), third.as_str())
+            } else {
+                Command::Usage
+            }
+        }
+        [word, _old, _new, _journal, _target] => {
+            if word.as_str() == "move" {
+                Command::Move
             } else {
                 Command::Usage
             }

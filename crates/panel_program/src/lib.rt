@@ -17,7 +17,6 @@
 
 mod command;
 mod drilling;
-mod journal_lines;
 mod last_lines;
 mod laws;
 mod lines;

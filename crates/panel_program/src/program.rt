@@ -1,6 +1,8 @@
 ghost use Rattle.std.specs.Prelude.{◌≡◌, ◌⊎◌};
+ghost use Rattle.journal_move.specs.Disks.{Spares, disks_of};
 ghost use Rattle.panel_edges.specs.Faults.{Rose};
-ghost use Rattle.panel_program.specs.Commands.{Answers, AnswersRun, RunsNothing};
+ghost use Rattle.panel_program.specs.Commands.{Answers, AnswersRun, KeepsNothing, MovesNothing, RunsNothing};
+ghost use Rattle.panel_program.specs.Commands.{call_disks};
 ghost use Rattle.panel_program.specs.PowerCuts.{disk_of};
 ghost use Rattle.panel_program.specs.Runs.{BlamesStores, streams_of};
 ghost use Rattle.program_status.specs.Statuses.{BlamesDisk, BlamesWrites, IsSilentWithoutMemory};
@@ -11,12 +13,14 @@ use crate::command::{Command, command_of};
 use crate::drilling::run_drill;
 use crate::reading::run_site;
 use crate::usage::USAGE;
+use journal_move::move_journal;
 use panel_edges::{Disk, Shelf, Sink, Source};
 use program_status::{Outcome, Status, say};
 use site_commands::{load, stop_with, tell_counts, tell_matrix};
 use std::alloc::Global;
 
-/// Does what the words ask for. All that is said goes to `out`, refusals too. A run keeps its journal on `disk`.
+/// Does what the words ask for. All that is said goes to `out`, refusals too. A run keeps its journal on `disk`; a move
+/// opens that of the old site there and makes that of the new one on `target`.
 ///
 /// The status of the outcome is the number of a [`Status`]. Where memory ran out nothing was written.
 pub fn panel<F: Shelf, S: Source, K: Sink, D: Disk>(
@@ -26,17 +30,30 @@ pub fn panel<F: Shelf, S: Source, K: Sink, D: Disk>(
     input: &mut S,
     out: &mut K,
     disk: &mut D,
+    target: &mut D,
 ) -> Outcome
-    ensures answers { Answers words.now (files_of F.files F.faults shelf.old shelf.new)
+    ensures answers { Answers words.now (files_of F.files F.faults shelf.old shelf.new) (call_disks
         (disk_of D.seen D.honest D.images D.moment D.left_since disk.old disk.new)
+        (disks_of D.seen D.honest D.images disk.old disk.new target.old target.new))
         (streams_of S.left S.read_faults K.written input.old input.new out.old out.new) result }
-    ensures alone { RunsNothing words.now → (input.new ≡ input.old) × (disk.new ≡ disk.old) }
+    ensures input_alone { RunsNothing words.now → input.new ≡ input.old }
+    ensures disk_alone { KeepsNothing words.now → disk.new ≡ disk.old }
+    ensures target_alone { MovesNothing words.now → target.new ≡ target.old }
+    ensures disk_spared { RunsNothing words.now → Spares D.seen D.honest D.images D.moment
+        D.left_since disk.old disk.new }
+    ensures target_spared { Spares D.seen D.honest D.images D.moment D.left_since
+        target.old target.new }
     ensures read { result.status ≡ number_of Status.ReadFault
         → Rose (F.faults shelf.old) (F.faults shelf.new)
         ⊎ Rose (S.read_faults input.old) (S.read_faults input.new) }
     ensures write { BlamesWrites result (K.write_faults out.old) (K.write_faults out.new) }
     ensures memory { IsSilentWithoutMemory result (K.written out.old) (K.written out.new) }
-    ensures disk { BlamesDisk result (D.faults disk.old) (D.faults disk.new) }
+    ensures before_target { result.status ≡ number_of Status.NoMemory → target.new ≡ target.old }
+    ensures disk { MovesNothing words.now
+        → BlamesDisk result (D.faults disk.old) (D.faults disk.new) }
+    ensures disks { result.status ≡ number_of Status.DiskFault
+        → Rose (D.faults disk.old) (D.faults disk.new)
+        ⊎ Rose (D.faults target.old) (D.faults target.new) }
     ensures stores { BlamesStores result (D.faults disk.old) (D.faults disk.new) }
 {
     match command_of(words) {
@@ -45,6 +62,15 @@ pub fn panel<F: Shelf, S: Source, K: Sink, D: Disk>(
         Command::Run => run(alloc, words[1].as_str(), shelf, input, out, disk),
         Command::Matrix => tell_matrix(alloc, words[1].as_str(), shelf, out),
         Command::Drill { seed, ticks } => run_drill(alloc, seed, ticks, out),
+        Command::Move => move_journal(
+            alloc,
+            words[1].as_str(),
+            words[2].as_str(),
+            shelf,
+            out,
+            disk,
+            target,
+        ),
     }
 }
 

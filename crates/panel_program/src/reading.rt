@@ -23,12 +23,12 @@ ghost use Rattle.site_types.specs.Valid.{IsValid};
 ghost use Rattle.site_types.specs.declared.retained.Retained.{Retained as RetainedOf};
 ghost use Rattle.site_types.specs.declared.site.Site.{Site as SiteOf};
 
-use crate::journal_lines::stop_at_journal;
 use crate::last_lines::last_line;
 use crate::run::Run;
 use crate::run_end::{RunEnd, status_of};
 use crate::taken::Taken;
 use cause_effect::Plan;
+use journal_refusals::stop_at_journal;
 use panel_edges::{Disk, Failed, MOST_RECORD_BYTES, Sink, Source};
 use program_status::{Outcome, Status, say};
 use record_lines::{LineReader, Step};

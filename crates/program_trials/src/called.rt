@@ -25,6 +25,7 @@ pub(crate) struct Called {
     pub(crate) reads: u64,
     pub(crate) writes: u64,
     pub(crate) disk: MemoryDisk,
+    pub(crate) target: MemoryDisk,
 }
 
 impl Called {
@@ -45,7 +46,8 @@ pub(crate) fn call(alloc: Global, given: Given, outside: Outside) -> Result<Call
         sink: sink_of(alloc, outside.write)?,
         most: outside.take.max(1),
     };
-    let mut disk = disk_of(alloc, given, outside.disk)?;
+    let mut disk = disk_of(alloc, given.journal, outside.disk)?;
+    let mut target = disk_of(alloc, given.target, outside.target)?;
     let outcome = panel(
         alloc,
         given.words,
@@ -53,6 +55,7 @@ pub(crate) fn call(alloc: Global, given: Given, outside: Outside) -> Result<Call
         &mut input,
         &mut out,
         &mut disk,
+        &mut target,
     );
     let TrickleSource { source, .. } = input;
     let TrickleSink { sink, .. } = out;
@@ -63,16 +66,19 @@ pub(crate) fn call(alloc: Global, given: Given, outside: Outside) -> Result<Call
         writes: sink.calls,
         text: String::from_utf8(sink.bytes)?,
         disk,
+        target,
     })
 }
 
 fn shelf_of(alloc: Global, given: Given, failing: u64) -> Result<MemoryShelf> {
     let mut files = Vec::new(alloc);
-    if let (Some(name), Some(bytes)) = (given.words.get(1), given.site) {
-        files.push(ShelfFile {
-            name: name.clone()?,
-            bytes: Vec::from_slice(alloc, bytes)?,
-        })?;
+    for (place, site) in [(1, given.site), (2, given.new_site)] {
+        if let (Some(name), Some(bytes)) = (given.words.get(place), site) {
+            files.push(ShelfFile {
+                name: name.clone()?,
+                bytes: Vec::from_slice(alloc, bytes)?,
+            })?;
+        }
     }
     match MemoryShelf::new(alloc, files, vec![in alloc; failing]?) {
         Ok(shelf) => Ok(shelf),
@@ -95,15 +101,15 @@ fn sink_of(alloc: Global, failing: u64) -> Result<MemorySink> {
     }
 }
 
-fn disk_of(alloc: Global, given: Given, failing: (u64, u64)) -> Result<MemoryDisk> {
-    if given.journal.len() > MOST_DISK_BYTES {
+fn disk_of(alloc: Global, journal: &[u8], failing: (u64, u64)) -> Result<MemoryDisk> {
+    if journal.len() > MOST_DISK_BYTES {
         bail!("a journal that is too long");
     }
     let mut fails = Vec::new(alloc);
     for number in failing.0..=failing.1 {
         fails.push(number)?;
     }
-    let journal = Vec::from_slice(alloc, given.journal)?;
+    let journal = Vec::from_slice(alloc, journal)?;
     match MemoryDisk::new(alloc, journal, MOST_CALLS, MOST_WRITTEN, fails) {
         Ok(disk) => Ok(disk),
         Err(_) => bail!("no memory"),

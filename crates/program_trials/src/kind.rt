@@ -19,10 +19,18 @@ pub(crate) enum Kind {
     FailingDisk,
     /// `stops SITE: RECORD; OPTIONS`: what a stop at each call of the disk leaves.
     Stops,
+    /// `move OLD NEW: RECORD | RECORD; OPTIONS`: a move over the journal that runs of OLD over these records left, and
+    /// what runs of both sites then tell at their opening.
+    Move,
+    /// `move-stops OLD NEW: RECORD | RECORD; OPTIONS`: what a stop at each call of the two disks of a move leaves.
+    MoveStops,
+    /// `failing-move OLD NEW: RECORD | RECORD; OPTIONS`: each fetch, each call of the two disks and each write of a move
+    /// fails once.
+    FailingMove,
 }
 
 /// The kinds by name.
-pub(crate) const KINDS: [(&str, Kind); 8] = [
+pub(crate) const KINDS: [(&str, Kind); 11] = [
     ("call", Kind::Call),
     ("run", Kind::Run),
     ("pieces", Kind::Pieces),
@@ -31,4 +39,7 @@ pub(crate) const KINDS: [(&str, Kind); 8] = [
     ("failing-writes", Kind::FailingWrites),
     ("failing-disk", Kind::FailingDisk),
     ("stops", Kind::Stops),
+    ("move", Kind::Move),
+    ("move-stops", Kind::MoveStops),
+    ("failing-move", Kind::FailingMove),
 ];

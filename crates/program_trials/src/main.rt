@@ -13,6 +13,7 @@ mod groups;
 mod images;
 mod keeping;
 mod kind;
+mod moves;
 mod options;
 mod outside;
 mod records;
@@ -38,6 +39,7 @@ fn answer(rt: &HostRuntime, kind: Kind, case: &Case) -> Result<String> {
     let alloc = rt.alloc();
     let trial = match kind {
         Kind::Call => Trial::of_words(rt, case)?,
+        Kind::Move | Kind::MoveStops | Kind::FailingMove => Trial::of_moves(rt, case)?,
         _ => Trial::of_runs(rt, case)?,
     };
     match kind {
@@ -48,5 +50,8 @@ fn answer(rt: &HostRuntime, kind: Kind, case: &Case) -> Result<String> {
         Kind::FailingWrites => failing_streams::try_writes(alloc, &trial),
         Kind::FailingDisk => failing_disks::try_disk(alloc, &trial),
         Kind::Stops => stops::try_stops(alloc, &trial),
+        Kind::Move => moves::try_move(alloc, &trial),
+        Kind::MoveStops => moves::try_stops(alloc, &trial),
+        Kind::FailingMove => moves::try_failures(alloc, &trial),
     }
 }

@@ -16,6 +16,7 @@ pub(crate) fn outside_of(options: &str) -> Result<Outside> {
                 "read" => outside.read = calls.0,
                 "write" => outside.write = calls.0,
                 "disk" => outside.disk = calls,
+                "target" => outside.target = calls,
                 word => bail!("nothing that fails: {word}"),
             }
             continue;

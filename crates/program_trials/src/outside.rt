@@ -10,6 +10,8 @@ pub(crate) struct Outside {
     pub(crate) write: u64,
     /// The first and the last of the calls of the disk that fail.
     pub(crate) disk: (u64, u64),
+    /// The first and the last of those of the disk on which a move makes the new journal.
+    pub(crate) target: (u64, u64),
 }
 
 /// One that never fails, gives what is asked for and takes what is given.
@@ -20,4 +22,5 @@ pub(crate) const SOUND: Outside = Outside {
     read: 0,
     write: 0,
     disk: (0, 0),
+    target: (0, 0),
 };

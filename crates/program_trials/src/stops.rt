@@ -40,7 +40,7 @@ fn all_left(alloc: Global, trial: &Trial, called: &Called, calls: usize) -> Resu
     lines.done()
 }
 
-fn has_text(all: &[String], text: &str) -> bool {
+pub(crate) fn has_text(all: &[String], text: &str) -> bool {
     for one in all {
         if one.as_str() == text {
             return true;
@@ -49,8 +49,8 @@ fn has_text(all: &[String], text: &str) -> bool {
     false
 }
 
-// What a run without a tick told between its first line and its last, or all that it told where it ended otherwise.
-fn opening_of(alloc: Global, called: &Called) -> Result<String> {
+/// What a run without a tick told between its first line and its last, or all that it told where it ended otherwise.
+pub(crate) fn opening_of(alloc: Global, called: &Called) -> Result<String> {
     let mut lines = Lines::new(alloc);
     for line in called.text.as_str().lines() {
         if called.outcome.status != 0 || !(line.starts_with("site ") || line == "end 0") {

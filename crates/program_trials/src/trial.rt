@@ -12,8 +12,10 @@ use trial_cases::Case;
 pub(crate) struct Trial<'a> {
     words: Vec<String>,
     site: Option<Vec<u8>>,
+    new_site: Option<Vec<u8>>,
     record: Vec<u8>,
     journal: Vec<u8>,
+    target: Vec<u8>,
     pub(crate) outside: Outside,
     pub(crate) options: &'a str,
 }
@@ -40,10 +42,36 @@ impl<'a> Trial<'a> {
         Ok(trial)
     }
 
-    // A call over no journal. The file that the second word names is on the shelf, where there is one.
+    /// The trial of a case `KIND OLD NEW: RECORD | RECORD; OPTIONS`, a move from the old site to the new one over the
+    /// journal that runs of the old one over these records leave. `target N` has the file of the new journal hold so many
+    /// bytes, `again` what the same move leaves there.
+    pub(crate) fn of_moves(rt: &HostRuntime, case: &Case<'a>) -> Result<Trial<'a>> {
+        let (records, options) = parts_of(case.rest);
+        let old = match option(options, "before-at") {
+            "" => case.subject.split(' ').next().unwrap_or(""),
+            other => other,
+        };
+        let words = format!(in rt.alloc(); "move {} journal target", case.subject)?;
+        let mut trial = Trial::read(rt, words.as_str(), "nothing", options)?;
+        trial.journal = edited(rt, journal_of(rt, old, records)?, options)?;
+        for part in options.split(", ") {
+            if part == "again" {
+                trial.target = call(rt.alloc(), trial.given(), SOUND)?.target.bytes;
+            }
+            if let Some(length) = part.strip_prefix("target ") {
+                trial.target.resize(length.parse::<u16>()? as usize, 0)?;
+            }
+        }
+        Ok(trial)
+    }
+
+    // A call over no journal. The file that the second word names is on the shelf, where there is one, and for a move that
+    // of the third.
     fn read(rt: &HostRuntime, words: &str, record: &str, options: &'a str) -> Result<Trial<'a>> {
         let mut all = Vec::new(rt.alloc());
         let mut site = None;
+        let mut new_site = None;
+        let is_move = words.starts_with("move ");
         for word in words.split(' ') {
             if word.is_empty() {
                 continue;
@@ -51,13 +79,18 @@ impl<'a> Trial<'a> {
             if all.len() == 1 {
                 site = fs::read(rt, word).ok();
             }
+            if all.len() == 2 && is_move {
+                new_site = fs::read(rt, word).ok();
+            }
             all.push(String::from_str(rt.alloc(), word)?)?;
         }
         Ok(Trial {
             words: all,
             site,
+            new_site,
             record: record_of(rt, record)?,
             journal: Vec::new(rt.alloc()),
+            target: Vec::new(rt.alloc()),
             outside: outside_of(options)?,
             options,
         })
@@ -66,13 +99,19 @@ impl<'a> Trial<'a> {
     pub(crate) fn given(&self) -> Given<'_> {
         Given {
             words: self.words.as_slice(),
-            site: match &self.site {
-                Some(site) => Some(site.as_slice()),
-                None => None,
-            },
+            site: bytes_of(&self.site),
+            new_site: bytes_of(&self.new_site),
             record: self.record.as_slice(),
             journal: self.journal.as_slice(),
+            target: self.target.as_slice(),
         }
+    }
+}
+
+fn bytes_of(file: &Option<Vec<u8>>) -> Option<&[u8]> {
+    match file {
+        Some(bytes) => Some(bytes.as_slice()),
+        None => None,
     }
 }
 

@@ -1,4 +1,4 @@
--- The line of a site whose markers depend on themselves.
+-- What is told of a site whose markers depend on themselves.
 use Rattle.std.specs.Prelude.{ℕ, List, [], ◌∷◌, ◌++◌, Option, Some, None, slice_get, codes}
 use Rattle.site_types.specs.declared.site.Site.{Site}
 use Rattle.site_types.specs.declared.marker.Marker.{Marker}
@@ -14,6 +14,6 @@ names_of_markers site [] = []
 names_of_markers site (marker ∷ rest) = name_of_marker (slice_get site.markers marker)
     ++ names_of_markers site rest
 
--- the line that names the markers of a cycle
+-- what the line of a refused site tells of a cycle, behind its first words: the names of its markers
 abbrev pub cycle_line : Site → List ℕ → List ℕ
-cycle_line site markers = codes "refused site 11" ++ names_of_markers site markers ++ codes "\n"
+cycle_line site markers = codes " 11" ++ names_of_markers site markers ++ codes "\n"

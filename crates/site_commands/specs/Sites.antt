@@ -17,7 +17,7 @@ pub record IsAtHand (bytes : List ℕ) (site : Site) : Type 0 where
   pub spelled : IsSpelled bytes site
   pub free : HasNoCycle site
 
--- markers of the site depend on themselves: this line names those of the cycle that a walk along the least
+-- markers of the site depend on themselves: what is told of them names those of the cycle that a walk along the least
 -- terms finds
 pub record TellsCycle (bytes line : List ℕ) : Type 0 where
   pub site : Site

@@ -1,4 +1,4 @@
-//! The line that tells of markers that depend on themselves.
+//! What the line of a refused site tells of markers that depend on themselves.
 
 ghost use Rattle.std.specs.Prelude.{◌≡◌, ◌++◌, IfOk, slice_get};
 ghost use Rattle.site_commands.specs.Cycles.{cycle_line as cycle_text, name_of_marker};
@@ -7,12 +7,12 @@ use site_types::Site;
 use std::alloc::Global;
 use tick_units::{Items, NoMemory};
 
-/// The line with the names of the markers of a cycle.
+/// The number of the refusal with the names of the markers of a cycle.
 pub fn cycle_line(alloc: Global, site: &Site, markers: &[u16]) -> Result<Items<u8>, NoMemory>
     ensures { IfOk result (λ line. line ≡ cycle_text site.now markers.now) }
 {
     let mut line = Vec::new(alloc);
-    line.extend_from_slice(b"refused site 11")?;
+    line.extend_from_slice(b" 11")?;
     for marker in markers {
         push_name(&mut line, site, *marker)?;
     }

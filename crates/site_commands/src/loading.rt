@@ -1,6 +1,6 @@
 //! Fetching and reading a site file.
 
-ghost use Rattle.std.specs.Prelude.{◌≡◌, ◌⊎◌, ℕ, List, Err, IfOk, IfSome};
+ghost use Rattle.std.specs.Prelude.{◌≡◌, ◌≤◌, ◌⊎◌, ℕ, List, Err, IfOk, IfSome};
 ghost use Rattle.panel_edges.specs.Faults.{Rose};
 ghost use Rattle.panel_edges.specs.Shelves.{file_of};
 ghost use Rattle.site_commands.specs.Cycles.{cycle_line as cycle_text};
@@ -28,6 +28,8 @@ pub fn load<F: Shelf>(alloc: Global, name: &str, shelf: &mut F) -> Result<Loaded
     ensures digest { IfSome (F.files shelf.old)
         (λ held. IfOk result (λ loaded. loaded.digest ≡ file_digest (file_of name.now held))) }
     ensures read { result ≡ Err ReadFault → Rose (F.faults shelf.old) (F.faults shelf.new) }
+    ensures files { F.files shelf.new ≡ F.files shelf.old }
+    ensures later { F.faults shelf.old ≤ F.faults shelf.new }
 {
     let mut bytes = Vec::new(alloc);
     match shelf.fetch(name, &mut bytes) {

@@ -4,8 +4,8 @@ ghost use Rattle.std.specs.Prelude.{◌≡◌, ◌≤◌, ◌+◌, ◌++◌, OnO
 ghost use Rattle.std.specs.Fmt.{signed_decimal};
 ghost use Rattle.panel_edges.specs.Contents.{Grows, GrowsByFront};
 ghost use Rattle.panel_edges.specs.Faults.{HasCause};
-ghost use Rattle.site_commands.specs.Refusals.{named_text, range_text, refusal_status, refusal_text, stop_status};
-ghost use Rattle.site_commands.specs.Refusals.{stop_text};
+ghost use Rattle.site_commands.specs.Refusals.{crossing_text, named_text, old_stop_text, range_text, refusal_status};
+ghost use Rattle.site_commands.specs.Refusals.{refusal_text, stop_status, stop_text, stop_text_of};
 ghost use Rattle.program_status.specs.Statuses.{BlamesWrites, number_of};
 ghost use Rattle.program_status.specs.Sayings.{Says};
 
@@ -25,11 +25,36 @@ pub fn stop_with<K: Sink>(stop: &Stop, out: &mut K) -> Outcome
     ensures memory { stop_status stop.now ≡ Status.NoMemory
         → (result.status ≡ number_of Status.NoMemory) × (K.written out.new ≡ K.written out.old) }
 {
+    stop_naming("refused site", stop, out)
+}
+
+/// The same where it is the old one of two sites that isn't at hand.
+pub fn stop_with_old<K: Sink>(stop: &Stop, out: &mut K) -> Outcome
+    ensures says { Says (stop_status stop.now) (old_stop_text stop.now) (K.written out.old)
+        (K.written out.new) result.status }
+    ensures ticks { (result.ticks ≡ 0) × (result.store_failures ≡ 0) }
+    ensures write { BlamesWrites result (K.write_faults out.old) (K.write_faults out.new) }
+    ensures memory { stop_status stop.now ≡ Status.NoMemory
+        → (result.status ≡ number_of Status.NoMemory) × (K.written out.new ≡ K.written out.old) }
+{
+    stop_naming("refused old site", stop, out)
+}
+
+// Ends a command with the line of a refused site, which begins with these words.
+fn stop_naming<K: Sink>(word: &str, stop: &Stop, out: &mut K) -> Outcome
+    requires { length word.now ≤ 16 }
+    ensures says { Says (stop_status stop.now) (stop_text_of word.now stop.now)
+        (K.written out.old) (K.written out.new) result.status }
+    ensures ticks { (result.ticks ≡ 0) × (result.store_failures ≡ 0) }
+    ensures write { BlamesWrites result (K.write_faults out.old) (K.write_faults out.new) }
+    ensures memory { stop_status stop.now ≡ Status.NoMemory
+        → (result.status ≡ number_of Status.NoMemory) × (K.written out.new ≡ K.written out.old) }
+{
     let status = status_of_stop(stop);
     if status == Status::NoMemory {
         return Outcome::after(Status::NoMemory, 0);
     }
-    match write_stop(stop, out) {
+    match write_stop(word, stop, out) {
         Ok(()) => Outcome::after(status, 0),
         Err(Failed) => Outcome::after(Status::WriteFault, 0),
     }
@@ -65,46 +90,96 @@ fn status_of_refusal(refusal: &SiteRefusal) -> Status
     }
 }
 
-fn write_stop<K: Sink>(stop: &Stop, out: &mut K) -> Result<(), Failed>
-    ensures ok { OnOk result (Grows (K.written out.old) (K.written out.new) (stop_text stop.now)) }
+fn write_stop<K: Sink>(word: &str, stop: &Stop, out: &mut K) -> Result<(), Failed>
+    requires { length word.now ≤ 16 }
+    ensures ok { OnOk result
+        (Grows (K.written out.old) (K.written out.new) (stop_text_of word.now stop.now)) }
     ensures err { OnErr result
-        (GrowsByFront (K.written out.old) (K.written out.new) (stop_text stop.now)) }
+        (GrowsByFront (K.written out.old) (K.written out.new) (stop_text_of word.now stop.now)) }
     ensures cause { HasCause (K.write_faults out.old) (K.write_faults out.new) result }
 {
     match stop {
-        Stop::Absent => write_all(out, b"refused site 0\n"),
-        Stop::Refused(refusal) => write_refusal(refusal, out),
-        Stop::Cycle(line) => write_all(out, line.as_slice()),
+        Stop::Absent => write_number(word, " 0\n", out),
+        Stop::Refused(refusal) => write_refusal(word, refusal, out),
+        Stop::Cycle(names) => write_cycle(word, names.as_slice(), out),
         Stop::ReadFault => write_all(out, b"fault read\n"),
         Stop::NoMemory => Ok(()),
     }
 }
 
-fn write_refusal<K: Sink>(refusal: &SiteRefusal, out: &mut K) -> Result<(), Failed>
+fn write_refusal<K: Sink>(word: &str, refusal: &SiteRefusal, out: &mut K) -> Result<(), Failed>
+    requires { length word.now ≤ 16 }
     ensures ok { OnOk result
-        (Grows (K.written out.old) (K.written out.new) (refusal_text refusal.now)) }
+        (Grows (K.written out.old) (K.written out.new) (refusal_text word.now refusal.now)) }
     ensures err { OnErr result
-        (GrowsByFront (K.written out.old) (K.written out.new) (refusal_text refusal.now)) }
+        (GrowsByFront (K.written out.old) (K.written out.new)
+        (refusal_text word.now refusal.now)) }
     ensures cause { HasCause (K.write_faults out.old) (K.write_faults out.new) result }
 {
     match refusal {
-        SiteRefusal::NotToml => write_all(out, b"refused site 1\n"),
-        SiteRefusal::Missing(key) => write_named("refused site 2 ", key.as_str(), "\n", out),
-        SiteRefusal::WrongKind(key) => write_named("refused site 3 ", key.as_str(), "\n", out),
-        SiteRefusal::Unknown(key) => write_named("refused site 4 ", key.as_str(), "\n", out),
-        SiteRefusal::OutOfRange(key, number) => write_range(key.as_str(), *number, out),
-        SiteRefusal::Twice(name) => write_named("refused site 6 ", name.as_str(), "\n", out),
-        SiteRefusal::NoSuch(name) => write_named("refused site 7 ", name.as_str(), "\n", out),
+        SiteRefusal::NotToml => write_number(word, " 1\n", out),
+        SiteRefusal::Missing(key) => write_key(word, " 2 ", key.as_str(), out),
+        SiteRefusal::WrongKind(key) => write_key(word, " 3 ", key.as_str(), out),
+        SiteRefusal::Unknown(key) => write_key(word, " 4 ", key.as_str(), out),
+        SiteRefusal::OutOfRange(key, number) => write_range(word, key.as_str(), *number, out),
+        SiteRefusal::Twice(name) => write_key(word, " 6 ", name.as_str(), out),
+        SiteRefusal::NoSuch(name) => write_key(word, " 7 ", name.as_str(), out),
         SiteRefusal::SectionCrossesZones { panel, line, place } => {
-            let text = crossing_line(*panel, *line, *place);
+            let text = crossing_line(word, *panel, *line, *place);
             write_all(out, text.as_str().as_bytes())
         }
-        SiteRefusal::PartnerNotMutual(name) => {
-            write_named("refused site 9 ", name.as_str(), "\n", out)
-        }
-        SiteRefusal::TooLong => write_all(out, b"refused site 10\n"),
+        SiteRefusal::PartnerNotMutual(name) => write_key(word, " 9 ", name.as_str(), out),
+        SiteRefusal::TooLong => write_number(word, " 10\n", out),
         SiteRefusal::NoMemory => Ok(()),
     }
+}
+
+// A line of the words and a number alone.
+fn write_number<K: Sink>(word: &str, number: &str, out: &mut K) -> Result<(), Failed>
+    requires { length word.now + length number.now ≤ 32 }
+    ensures ok { OnOk result
+        (Grows (K.written out.old) (K.written out.new) (word.now ++ number.now)) }
+    ensures err { OnErr result
+        (GrowsByFront (K.written out.old) (K.written out.new) (word.now ++ number.now)) }
+    ensures cause { HasCause (K.write_faults out.old) (K.write_faults out.new) result }
+{
+    write_all(out, numbered(word, number).as_str().as_bytes())
+}
+
+// A line of the words, a number and a key or a name.
+fn write_key<K: Sink>(word: &str, number: &str, name: &str, out: &mut K) -> Result<(), Failed>
+    requires { length word.now + length number.now ≤ 32 }
+    ensures ok { OnOk result (Grows (K.written out.old) (K.written out.new)
+        (named_text (word.now ++ number.now) name.now (codes "\n"))) }
+    ensures err { OnErr result (GrowsByFront (K.written out.old) (K.written out.new)
+        (named_text (word.now ++ number.now) name.now (codes "\n"))) }
+    ensures cause { HasCause (K.write_faults out.old) (K.write_faults out.new) result }
+{
+    write_named(numbered(word, number).as_str(), name, "\n", out)
+}
+
+// The words with the number of a refusal behind them.
+fn numbered(word: &str, number: &str) -> ArrayString<32>
+    requires { length word.now + length number.now ≤ 32 }
+    ensures { result.bytes ≡ word.now ++ number.now }
+{
+    let mut text = ArrayString::new();
+    text.push_str(word);
+    text.push_str(number);
+    text
+}
+
+// The words and what is told of a cycle behind them.
+#[tactic(auto, using(panel_edges::proofs::Growing::grows_more, panel_edges::proofs::Growing::front_more, panel_edges::proofs::Growing::front_longer))]
+fn write_cycle<K: Sink>(word: &str, cycle: &[u8], out: &mut K) -> Result<(), Failed>
+    ensures ok { OnOk result
+        (Grows (K.written out.old) (K.written out.new) (word.now ++ cycle.now)) }
+    ensures err { OnErr result
+        (GrowsByFront (K.written out.old) (K.written out.new) (word.now ++ cycle.now)) }
+    ensures cause { HasCause (K.write_faults out.old) (K.write_faults out.new) result }
+{
+    write_all(out, word.as_bytes())?;
+    write_all(out, cycle)
 }
 
 // A line with a key or a name of any length in it.
@@ -123,15 +198,17 @@ fn write_named<K: Sink>(word: &str, name: &str, detail: &str, out: &mut K) -> Re
 }
 
 // A line with a key and a number behind it.
-fn write_range<K: Sink>(key: &str, number: i64, out: &mut K) -> Result<(), Failed>
+fn write_range<K: Sink>(word: &str, key: &str, number: i64, out: &mut K) -> Result<(), Failed>
+    requires { length word.now ≤ 16 }
     ensures ok { OnOk result
-        (Grows (K.written out.old) (K.written out.new) (range_text key.now number)) }
+        (Grows (K.written out.old) (K.written out.new) (range_text word.now key.now number)) }
     ensures err { OnErr result
-        (GrowsByFront (K.written out.old) (K.written out.new) (range_text key.now number)) }
+        (GrowsByFront (K.written out.old) (K.written out.new)
+        (range_text word.now key.now number)) }
     ensures cause { HasCause (K.write_faults out.old) (K.write_faults out.new) result }
 {
     let detail = number_detail(number);
-    write_named("refused site 5 ", key, detail.as_str(), out)
+    write_named(numbered(word, " 5 ").as_str(), key, detail.as_str(), out)
 }
 
 fn number_detail(number: i64) -> ArrayString<64>
@@ -145,12 +222,13 @@ fn number_detail(number: i64) -> ArrayString<64>
     line
 }
 
-fn crossing_line(panel: u8, line: u8, place: u8) -> ArrayString<64>
-    ensures { result.bytes ≡ codes "refused site 8 " ++ decimal panel ++ codes " " ++ decimal line
-        ++ codes " " ++ decimal place ++ codes "\n" }
+fn crossing_line(word: &str, panel: u8, line: u8, place: u8) -> ArrayString<64>
+    requires { length word.now ≤ 16 }
+    ensures { result.bytes ≡ crossing_text word.now panel line place }
 {
     let mut text = ArrayString::new();
-    push_number(&mut text, "refused site 8 ", panel);
+    text.push_str(word);
+    push_number(&mut text, " 8 ", panel);
     push_number(&mut text, " ", line);
     push_number(&mut text, " ", place);
     text.push_str("\n");

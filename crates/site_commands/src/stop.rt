@@ -8,7 +8,7 @@ pub enum Stop {
     Absent,
     /// The site file is refused, or memory ran out while it was read.
     Refused(SiteRefusal),
-    /// Markers depend on themselves: the line that names them.
+    /// Markers depend on themselves: what the line tells of them, behind its first words.
     Cycle(Items<u8>),
     /// The file could not be read.
     ReadFault,

@@ -1,13 +1,15 @@
-use Rattle.std.proofs.Common.{◌≡◌, ◌∙◌, ap, sym, subst}
+use Rattle.std.proofs.Common.{◌≡◌, ◌∙◌, ap, sym, subst, List, ℕ}
 use Rattle.std.specs.Prelude.{map, string_bytes}
-use Rattle.panel_program.specs.declared.command.Command.TheVariants.{Usage, Check, Run, Matrix, Drill}
-use Rattle.panel_program.specs.Commands.{AnswersCommand, site_word}
+use Rattle.panel_program.specs.declared.command.Command.TheVariants.{Usage, Check, Run, Matrix, Drill, Move}
+use Rattle.journal_move.specs.Disks.{disks_of}
+use Rattle.panel_program.specs.Commands.{AnswersCommand, SiteNames, call_disks, names_of, new_site_word, site_word}
 use Rattle.panel_program.specs.Usage.{usage_line}
 use Rattle.panel_program.specs.PowerCuts.{disk_of}
 use Rattle.panel_program.specs.Runs.{streams_of}
 use Rattle.site_commands.specs.Files.{files_of}
 use Rattle.panel_program.specs.Words.{IsBounded, command_of}
-use Rattle.panel_program.proofs.Naming.{site_word_is}
+use Rattle.journal_move.specs.Moves.{AnswersMove}
+use Rattle.panel_program.proofs.Naming.{new_site_word_is, site_word_is}
 use Rattle.panel_program.proofs.program.panel.Goals as goal
 
 check_is : Check ≡ Usage → ⊥
@@ -19,6 +21,13 @@ run_is e = cc
 matrix_is : Matrix ≡ Usage → ⊥
 matrix_is e = cc
 
+move_is : Move ≡ Usage → ⊥
+move_is e = cc
+
+-- the names of a call whose site has this one
+abbrev named : List ℕ → List (List ℕ) → SiteNames
+named text words = record { site = text; new_site = new_site_word words }
+
 pub returns-in-Usage-clause-answers : goal.returns-in-Usage-clause-answers
 unfolding usage_line
 returns-in-Usage-clause-answers g c =
@@ -28,8 +37,10 @@ returns-in-Usage-clause-answers g c =
     let streams =
     streams_of g.S.Stream.left g.S.Stream.read_faults g.K.Stream.written c.args.input.now c.args.input.now c.args.out.now c.say.new.out in
     let files = files_of g.F.Shelf.files g.F.Shelf.faults same same in
-    let disk = disk_of g.D.Disk.seen g.D.Disk.honest g.D.Disk.images g.D.Disk.moment g.D.Disk.left_since c.args.disk.now c.args.disk.now in
-    subst (λ command. AnswersCommand command (site_word words) files disk streams c.say.result) (sym is)
+    let journal = disk_of g.D.Disk.seen g.D.Disk.honest g.D.Disk.images g.D.Disk.moment g.D.Disk.left_since c.args.disk.now c.args.disk.now in
+    let disks =
+    call_disks journal (disks_of g.D.Disk.seen g.D.Disk.honest g.D.Disk.images c.args.disk.now c.args.disk.now c.args.target.now c.args.target.now) in
+    subst (λ command. AnswersCommand command (names_of words) files disks streams c.say.result) (sym is)
     (record { says = c.say.ensures.says; ticks = c.say.ensures.ticks.0; failures = c.say.ensures.ticks.1 })
 
 pub returns-in-Check-clause-answers : goal.returns-in-Check-clause-answers
@@ -39,14 +50,16 @@ returns-in-Check-clause-answers g c =
     let files = files_of g.F.Shelf.files g.F.Shelf.faults shelf c.tell_counts.new.shelf in
     let streams =
     streams_of g.S.Stream.left g.S.Stream.read_faults g.K.Stream.written c.args.input.now c.args.input.now c.args.out.now c.tell_counts.new.out in
-    let disk = disk_of g.D.Disk.seen g.D.Disk.honest g.D.Disk.images g.D.Disk.moment g.D.Disk.left_since c.args.disk.now c.args.disk.now in
+    let journal = disk_of g.D.Disk.seen g.D.Disk.honest g.D.Disk.images g.D.Disk.moment g.D.Disk.left_since c.args.disk.now c.args.disk.now in
+    let disks =
+    call_disks journal (disks_of g.D.Disk.seen g.D.Disk.honest g.D.Disk.images c.args.disk.now c.args.disk.now c.args.target.now c.args.target.now) in
     let is : command_of words ≡ Check = sym c.command_of.ensures.command ∙ c.in-Check.is in
     let name : c.as_str.result.now ≡ site_word words =
     c.as_str.ensures.value ∙ ap string_bytes c.index-words-1.is ∙ sym
     (site_word_is c.args.words.now c.index-words-1.result (λ e. check_is (sym is ∙ e)))
     in
-    subst (λ command. AnswersCommand command (site_word words) files disk streams c.tell_counts.result) (sym is)
-    (subst (λ text. AnswersCommand Check text files disk streams c.tell_counts.result) name c.tell_counts.ensures.answers)
+    subst (λ command. AnswersCommand command (names_of words) files disks streams c.tell_counts.result) (sym is)
+    (subst (λ text. AnswersCommand Check (named text words) files disks streams c.tell_counts.result) name c.tell_counts.ensures.answers)
 
 pub returns-in-Run-clause-answers : goal.returns-in-Run-clause-answers
 returns-in-Run-clause-answers g c =
@@ -55,14 +68,16 @@ returns-in-Run-clause-answers g c =
     let files = files_of g.F.Shelf.files g.F.Shelf.faults shelf c.run.new.shelf in
     let streams =
     streams_of g.S.Stream.left g.S.Stream.read_faults g.K.Stream.written c.args.input.now c.run.new.input c.args.out.now c.run.new.out in
-    let disk = disk_of g.D.Disk.seen g.D.Disk.honest g.D.Disk.images g.D.Disk.moment g.D.Disk.left_since c.args.disk.now c.run.new.disk in
+    let journal = disk_of g.D.Disk.seen g.D.Disk.honest g.D.Disk.images g.D.Disk.moment g.D.Disk.left_since c.args.disk.now c.run.new.disk in
+    let disks =
+    call_disks journal (disks_of g.D.Disk.seen g.D.Disk.honest g.D.Disk.images c.args.disk.now c.run.new.disk c.args.target.now c.args.target.now) in
     let is : command_of words ≡ Run = sym c.command_of.ensures.command ∙ c.in-Run.is in
     let name : c.as_str-in-Run.result.now ≡ site_word words =
     c.as_str-in-Run.ensures.value ∙ ap string_bytes c.index-words-1-in-Run.is ∙ sym
     (site_word_is c.args.words.now c.index-words-1-in-Run.result (λ e. run_is (sym is ∙ e)))
     in
-    subst (λ command. AnswersCommand command (site_word words) files disk streams c.run.result) (sym is)
-    (subst (λ text. AnswersCommand Run text files disk streams c.run.result) name c.run.ensures.answers)
+    subst (λ command. AnswersCommand command (names_of words) files disks streams c.run.result) (sym is)
+    (subst (λ text. AnswersCommand Run (named text words) files disks streams c.run.result) name c.run.ensures.answers)
 
 pub returns-in-Matrix-clause-answers : goal.returns-in-Matrix-clause-answers
 returns-in-Matrix-clause-answers g c =
@@ -71,14 +86,16 @@ returns-in-Matrix-clause-answers g c =
     let files = files_of g.F.Shelf.files g.F.Shelf.faults shelf c.tell_matrix.new.shelf in
     let streams =
     streams_of g.S.Stream.left g.S.Stream.read_faults g.K.Stream.written c.args.input.now c.args.input.now c.args.out.now c.tell_matrix.new.out in
-    let disk = disk_of g.D.Disk.seen g.D.Disk.honest g.D.Disk.images g.D.Disk.moment g.D.Disk.left_since c.args.disk.now c.args.disk.now in
+    let journal = disk_of g.D.Disk.seen g.D.Disk.honest g.D.Disk.images g.D.Disk.moment g.D.Disk.left_since c.args.disk.now c.args.disk.now in
+    let disks =
+    call_disks journal (disks_of g.D.Disk.seen g.D.Disk.honest g.D.Disk.images c.args.disk.now c.args.disk.now c.args.target.now c.args.target.now) in
     let is : command_of words ≡ Matrix = sym c.command_of.ensures.command ∙ c.in-Matrix.is in
     let name : c.as_str-in-Matrix.result.now ≡ site_word words =
     c.as_str-in-Matrix.ensures.value ∙ ap string_bytes c.index-words-1-in-Matrix.is ∙ sym
     (site_word_is c.args.words.now c.index-words-1-in-Matrix.result (λ e. matrix_is (sym is ∙ e)))
     in
-    subst (λ command. AnswersCommand command (site_word words) files disk streams c.tell_matrix.result) (sym is)
-    (subst (λ text. AnswersCommand Matrix text files disk streams c.tell_matrix.result) name c.tell_matrix.ensures.answers)
+    subst (λ command. AnswersCommand command (names_of words) files disks streams c.tell_matrix.result) (sym is)
+    (subst (λ text. AnswersCommand Matrix (named text words) files disks streams c.tell_matrix.result) name c.tell_matrix.ensures.answers)
 
 pub returns-in-Drill-clause-answers : goal.returns-in-Drill-clause-answers
 returns-in-Drill-clause-answers g c =
@@ -89,9 +106,35 @@ returns-in-Drill-clause-answers g c =
     let files = files_of g.F.Shelf.files g.F.Shelf.faults shelf shelf in
     let streams =
     streams_of g.S.Stream.left g.S.Stream.read_faults g.K.Stream.written c.args.input.now c.args.input.now c.args.out.now c.run_drill.new.out in
-    let disk = disk_of g.D.Disk.seen g.D.Disk.honest g.D.Disk.images g.D.Disk.moment g.D.Disk.left_since c.args.disk.now c.args.disk.now in
+    let journal = disk_of g.D.Disk.seen g.D.Disk.honest g.D.Disk.images g.D.Disk.moment g.D.Disk.left_since c.args.disk.now c.args.disk.now in
+    let disks =
+    call_disks journal (disks_of g.D.Disk.seen g.D.Disk.honest g.D.Disk.images c.args.disk.now c.args.disk.now c.args.target.now c.args.target.now) in
     let is : command_of words ≡ Drill seed ticks = sym c.command_of.ensures.command ∙ c.in-Drill.is in
-    subst (λ command. AnswersCommand command (site_word words) files disk streams c.run_drill.result) (sym is) c.run_drill.ensures.drills
+    subst (λ command. AnswersCommand command (names_of words) files disks streams c.run_drill.result) (sym is) c.run_drill.ensures.drills
+
+pub returns-in-Move-clause-answers : goal.returns-in-Move-clause-answers
+returns-in-Move-clause-answers g c =
+    let words = map string_bytes c.args.words.now in
+    let shelf = c.args.shelf.now in
+    let files = files_of g.F.Shelf.files g.F.Shelf.faults shelf c.move_journal.new.shelf in
+    let streams =
+    streams_of g.S.Stream.left g.S.Stream.read_faults g.K.Stream.written c.args.input.now c.args.input.now c.args.out.now c.move_journal.new.out in
+    let journal = disk_of g.D.Disk.seen g.D.Disk.honest g.D.Disk.images g.D.Disk.moment g.D.Disk.left_since c.args.disk.now c.move_journal.new.disk in
+    let both =
+    disks_of g.D.Disk.seen g.D.Disk.honest g.D.Disk.images c.args.disk.now c.move_journal.new.disk c.args.target.now c.move_journal.new.target in
+    let disks = call_disks journal both in
+    let is : command_of words ≡ Move = sym c.command_of.ensures.command ∙ c.in-Move.is in
+    let old : c.as_str-in-Move.result.now ≡ site_word words =
+    c.as_str-in-Move.ensures.value ∙ ap string_bytes c.index-words-1-in-Move.is ∙ sym
+    (site_word_is c.args.words.now c.index-words-1-in-Move.result (λ e. move_is (sym is ∙ e)))
+    in
+    let new : c.as_str-in-Move-2.result.now ≡ new_site_word words =
+    c.as_str-in-Move-2.ensures.value ∙ ap string_bytes c.index-words-2.is ∙ sym (new_site_word_is c.args.words.now c.index-words-2.result is)
+    in
+    subst (λ command. AnswersCommand command (names_of words) files disks streams c.move_journal.result) (sym is)
+    (subst (λ text. AnswersMove text (new_site_word words) files both streams.old streams.new c.move_journal.result) old
+    (subst (λ text. AnswersMove c.as_str-in-Move.result.now text files both streams.old streams.new c.move_journal.result) new
+    c.move_journal.ensures.answers))
 
 pub run_drill-requires : goal.run_drill-requires
 run_drill-requires g c = subst IsBounded c.in-Drill.is c.command_of.ensures.bounded

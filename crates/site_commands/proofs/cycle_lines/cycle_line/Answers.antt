@@ -12,5 +12,5 @@ loop-marker-preserved c =
     let name = name_of_marker (slice_get site.markers (get_or markers k 0)) in
     c.in_ok-push_name.ensures ∙
     (ap (λ line. line ++ name) c.loop-marker.invariant ∙
-    (append_assoc (codes "refused site 11") (names_of_markers site (take k markers)) name ∙
-    ap (λ names. codes "refused site 11" ++ names) (sym (markers_next site markers k c.loop-marker-test.true))))
+    (append_assoc (codes " 11") (names_of_markers site (take k markers)) name ∙
+    ap (λ names. codes " 11" ++ names) (sym (markers_next site markers k c.loop-marker-test.true))))

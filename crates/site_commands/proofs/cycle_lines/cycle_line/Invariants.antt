@@ -4,4 +4,4 @@ use Rattle.site_commands.specs.Cycles.{names_of_markers}
 use Rattle.site_commands.proofs.cycle_lines.cycle_line.Given as goal
 
 abbrev pub invariant-loop-marker : goal.invariant-loop-marker
-invariant-loop-marker l = l.line.items ≡ codes "refused site 11" ++ names_of_markers l.site (take l.marker-index l.markers)
+invariant-loop-marker l = l.line.items ≡ codes " 11" ++ names_of_markers l.site (take l.marker-index l.markers)

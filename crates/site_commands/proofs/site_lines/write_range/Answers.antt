@@ -7,12 +7,18 @@ use Rattle.site_commands.proofs.site_lines.write_range.Goals as goal
 
 pub returns-clause-ok : goal.returns-clause-ok
 returns-clause-ok g c =
-    let detail : c.as_str.result.now ≡ codes " " ++ signed_decimal c.args.number ++ codes "\n" = search rules in
+    let detail : c.as_str-2.result.now ≡ codes " " ++ signed_decimal c.args.number ++ codes "\n" = search rules in
+    let front : c.as_str.result.now ≡ c.args.word.now ++ codes " 5 " = search rules in
     subst (λ text. OnOk c.write_named.result (Grows (g.K.Stream.written c.args.out.now) (g.K.Stream.written c.write_named.new.out)
-    (named_text (codes "refused site 5 ") c.args.key.now text))) detail c.write_named.ensures.ok
+    (named_text (c.args.word.now ++ codes " 5 ") c.args.key.now text))) detail
+    (subst (λ word. OnOk c.write_named.result (Grows (g.K.Stream.written c.args.out.now) (g.K.Stream.written c.write_named.new.out)
+    (named_text word c.args.key.now c.as_str-2.result.now))) front c.write_named.ensures.ok)
 
 pub returns-clause-err : goal.returns-clause-err
 returns-clause-err g c =
-    let detail : c.as_str.result.now ≡ codes " " ++ signed_decimal c.args.number ++ codes "\n" = search rules in
+    let detail : c.as_str-2.result.now ≡ codes " " ++ signed_decimal c.args.number ++ codes "\n" = search rules in
+    let front : c.as_str.result.now ≡ c.args.word.now ++ codes " 5 " = search rules in
     subst (λ text. OnErr c.write_named.result (GrowsByFront (g.K.Stream.written c.args.out.now) (g.K.Stream.written c.write_named.new.out)
-    (named_text (codes "refused site 5 ") c.args.key.now text))) detail c.write_named.ensures.err
+    (named_text (c.args.word.now ++ codes " 5 ") c.args.key.now text))) detail
+    (subst (λ word. OnErr c.write_named.result (GrowsByFront (g.K.Stream.written c.args.out.now) (g.K.Stream.written c.write_named.new.out)
+    (named_text word c.args.key.now c.as_str-2.result.now))) front c.write_named.ensures.err)

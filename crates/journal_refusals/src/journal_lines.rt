@@ -2,8 +2,8 @@
 
 ghost use Rattle.std.specs.Prelude.{◌≡◌, ◌≢◌, ◌≤◌, ◌+◌, ◌++◌, codes, length};
 ghost use Rattle.hex.specs.Hex.{encode_lower};
-ghost use Rattle.panel_program.specs.Journals.{damage_text, journal_status, journal_text, other_file_text};
-ghost use Rattle.panel_program.specs.Journals.{other_site_text};
+ghost use Rattle.journal_refusals.specs.JournalTexts.{damage_text, journal_status, journal_text, other_file_text};
+ghost use Rattle.journal_refusals.specs.JournalTexts.{other_site_text};
 ghost use Rattle.program_status.specs.Sayings.{Says};
 ghost use Rattle.program_status.specs.Statuses.{BlamesWrites, number_of};
 
@@ -13,7 +13,7 @@ use panel_edges::Sink;
 use program_status::{Outcome, Status, say};
 use retained_journal::OpenRefusal;
 
-/// Ends a run whose journal can't be used, with the line that says why.
+/// Ends a command whose journal can't be used, with the line that says why.
 pub fn stop_at_journal<K: Sink>(refusal: &OpenRefusal, out: &mut K) -> Outcome
     ensures says { Says (journal_status refusal.now) (journal_text refusal.now)
         (K.written out.old) (K.written out.new) result.status }

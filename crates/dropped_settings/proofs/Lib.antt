@@ -1,0 +1,2 @@
+pub mod DroppedLines
+pub mod Named

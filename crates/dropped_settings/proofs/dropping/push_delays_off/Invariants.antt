@@ -1,0 +1,7 @@
+use Rattle.std.proofs.Common.{◌≡◌, ◌++◌}
+use Rattle.std.specs.List.{range_with_len}
+use Rattle.dropped_settings.specs.Dropped.{delays_lines}
+use Rattle.dropped_settings.proofs.dropping.push_delays_off.Given as goal
+
+abbrev pub invariant-loop-place : goal.invariant-loop-place
+invariant-loop-place l = l.text.items ≡ l.initial.text.items ++ delays_lines l.new l.kept (range_with_len 1 l.place)

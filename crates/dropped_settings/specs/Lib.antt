@@ -1,0 +1,3 @@
+pub mod Dropped
+pub mod Moved
+pub mod Names

@@ -1,0 +1,2 @@
+pub mod CarriedStates
+pub mod Sparing
