@@ -15,10 +15,10 @@ rows_status why.KeeperFault = exit.KeeperFault
 rows_status why.NoMemory = exit.NoMemory
 
 -- nothing is said of want of memory
-abbrev pub rows_text : ImportRefusal → List ℕ
-rows_text (why.Row row number) = row_line row number
-rows_text why.KeeperFault = codes "fault keeper\n"
-rows_text why.NoMemory = []
+abbrev pub rows_line : ImportRefusal → List ℕ
+rows_line (why.Row row number) = row_line row number
+rows_line why.KeeperFault = codes "fault keeper\n"
+rows_line why.NoMemory = []
 
 abbrev pub import_status : Result Imported ImportStop → Status
 import_status (Ok imported) = exit.Done
@@ -33,4 +33,4 @@ import_text name (Ok imported) = imported_line imported
 import_text name (Err NoFile) = file_line name
 import_text name (Err ReadFault) = codes "fault read\n"
 import_text name (Err NoMemory) = []
-import_text name (Err (Refused refusal)) = rows_text refusal
+import_text name (Err (Refused refusal)) = rows_line refusal

@@ -4,7 +4,6 @@ use Rattle.panel_edges.specs.Faults.{Rose}
 use Rattle.panel_edges.specs.Limits.{most_file_bytes}
 use Rattle.panel_edges.specs.Shelves.{file_of}
 use Rattle.program_status.specs.declared.outcome.Outcome.{Outcome}
-use Rattle.program_status.specs.declared.status.Status.{Status}
 use Rattle.register_import.specs.Answers.{AnswersFile}
 use Rattle.register_import.specs.declared.imported.Imported.{Imported}
 use Rattle.service_keepers.specs.Tables.{Tables}
@@ -46,35 +45,26 @@ TakesFile rose site file old new (Err NoMemory) = new ≡ old
 TakesFile rose site file old new (Err (Refused refusal)) =
     (bytes : List ℕ) × IsWhole file bytes × AnswersFile site bytes (Err refusal) old new
 
--- what the register keeps and what was written, where these are told, before a call and after it
-pub record Effect : Type 0 where
-  pub kept_before : Option Tables
-  pub kept_after : Option Tables
-  pub written_before : Option (List ℕ)
-  pub written_after : Option (List ℕ)
+-- the tables of a register before a call and after it, where its keeper tells them
+pub record KeptTables : Type 0 where
+  pub before : Option Tables
+  pub after : Option Tables
 
-abbrev pub effect_of : {R K : Type 0} → (R → Option Tables) → (K → Option (List ℕ)) → R → R → K → K → Effect
-effect_of tables written keeper keeper' out out' = record {
-  kept_before = tables keeper;
-  kept_after = tables keeper';
-  written_before = written out;
-  written_after = written out';
-}
+abbrev pub kept_tables : {R : Type 0} → (R → Option Tables) → R → R → KeptTables
+kept_tables tables keeper keeper' = record { before = tables keeper; after = tables keeper' }
 
-abbrev pub TellsIn : Effect → Status → List ℕ → Outcome → Type 0
-TellsIn effect status text outcome = Tells status text effect.written_before effect.written_after outcome
-
--- with a site at hand the file of a name is taken and what came of it is told; without one the register stays as it
--- is, and why there is no site is told
-abbrev pub TellsImport : Type 0 → List ℕ → Option (List ℕ) → Effect → Outcome → Result Site Stop → Type 0
-TellsImport rose name file effect outcome (Ok site) =
-    (taken : Result Imported ImportStop) × TakesFile rose site file effect.kept_before effect.kept_after taken
-    × TellsIn effect (import_status taken) (import_text name taken) outcome
-TellsImport rose name file effect outcome (Err stop) =
-    (effect.kept_after ≡ effect.kept_before) × TellsIn effect (stop_status stop) (stop_text stop) outcome
+-- With a site at hand the file of a name is taken, and what came of it is told. Without one the register stays as it
+-- is, and why there is no site is told.
+abbrev pub TellsImport : Type 0 → List ℕ → Option (List ℕ) → KeptTables → Option (List ℕ) → Option (List ℕ) → Outcome
+    → Result Site Stop → Type 0
+TellsImport rose name file register old new outcome (Ok site) =
+    (taken : Result Imported ImportStop) × TakesFile rose site file register.before register.after taken
+    × Tells (import_status taken) (import_text name taken) old new outcome
+TellsImport rose name file register old new outcome (Err stop) =
+    (register.after ≡ register.before) × Tells (stop_status stop) (stop_text stop) old new outcome
 
 -- what an import of the file of a name answers, by the files where the shelf tells them
-abbrev pub AnswersImport : Files → List ℕ → List ℕ → Effect → Outcome → Type 0
-AnswersImport files site name effect outcome = IfSome files.held (λ held.
+abbrev pub AnswersImport : Files → List ℕ → List ℕ → KeptTables → Option (List ℕ) → Option (List ℕ) → Outcome → Type 0
+AnswersImport files site name register old new outcome = IfSome files.held (λ held.
     let rose = Rose files.faults_before files.faults_after in
-    AnswersBy rose (file_of site held) (TellsImport rose name (file_of name held) effect outcome))
+    AnswersBy rose (file_of site held) (TellsImport rose name (file_of name held) register old new outcome))

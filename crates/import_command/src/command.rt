@@ -1,7 +1,7 @@
 //! Importing a file into the register of a site.
 
 ghost use Rattle.std.specs.Prelude.{◌≡◌, ◌≢◌, ◌≤◌, Err, IfSome};
-ghost use Rattle.import_command.specs.Imports.{AnswersImport, TakesFile, effect_of};
+ghost use Rattle.import_command.specs.Imports.{AnswersImport, TakesFile, kept_tables};
 ghost use Rattle.import_command.specs.declared.import_stop.ImportStop.TheVariants.{ReadFault, Refused};
 ghost use Rattle.panel_edges.specs.Faults.{Rose};
 ghost use Rattle.panel_edges.specs.Shelves.{file_of};
@@ -33,7 +33,8 @@ pub fn import_file<F: Shelf, K: Sink, R: Keeper>(
     keeper: &mut R,
 ) -> Outcome
     ensures answers { AnswersImport (files_of F.files F.faults shelf.old shelf.new) site_name.now
-        file_name.now (effect_of R.tables K.written keeper.old keeper.new out.old out.new) result }
+        file_name.now (kept_tables R.tables keeper.old keeper.new) (K.written out.old)
+        (K.written out.new) result }
     ensures read { BlamesReads result (F.faults shelf.old) (F.faults shelf.new) }
     ensures write { BlamesWrites result (K.write_faults out.old) (K.write_faults out.new) }
     ensures memory { IsSilentWithoutMemory result (K.written out.old) (K.written out.new) }

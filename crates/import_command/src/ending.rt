@@ -1,7 +1,7 @@
 //! Telling what came of an import.
 
 ghost use Rattle.std.specs.Prelude.{◌≡◌, Err};
-ghost use Rattle.import_command.specs.Endings.{import_status, import_text, rows_status, rows_text};
+ghost use Rattle.import_command.specs.Endings.{import_status, import_text, rows_status, rows_line};
 ghost use Rattle.import_command.specs.Lines.{file_line};
 ghost use Rattle.import_command.specs.declared.import_stop.ImportStop.TheVariants.{ReadFault, Refused};
 ghost use Rattle.panel_edges.specs.Contents.{Grows, GrowsByFront};
@@ -69,7 +69,7 @@ fn write_file_line<K: Sink>(name: &str, out: &mut K) -> Result<(), Failed>
 
 // Ends the command with why its rows aren't imported, or not all of them.
 fn tell_refusal<K: Sink>(refusal: ImportRefusal, out: &mut K) -> Outcome
-    ensures tells { Tells (rows_status refusal) (rows_text refusal) (K.written out.old)
+    ensures tells { Tells (rows_status refusal) (rows_line refusal) (K.written out.old)
         (K.written out.new) result }
     ensures write { BlamesWrites result (K.write_faults out.old) (K.write_faults out.new) }
     ensures memory { IsSilentWithoutMemory result (K.written out.old) (K.written out.new) }

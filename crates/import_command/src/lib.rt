@@ -1,7 +1,7 @@
 //! The command that puts the rows of a file into the service register.
 //!
-//! Begin with [`import_file`]: the site first, then the file, then its rows. `TellsImport` of specs/TellsImport says what comes
-//! of a file and what the register keeps then, by the bytes under the file's name; `import_text` and `import_status`
+//! Begin with [`import_file`]: the site first, then the file, then its rows. `TakesFile` of specs/Imports says what
+//! comes of a file and what the register keeps then, by the bytes under the file's name; `import_text` and `import_status`
 //! of specs/Endings say what is told of it. Whatever ends an import before its last row is put, the same call completes
 //! it: [`imports_are_completed`] of register_import is that law.
 //!

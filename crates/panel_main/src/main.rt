@@ -8,6 +8,7 @@
 use panel_edges::{FileDisk, FileShelf, StdSink, StdSource};
 use panel_program::panel;
 use program_status::Status;
+use register_sqlite::TableKeeper;
 use std::alloc::{AllocError, Global};
 use std::env;
 use std::fs::File;
@@ -32,6 +33,10 @@ fn main(rt: HostRuntime) -> ExitCode {
     };
     let mut disk = FileDisk::at(&rt, journal);
     let mut target = FileDisk::at(&rt, new_journal);
+    let Ok(register) = register_of(rt.alloc(), words.as_slice()) else {
+        return ExitCode::from(Status::NoMemory.number());
+    };
+    let mut keeper = TableKeeper::at(rt, register);
     let mut shelf = FileShelf::new(&rt, rt.alloc());
     let mut input = StdSource::new(&rt);
     let mut out = StdSink::new(&rt);
@@ -43,6 +48,7 @@ fn main(rt: HostRuntime) -> ExitCode {
         &mut out,
         &mut disk,
         &mut target,
+        &mut keeper,
     );
     ExitCode::from(outcome.status)
 }
@@ -71,6 +77,11 @@ fn is_move(words: &[String]) -> bool {
         Some(word) => word.as_str() == "move",
         None => false,
     }
+}
+
+// The register's file, which an import names behind the file that it reads.
+fn register_of(alloc: Global, words: &[String]) -> Result<String, AllocError> {
+    word_at(alloc, words, 3)
 }
 
 // The word at a place, empty where there is none.

@@ -53,7 +53,7 @@ fn say_opening(
 
 // What a run without a tick of the old or the new site of a move tells over a journal.
 fn opened(alloc: Global, given: Given, is_new: bool, journal: &[u8]) -> Result<String> {
-    let (place, site) = if is_new { (2, given.new_site) } else { (1, given.site) };
+    let (place, site) = if is_new { (2, given.third) } else { (1, given.site) };
     let Some(name) = given.words.get(place) else {
         bail!("no site");
     };
@@ -64,7 +64,7 @@ fn opened(alloc: Global, given: Given, is_new: bool, journal: &[u8]) -> Result<S
     let given = Given {
         words: words.as_slice(),
         site,
-        new_site: None,
+        third: None,
         record: b"end\n".as_slice(),
         journal,
         target: b"".as_slice(),
