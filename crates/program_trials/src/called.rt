@@ -39,7 +39,10 @@ impl Called {
 
 /// Calls `panel` over forms in memory, with an empty register.
 pub(crate) fn call(alloc: Global, given: Given, outside: Outside) -> Result<Called> {
-    call_over(alloc, given, outside, MemoryTables::new(alloc))
+    match MemoryKeeper::new(alloc, Vec::new(alloc)) {
+        Ok(keeper) => call_over(alloc, given, outside, keeper.tables),
+        Err(_) => bail!("no memory"),
+    }
 }
 
 /// Calls `panel` over forms in memory, with a register that keeps these tables.
