@@ -1,2 +1,3 @@
 pub mod CarriedStates
 pub mod Sparing
+pub mod Targets

@@ -3,6 +3,7 @@ pub mod Numbers
 pub mod Progresses
 pub mod Codes
 pub mod Answered
+pub mod LineEnds
 pub mod Stood
 pub mod Cuts
 pub mod TickCuts

@@ -5,6 +5,7 @@ pub mod Endings
 pub mod Writings
 pub mod Journals
 pub mod Outside
+pub mod Ahead
 pub mod Stands
 pub mod Acting
 pub mod Disks

@@ -32,7 +32,7 @@ fn main(rt: HostRuntime) -> Result<ExitCode> {
         &[("run", Kind::Run), ("steps", Kind::Steps)],
         |kind, case| match kind {
             Kind::Run => run(&rt, Words::of(case.subject)),
-            Kind::Steps => steps(&rt, Words::of(case.subject)),
+            Kind::Steps => count_steps(&rt, Words::of(case.subject)),
         },
     )
 }
@@ -49,7 +49,7 @@ fn run(rt: &HostRuntime, mut words: Words) -> Result<String> {
 }
 
 // How many markers the definitions have evaluated in each tick of a record.
-fn steps(rt: &HostRuntime, mut words: Words) -> Result<String> {
+fn count_steps(rt: &HostRuntime, mut words: Words) -> Result<String> {
     let alloc = rt.alloc();
     let site = site_at(rt, words.next())?;
     let moments = moments_of(alloc, &site, &fs::read_to_string(rt, words.next())?)?;

@@ -1,5 +1,6 @@
-use Rattle.std.proofs.Common.{◌++◌, ◌∙◌, sym, ap, subst}
+use Rattle.std.proofs.Common.{rules, ◌≡◌, ◌++◌, ◌∙◌, sym, ap, subst}
 use Rattle.std.specs.Prelude.{OnOk, OnErr, codes}
+use Rattle.std.specs.Int.{cast_signed, cast_unsigned, w64}
 use Rattle.panel_edges.specs.Contents.{Grows, GrowsByFront}
 use Rattle.site_commands.specs.Refusals.{named_text, range_text, refusal_text}
 use Rattle.site_commands.proofs.site_lines.write_refusal.Goals as goal
@@ -24,9 +25,11 @@ returns-in-Unknown-clause-ok g c =
 
 pub returns-in-OutOfRange-clause-err : goal.returns-in-OutOfRange-clause-err
 returns-in-OutOfRange-clause-err g c =
+    let number : cast_signed w64 (cast_unsigned w64 c.in-OutOfRange.number) ≡ c.in-OutOfRange.number = search rules in
     subst (λ text. OnErr c.write_range.result (GrowsByFront (g.K.Stream.written c.args.out.now) (g.K.Stream.written c.write_range.new.out) text))
-    (ap (λ key. range_text c.args.word.now key c.in-OutOfRange.number.now) c.as_str-in-OutOfRange.ensures ∙ ap (refusal_text c.args.word.now)
-    (sym c.in-OutOfRange.is)) c.write_range.ensures.err
+    (ap (λ n. range_text c.args.word.now c.as_str-in-OutOfRange.result.now n) number
+    ∙ ap (λ key. range_text c.args.word.now key c.in-OutOfRange.number) c.as_str-in-OutOfRange.ensures
+    ∙ ap (refusal_text c.args.word.now) (sym c.in-OutOfRange.is)) c.write_range.ensures.err
 
 pub returns-in-Twice-clause-ok : goal.returns-in-Twice-clause-ok
 returns-in-Twice-clause-ok g c =

@@ -1,0 +1,48 @@
+use Rattle.std.proofs.Common.{◌≡◌, ◌∙◌, inl, inr, ap, refl, subst, sym}
+use Rattle.program_status.specs.declared.outcome.Outcome.{Outcome}
+use Rattle.program_status.specs.declared.status.Status.TheVariants.{Done}
+use Rattle.program_status.specs.Sayings.{Says}
+use Rattle.retained_journal.specs.Opening.{Opens, opened}
+use Rattle.retained_journal.specs.Slots.{FitPoints, HasNarrowPoints}
+use Rattle.site_types.specs.Changes.{AreCounters}
+use Rattle.site_types.specs.declared.retained.Retained.{Retained}
+use Rattle.journal_move.proofs.CarriedStates.{carried_keeps}
+use Rattle.journal_move.proofs.Sparing.{spares_alone}
+use Rattle.journal_move.proofs.Targets.{was_empty}
+use Rattle.journal_move.proofs.moving.move_kept.Goals as goal
+
+pub create-requires-clause-counters : goal.create-requires-clause-counters
+create-requires-clause-counters g c =
+    subst (λ (s : Retained). AreCounters s.counters) (sym c.carry-carried.ensures)
+    (carried_keeps c.args.old.now.site c.args.new.now.site c.args.kept.now c.requires.new.valid c.requires.counters).small
+
+pub create-requires-clause-points : goal.create-requires-clause-points
+create-requires-clause-points g c =
+    subst (λ (s : Retained). FitPoints s.points) (sym c.carry-carried.ensures)
+    (carried_keeps c.args.old.now.site c.args.new.now.site c.args.kept.now c.requires.new.valid c.requires.counters).fits
+
+pub create-requires-clause-narrow : goal.create-requires-clause-narrow
+create-requires-clause-narrow g c =
+    subst (λ (s : Retained). HasNarrowPoints _ s.points) (sym c.carry-carried.ensures)
+    (carried_keeps c.args.old.now.site c.args.new.now.site c.args.kept.now c.requires.new.valid c.requires.counters).narrow
+
+pub returns-in_default-clause-ends : goal.returns-in_default-clause-ends
+returns-in_default-clause-ends g c =
+    let told = c.after.ensures in
+    inl (
+      record {
+        alone = refl;
+        silent =
+            record {
+              status = ap (λ (o : Outcome). o.status) told;
+              ticks = ap (λ (o : Outcome). o.ticks) told;
+              failures = ap (λ (o : Outcome). o.store_failures) told;
+              same = refl;
+            };
+      },
+    )
+
+pub returns-in_default-clause-spares : goal.returns-in_default-clause-spares
+returns-in_default-clause-spares g c =
+    spares_alone g.D.Disk.seen g.D.Disk.honest g.D.Disk.images g.D.Disk.moment g.D.Disk.left_since c.args.target.now
+    (g.met.D.Disk.only_now c.args.target.now)
