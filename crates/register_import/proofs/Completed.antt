@@ -1,5 +1,5 @@
 -- A file of which some first rows were put is judged as before, and completed.
-use Rattle.std.proofs.Common.{◌≡◌, ◌⊎◌, ◌||◌, ◌+◌, inl, inr, ℕ, Bool, true, false, not, List, [], ◌∷◌, ◌++◌, Option, Some, None, refl, sym, ap, ◌∙◌, subst, append_assoc}
+use Rattle.std.proofs.Common.{◌≡◌, ◌||◌, inl, inr, ℕ, Bool, true, false, not, List, [], ◌∷◌, ◌++◌, Option, Some, None, refl, sym, ap, ◌∙◌, subst, append_assoc}
 use Rattle.std.specs.Prelude.{MatchOption, Result, Ok, Err, fold, if◌then◌else◌}
 use Rattle.std.specs.Option.{option_or}
 use Rattle.std.proofs.lemmas.Grind.{fold-append}
@@ -10,7 +10,8 @@ use Rattle.site_types.specs.declared.site.Site.{Site}
 use Rattle.register_import.specs.Judged.{differs, file_judged, has_other, judged_by, rows_judged, tables_of_rows, with_row}
 use Rattle.register_import.specs.Puts.{PutsAtMost, PutsFront, PutsRow, PutsRows}
 use Rattle.register_import.specs.Rows.{ImportedTest, bad_form, four, is_header, other_visit, row_spelled, test_of_row}
-use Rattle.register_import.proofs.Again.{AreHeld, IsAccepted, IsFoundBy, IsHeld, Judges, accepted_by, filled_found, found_more, held_behind, judged_of, judges_again, judges_of, nothing_filled, of_itself, rows_held, same_rows, same_visit_itself, unchanged}
+use Rattle.register_import.proofs.Again.{AreHeld, IsAccepted, IsFoundBy, IsHeld, Judges, accepted_by, filled_found, found_more, judged_of, judges_again, judges_of}
+use Rattle.register_import.proofs.Again.{nothing_filled, of_itself, rows_held, same_rows, same_visit_itself, unchanged}
 use Rattle.register_import.proofs.Found.{of_number, or_assoc, same_tests, visit_found}
 
 -- ---- what rows fill
@@ -21,7 +22,7 @@ filled_more : (front mid : List ImportedTest) (number : ℕ) → (more : Option 
 filled_more front [] number = (
   None,
   ap (λ (rows : List ImportedTest). visit_numbered number (tables_of_rows rows).visits) (append-nil front)
-  ∙ nothing_more (visit_numbered number (tables_of_rows front).visits),
+      ∙ nothing_more (visit_numbered number (tables_of_rows front).visits),
 )
   where
     nothing_more : (o : Option VisitRow) → o ≡ option_or o None
@@ -32,10 +33,10 @@ filled_more front (row ∷ mid) number =
     let one = of_number number row.visit in (
       option_or one behind.0,
       ap (λ (rows : List ImportedTest). visit_numbered number (tables_of_rows rows).visits) (sym (append_assoc front (row ∷ []) mid))
-      ∙ behind.1
-      ∙ ap (λ (t : Tables). option_or (visit_numbered number t.visits) behind.0) (fold-append with_row no_tables front (row ∷ []))
-      ∙ ap (λ o. option_or o behind.0) (filled_found row (tables_of_rows front) number)
-      ∙ or_assoc (visit_numbered number (tables_of_rows front).visits) one behind.0,
+          ∙ behind.1
+          ∙ ap (λ (t : Tables). option_or (visit_numbered number t.visits) behind.0) (fold-append with_row no_tables front (row ∷ []))
+          ∙ ap (λ o. option_or o behind.0) (filled_found row (tables_of_rows front) number)
+          ∙ or_assoc (visit_numbered number (tables_of_rows front).visits) one behind.0,
     )
 
 -- rows that are put are found as they fill
@@ -85,8 +86,8 @@ judges_behind site kept stored front mid (fields ∷ rest) rows found is =
       is.2,
       judged_with kept stored filled spelled row accepted (fits_still kept stored front mid row found accepted.before accepted.stored),
       subst (λ (before : List ImportedTest). Judges site stored before rest is.1) (sym same)
-      (judges_behind site kept stored front (mid ++ row ∷ []) rest is.1 found
-      (subst (λ (before : List ImportedTest). Judges site kept before rest is.1) same is.4)),
+          (judges_behind site kept stored front (mid ++ row ∷ []) rest is.1 found
+          (subst (λ (before : List ImportedTest). Judges site kept before rest is.1) same is.4)),
     )
 
 -- ---- a file cut behind some rows
@@ -138,8 +139,8 @@ joined site kept before front (fields ∷ first) rest back is behind =
       ap (λ xs. xs ++ back) is.2,
       is.3,
       joined site kept (before ++ row ∷ []) more first rest back is.4
-      (subst (λ (b : List ImportedTest). Judges site kept b rest back)
-      (ap (λ xs. before ++ xs) is.2 ∙ sym (append_assoc before (row ∷ []) more)) behind),
+          (subst (λ (b : List ImportedTest). Judges site kept b rest back)
+          (ap (λ xs. before ++ xs) is.2 ∙ sym (append_assoc before (row ∷ []) more)) behind),
     )
 
 -- ---- the rows of a file of which some first ones were put

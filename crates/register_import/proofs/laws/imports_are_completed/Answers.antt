@@ -1,4 +1,4 @@
-use Rattle.std.proofs.Common.{List, subst, sym}
+use Rattle.std.proofs.Common.{List, subst}
 use Rattle.register_import.specs.Answers.{Counts}
 use Rattle.register_import.specs.Rows.{ImportedTest}
 use Rattle.register_import.proofs.Completed.{part_again, part_completed}
