@@ -90,7 +90,6 @@ AnswersCommand (Drill seed ticks) names files disks streams outcome =
     Drills seed ticks streams.old streams.new outcome
 AnswersCommand Move names files disks streams outcome =
     AnswersMove names.site names.new_site files disks.both streams.old streams.new outcome
-
 AnswersCommand Import names files disks streams outcome = ⊤
 
 -- what a call with these words answers

@@ -32,8 +32,8 @@ fn say_import(lines: &mut Lines, called: &Called) {
     lines.count(", tests ", called.keeper.tables.tests.len() as u64);
 }
 
-/// What an import tells where one call of the outside fails: each fetch, each call of the keeper, each write. Made again
-/// it leaves and tells what one that never fails does.
+/// What an import tells where one call of the outside fails: each fetch, each call of the keeper, each write. Made
+/// again it leaves and tells what one that never fails does.
 pub(crate) fn try_failures(alloc: Global, trial: &Trial) -> Result<String> {
     let whole = call(alloc, trial.given(), trial.outside)?;
     let mut lines = Lines::new(alloc);

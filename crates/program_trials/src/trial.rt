@@ -77,8 +77,8 @@ impl<'a> Trial<'a> {
         Ok(trial)
     }
 
-    // A call over no journal. The file that the second word names is on the shelf, where there is one, and for a move or
-    // an import that of the third.
+    // A call over no journal. The file that the second word names is on the shelf, where there is one, and for a move
+    // or an import that of the third.
     fn read(rt: &HostRuntime, words: &str, record: &str, options: &'a str) -> Result<Trial<'a>> {
         let mut all = Vec::new(rt.alloc());
         let mut site = None;
