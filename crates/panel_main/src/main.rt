@@ -1,9 +1,9 @@
 //! The program `panel`: real files and streams for the call `panel` of panel_program, which promises the rest.
 //!
-//! It takes the words behind its name, and ends with the status of the outcome. The journal's disk is the file that the
-//! third word names, for a move the fourth, whose fifth names the file in which the new journal is made. The register of
-//! an import is the file of the fourth word. A file is opened when `panel` first calls its disk or keeper. No clause
-//! speaks of a real file or stream, so there is none here.
+//! It takes the words behind its name, and ends with the status of the outcome. The journal's disk is the file that
+//! the third word names, for a move the fourth, whose fifth names the file in which the new journal is made. The
+//! register of an import is the file of the fourth word. A file is opened when `panel` first calls its disk or keeper.
+//! No clause speaks of a real file or stream, so there is none here.
 #![tactic(auto)]
 
 use panel_edges::{FileDisk, FileShelf, StdSink, StdSource};

@@ -82,14 +82,10 @@ pub fn panel<F: Shelf, S: Source, K: Sink, D: Disk, R: Keeper>(
             disk,
             target,
         ),
-        Command::Import => import_file(
-            alloc,
-            words[1].as_str(),
-            words[2].as_str(),
-            shelf,
-            out,
-            keeper,
-        ),
+        Command::Import => {
+            let (site, file) = (&words[1], &words[2]);
+            import_file(alloc, site.as_str(), file.as_str(), shelf, out, keeper)
+        }
     }
 }
 
