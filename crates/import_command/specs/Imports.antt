@@ -33,6 +33,13 @@ HasNoBytes rose file ReadFault = rose
 HasNoBytes rose file NoMemory = ⊤
 HasNoBytes rose file (Refused refusal) = ⊥
 
+-- no row was looked at
+abbrev pub IsBeforeRows : ImportStop → Type 0
+IsBeforeRows NoFile = ⊤
+IsBeforeRows ReadFault = ⊤
+IsBeforeRows NoMemory = ⊤
+IsBeforeRows (Refused refusal) = ⊥
+
 -- What comes of the file under a name, and what the register keeps before and after, where that is told: the rows are
 -- answered as an import answers them; without bytes at hand the register stays as it is.
 abbrev pub TakesFile : Type 0 → Site → Option (List ℕ) → Option Tables → Option Tables → Result Imported ImportStop

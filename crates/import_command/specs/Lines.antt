@@ -1,5 +1,6 @@
 -- The lines that tell what came of an import.
 use Rattle.std.specs.Prelude.{ℕ, List, ◌++◌, codes, decimal}
+use Rattle.site_commands.specs.Refusals.{named_text}
 use Rattle.register_import.specs.declared.imported.Imported.{Imported}
 
 -- how many visits and tests the file has
@@ -13,4 +14,4 @@ row_line row why = codes "refused row " ++ decimal row ++ codes " " ++ decimal w
 
 -- the word of a file that is absent or too long
 abbrev pub file_line : List ℕ → List ℕ
-file_line name = codes "refused file " ++ name ++ codes "\n"
+file_line name = named_text (codes "refused file ") name (codes "\n")

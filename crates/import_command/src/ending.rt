@@ -9,6 +9,7 @@ ghost use Rattle.panel_edges.specs.Faults.{HasCause};
 ghost use Rattle.program_status.specs.Statuses.{BlamesWrites, IsSilentWithoutMemory, number_of};
 ghost use Rattle.register_import.specs.declared.refusal.ImportRefusal.TheVariants.{KeeperFault};
 ghost use Rattle.site_commands.specs.Commands.{Tells};
+ghost use Rattle.site_commands.specs.Refusals.{named_text};
 ghost use Rattle.std.specs.Prelude.{OnErr, OnOk};
 
 use crate::import_stop::ImportStop;
@@ -49,22 +50,25 @@ fn tell_file<K: Sink>(name: &str, out: &mut K) -> Outcome
         (K.written out.new) result }
     ensures write { BlamesWrites result (K.write_faults out.old) (K.write_faults out.new) }
 {
-    match write_file_line(name, out) {
+    match write_named("refused file ", name, "\n", out) {
         Ok(()) => Outcome::after(Status::BadFile, 0),
         Err(Failed) => Outcome::after(Status::WriteFault, 0),
     }
 }
 
+// A line with a name of any length in it.
 #[tactic(auto, using(panel_edges::proofs::Growing::grows_more, panel_edges::proofs::Growing::front_more, panel_edges::proofs::Growing::front_longer))]
-fn write_file_line<K: Sink>(name: &str, out: &mut K) -> Result<(), Failed>
-    ensures ok { OnOk result (Grows (K.written out.old) (K.written out.new) (file_line name.now)) }
+fn write_named<K: Sink>(word: &str, name: &str, detail: &str, out: &mut K) -> Result<(), Failed>
+    ensures ok { OnOk result
+        (Grows (K.written out.old) (K.written out.new) (named_text word.now name.now detail.now)) }
     ensures err { OnErr result
-        (GrowsByFront (K.written out.old) (K.written out.new) (file_line name.now)) }
+        (GrowsByFront (K.written out.old) (K.written out.new)
+        (named_text word.now name.now detail.now)) }
     ensures cause { HasCause (K.write_faults out.old) (K.write_faults out.new) result }
 {
-    write_all(out, b"refused file ")?;
+    write_all(out, word.as_bytes())?;
     write_all(out, name.as_bytes())?;
-    write_all(out, b"\n")
+    write_all(out, detail.as_bytes())
 }
 
 // Ends the command with why its rows aren't imported, or not all of them.

@@ -4,7 +4,7 @@ ghost use Rattle.std.specs.Prelude.{◌≡◌, ◌≤◌, Err, IfErr, IfOk, IfSo
 ghost use Rattle.panel_edges.specs.Faults.{Rose};
 ghost use Rattle.panel_edges.specs.Shelves.{file_of};
 ghost use Rattle.import_command.specs.declared.import_stop.ImportStop.TheVariants.{ReadFault};
-ghost use Rattle.import_command.specs.Imports.{HasNoBytes, IsWhole};
+ghost use Rattle.import_command.specs.Imports.{HasNoBytes, IsBeforeRows, IsWhole};
 
 use crate::import_stop::ImportStop;
 use panel_edges::{FetchFault, Found, Shelf};
@@ -21,6 +21,7 @@ pub(crate) fn fetch_file<F: Shelf>(
     ensures err { IfSome (F.files shelf.old) (λ held. IfErr result
         (HasNoBytes (Rose (F.faults shelf.old) (F.faults shelf.new)) (file_of name.now held))) }
     ensures read { result ≡ Err ReadFault → Rose (F.faults shelf.old) (F.faults shelf.new) }
+    ensures before { IfErr result IsBeforeRows }
     ensures later { F.faults shelf.old ≤ F.faults shelf.new }
     ensures files { F.files shelf.new ≡ F.files shelf.old }
 {
