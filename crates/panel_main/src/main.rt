@@ -1,13 +1,15 @@
 //! The program `panel`: real files and streams for the call `panel` of panel_program, which promises the rest.
 //!
-//! It takes the words behind its name, and ends with the status of the outcome. The journal's disk is the file that the
-//! third word names, for a move the fourth, whose fifth names the file in which the new journal is made. A file is
-//! opened when `panel` first calls its disk. No clause speaks of a real file or stream, so there is none here.
+//! It takes the words behind its name, and ends with the status of the outcome. The journal's disk is the file that
+//! the third word names, for a move the fourth, whose fifth names the file in which the new journal is made. The
+//! register of an import is the file of the fourth word. A file is opened when `panel` first calls its disk or keeper.
+//! No clause speaks of a real file or stream, so there is none here.
 #![tactic(auto)]
 
 use panel_edges::{FileDisk, FileShelf, StdSink, StdSource};
 use panel_program::panel;
 use program_status::Status;
+use register_sqlite::TableKeeper;
 use std::alloc::{AllocError, Global};
 use std::env;
 use std::fs::File;
@@ -32,6 +34,10 @@ fn main(rt: HostRuntime) -> ExitCode {
     };
     let mut disk = FileDisk::at(&rt, journal);
     let mut target = FileDisk::at(&rt, new_journal);
+    let Ok(register) = register_of(rt.alloc(), words.as_slice()) else {
+        return ExitCode::from(Status::NoMemory.number());
+    };
+    let mut keeper = TableKeeper::at(rt, register);
     let mut shelf = FileShelf::new(&rt, rt.alloc());
     let mut input = StdSource::new(&rt);
     let mut out = StdSink::new(&rt);
@@ -43,6 +49,7 @@ fn main(rt: HostRuntime) -> ExitCode {
         &mut out,
         &mut disk,
         &mut target,
+        &mut keeper,
     );
     ExitCode::from(outcome.status)
 }
@@ -71,6 +78,11 @@ fn is_move(words: &[String]) -> bool {
         Some(word) => word.as_str() == "move",
         None => false,
     }
+}
+
+// The register's file, which an import names behind the file that it reads.
+fn register_of(alloc: Global, words: &[String]) -> Result<String, AllocError> {
+    word_at(alloc, words, 3)
 }
 
 // The word at a place, empty where there is none.

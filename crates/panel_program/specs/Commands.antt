@@ -1,14 +1,15 @@
 -- What each command answers.
-use Rattle.std.specs.Prelude.{◌≡◌, ◌≢◌, ◌⊎◌, ℕ, List, [], ◌∷◌, Option, Result, Ok, Err, map}
+use Rattle.std.specs.Prelude.{◌≡◌, ◌≢◌, ◌⊎◌, ℕ, List, [], ◌∷◌, Option, Result, Ok, Err, map, ⊤}
 use Rattle.std.specs.Prelude.{String, string_bytes}
 use Rattle.std.specs.declared.alloc.Global.{Global}
 use Rattle.site_types.specs.declared.site.Site.{Site}
 use Rattle.drill_site.specs.Files.{drill_file}
 use Rattle.journal_move.specs.Disks.{Disks, disks_of}
 use Rattle.journal_move.specs.Moves.{AnswersMove}
+use Rattle.import_command.specs.Imports.{AnswersImport, KeptTables}
 use Rattle.panel_drill.specs.Drills.{drill_line}
 use Rattle.panel_program.specs.declared.command.Command.{Command}
-use Rattle.panel_program.specs.declared.command.Command.TheVariants.{Usage, Check, Run, Matrix, Drill, Move}
+use Rattle.panel_program.specs.declared.command.Command.TheVariants.{Usage, Check, Run, Matrix, Drill, Move, Import}
 use Rattle.program_status.specs.declared.outcome.Outcome.{Outcome}
 use Rattle.program_status.specs.declared.status.Status.TheVariants as exit
 use Rattle.site_commands.specs.declared.stop.Stop.{Stop}
@@ -31,6 +32,11 @@ site_word _ = []
 abbrev pub new_site_word : List (List ℕ) → List ℕ
 new_site_word (word ∷ old ∷ new ∷ rest) = new
 new_site_word _ = []
+
+-- the word that names the file whose rows are imported
+abbrev pub file_word : List (List ℕ) → List ℕ
+file_word (word ∷ site ∷ file ∷ rest) = file
+file_word _ = []
 
 -- one text was written, after so many ticks
 pub record TellsAfter (ticks : ℕ) (text : List ℕ) (old new : Option (List ℕ)) (outcome : Outcome) : Type 0 where
@@ -77,7 +83,8 @@ module _ {D : Type 0} where
       }
 
 -- what a command answers: on its words alone, or by the files where the shelf tells them; a run by the bytes of the
--- record, where the input tells them, and by what the journal's disk holds; a move by what its two disks hold
+-- record, where the input tells them, and by what the journal's disk holds; a move by what its two disks hold; an
+-- import, which alone sees a register, as `AnswersIfImport` says
 abbrev pub AnswersCommand : Command → SiteNames → Files → CallDisks → Streams → Outcome → Type 0
 AnswersCommand Usage names files disks streams outcome = Tells exit.Usage usage_line streams.old streams.new outcome
 AnswersCommand Check names files disks streams outcome =
@@ -89,6 +96,7 @@ AnswersCommand (Drill seed ticks) names files disks streams outcome =
     Drills seed ticks streams.old streams.new outcome
 AnswersCommand Move names files disks streams outcome =
     AnswersMove names.site names.new_site files disks.both streams.old streams.new outcome
+AnswersCommand Import names files disks streams outcome = ⊤
 
 -- what a call with these words answers
 abbrev pub Answers : List (String Global) → Files → CallDisks → Streams → Outcome → Type 0
@@ -102,6 +110,21 @@ RunsNothing words = command_of (map string_bytes words) ≢ Run
 abbrev pub MovesNothing : List (String Global) → Type 0
 MovesNothing words = command_of (map string_bytes words) ≢ Move
 
--- and one that does neither the first one too
+abbrev pub IsImport : List (String Global) → Type 0
+IsImport words = command_of (map string_bytes words) ≡ Import
+
+-- what an import with these words answers, by the tables of the register, where the keeper tells them, and by what was
+-- written before and after it
+abbrev pub AnswersIfImport : List (String Global) → Files → KeptTables → Option (List ℕ) → Option (List ℕ) → Outcome
+    → Type 0
+AnswersIfImport words files register old new outcome = IsImport words
+    → AnswersImport files (site_word (map string_bytes words)) (file_word (map string_bytes words)) register old new
+    outcome
+
+-- a command that imports nothing leaves the keeper alone
+abbrev pub ImportsNothing : List (String Global) → Type 0
+ImportsNothing words = command_of (map string_bytes words) ≢ Import
+
+-- and one that neither runs nor moves leaves the first disk alone too
 abbrev pub KeepsNothing : List (String Global) → Type 0
 KeepsNothing words = RunsNothing words × MovesNothing words

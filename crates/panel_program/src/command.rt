@@ -17,6 +17,8 @@ pub enum Command {
     Drill { seed: u64, ticks: u64 },
     /// A move from the site that the second word names to the one that the third names.
     Move,
+    /// An import of the file that the third word names.
+    Import,
 }
 
 /// The command that has these words.
@@ -39,6 +41,13 @@ pub fn command_of(words: &[String]) -> Command
                 Command::Run
             } else if word.as_str() == "drill" {
                 drill_of(second.as_str(), third.as_str())
+            } else {
+                Command::Usage
+            }
+        }
+        [word, _site, _file, _register] => {
+            if word.as_str() == "import" {
+                Command::Import
             } else {
                 Command::Usage
             }

@@ -1,11 +1,12 @@
 ghost use Rattle.std.specs.Prelude.{◌≡◌, ◌⊎◌};
+ghost use Rattle.import_command.specs.Imports.{kept_tables};
 ghost use Rattle.journal_move.specs.Disks.{Spares};
 ghost use Rattle.panel_edges.specs.Faults.{Rose};
-ghost use Rattle.panel_program.specs.Commands.{Answers, AnswersRun, KeepsNothing, MovesNothing, RunsNothing};
-ghost use Rattle.panel_program.specs.Commands.{call_disks};
+ghost use Rattle.panel_program.specs.Commands.{Answers, AnswersIfImport, AnswersRun, ImportsNothing};
+ghost use Rattle.panel_program.specs.Commands.{IsImport, KeepsNothing, MovesNothing, RunsNothing, call_disks};
 ghost use Rattle.panel_program.specs.PowerCuts.{disk_of};
 ghost use Rattle.panel_program.specs.Runs.{BlamesStores, streams_of};
-ghost use Rattle.program_status.specs.Statuses.{BlamesDisk, BlamesWrites, IsSilentWithoutMemory};
+ghost use Rattle.program_status.specs.Statuses.{BlamesDisk, BlamesKeeper, BlamesWrites, IsSilentWithoutMemory};
 ghost use Rattle.program_status.specs.Statuses.{number_of};
 ghost use Rattle.site_commands.specs.Files.{files_of};
 
@@ -13,17 +14,20 @@ use crate::command::{Command, command_of};
 use crate::drilling::run_drill;
 use crate::reading::run_site;
 use crate::usage::USAGE;
+use import_command::import_file;
 use journal_move::move_journal;
 use panel_edges::{Disk, Shelf, Sink, Source};
 use program_status::{Outcome, Status, say};
+use service_keepers::Keeper;
 use site_commands::{load, stop_with, tell_counts, tell_matrix};
 use std::alloc::Global;
 
 /// Does what the words ask for. All that is said goes to `out`, refusals too. A run keeps its journal on `disk`; a move
-/// opens that of the old site there and makes that of the new one on `target`.
+/// opens that of the old site there and makes that of the new one on `target`. An import puts its rows into the
+/// register of `keeper`.
 ///
 /// The status of the outcome is the number of a [`Status`]. Where memory ran out nothing was written.
-pub fn panel<F: Shelf, S: Source, K: Sink, D: Disk>(
+pub fn panel<F: Shelf, S: Source, K: Sink, D: Disk, R: Keeper>(
     alloc: Global,
     words: &[String],
     shelf: &mut F,
@@ -31,13 +35,18 @@ pub fn panel<F: Shelf, S: Source, K: Sink, D: Disk>(
     out: &mut K,
     disk: &mut D,
     target: &mut D,
+    keeper: &mut R,
 ) -> Outcome
     ensures answers { Answers words.now (files_of F.files F.faults shelf.old shelf.new) (call_disks
         D.seen D.honest D.images D.moment D.left_since disk.old disk.new target.old target.new)
         (streams_of S.left S.read_faults K.written input.old input.new out.old out.new) result }
+    ensures imports { AnswersIfImport words.now (files_of F.files F.faults shelf.old shelf.new)
+        (kept_tables R.tables keeper.old keeper.new) (K.written out.old) (K.written out.new)
+        result }
     ensures input_alone { RunsNothing words.now → input.new ≡ input.old }
     ensures disk_alone { KeepsNothing words.now → disk.new ≡ disk.old }
     ensures target_alone { MovesNothing words.now → target.new ≡ target.old }
+    ensures keeper_alone { ImportsNothing words.now → keeper.new ≡ keeper.old }
     ensures disk_spared { RunsNothing words.now → Spares D.seen D.honest D.images D.moment
         D.left_since disk.old disk.new }
     ensures target_spared { Spares D.seen D.honest D.images D.moment D.left_since
@@ -54,6 +63,8 @@ pub fn panel<F: Shelf, S: Source, K: Sink, D: Disk>(
         → Rose (D.faults disk.old) (D.faults disk.new)
         ⊎ Rose (D.faults target.old) (D.faults target.new) }
     ensures stores { BlamesStores result (D.faults disk.old) (D.faults disk.new) }
+    ensures keeper { IsImport words.now
+        → BlamesKeeper result (R.faults keeper.old) (R.faults keeper.new) }
 {
     match command_of(words) {
         Command::Usage => say(USAGE, Status::Usage, 0, out),
@@ -70,6 +81,10 @@ pub fn panel<F: Shelf, S: Source, K: Sink, D: Disk>(
             disk,
             target,
         ),
+        Command::Import => {
+            let (site, file) = (&words[1], &words[2]);
+            import_file(alloc, site.as_str(), file.as_str(), shelf, out, keeper)
+        }
     }
 }
 

@@ -16,7 +16,12 @@ number_of exit.ReadFault = 6
 number_of exit.WriteFault = 7
 number_of exit.DiskFault = 8
 number_of exit.NoMemory = 9
+number_of exit.DoorFault = 10
 number_of exit.Limit = 11
+number_of exit.AuditFailed = 12
+number_of exit.BadFile = 13
+number_of exit.BadRow = 14
+number_of exit.KeeperFault = 15
 
 -- a command ends with a read fault only where the count of those of a stream has risen
 abbrev pub BlamesReads : Outcome → ℕ → ℕ → Type 0
@@ -26,9 +31,13 @@ BlamesReads outcome before after = outcome.status ≡ number_of exit.ReadFault �
 abbrev pub BlamesWrites : Outcome → ℕ → ℕ → Type 0
 BlamesWrites outcome before after = outcome.status ≡ number_of exit.WriteFault → Rose before after
 
--- and with a disk fault only where that of the disk has
+-- and with a disk fault only where that of a disk has
 abbrev pub BlamesDisk : Outcome → ℕ → ℕ → Type 0
 BlamesDisk outcome before after = outcome.status ≡ number_of exit.DiskFault → Rose before after
+
+-- and with a keeper fault only where that of the keeper has
+abbrev pub BlamesKeeper : Outcome → ℕ → ℕ → Type 0
+BlamesKeeper outcome before after = outcome.status ≡ number_of exit.KeeperFault → Rose before after
 
 -- where memory ran out nothing was written
 abbrev pub IsSilentWithoutMemory : Outcome → Option (List ℕ) → Option (List ℕ) → Type 0

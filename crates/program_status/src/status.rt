@@ -14,7 +14,7 @@ pub enum Status {
     BadRecord,
     /// The journal is of another site, damaged or no journal at all.
     BadJournal,
-    /// The site file or the record can't be read.
+    /// A file or the record can't be read.
     ReadFault,
     /// The text can't be written.
     WriteFault,
@@ -22,8 +22,18 @@ pub enum Status {
     DiskFault,
     /// Memory ran out before anything was written.
     NoMemory,
+    /// The door to the network failed.
+    DoorFault,
     /// The record passes a limit.
     Limit,
+    /// The text that is audited breaks a rule.
+    AuditFailed,
+    /// A file beside the site file is absent or too long, or the text that is audited is in no form.
+    BadFile,
+    /// A row of the file that is imported is refused.
+    BadRow,
+    /// The keeper of the service register failed.
+    KeeperFault,
 }
 
 impl Status {
@@ -41,7 +51,12 @@ impl Status {
             Status::WriteFault => 7,
             Status::DiskFault => 8,
             Status::NoMemory => 9,
+            Status::DoorFault => 10,
             Status::Limit => 11,
+            Status::AuditFailed => 12,
+            Status::BadFile => 13,
+            Status::BadRow => 14,
+            Status::KeeperFault => 15,
         }
     }
 }

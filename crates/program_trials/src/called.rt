@@ -6,6 +6,7 @@ use anyhow::{Result, bail};
 use panel_edges::{MOST_DISK_BYTES, MemoryDisk, MemoryShelf, MemorySink, MemorySource, ShelfFile};
 use panel_program::panel;
 use program_status::Outcome;
+use service_keepers::{MemoryKeeper, MemoryTables};
 use std::alloc::Global;
 
 /// How much text a sink has room for.
@@ -26,6 +27,7 @@ pub(crate) struct Called {
     pub(crate) writes: u64,
     pub(crate) disk: MemoryDisk,
     pub(crate) target: MemoryDisk,
+    pub(crate) keeper: MemoryKeeper,
 }
 
 impl Called {
@@ -35,8 +37,21 @@ impl Called {
     }
 }
 
-/// Calls `panel` over forms in memory.
+/// Calls `panel` over forms in memory, with an empty register.
 pub(crate) fn call(alloc: Global, given: Given, outside: Outside) -> Result<Called> {
+    match MemoryKeeper::new(alloc, Vec::new(alloc)) {
+        Ok(keeper) => call_over(alloc, given, outside, keeper.tables),
+        Err(_) => bail!("no memory"),
+    }
+}
+
+/// Calls `panel` over forms in memory, with a register that keeps these tables.
+pub(crate) fn call_over(
+    alloc: Global,
+    given: Given,
+    outside: Outside,
+    tables: MemoryTables,
+) -> Result<Called> {
     let mut shelf = shelf_of(alloc, given, outside.fetch)?;
     let mut input = TrickleSource {
         source: source_of(alloc, given, outside.read)?,
@@ -48,6 +63,12 @@ pub(crate) fn call(alloc: Global, given: Given, outside: Outside) -> Result<Call
     };
     let mut disk = disk_of(alloc, given.journal, outside.disk)?;
     let mut target = disk_of(alloc, given.target, outside.target)?;
+    let mut keeper = MemoryKeeper {
+        tables,
+        fails: vec![in alloc; outside.keeper]?,
+        calls: 0,
+        faults: 0,
+    };
     let outcome = panel(
         alloc,
         given.words,
@@ -56,6 +77,7 @@ pub(crate) fn call(alloc: Global, given: Given, outside: Outside) -> Result<Call
         &mut out,
         &mut disk,
         &mut target,
+        &mut keeper,
     );
     let TrickleSource { source, .. } = input;
     let TrickleSink { sink, .. } = out;
@@ -67,12 +89,13 @@ pub(crate) fn call(alloc: Global, given: Given, outside: Outside) -> Result<Call
         text: String::from_utf8(sink.bytes)?,
         disk,
         target,
+        keeper,
     })
 }
 
 fn shelf_of(alloc: Global, given: Given, failing: u64) -> Result<MemoryShelf> {
     let mut files = Vec::new(alloc);
-    for (place, site) in [(1, given.site), (2, given.new_site)] {
+    for (place, site) in [(1, given.site), (2, given.third)] {
         if let (Some(name), Some(bytes)) = (given.words.get(place), site) {
             files.push(ShelfFile {
                 name: name.clone()?,

@@ -27,10 +27,15 @@ pub(crate) enum Kind {
     /// `failing-move OLD NEW: RECORD | RECORD; OPTIONS`: each fetch, each call of the two disks and each write of a
     /// move fails once.
     FailingMove,
+    /// `import SITE FILE: OPTIONS`: an import, and once more the same over the register that it left.
+    Import,
+    /// `failing-import SITE FILE: OPTIONS`: each fetch, each call of the keeper and each write of an import fails once,
+    /// and then the same is imported again.
+    FailingImport,
 }
 
 /// The kinds by name.
-pub(crate) const KINDS: [(&str, Kind); 11] = [
+pub(crate) const KINDS: [(&str, Kind); 13] = [
     ("call", Kind::Call),
     ("run", Kind::Run),
     ("pieces", Kind::Pieces),
@@ -42,4 +47,6 @@ pub(crate) const KINDS: [(&str, Kind); 11] = [
     ("move", Kind::Move),
     ("move-stops", Kind::MoveStops),
     ("failing-move", Kind::FailingMove),
+    ("import", Kind::Import),
+    ("failing-import", Kind::FailingImport),
 ];

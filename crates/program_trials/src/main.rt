@@ -11,6 +11,7 @@ mod failing_streams;
 mod given;
 mod groups;
 mod images;
+mod imports;
 mod keeping;
 mod kind;
 mod moves;
@@ -40,6 +41,7 @@ fn answer(rt: &HostRuntime, kind: Kind, case: &Case) -> Result<String> {
     let trial = match kind {
         Kind::Call => Trial::of_words(rt, case)?,
         Kind::Move | Kind::MoveStops | Kind::FailingMove => Trial::of_moves(rt, case)?,
+        Kind::Import | Kind::FailingImport => Trial::of_imports(rt, case)?,
         _ => Trial::of_runs(rt, case)?,
     };
     match kind {
@@ -53,5 +55,7 @@ fn answer(rt: &HostRuntime, kind: Kind, case: &Case) -> Result<String> {
         Kind::Move => moves::try_move(alloc, &trial),
         Kind::MoveStops => moves::try_stops(alloc, &trial),
         Kind::FailingMove => moves::try_failures(alloc, &trial),
+        Kind::Import => imports::try_import(alloc, &trial),
+        Kind::FailingImport => imports::try_failures(alloc, &trial),
     }
 }

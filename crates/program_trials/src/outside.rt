@@ -12,6 +12,8 @@ pub(crate) struct Outside {
     pub(crate) disk: (u64, u64),
     /// The first and the last of those of the disk on which a move makes the new journal.
     pub(crate) target: (u64, u64),
+    /// The call of the register's keeper that fails.
+    pub(crate) keeper: u64,
 }
 
 /// One that never fails, gives what is asked for and takes what is given.
@@ -23,4 +25,5 @@ pub(crate) const SOUND: Outside = Outside {
     write: 0,
     disk: (0, 0),
     target: (0, 0),
+    keeper: 0,
 };

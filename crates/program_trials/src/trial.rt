@@ -12,7 +12,7 @@ use trial_cases::Case;
 pub(crate) struct Trial<'a> {
     words: Vec<String>,
     site: Option<Vec<u8>>,
-    new_site: Option<Vec<u8>>,
+    third: Option<Vec<u8>>,
     record: Vec<u8>,
     journal: Vec<u8>,
     target: Vec<u8>,
@@ -65,13 +65,25 @@ impl<'a> Trial<'a> {
         Ok(trial)
     }
 
+    /// The trial of a case `KIND SITE FILE: OPTIONS`, an import. `file-length N` cuts the file or makes it longer with
+    /// zeros.
+    pub(crate) fn of_imports(rt: &HostRuntime, case: &Case<'a>) -> Result<Trial<'a>> {
+        let words = format!(in rt.alloc(); "import {} register", case.subject)?;
+        let mut trial = Trial::read(rt, words.as_str(), "nothing", case.rest)?;
+        let length = option(case.rest, "file-length");
+        if let (Some(file), false) = (&mut trial.third, length.is_empty()) {
+            file.resize(length.parse::<u32>()? as usize, 0)?;
+        }
+        Ok(trial)
+    }
+
     // A call over no journal. The file that the second word names is on the shelf, where there is one, and for a move
-    // that of the third.
+    // or an import that of the third.
     fn read(rt: &HostRuntime, words: &str, record: &str, options: &'a str) -> Result<Trial<'a>> {
         let mut all = Vec::new(rt.alloc());
         let mut site = None;
-        let mut new_site = None;
-        let is_move = words.starts_with("move ");
+        let mut third = None;
+        let has_third = words.starts_with("move ") || words.starts_with("import ");
         for word in words.split(' ') {
             if word.is_empty() {
                 continue;
@@ -79,15 +91,15 @@ impl<'a> Trial<'a> {
             if all.len() == 1 {
                 site = fs::read(rt, word).ok();
             }
-            if all.len() == 2 && is_move {
-                new_site = fs::read(rt, word).ok();
+            if all.len() == 2 && has_third {
+                third = fs::read(rt, word).ok();
             }
             all.push(String::from_str(rt.alloc(), word)?)?;
         }
         Ok(Trial {
             words: all,
             site,
-            new_site,
+            third,
             record: record_of(rt, record)?,
             journal: Vec::new(rt.alloc()),
             target: Vec::new(rt.alloc()),
@@ -100,7 +112,7 @@ impl<'a> Trial<'a> {
         Given {
             words: self.words.as_slice(),
             site: bytes_of(&self.site),
-            new_site: bytes_of(&self.new_site),
+            third: bytes_of(&self.third),
             record: self.record.as_slice(),
             journal: self.journal.as_slice(),
             target: self.target.as_slice(),

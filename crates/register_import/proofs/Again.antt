@@ -34,7 +34,7 @@ visits_with_test test tables true = refl
 visits_with_test test tables false = refl
 
 -- and so in the tables that rows fill
-filled_found : (row : ImportedTest) (tables : Tables) (number : ℕ)
+pub filled_found : (row : ImportedTest) (tables : Tables) (number : ℕ)
     → visit_numbered number (with_row tables row).visits ≡ option_or (visit_numbered number tables.visits) (of_number number row.visit)
 filled_found row tables number =
     ap (visit_numbered number) (visits_with_test (test_of_row row) (with_visit row.visit tables) (has_test (test_of_row row) (with_visit row.visit tables).tests))
@@ -53,7 +53,7 @@ same_visit_is visit other same =
     made_alike visit.number visit.day visit.engineer other.number other.day other.engineer (eqb-true visit.number other.number first.0)
     (eqb-true visit.day other.day second.0) ((bytes_eq-Decides visit.engineer other.engineer).0 second.1)
 
-same_visit_itself : (visit : VisitRow) → is_same_visit visit visit ≡ true
+pub same_visit_itself : (visit : VisitRow) → is_same_visit visit visit ≡ true
 same_visit_itself visit =
     and_from (visit.number == visit.number) ((visit.day == visit.day) && bytes_eq visit.engineer visit.engineer) (nat_eq_equiv.refl visit.number)
     (and_from (visit.day == visit.day) (bytes_eq visit.engineer visit.engineer) (nat_eq_equiv.refl visit.day) (nat_list_eq_equiv.refl visit.engineer))
@@ -62,7 +62,7 @@ not_false : (b : Bool) → not b ≡ false → b ≡ true
 not_false true is = refl
 not_false false is = absurd (cc)
 
-fits : (visit : VisitRow) (found : Option VisitRow) → differs visit found ≡ false → (found ≡ None) ⊎ (found ≡ Some visit)
+pub fits : (visit : VisitRow) (found : Option VisitRow) → differs visit found ≡ false → (found ≡ None) ⊎ (found ≡ Some visit)
 fits visit None same = inl refl
 fits visit (Some other) same = inr (ap Some (same_visit_is other visit (not_false (is_same_visit other visit) same)))
 
@@ -84,7 +84,7 @@ abbrev pub AreHeld : List ImportedTest → Tables → Type 0
 AreHeld [] tables = Unit {0}
 AreHeld (row ∷ rows) tables = IsHeld row tables × AreHeld rows tables
 
-still_held : (held row : ImportedTest) (old new : Tables) → PutsRow row old new → IsHeld held old → IsHeld held new
+pub still_held : (held row : ImportedTest) (old new : Tables) → PutsRow row old new → IsHeld held old → IsHeld held new
 still_held held row old new puts is = record {
   visit = row_found row old new puts held.visit.number
       ∙ ap (λ o. option_or o (of_number held.visit.number row.visit)) is.visit;
@@ -92,7 +92,7 @@ still_held held row old new puts is = record {
       (ap (has_test (test_of_row held)) (same_tests row.visit old puts.between puts.visit) ∙ is.test);
 }
 
-held_behind : (rows : List ImportedTest) (held : ImportedTest) (old new : Tables) → PutsRows rows old new → IsHeld held old → IsHeld held new
+pub held_behind : (rows : List ImportedTest) (held : ImportedTest) (old new : Tables) → PutsRows rows old new → IsHeld held old → IsHeld held new
 held_behind [] held old new puts is = subst (IsHeld held) (sym puts) is
 held_behind (row ∷ rows) held old new puts is = held_behind rows held puts.0 new puts.2 (still_held held row old puts.0 puts.1 is)
 
@@ -101,14 +101,14 @@ abbrev pub IsFoundBy : Tables → Tables → Tables → Type 0
 IsFoundBy kept filled now = (number : ℕ)
     → visit_numbered number now.visits ≡ option_or (visit_numbered number kept.visits) (visit_numbered number filled.visits)
 
-found_more : (kept filled old new : Tables) (row : ImportedTest) → IsFoundBy kept filled old → PutsRow row old new
+pub found_more : (kept filled old new : Tables) (row : ImportedTest) → IsFoundBy kept filled old → PutsRow row old new
     → IsFoundBy kept (with_row filled row) new
 found_more kept filled old new row found puts number =
     row_found row old new puts number ∙ ap (λ o. option_or o (of_number number row.visit)) (found number)
     ∙ or_assoc (visit_numbered number kept.visits) (visit_numbered number filled.visits) (of_number number row.visit)
     ∙ ap (option_or (visit_numbered number kept.visits)) (sym (filled_found row filled number))
 
-of_itself : (visit : VisitRow) → of_number visit.number visit ≡ Some visit
+pub of_itself : (visit : VisitRow) → of_number visit.number visit ≡ Some visit
 of_itself visit = ap (λ (b : Bool). if b then Some visit else None) (nat_eq_equiv.refl visit.number)
 
 row_held : (kept filled old new : Tables) (row : ImportedTest) → IsFoundBy kept filled old → PutsRow row old new
@@ -143,7 +143,7 @@ accepted_if : (row other : ImportedTest) (refused : Bool) → ◌≡◌ {A = Res
 accepted_if row other true is = absurd (cc)
 accepted_if row other false is = (refl, cc)
 
-accepted_by : (kept filled : Tables) (spelled : Result ImportedTest ℕ) (row : ImportedTest) → judged_by kept filled spelled ≡ Ok row
+pub accepted_by : (kept filled : Tables) (spelled : Result ImportedTest ℕ) (row : ImportedTest) → judged_by kept filled spelled ≡ Ok row
     → IsAccepted kept filled spelled row
 accepted_by kept filled (Err why) row is = absurd (cc)
 accepted_by kept filled (Ok other) row is =
@@ -166,7 +166,7 @@ judges_next site kept before number fields rest rows (Ok row) at is later =
     let more = later row is in
     (row ∷ more.0, more.1 ∙ append_assoc before (row ∷ []) more.0, (row, more.0, refl, at, more.2))
 
-judges_of : (site : Site) (kept : Tables) (before : List ImportedTest) (number : ℕ) (records : List (List (List ℕ))) (rows : List ImportedTest)
+pub judges_of : (site : Site) (kept : Tables) (before : List ImportedTest) (number : ℕ) (records : List (List (List ℕ))) (rows : List ImportedTest)
     → rows_judged site kept before number records ≡ Ok rows
     → (tail : List ImportedTest) × (rows ≡ before ++ tail) × Judges site kept before records tail
 judges_of site kept before number [] rows is = ([], same_ok before rows is ∙ sym (append-nil before), refl)
@@ -177,7 +177,7 @@ judges_of site kept before number (fields ∷ rest) rows is =
     judges_next site kept before number fields rest rows (row_judged site kept before fields) refl is
     (λ row later. judges_of site kept (before ++ row ∷ []) (number + 1) rest rows later)
 
-judged_of : (site : Site) (kept : Tables) (before : List ImportedTest) (number : ℕ) (records : List (List (List ℕ))) (tail : List ImportedTest)
+pub judged_of : (site : Site) (kept : Tables) (before : List ImportedTest) (number : ℕ) (records : List (List (List ℕ))) (tail : List ImportedTest)
     → Judges site kept before records tail → rows_judged site kept before number records ≡ Ok (before ++ tail)
 judged_of site kept before number [] tail is =
     ap (λ (rows : List ImportedTest). Ok rows) (sym (append-nil before) ∙ ap (λ xs. before ++ xs) (sym is))
@@ -190,7 +190,7 @@ judged_of site kept before number (fields ∷ rest) tail is =
 -- ---- a file again
 
 -- the rows of a file in which none is refused are held once they are put
-rows_held : (site : Site) (kept : Tables) (before : List ImportedTest) (records : List (List (List ℕ))) (rows : List ImportedTest) (old new : Tables)
+pub rows_held : (site : Site) (kept : Tables) (before : List ImportedTest) (records : List (List (List ℕ))) (rows : List ImportedTest) (old new : Tables)
     → Judges site kept before records rows → IsFoundBy kept (tables_of_rows before) old → PutsRows rows old new → AreHeld rows new
 rows_held site kept before [] rows old new is found puts = subst (λ (xs : List ImportedTest). AreHeld xs new) (sym is) tt
 rows_held site kept before (fields ∷ rest) rows old new is found puts =
@@ -205,7 +205,7 @@ rows_held site kept before (fields ∷ rest) rows old new is found puts =
     let behind = rows_held site kept (before ++ row ∷ []) rest more parts.0 new is.4 next parts.2 in
     subst (λ (xs : List ImportedTest). AreHeld xs new) (sym is.2) (held_behind more row parts.0 new parts.2 here, behind)
 
-accepted_again : (kept stored filled : Tables) (spelled : Result ImportedTest ℕ) (row : ImportedTest) → IsAccepted kept filled spelled row
+pub accepted_again : (kept stored filled : Tables) (spelled : Result ImportedTest ℕ) (row : ImportedTest) → IsAccepted kept filled spelled row
     → IsHeld row stored → judged_by stored filled spelled ≡ Ok row
 accepted_again kept stored filled spelled row accepted held =
     let same : has_other row.visit stored.visits ≡ false = ap (differs row.visit) held.visit ∙ ap not (same_visit_itself row.visit) in
@@ -214,7 +214,7 @@ accepted_again kept stored filled spelled row accepted held =
     ∙ ap (λ (b : Bool). if b then Err other_visit else Ok row) same
 
 -- where they are held they are judged as before
-judges_again : (site : Site) (kept stored : Tables) (before : List ImportedTest) (records : List (List (List ℕ))) (rows : List ImportedTest)
+pub judges_again : (site : Site) (kept stored : Tables) (before : List ImportedTest) (records : List (List (List ℕ))) (rows : List ImportedTest)
     → Judges site kept before records rows → AreHeld rows stored → Judges site stored before records rows
 judges_again site kept stored before [] rows is held = is
 judges_again site kept stored before (fields ∷ rest) rows is held =
@@ -245,14 +245,14 @@ held_changes_nothing row old new held puts =
     same_test_by (test_of_row row) puts.between new (has_test (test_of_row row) puts.between.tests)
     (ap (λ (t : Tables). has_test (test_of_row row) t.tests) same ∙ held.test) puts.test ∙ same
 
-unchanged : (rows : List ImportedTest) (old new : Tables) → AreHeld rows old → PutsRows rows old new → new ≡ old
+pub unchanged : (rows : List ImportedTest) (old new : Tables) → AreHeld rows old → PutsRows rows old new → new ≡ old
 unchanged [] old new held puts = puts
 unchanged (row ∷ rows) old new held puts =
     let same = held_changes_nothing row old puts.0 held.0 puts.1 in
     unchanged rows old new held.1 (subst (λ (t : Tables). PutsRows rows t new) same puts.2)
 
 -- a file below its header
-nothing_filled : (kept : Tables) → IsFoundBy kept no_tables kept
+pub nothing_filled : (kept : Tables) → IsFoundBy kept no_tables kept
 nothing_filled kept number = sym (or_none (visit_numbered number kept.visits))
 
 below_held : (site : Site) (a b : Tables) (rest : List (List (List ℕ))) (rows : List ImportedTest) (headed : Bool)
@@ -285,7 +285,7 @@ pub file_again : (site : Site) (records : List (List (List ℕ))) (rows : List I
 file_again site [] rows a b is puts = refl
 file_again site (header ∷ rest) rows a b is puts = below_again site a b rest rows (is_header (four header)) is puts
 
-same_rows : (a b : List ImportedTest) → ◌≡◌ {A = Result (List ImportedTest) (ℕ × ℕ)} (Ok a) (Ok b) → a ≡ b
+pub same_rows : (a b : List ImportedTest) → ◌≡◌ {A = Result (List ImportedTest) (ℕ × ℕ)} (Ok a) (Ok b) → a ≡ b
 same_rows a b e = cc
 
 -- its rows are those of the first time

@@ -8,3 +8,5 @@ pub mod PutInTurn
 pub mod Found
 -- a file that is imported again
 pub mod Again
+-- a file of which some first rows were put
+pub mod Completed

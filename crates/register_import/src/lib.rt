@@ -6,7 +6,8 @@
 //!
 //! Every row is checked, and the keeper is asked for its visit, before anything is put. So a refused file changes
 //! nothing. A keeper that fails while rows are put leaves some first ones, and the same file completes it. A file that
-//! was imported changes nothing when it is imported again: [`imports_act_once`] is that law.
+//! was imported changes nothing when it is imported again, and one that was put in part is completed:
+//! [`imports_act_once`] and [`imports_are_completed`] are these laws.
 //!
 //! An import keeps the file's records and its rows in memory, and goes through the rows before for each row.
 #![tactic(auto)]
@@ -24,5 +25,5 @@ mod refusal;
 
 pub use import::import_csv;
 pub use imported::Imported;
-pub use laws::imports_act_once;
+pub use laws::{imports_act_once, imports_are_completed};
 pub use refusal::ImportRefusal;

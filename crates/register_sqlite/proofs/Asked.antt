@@ -13,7 +13,7 @@ use Rattle.sqlite.specs.declared.error.Error.{Error}
 use Rattle.service_keepers.specs.Keeping.{PutsTest, PutsVisit}
 use Rattle.service_keepers.specs.Rows.{visit_row}
 use Rattle.service_keepers.specs.Tables.{Tables, TestRow, VisitRow, last_day_of, later_day, visit_numbered}
-use Rattle.service_keepers.specs.declared.keep_fault.KeepFault.{KeepFault}
+use Rattle.register_sqlite.specs.declared.trouble.Trouble.{Trouble}
 use Rattle.service_keepers.specs.declared.visit.Visit.{Visit}
 use Rattle.register_sqlite.specs.Days.{day_shown, later_or}
 use Rattle.register_sqlite.specs.Stored.{AnswersOf, Changes, IsRegister, KeepsRegister, number_in, tables_in}
@@ -62,12 +62,12 @@ module _ (old new : State) (opened : IsTrue new.is_open) (register : IsRegister 
   pub test_changes : (test : TestRow) (count : ℕ) → Executes insert_test_text (test_params test) old new (Ok count) → Changes (PutsTest test) old new (Ok tt)
   test_changes test count h = let it = test_registered old new register count test h in record { register = it.0; ok = it.1; err = tt }
 
-  pub put_fails : (step : Tables → Tables → Type 0) (sql : List ℕ) (params : Row) (e : Error) (fault : KeepFault) → Executes sql params old new (Err e) → Changes step old new (Err fault)
+  pub put_fails : (step : Tables → Tables → Type 0) (sql : List ℕ) (params : Row) (e : Error) (fault : Trouble) → Executes sql params old new (Err e) → Changes step old new (Err fault)
   put_fails step sql params e fault h =
       let stays = execute_fails old new register opened sql params e h in
       record { register = stays.register; ok = tt; err = ap (λ (d : Database). tables_in d.trees) stays.same }
 
-  pub ask_fails : {T : Type 0} (IsSo : T → Tables → Type 0) (sql : List ℕ) (params : Row) (e : Error) (fault : KeepFault) → FailsToQuery sql params old new e → AnswersOf IsSo old new (Err fault)
+  pub ask_fails : {T : Type 0} (IsSo : T → Tables → Type 0) (sql : List ℕ) (params : Row) (e : Error) (fault : Trouble) → FailsToQuery sql params old new e → AnswersOf IsSo old new (Err fault)
   ask_fails IsSo sql params e fault h = record { stays = query_fails old new register opened sql params e h; so = tt }
 
   module _ (number : ℕ) (rows : List Row) (h : Shown select_visit_text (number_params number) old new rows) where
@@ -87,12 +87,12 @@ module _ (old new : State) (opened : IsTrue new.is_open) (register : IsRegister 
     pub none_answered : None ≡ slice_get rows 0 → AnswersOf IsVisit old new (Ok None)
     none_answered none = record { stays = stay; so = no_visit _ rows (visit_shown old new register rows number h) none }
 
-    pub row_refused : (fault : KeepFault) → AnswersOf IsVisit old new (Err fault)
+    pub row_refused : (fault : Trouble) → AnswersOf IsVisit old new (Err fault)
     row_refused fault = record { stays = stay; so = tt }
 
 -- ---- the last day of a point
 
-pub refused_too : {T U : Type 0} (IsThis : T → Tables → Type 0) (IsThat : U → Tables → Type 0) (old new : State) (fault other : KeepFault)
+pub refused_too : {T U : Type 0} (IsThis : T → Tables → Type 0) (IsThat : U → Tables → Type 0) (old new : State) (fault other : Trouble)
     → AnswersOf IsThis old new (Err fault) → AnswersOf IsThat old new (Err other)
 refused_too IsThis IsThat old new fault other h = record { stays = h.stays; so = tt }
 
@@ -130,7 +130,7 @@ module _ (old mid new : State) (register : IsRegister old) (opened : IsTrue mid.
   pub tests_stay : KeepsRegister old mid
   tests_stay = read old mid register opened select_tests_text (point_params point) select_tests_plain rows h
 
-  pub last_refused : (fault : KeepFault) → KeepsRegister mid new → AnswersOf IsLast old new (Err fault)
+  pub last_refused : (fault : Trouble) → KeepsRegister mid new → AnswersOf IsLast old new (Err fault)
   last_refused fault stays = record { stays = stays_then old mid new tests_stay stays; so = tt }
 
   pub last_answered : (items : List Row) (at : ℕ) (last : Option ℕ) → items ≡ rows → length items ≤ at → KeepsRegister mid new

@@ -7,7 +7,7 @@ use Rattle.sqlite.specs.Tree.{Trees}
 use Rattle.sqlite.specs.Held.{Held, state}
 use Rattle.sqlite.specs.State.{HasCleanDisk, State}
 use Rattle.sqlite.specs.Store.{Ghosts}
-use Rattle.service_keepers.specs.declared.keep_fault.KeepFault.{KeepFault}
+use Rattle.register_sqlite.specs.declared.trouble.Trouble.{Trouble}
 use Rattle.service_keepers.specs.Tables.{AreDistinct, Tables, TestRow, VisitRow, no_tables}
 use Rattle.register_sqlite.specs.Schema.{no_schema, register_schema}
 
@@ -70,14 +70,14 @@ pub record KeepsRegister (old new : State) : Type 0 where
 
 -- its tables are changed by a step where the call is answered Ok, and else are as they were
 pub record Changes (step : Tables → Tables → Type 0) (old new : State)
-    (result : Result (Unit {0}) KeepFault) : Type 0 where
+    (result : Result (Unit {0}) Trouble) : Type 0 where
   pub register : IsRegister new
   pub ok : OnOk result (step (tables_in old.now.trees) (tables_in new.now.trees))
   pub err : OnErr result (tables_in new.now.trees ≡ tables_in old.now.trees)
 
 -- the register stays, and what is answered is so of its tables
 pub record AnswersOf {T : Type 0} (IsSo : T → Tables → Type 0) (old new : State)
-    (result : Result T KeepFault) : Type 0 where
+    (result : Result T Trouble) : Type 0 where
   pub stays : KeepsRegister old new
   pub so : IfOk result (λ answer. IsSo answer (tables_in old.now.trees))
 

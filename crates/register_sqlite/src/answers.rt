@@ -3,31 +3,49 @@
 ghost use Rattle.std.specs.Prelude.{◌≡◌, ◌↔◌, ℕ, List, IfSome, option_map};
 ghost use Rattle.service_keepers.specs.declared.visit.Visit.{Visit};
 ghost use Rattle.sqlite.specs.Order.{column};
-ghost use Rattle.register_sqlite.specs.Faults.{CountsFaults};
+ghost use Rattle.register_sqlite.specs.Faults.{CountsFaults, IsWantOfMemory, HandsOn};
 ghost use Rattle.register_sqlite.specs.Days.{later_or};
 ghost use Rattle.register_sqlite.specs.Values.{IsVisitLabel, IsVisitNumber};
 
+use crate::trouble::Trouble;
 use panel_edges::Label;
 use service_keepers::{KeepFault, Visit};
 use sqlite::types::ValueRef;
 use sqlite::{Error, ErrorCode, Row};
 
-// What a refusal of the database is: want of memory, or else a fault.
-pub(crate) fn fault_of(error: Error) -> KeepFault
-    ensures { (result ≡ KeepFault.NoMemory) ↔ (error ≡ Error.SqliteFailure ErrorCode.OutOfMemory) }
+// What the caller is told: want of memory, or else a fault.
+pub(crate) fn fault_of(trouble: Trouble) -> KeepFault
+    ensures { (result ≡ KeepFault.NoMemory) ↔ IsWantOfMemory trouble }
 {
-    match error {
-        Error::SqliteFailure(ErrorCode::OutOfMemory) => KeepFault::NoMemory,
+    match trouble {
+        Trouble::Opening(Error::SqliteFailure(ErrorCode::OutOfMemory))
+        | Trouble::Text(Error::SqliteFailure(ErrorCode::OutOfMemory)) => KeepFault::NoMemory,
         _ => KeepFault::Failed,
     }
 }
 
-// Counts an answer that is a fault.
-pub(crate) fn count<T: Drop>(faults: &mut u64, answer: &Result<T, KeepFault>)
-    ensures { CountsFaults faults.old faults.new answer.now }
+// Keeps what a call met, counts it where it is a fault, and tells the caller.
+pub(crate) fn settle<T: Drop>(
+    faults: &mut u64,
+    met: &mut Option<Trouble>,
+    answer: Result<T, Trouble>,
+) -> Result<T, KeepFault>
+    ensures told { HandsOn answer result }
+    ensures counted { CountsFaults faults.old faults.new met.new result }
 {
-    if let Err(KeepFault::Failed) = answer {
-        *faults = faults.saturating_add(1);
+    match answer {
+        Ok(value) => {
+            *met = None;
+            Ok(value)
+        }
+        Err(trouble) => {
+            *met = Some(trouble);
+            let fault = fault_of(trouble);
+            if let KeepFault::Failed = fault {
+                *faults = faults.saturating_add(1);
+            }
+            Err(fault)
+        }
     }
 }
 

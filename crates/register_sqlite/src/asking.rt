@@ -9,43 +9,44 @@ ghost use Rattle.sqlite.specs.Held.{state};
 ghost use Rattle.register_sqlite.specs.Days.{day_shown};
 ghost use Rattle.register_sqlite.specs.Stored.{AnswersOf, Changes, IsEmptyRegister, IsNoDatabase, IsRegister, IsSteady};
 
-use crate::answers::{day_of, fault_of, later, number_at, visit_of};
+use crate::answers::{day_of, later, number_at, visit_of};
 use crate::statements::{
     create_tests, create_visits, insert_test, insert_visit, select_tests, select_visit,
 };
+use crate::trouble::Trouble;
 use panel_edges::Label;
-use service_keepers::{KeepFault, Visit};
+use service_keepers::Visit;
 use sqlite::{Alter, Connection, Row};
 
 // Makes the two tables where they aren't there.
-pub(crate) fn make_tables<S: Alter>(conn: &mut Connection<S>) -> Result<(), KeepFault>
+pub(crate) fn make_tables<S: Alter>(conn: &mut Connection<S>) -> Result<(), Trouble>
     ensures { IsSteady S.Store → IsNoDatabase (state S.Store conn.old)
         → OnOk result (IsEmptyRegister (state S.Store conn.new)) }
 {
     match create_visits(conn) {
         Ok(_) => match create_tests(conn) {
             Ok(_) => Ok(()),
-            Err(error) => Err(fault_of(error)),
+            Err(error) => Err(Trouble::Text(error)),
         },
-        Err(error) => Err(fault_of(error)),
+        Err(error) => Err(Trouble::Text(error)),
     }
 }
 
-pub(crate) fn put_visit<S: Alter>(conn: &mut Connection<S>, visit: &Visit) -> Result<(), KeepFault>
+pub(crate) fn put_visit<S: Alter>(conn: &mut Connection<S>, visit: &Visit) -> Result<(), Trouble>
     ensures { IsSteady S.Store → IsRegister (state S.Store conn.old)
         → Changes (PutsVisit (visit_row visit.now))
         (state S.Store conn.old) (state S.Store conn.new) result }
 {
     match insert_visit(conn, visit) {
         Ok(_) => Ok(()),
-        Err(error) => Err(fault_of(error)),
+        Err(error) => Err(Trouble::Text(error)),
     }
 }
 
 pub(crate) fn find_visit<S: Alter>(
     conn: &mut Connection<S>,
     number: u32,
-) -> Result<Option<Visit>, KeepFault>
+) -> Result<Option<Visit>, Trouble>
     ensures { IsSteady S.Store → IsRegister (state S.Store conn.old)
         → AnswersOf (λ visit kept. option_map visit_row visit ≡ visit_numbered number kept.visits)
         (state S.Store conn.old) (state S.Store conn.new) result }
@@ -54,11 +55,11 @@ pub(crate) fn find_visit<S: Alter>(
         Ok(rows) => match rows.first() {
             Some(row) => match visit_of(number, row) {
                 Some(visit) => Ok(Some(visit)),
-                None => Err(KeepFault::Failed),
+                None => Err(Trouble::Value),
             },
             None => Ok(None),
         },
-        Err(error) => Err(fault_of(error)),
+        Err(error) => Err(Trouble::Text(error)),
     }
 }
 
@@ -66,49 +67,49 @@ pub(crate) fn put_test<S: Alter>(
     conn: &mut Connection<S>,
     visit: u32,
     point: &Label,
-) -> Result<(), KeepFault>
+) -> Result<(), Trouble>
     ensures { IsSteady S.Store → IsRegister (state S.Store conn.old)
         → Changes (PutsTest (test_of visit point.now))
         (state S.Store conn.old) (state S.Store conn.new) result }
 {
     match insert_test(conn, visit, point) {
         Ok(_) => Ok(()),
-        Err(error) => Err(fault_of(error)),
+        Err(error) => Err(Trouble::Text(error)),
     }
 }
 
 // The day of the visit whose number a row has, where that visit is kept.
-fn day_of_row<S: Alter>(conn: &mut Connection<S>, row: &Row) -> Result<Option<u32>, KeepFault>
+fn day_of_row<S: Alter>(conn: &mut Connection<S>, row: &Row) -> Result<Option<u32>, Trouble>
     ensures { IsSteady S.Store → IsRegister (state S.Store conn.old)
         → AnswersOf (λ day kept. day ≡ day_shown kept.visits row.now)
         (state S.Store conn.old) (state S.Store conn.new) result }
 {
     let Some(number) = number_at(row, 0) else {
-        return Err(KeepFault::Failed);
+        return Err(Trouble::Value);
     };
     match find_visit(conn, number) {
         Ok(visit) => Ok(day_of(visit)),
-        Err(fault) => Err(fault),
+        Err(trouble) => Err(trouble),
     }
 }
 
 pub(crate) fn last_day<S: Alter>(
     conn: &mut Connection<S>,
     point: &Label,
-) -> Result<Option<u32>, KeepFault>
+) -> Result<Option<u32>, Trouble>
     ensures { IsSteady S.Store → IsRegister (state S.Store conn.old)
         → AnswersOf (λ day kept. day ≡ last_day_of point.now.bytes kept)
         (state S.Store conn.old) (state S.Store conn.new) result }
 {
     let rows = match select_tests(conn, point) {
         Ok(rows) => rows,
-        Err(error) => return Err(fault_of(error)),
+        Err(error) => return Err(Trouble::Text(error)),
     };
     let mut last = None;
     for row in &rows {
         match day_of_row(conn, row) {
             Ok(day) => last = later(last, day),
-            Err(fault) => return Err(fault),
+            Err(trouble) => return Err(trouble),
         }
     }
     Ok(last)

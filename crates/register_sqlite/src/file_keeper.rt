@@ -1,8 +1,9 @@
 //! The keeper over a database in a file.
 
-use crate::answers::{count, fault_of};
+use crate::answers::settle;
 use crate::asking::{self, make_tables};
 use crate::table_keeper::{DatabaseFile, TableKeeper};
+use crate::trouble::Trouble;
 use panel_edges::Label;
 use service_keepers::{KeepFault, Keeper, Visit};
 use sqlite::{Connection, File, FileStore};
@@ -18,18 +19,19 @@ impl TableKeeper<FileStore<File>> {
             place: DatabaseFile { rt, path },
             database: None,
             faults: 0,
+            trouble: None,
         }
     }
 
     // Opens the database where it isn't open.
-    fn open(&mut self) -> Result<(), KeepFault>
+    fn open(&mut self) -> Result<(), Trouble>
         ensures open { OnOk result (IsSome self.new.database) }
         ensures count { self.new.faults ≡ self.old.faults }
     {
         if self.database.is_none() {
             let mut conn = match Connection::open(&self.place.rt, self.place.path.as_str()) {
                 Ok(conn) => conn,
-                Err(error) => return Err(fault_of(error)),
+                Err(error) => return Err(Trouble::Opening(error)),
             };
             make_tables(&mut conn)?;
             self.database = Some(conn);
@@ -50,50 +52,46 @@ impl Keeper for TableKeeper<FileStore<File>> {
     ghost distinct = { λ k kept told. absurd (none-some kept told) };
 
     fn put_visit(&mut self, visit: &Visit) -> Result<(), KeepFault>
-        ensures { CountsFaults self.old.faults self.new.faults result }
+        ensures { CountsFaults self.old.faults self.new.faults self.new.trouble result }
     {
         let answer = match (self.open(), &mut self.database) {
             (Ok(()), Some(conn)) => asking::put_visit(conn, visit),
             (Ok(()), None) => unreachable!(),
-            (Err(fault), _) => Err(fault),
+            (Err(trouble), _) => Err(trouble),
         };
-        count(&mut self.faults, &answer);
-        answer
+        settle(&mut self.faults, &mut self.trouble, answer)
     }
 
     fn find_visit(&mut self, number: u32) -> Result<Option<Visit>, KeepFault>
-        ensures { CountsFaults self.old.faults self.new.faults result }
+        ensures { CountsFaults self.old.faults self.new.faults self.new.trouble result }
     {
         let answer = match (self.open(), &mut self.database) {
             (Ok(()), Some(conn)) => asking::find_visit(conn, number),
             (Ok(()), None) => unreachable!(),
-            (Err(fault), _) => Err(fault),
+            (Err(trouble), _) => Err(trouble),
         };
-        count(&mut self.faults, &answer);
-        answer
+        settle(&mut self.faults, &mut self.trouble, answer)
     }
 
     fn put_test(&mut self, visit: u32, point: &Label) -> Result<(), KeepFault>
-        ensures { CountsFaults self.old.faults self.new.faults result }
+        ensures { CountsFaults self.old.faults self.new.faults self.new.trouble result }
     {
         let answer = match (self.open(), &mut self.database) {
             (Ok(()), Some(conn)) => asking::put_test(conn, visit, point),
             (Ok(()), None) => unreachable!(),
-            (Err(fault), _) => Err(fault),
+            (Err(trouble), _) => Err(trouble),
         };
-        count(&mut self.faults, &answer);
-        answer
+        settle(&mut self.faults, &mut self.trouble, answer)
     }
 
     fn last_day(&mut self, point: &Label) -> Result<Option<u32>, KeepFault>
-        ensures { CountsFaults self.old.faults self.new.faults result }
+        ensures { CountsFaults self.old.faults self.new.faults self.new.trouble result }
     {
         let answer = match (self.open(), &mut self.database) {
             (Ok(()), Some(conn)) => asking::last_day(conn, point),
             (Ok(()), None) => unreachable!(),
-            (Err(fault), _) => Err(fault),
+            (Err(trouble), _) => Err(trouble),
         };
-        count(&mut self.faults, &answer);
-        answer
+        settle(&mut self.faults, &mut self.trouble, answer)
     }
 }

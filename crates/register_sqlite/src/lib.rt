@@ -7,9 +7,10 @@
 //! - *Tables over memory.* A keeper in memory tells what it keeps: the rows of its two tables, as the texts' meaning
 //!   makes them. Each call meets the clauses of `Keeper` on them, so what the register promises holds over it.
 //! - *Nothing over a file.* Of a file nothing is told, since nothing is known of the rows that it had.
-//! - *When it fails.* The count of faults rises by one exactly in the calls that answer `KeepFault::Failed`: where the
-//!   database refused the opening or a text for another cause than memory, or handed out a value that a visit can't
-//!   hold. Want of memory is `KeepFault::NoMemory` and no fault.
+//! - *When it fails.* A keeper tells what kept its last call from its answer ([`Trouble`]): the database refused the
+//!   opening or a text, or handed out a value that a visit can't hold. The count of faults rises by one exactly in the
+//!   calls that met one of these, but for want of memory, which is `KeepFault::NoMemory` and no fault: `CountsFaults`
+//!   of specs/Faults.
 //! - *Nothing is overwritten.* A row whose key is there is passed over by the statement itself.
 //!
 //! Begin with [`TableKeeper::in_memory`] and [`TableKeeper::at`]; `IsRegister` of specs/Stored says when a database
@@ -25,7 +26,9 @@ mod memory_keeper;
 mod memory_register;
 mod statements;
 mod table_keeper;
+mod trouble;
 
 pub use memory_database::MemoryDatabase;
 pub use memory_register::MemoryRegister;
 pub use table_keeper::{DatabaseFile, TableKeeper, TableStore};
+pub use trouble::Trouble;

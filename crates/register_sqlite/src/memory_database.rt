@@ -2,8 +2,9 @@ ghost use Rattle.std.specs.Prelude.{IsTrue};
 ghost use Rattle.service_keepers.specs.Tables.{are_distinct_tests, have_distinct_numbers};
 
 use crate::memory_register::MemoryRegister;
+use crate::trouble::Trouble;
 use panel_edges::Label;
-use service_keepers::{KeepFault, Visit};
+use service_keepers::Visit;
 use std::alloc::Global;
 
 /// An open database in memory, in which nothing is kept twice.
@@ -21,14 +22,14 @@ impl MemoryDatabase {
     ghost use Rattle.service_keepers.specs.Tables.{last_day_of, no_tables, visit_numbered};
 
     /// Opens one whose tables are empty.
-    pub(crate) fn open(alloc: Global) -> Result<MemoryDatabase, KeepFault>
+    pub(crate) fn open(alloc: Global) -> Result<MemoryDatabase, Trouble>
         ensures { IfOk result (λ database. database.register ≡ no_tables) }
     {
         let register = MemoryRegister::open(alloc)?;
         Ok(MemoryDatabase { register })
     }
 
-    pub(crate) fn put_visit(&mut self, visit: &Visit) -> Result<(), KeepFault>
+    pub(crate) fn put_visit(&mut self, visit: &Visit) -> Result<(), Trouble>
         ensures ok { OnOk result
             (PutsVisit (visit_row visit.now) self.old.register self.new.register) }
         ensures err { OnErr result (self.new.register ≡ self.old.register) }
@@ -36,7 +37,7 @@ impl MemoryDatabase {
         self.register.put_visit(visit)
     }
 
-    pub(crate) fn find_visit(&mut self, number: u32) -> Result<Option<Visit>, KeepFault>
+    pub(crate) fn find_visit(&mut self, number: u32) -> Result<Option<Visit>, Trouble>
         ensures found { IfOk result (λ visit.
             option_map visit_row visit ≡ visit_numbered number self.old.register.visits) }
         ensures same { self.new.register ≡ self.old.register }
@@ -44,7 +45,7 @@ impl MemoryDatabase {
         self.register.find_visit(number)
     }
 
-    pub(crate) fn put_test(&mut self, visit: u32, point: &Label) -> Result<(), KeepFault>
+    pub(crate) fn put_test(&mut self, visit: u32, point: &Label) -> Result<(), Trouble>
         ensures ok { OnOk result
             (PutsTest (test_of visit point.now) self.old.register self.new.register) }
         ensures err { OnErr result (self.new.register ≡ self.old.register) }
@@ -52,7 +53,7 @@ impl MemoryDatabase {
         self.register.put_test(visit, point)
     }
 
-    pub(crate) fn last_day(&mut self, point: &Label) -> Result<Option<u32>, KeepFault>
+    pub(crate) fn last_day(&mut self, point: &Label) -> Result<Option<u32>, Trouble>
         ensures day { IfOk result (λ day. day ≡ last_day_of point.now.bytes self.old.register) }
         ensures same { self.new.register ≡ self.old.register }
     {

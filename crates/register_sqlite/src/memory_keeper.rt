@@ -1,8 +1,9 @@
 //! The keeper over a database in memory, which tells its tables.
 
-use crate::answers::count;
+use crate::answers::settle;
 use crate::memory_database::MemoryDatabase;
 use crate::table_keeper::TableKeeper;
+use crate::trouble::Trouble;
 use panel_edges::Label;
 use service_keepers::{KeepFault, Keeper, Visit};
 use sqlite::MemStore;
@@ -22,11 +23,12 @@ impl TableKeeper<MemStore> {
             place: alloc,
             database: None,
             faults: 0,
+            trouble: None,
         }
     }
 
     // Opens the database where it isn't open.
-    fn open(&mut self) -> Result<(), KeepFault>
+    fn open(&mut self) -> Result<(), Trouble>
         ensures open { OnOk result (IsSome self.new.database) }
         ensures same { tables_kept self.new.database ≡ tables_kept self.old.database }
         ensures count { self.new.faults ≡ self.old.faults }
@@ -56,59 +58,55 @@ impl Keeper for TableKeeper<MemStore> {
         ensures ok { OnOk result (PutsVisit (visit_row visit.now)
             (tables_kept self.old.database) (tables_kept self.new.database)) }
         ensures err { OnErr result (tables_kept self.new.database ≡ tables_kept self.old.database) }
-        ensures counted { CountsFaults self.old.faults self.new.faults result }
+        ensures counted { CountsFaults self.old.faults self.new.faults self.new.trouble result }
     {
         let answer = match (self.open(), &mut self.database) {
             (Ok(()), Some(database)) => database.put_visit(visit),
             (Ok(()), None) => unreachable!(),
-            (Err(fault), _) => Err(fault),
+            (Err(trouble), _) => Err(trouble),
         };
-        count(&mut self.faults, &answer);
-        answer
+        settle(&mut self.faults, &mut self.trouble, answer)
     }
 
     fn find_visit(&mut self, number: u32) -> Result<Option<Visit>, KeepFault>
         ensures found { IfOk result (λ visit. option_map visit_row visit
             ≡ visit_numbered number (tables_kept self.old.database).visits) }
         ensures same { tables_kept self.new.database ≡ tables_kept self.old.database }
-        ensures counted { CountsFaults self.old.faults self.new.faults result }
+        ensures counted { CountsFaults self.old.faults self.new.faults self.new.trouble result }
     {
         let answer = match (self.open(), &mut self.database) {
             (Ok(()), Some(database)) => database.find_visit(number),
             (Ok(()), None) => unreachable!(),
-            (Err(fault), _) => Err(fault),
+            (Err(trouble), _) => Err(trouble),
         };
-        count(&mut self.faults, &answer);
-        answer
+        settle(&mut self.faults, &mut self.trouble, answer)
     }
 
     fn put_test(&mut self, visit: u32, point: &Label) -> Result<(), KeepFault>
         ensures ok { OnOk result (PutsTest (test_of visit point.now)
             (tables_kept self.old.database) (tables_kept self.new.database)) }
         ensures err { OnErr result (tables_kept self.new.database ≡ tables_kept self.old.database) }
-        ensures counted { CountsFaults self.old.faults self.new.faults result }
+        ensures counted { CountsFaults self.old.faults self.new.faults self.new.trouble result }
     {
         let answer = match (self.open(), &mut self.database) {
             (Ok(()), Some(database)) => database.put_test(visit, point),
             (Ok(()), None) => unreachable!(),
-            (Err(fault), _) => Err(fault),
+            (Err(trouble), _) => Err(trouble),
         };
-        count(&mut self.faults, &answer);
-        answer
+        settle(&mut self.faults, &mut self.trouble, answer)
     }
 
     fn last_day(&mut self, point: &Label) -> Result<Option<u32>, KeepFault>
         ensures day { IfOk result
             (λ day. day ≡ last_day_of point.now.bytes (tables_kept self.old.database)) }
         ensures same { tables_kept self.new.database ≡ tables_kept self.old.database }
-        ensures counted { CountsFaults self.old.faults self.new.faults result }
+        ensures counted { CountsFaults self.old.faults self.new.faults self.new.trouble result }
     {
         let answer = match (self.open(), &mut self.database) {
             (Ok(()), Some(database)) => database.last_day(point),
             (Ok(()), None) => unreachable!(),
-            (Err(fault), _) => Err(fault),
+            (Err(trouble), _) => Err(trouble),
         };
-        count(&mut self.faults, &answer);
-        answer
+        settle(&mut self.faults, &mut self.trouble, answer)
     }
 }

@@ -1,7 +1,8 @@
 use crate::asking::{self, make_tables};
+use crate::trouble::Trouble;
 use panel_edges::Label;
-use service_keepers::{KeepFault, Visit};
-use sqlite::{Connection, MemStore};
+use service_keepers::Visit;
+use sqlite::{Connection, Error, ErrorCode, MemStore};
 use std::alloc::Global;
 use std::marker::Model;
 
@@ -31,17 +32,17 @@ impl MemoryRegister {
     ghost use Rattle.service_keepers.specs.Tables.{AreDistinct, last_day_of, no_tables, visit_numbered};
 
     /// Opens one whose tables are empty.
-    pub(crate) fn open(alloc: Global) -> Result<MemoryRegister, KeepFault>
+    pub(crate) fn open(alloc: Global) -> Result<MemoryRegister, Trouble>
         ensures { IfOk result (λ register. register ≡ no_tables) }
     {
         let Ok(mut conn) = Connection::open_in_memory(alloc) else {
-            return Err(KeepFault::NoMemory);
+            return Err(Trouble::Opening(Error::SqliteFailure(ErrorCode::OutOfMemory)));
         };
         make_tables(&mut conn)?;
         Ok(MemoryRegister { conn })
     }
 
-    pub(crate) fn put_visit(&mut self, visit: &Visit) -> Result<(), KeepFault>
+    pub(crate) fn put_visit(&mut self, visit: &Visit) -> Result<(), Trouble>
         ensures ok { OnOk result (PutsVisit (visit_row visit.now) self.old self.new) }
         ensures err { OnErr result (self.new ≡ self.old) }
         ensures distinct { AreDistinct self.new }
@@ -49,7 +50,7 @@ impl MemoryRegister {
         asking::put_visit(&mut self.conn, visit)
     }
 
-    pub(crate) fn find_visit(&mut self, number: u32) -> Result<Option<Visit>, KeepFault>
+    pub(crate) fn find_visit(&mut self, number: u32) -> Result<Option<Visit>, Trouble>
         ensures found { IfOk result (λ visit.
             option_map visit_row visit ≡ visit_numbered number self.old.visits) }
         ensures same { self.new ≡ self.old }
@@ -57,7 +58,7 @@ impl MemoryRegister {
         asking::find_visit(&mut self.conn, number)
     }
 
-    pub(crate) fn put_test(&mut self, visit: u32, point: &Label) -> Result<(), KeepFault>
+    pub(crate) fn put_test(&mut self, visit: u32, point: &Label) -> Result<(), Trouble>
         ensures ok { OnOk result (PutsTest (test_of visit point.now) self.old self.new) }
         ensures err { OnErr result (self.new ≡ self.old) }
         ensures distinct { AreDistinct self.new }
@@ -65,7 +66,7 @@ impl MemoryRegister {
         asking::put_test(&mut self.conn, visit, point)
     }
 
-    pub(crate) fn last_day(&mut self, point: &Label) -> Result<Option<u32>, KeepFault>
+    pub(crate) fn last_day(&mut self, point: &Label) -> Result<Option<u32>, Trouble>
         ensures day { IfOk result (λ day. day ≡ last_day_of point.now.bytes self.old) }
         ensures same { self.new ≡ self.old }
     {

@@ -1,4 +1,5 @@
 use crate::memory_database::MemoryDatabase;
+use crate::trouble::Trouble;
 use sqlite::{Alter, Connection, File, FileStore, MemStore};
 use std::alloc::Global;
 
@@ -34,4 +35,16 @@ pub struct TableKeeper<S: TableStore> {
     pub(crate) place: S::Place,
     pub(crate) database: Option<S::Database>,
     pub(crate) faults: u64,
+    pub(crate) trouble: Option<Trouble>,
+}
+
+impl<S: TableStore> TableKeeper<S> {
+    ghost use Rattle.std.specs.Prelude.{◌≡◌};
+
+    /// What kept the last call from its answer, and None where it was answered or there was no call yet.
+    pub fn trouble(&self) -> Option<Trouble>
+        ensures { result ≡ self.now.trouble }
+    {
+        self.trouble
+    }
 }

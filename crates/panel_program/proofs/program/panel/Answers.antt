@@ -1,15 +1,16 @@
 use Rattle.std.proofs.Common.{◌≡◌, ◌∙◌, ap, sym, subst, List, ℕ}
 use Rattle.std.specs.Prelude.{map, string_bytes}
-use Rattle.panel_program.specs.declared.command.Command.TheVariants.{Usage, Check, Run, Matrix, Drill, Move}
+use Rattle.panel_program.specs.declared.command.Command.TheVariants.{Usage, Check, Run, Matrix, Drill, Move, Import}
 use Rattle.journal_move.specs.Disks.{disks_of}
-use Rattle.panel_program.specs.Commands.{AnswersCommand, SiteNames, call_disks, names_of, new_site_word, site_word}
+use Rattle.panel_program.specs.Commands.{AnswersCommand, SiteNames, call_disks, file_word, names_of, new_site_word, site_word}
 use Rattle.panel_program.specs.Usage.{usage_line}
 use Rattle.panel_program.specs.Runs.{streams_of}
 use Rattle.site_commands.specs.Files.{files_of}
 use Rattle.panel_program.specs.Words.{IsBounded, command_of}
+use Rattle.import_command.specs.Imports.{AnswersImport, kept_tables}
 use Rattle.journal_move.specs.Moves.{AnswersMove}
 use Rattle.journal_move.proofs.Sparing.{spares_alone}
-use Rattle.panel_program.proofs.Naming.{new_site_word_is, site_word_is}
+use Rattle.panel_program.proofs.Naming.{file_word_is, new_site_word_is, site_word_is}
 use Rattle.panel_program.proofs.program.panel.Goals as goal
 
 check_is : Check ≡ Usage → ⊥
@@ -23,6 +24,9 @@ matrix_is e = cc
 
 move_is : Move ≡ Usage → ⊥
 move_is e = cc
+
+import_is : Import ≡ Usage → ⊥
+import_is e = cc
 
 -- the names of a call whose site has this one
 abbrev named : List ℕ → List (List ℕ) → SiteNames
@@ -131,6 +135,36 @@ returns-in-Move-clause-answers g c =
     (subst (λ text. AnswersMove c.as_str-in-Move.result.now text files both streams.old streams.new c.move_journal.result) new
     c.move_journal.ensures.answers))
 
+pub returns-in-Import-clause-answers : goal.returns-in-Import-clause-answers
+returns-in-Import-clause-answers g c =
+    let words = map string_bytes c.args.words.now in
+    let shelf = c.args.shelf.now in
+    let files = files_of g.F.Shelf.files g.F.Shelf.faults shelf c.import_file.new.shelf in
+    let streams =
+    streams_of g.S.Stream.left g.S.Stream.read_faults g.K.Stream.written c.args.input.now c.args.input.now c.args.out.now c.import_file.new.out in
+    let disks =
+    call_disks g.D.Disk.seen g.D.Disk.honest g.D.Disk.images g.D.Disk.moment g.D.Disk.left_since c.args.disk.now c.args.disk.now c.args.target.now c.args.target.now in
+    let is : command_of words ≡ Import = sym c.command_of.ensures.command ∙ c.in-Import.is in
+    subst (λ command. AnswersCommand command (names_of words) files disks streams c.import_file.result) (sym is) tt
+
+pub returns-in-Import-clause-imports : goal.returns-in-Import-clause-imports
+returns-in-Import-clause-imports g c is =
+    let words = map string_bytes c.args.words.now in
+    let files = files_of g.F.Shelf.files g.F.Shelf.faults c.args.shelf.now c.import_file.new.shelf in
+    let register = kept_tables g.R.Keeper.tables c.args.keeper.now c.import_file.new.keeper in
+    let written = g.K.Stream.written c.args.out.now in
+    let written' = g.K.Stream.written c.import_file.new.out in
+    let site : c.as_str-in-Import.result.now ≡ site_word words =
+    c.as_str-in-Import.ensures.value ∙ ap string_bytes c.index-words-1-in-Import.is ∙ sym
+    (site_word_is c.args.words.now c.index-words-1-in-Import.result (λ e. import_is (sym is ∙ e)))
+    in
+    let file : c.as_str-in-Import-2.result.now ≡ file_word words =
+    c.as_str-in-Import-2.ensures.value ∙ ap string_bytes c.index-words-2-in-Import.is ∙ sym (file_word_is c.args.words.now c.index-words-2-in-Import.result is)
+    in
+    subst (λ text. AnswersImport files text (file_word words) register written written' c.import_file.result) site
+    (subst (λ text. AnswersImport files c.as_str-in-Import.result.now text register written written' c.import_file.result) file
+    c.import_file.ensures.answers)
+
 pub run_drill-requires : goal.run_drill-requires
 run_drill-requires g c = subst IsBounded c.in-Drill.is c.command_of.ensures.bounded
 
@@ -149,6 +183,10 @@ returns-in-Matrix-clause-disk_spared g c nothing =
 
 pub returns-in-Drill-clause-disk_spared : goal.returns-in-Drill-clause-disk_spared
 returns-in-Drill-clause-disk_spared g c nothing =
+    spares_alone g.D.Disk.seen g.D.Disk.honest g.D.Disk.images g.D.Disk.moment g.D.Disk.left_since c.args.disk.now (g.met.D.Disk.only_now c.args.disk.now)
+
+pub returns-in-Import-clause-disk_spared : goal.returns-in-Import-clause-disk_spared
+returns-in-Import-clause-disk_spared g c nothing =
     spares_alone g.D.Disk.seen g.D.Disk.honest g.D.Disk.images g.D.Disk.moment g.D.Disk.left_since c.args.disk.now (g.met.D.Disk.only_now c.args.disk.now)
 
 pub returns-in-Run-clause-disk_spared : goal.returns-in-Run-clause-disk_spared
@@ -172,4 +210,8 @@ returns-in-Matrix-clause-target_spared g c =
 
 pub returns-in-Drill-clause-target_spared : goal.returns-in-Drill-clause-target_spared
 returns-in-Drill-clause-target_spared g c =
+    spares_alone g.D.Disk.seen g.D.Disk.honest g.D.Disk.images g.D.Disk.moment g.D.Disk.left_since c.args.target.now (g.met.D.Disk.only_now c.args.target.now)
+
+pub returns-in-Import-clause-target_spared : goal.returns-in-Import-clause-target_spared
+returns-in-Import-clause-target_spared g c =
     spares_alone g.D.Disk.seen g.D.Disk.honest g.D.Disk.images g.D.Disk.moment g.D.Disk.left_since c.args.target.now (g.met.D.Disk.only_now c.args.target.now)

@@ -22,4 +22,4 @@ returns-in-Err g c steady register =
     let found = rw c.in-Err.is at (c.find_visit.ensures steady register) in
     refused_too (λ (visit : Option Visit) kept. option_map visit_row visit ≡ visit_numbered c.in-Some.number kept.visits)
     (λ (day : Option ℕ) kept. day ≡ day_shown kept.visits c.args.row.now)
-    (state g.S.Store c.args.conn.now) (state g.S.Store c.find_visit.new.conn) c.in-Err.fault c.in-Err.fault found
+    (state g.S.Store c.args.conn.now) (state g.S.Store c.find_visit.new.conn) c.in-Err.trouble c.in-Err.trouble found

@@ -3,7 +3,7 @@ use Rattle.sqlite.specs.Held.{state}
 use Rattle.std.specs.Prelude.{option_map, slice_get}
 use Rattle.service_keepers.specs.Rows.{visit_row}
 use Rattle.service_keepers.specs.Tables.{visit_numbered}
-use Rattle.service_keepers.specs.declared.keep_fault.KeepFault.TheVariants.{Failed}
+use Rattle.register_sqlite.specs.declared.trouble.Trouble.TheVariants.{Text, Value}
 use Rattle.register_sqlite.specs.Texts.{number_params, select_visit_text}
 use Rattle.register_sqlite.proofs.Asked.{ask_fails, none_answered, row_refused, visit_answered}
 use Rattle.register_sqlite.proofs.asking.find_visit.Goals as goal
@@ -20,7 +20,7 @@ pub returns-in-Some : goal.returns-in-Some
 returns-in-Some g c steady register =
     let held = steady c.select_visit.new.conn in
     row_refused (state g.S.Store c.args.conn.now) (state g.S.Store c.select_visit.new.conn) held.1 register c.args.number c.in-Ok.rows.items
-    (rw c.in-Ok.is at (c.select_visit.ensures.ok held.0)) Failed
+    (rw c.in-Ok.is at (c.select_visit.ensures.ok held.0)) Value
 
 pub returns-in-Ok : goal.returns-in-Ok
 returns-in-Ok g c steady register =
@@ -33,5 +33,5 @@ pub returns : goal.returns
 returns g c steady register =
     let held = steady c.select_visit.new.conn in
     ask_fails (state g.S.Store c.args.conn.now) (state g.S.Store c.select_visit.new.conn) held.1 register
-    (λ visit kept. option_map visit_row visit ≡ visit_numbered c.args.number kept.visits) select_visit_text (number_params c.args.number) c.in-Err.error c.fault_of.result
+    (λ visit kept. option_map visit_row visit ≡ visit_numbered c.args.number kept.visits) select_visit_text (number_params c.args.number) c.in-Err.error (Text c.in-Err.error)
     (rw c.in-Err.is at (c.select_visit.ensures.err held.0))

@@ -1,6 +1,7 @@
 use Rattle.std.proofs.Common.{◌≡◌, ap, ◌∙◌, refl, arith}
 use Rattle.sqlite.specs.Held.{state}
 use Rattle.service_keepers.specs.Tables.{last_day_of}
+use Rattle.register_sqlite.specs.declared.trouble.Trouble.TheVariants.{Text}
 use Rattle.register_sqlite.specs.Stored.{tables_in}
 use Rattle.register_sqlite.specs.Texts.{point_params, select_tests_text}
 use Rattle.register_sqlite.proofs.Asked.{ask_fails, day_stepped, last_answered, last_refused, stays_then, tests_stay}
@@ -10,7 +11,7 @@ pub returns-in-Err : goal.returns-in-Err
 returns-in-Err g c steady register =
     let held = steady c.select_tests.new.conn in
     ask_fails (state g.S.Store c.args.conn.now) (state g.S.Store c.select_tests.new.conn) held.1 register (λ day kept. day ≡ last_day_of c.args.point.now.bytes kept)
-    select_tests_text (point_params c.args.point.now.bytes) c.in-Err.error c.fault_of.result (rw c.in-Err.is at (c.select_tests.ensures.err held.0))
+    select_tests_text (point_params c.args.point.now.bytes) c.in-Err.error (Text c.in-Err.error) (rw c.in-Err.is at (c.select_tests.ensures.err held.0))
 
 pub loop-row-init : goal.loop-row-init
 loop-row-init g c steady register = (record { register = register; same = refl; was_open = (steady c.select_tests.new.conn).1 }, refl)
@@ -25,7 +26,7 @@ returns-in-Err-day_of_row g c steady register =
     let stay = tests_stay old mid new register held.1 c.args.point.now.bytes c.in-Ok.rows.items shown in
     let so_far = c.loop-row.invariant steady stay.register in
     let day = c.day_of_row.ensures steady so_far.0.register in
-    last_refused old mid new register held.1 c.args.point.now.bytes c.in-Ok.rows.items shown c.in-Err-day_of_row.fault
+    last_refused old mid new register held.1 c.args.point.now.bytes c.in-Ok.rows.items shown c.in-Err-day_of_row.trouble
     (stays_then mid (state g.S.Store c.loop-row.conn) new so_far.0 day.stays)
 
 pub loop-row-preserved : goal.loop-row-preserved
