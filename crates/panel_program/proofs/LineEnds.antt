@@ -144,7 +144,7 @@ module _ (site : Site) where
   read_all : (bytes : List ℕ) → (reading_of site bytes).ending ≡ None → length (reading_of site bytes).lines ≡ ends bytes
   read_all bytes going =
       let all = lines_all at_start (cut bytes).whole
-          (rest_going (whole_lines bytes) (cut bytes).rest (whole_lines bytes).ending refl going) in
+      (rest_going (whole_lines bytes) (cut bytes).rest (whole_lines bytes).ending refl going) in
       let same = ap (λ (ls : List Line). length ls) (rest_lines (whole_lines bytes) (cut bytes).rest (whole_lines bytes).ending) in
       omega (arith, all, same)
 

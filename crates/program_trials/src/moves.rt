@@ -21,7 +21,10 @@ pub(crate) fn try_move(alloc: Global, trial: &Trial) -> Result<String> {
     let mut lines = Lines::new(alloc);
     lines.say("    ");
     say_called(&mut lines, &called, given.journal);
-    lines.count("\n        calls of the new journal's disk ", called.target.calls);
+    lines.count(
+        "\n        calls of the new journal's disk ",
+        called.target.calls,
+    );
     if called.target.bytes.as_slice() == given.target {
         lines.say("; the new journal as it was");
     }
@@ -30,7 +33,14 @@ pub(crate) fn try_move(alloc: Global, trial: &Trial) -> Result<String> {
     say_opening(alloc, &mut lines, "old site", given, false, journal)?;
     if new_journal.len() > 0 {
         say_opening(alloc, &mut lines, "new site", given, true, new_journal)?;
-        say_opening(alloc, &mut lines, "old site over the new journal", given, false, new_journal)?;
+        say_opening(
+            alloc,
+            &mut lines,
+            "old site over the new journal",
+            given,
+            false,
+            new_journal,
+        )?;
     }
     lines.say("\n");
     lines.done()
@@ -53,7 +63,11 @@ fn say_opening(
 
 // What a run without a tick of the old or the new site of a move tells over a journal.
 fn opened(alloc: Global, given: Given, is_new: bool, journal: &[u8]) -> Result<String> {
-    let (place, site) = if is_new { (2, given.new_site) } else { (1, given.site) };
+    let (place, site) = if is_new {
+        (2, given.new_site)
+    } else {
+        (1, given.site)
+    };
     let Some(name) = given.words.get(place) else {
         bail!("no site");
     };
