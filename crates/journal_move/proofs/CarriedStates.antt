@@ -1,7 +1,7 @@
 -- What a changed site takes over of a state that a slot keeps can be kept in a slot for it.
-use Rattle.std.proofs.Common.{inl, inr, ◌≡◌, ◌≢◌, ◌⊎◌, ◌+◌, ◌-◌, ◌*◌, ◌<◌, ◌≤◌, ◌==◌, ℕ, zero, suc, Bool, true}
-use Rattle.std.proofs.Common.{false, List, [], ◌∷◌, ◌++◌, take, replicate, get_or, slice_index, refl, sym, ◌∙◌, ap, subst, arith, if◌then◌else◌, Some}
-use Rattle.std.specs.Prelude.{map, All, slice_get}
+use Rattle.std.proofs.Common.{inl, inr, ◌≡◌, ◌≢◌, ◌⊎◌, ◌-◌, ◌*◌, ◌≤◌, ◌==◌, ℕ, zero, suc, Bool, true}
+use Rattle.std.proofs.Common.{false, List, [], ◌∷◌, ◌++◌, take, replicate, refl, sym, subst, arith, if◌then◌else◌, Some}
+use Rattle.std.specs.Prelude.{map, slice_get}
 use Rattle.std.specs.List.{filter}
 use Rattle.std.proofs.lemmas.Bool.Decides.{eqb_tells}
 use Rattle.retained_journal.specs.Batches.{CanKeep, CanKeepAll}
@@ -16,12 +16,11 @@ use Rattle.site_types.specs.declared.output.Output.{Output as OutputPlan}
 use Rattle.site_types.specs.declared.retained.Retained.{Retained}
 use Rattle.site_types.specs.declared.change.Change.{Change}
 use Rattle.site_types.specs.declared.change.Change.TheVariants.{Point, Zone, Output, Test}
-use Rattle.site_types.specs.Carry.{carried, carried_counters, output_changes, output_was_off, point_changes, point_was_off, test_changes}
+use Rattle.site_types.specs.Carry.{carried, output_changes, output_was_off, point_changes, point_was_off, test_changes}
 use Rattle.site_types.specs.Carry.{zone_changes, zone_was_off, zone_was_tested}
 use Rattle.site_types.specs.Changes.{AreCounters, changed_by, nothing_retained}
-use Rattle.site_types.specs.Limits.{greatest_count}
-use Rattle.site_types.specs.Valid.{IsOutput, IsPoint, IsValid, IsZone}
-use Rattle.site_types.proofs.ValidSites.{output_at, output_numbers, point_at, point_numbers, zone_numbers}
+use Rattle.site_types.specs.Valid.{IsValid}
+use Rattle.site_types.proofs.ValidSites.{output_numbers, point_at, point_numbers, zone_numbers}
 
 -- each change that comes of a list can be kept
 keep_next : {X : Type 0} (wide : Bool) (change : X → Change) (x : X) (rest : List X) → CanKeep wide (change x) → CanKeepAll wide (map change rest)

@@ -1,5 +1,5 @@
 -- A disk that is left alone is spared.
-use Rattle.std.proofs.Common.{◌≡◌, ◌<◌, ◌↔◌, ℕ, List, Option, Some, None, length, refl}
+use Rattle.std.proofs.Common.{◌≡◌, ℕ, List, Option, Some, None, refl}
 use Rattle.panel_edges.specs.Crashes.{LeavesOnly}
 use Rattle.panel_edges.proofs.Moments.{stays}
 use Rattle.retained_journal.specs.Outcomes.{UnlessEmpty}
