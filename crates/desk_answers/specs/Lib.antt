@@ -1,0 +1,3 @@
+pub mod AnswerHeads
+pub mod Objects
+pub mod ProfileTables
