@@ -1,8 +1,9 @@
 -- What an import answers, from what its parts answer.
-use Rattle.std.proofs.Common.{◌≡◌, ℕ, ◌≤◌, List, Option, Some, None, Result, Ok, Err, subst, arith}
+use Rattle.std.proofs.Common.{◌≡◌, ℕ, ◌≤◌, List, Option, Some, None, Result, Ok, Err, subst}
 use Rattle.std.specs.Prelude.{IfSome, OnErr}
 use Rattle.panel_edges.specs.Faults.{Rose}
 use Rattle.panel_edges.specs.Shelves.{file_of}
+use Rattle.panel_edges.proofs.Counting.{rose_since}
 use Rattle.program_status.specs.declared.outcome.Outcome.{Outcome}
 use Rattle.register_import.specs.Answers.{AnswersFile}
 use Rattle.register_import.specs.declared.imported.Imported.{Imported}
@@ -27,9 +28,6 @@ not_refused NoFile refusal before is = cc
 not_refused ReadFault refusal before is = cc
 not_refused NoMemory refusal before is = cc
 not_refused (Refused other) refusal before is = before
-
-pub rose_before : (a b c : ℕ) → a ≤ b → Rose b c → Rose a c
-rose_before a b c le rose = omega (arith, rose, le)
 
 -- bytes at hand are answered as an import answers them
 pub takes_bytes : (held : Option (List (List ℕ × List ℕ))) (name : List ℕ) (rose : Type 0) (site : Site) (old new : Option Tables) (bytes read : List ℕ)
@@ -66,7 +64,7 @@ imports_told (Some files) site_name name a b c le site register old new outcome 
   loads = loads_since (Rose a b) (Rose a c) (file_of site_name files) site loads;
   did = (
     taken,
-    takes_since (Rose b c) (Rose a c) (rose_before a b c le) site (file_of name files) register.before register.after taken takes,
+    takes_since (Rose b c) (Rose a c) (rose_since a b c le) site (file_of name files) register.before register.after taken takes,
     tells,
   );
 }

@@ -1,6 +1,6 @@
 //! Telling what came of an import.
 
-ghost use Rattle.std.specs.Prelude.{◌≡◌, Err};
+ghost use Rattle.std.specs.Prelude.{◌≡◌, Err, codes};
 ghost use Rattle.import_command.specs.Endings.{import_status, import_text, rows_status, rows_line};
 ghost use Rattle.import_command.specs.Lines.{file_line};
 ghost use Rattle.import_command.specs.declared.import_stop.ImportStop.TheVariants.{ReadFault, Refused};
@@ -38,10 +38,19 @@ pub(crate) fn tell<K: Sink>(
             say(line.as_str().as_bytes(), Status::Done, 0, out)
         }
         Err(ImportStop::NoFile) => tell_file(name, out),
-        Err(ImportStop::ReadFault) => say(b"fault read\n", Status::ReadFault, 0, out),
+        Err(ImportStop::ReadFault) => tell_read_fault(out),
         Err(ImportStop::NoMemory) => Outcome::after(Status::NoMemory, 0),
         Err(ImportStop::Refused(refusal)) => tell_refusal(*refusal, out),
     }
+}
+
+// Ends the command with a fault of the shelf.
+fn tell_read_fault<K: Sink>(out: &mut K) -> Outcome
+    ensures tells { Tells Status.ReadFault (codes "fault read\n") (K.written out.old)
+        (K.written out.new) result }
+    ensures write { BlamesWrites result (K.write_faults out.old) (K.write_faults out.new) }
+{
+    say(b"fault read\n", Status::ReadFault, 0, out)
 }
 
 // Ends the command with the word of a file that is absent or too long.

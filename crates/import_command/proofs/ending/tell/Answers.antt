@@ -1,11 +1,10 @@
-use Rattle.std.proofs.Common.{◌≡◌, ◌∙◌, Result, Ok, Err, ap, subst, sym}
+use Rattle.std.proofs.Common.{◌∙◌, Result, subst, sym}
 use Rattle.program_status.specs.Sayings.{Says}
 use Rattle.program_status.specs.declared.status.Status.TheVariants.{Done}
 use Rattle.register_import.specs.declared.imported.Imported.{Imported}
 use Rattle.site_commands.specs.Commands.{Tells}
 use Rattle.import_command.specs.Endings.{import_status, import_text}
 use Rattle.import_command.specs.declared.import_stop.ImportStop.{ImportStop}
-use Rattle.import_command.specs.declared.import_stop.ImportStop.TheVariants.{ReadFault}
 use Rattle.import_command.proofs.ending.tell.Goals as goal
 
 pub returns-in-Ok-clause-tells : goal.returns-in-Ok-clause-tells
@@ -18,16 +17,4 @@ returns-in-Ok-clause-tells g c =
       says = subst (λ said. Says Done said old new c.say.result.status) text c.say.ensures.says;
       ticks = c.say.ensures.ticks.0;
       failures = c.say.ensures.ticks.1;
-    })
-
-pub returns-in-Err-ReadFault-clause-tells : goal.returns-in-Err-ReadFault-clause-tells
-returns-in-Err-ReadFault-clause-tells g c =
-    let old = g.K.Stream.written c.args.out.now in
-    let new = g.K.Stream.written c.say-in-Err-ReadFault.new.out in
-    let is : c.args.taken.now ≡ Err ReadFault = c.in-Err-ReadFault.is ∙ ap (λ (stop : ImportStop). Err stop) c.in-Err-ReadFault.field-0-is in
-    subst (λ (taken : Result Imported ImportStop). Tells (import_status taken) (import_text c.args.name.now taken) old new c.say-in-Err-ReadFault.result) (sym is)
-    (record {
-      says = c.say-in-Err-ReadFault.ensures.says;
-      ticks = c.say-in-Err-ReadFault.ensures.ticks.0;
-      failures = c.say-in-Err-ReadFault.ensures.ticks.1;
     })
