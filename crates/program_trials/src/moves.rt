@@ -64,11 +64,7 @@ fn say_opening(
 // What a run without a tick of the old or the new site of a move tells over a journal.
 fn opened(alloc: Global, given: Given, is_new: bool, journal: &[u8]) -> Result<String> {
     let (place, site) = if is_new {
-<<<<<<< HEAD
         (2, given.third)
-=======
-        (2, given.new_site)
->>>>>>> ed8ba4a82f404c8a55965980f6a8f9e57b150b3e
     } else {
         (1, given.site)
     };
