@@ -1,6 +1,7 @@
 -- What a changed site takes over of a state that a slot keeps can be kept in a slot for it.
-use Rattle.std.proofs.Common.{inl, inr, ◌≡◌, ◌≢◌, ◌⊎◌, ◌+◌, ◌-◌, ◌*◌, ◌<◌, ◌≤◌, ◌==◌, ℕ, zero, suc, Bool, true, false, List, [], ◌∷◌, ◌++◌, take, replicate, get_or, slice_index, refl, sym, ◌∙◌, ap, subst, arith, if◌then◌else◌, Some}
-use Rattle.std.specs.Prelude.{map, All, slice_get}
+use Rattle.std.proofs.Common.{inl, inr, ◌≡◌, ◌≢◌, ◌⊎◌, ◌-◌, ◌*◌, ◌≤◌, ◌==◌, ℕ, zero, suc, Bool, true}
+use Rattle.std.proofs.Common.{false, List, [], ◌∷◌, ◌++◌, take, replicate, refl, sym, subst, arith, if◌then◌else◌, Some}
+use Rattle.std.specs.Prelude.{map, slice_get}
 use Rattle.std.specs.List.{filter}
 use Rattle.std.proofs.lemmas.Bool.Decides.{eqb_tells}
 use Rattle.retained_journal.specs.Batches.{CanKeep, CanKeepAll}
@@ -15,25 +16,23 @@ use Rattle.site_types.specs.declared.output.Output.{Output as OutputPlan}
 use Rattle.site_types.specs.declared.retained.Retained.{Retained}
 use Rattle.site_types.specs.declared.change.Change.{Change}
 use Rattle.site_types.specs.declared.change.Change.TheVariants.{Point, Zone, Output, Test}
-use Rattle.site_types.specs.Carry.{carried, carried_counters, output_changes, output_was_off, point_changes, point_was_off, test_changes}
+use Rattle.site_types.specs.Carry.{carried, output_changes, output_was_off, point_changes, point_was_off, test_changes}
 use Rattle.site_types.specs.Carry.{zone_changes, zone_was_off, zone_was_tested}
 use Rattle.site_types.specs.Changes.{AreCounters, changed_by, nothing_retained}
-use Rattle.site_types.specs.Limits.{greatest_count}
-use Rattle.site_types.specs.Valid.{IsOutput, IsPoint, IsValid, IsZone}
-use Rattle.site_types.proofs.ValidSites.{output_at, output_numbers, point_at, point_numbers, zone_numbers}
+use Rattle.site_types.specs.Valid.{IsValid}
+use Rattle.site_types.proofs.ValidSites.{output_numbers, point_at, point_numbers, zone_numbers}
 
 -- each change that comes of a list can be kept
+keep_next : {X : Type 0} (wide : Bool) (change : X → Change) (x : X) (rest : List X) → CanKeep wide (change x) → CanKeepAll wide (map change rest)
+    → (b : Bool) → CanKeepAll wide (map change (if b then x ∷ rest else rest))
+keep_next wide change x rest this others true = (this, others)
+keep_next wide change x rest this others false = others
+
 keep_all : {X : Type 0} (wide : Bool) (change : X → Change) (test : X → Bool) (xs : List X)
     → ((k : ℕ) (x : X) → slice_get xs k ≡ Some x → CanKeep wide (change x)) → CanKeepAll wide (map change (filter test xs))
 keep_all wide change test [] can = tt
-keep_all wide change test (x ∷ xs) can = by (test x)
-  where
-    rest : CanKeepAll wide (map change (filter test xs))
-    rest = keep_all wide change test xs (λ k y at. can (suc k) y at)
-
-    by : (b : Bool) → CanKeepAll wide (map change (if b then x ∷ filter test xs else filter test xs))
-    by true = (can 0 x refl, rest)
-    by false = rest
+keep_all wide change test (x ∷ xs) can =
+    keep_next wide change x (filter test xs) (can 0 x refl) (keep_all wide change test xs (λ k y at. can (suc k) y at)) (test x)
 
 both_kept : (wide : Bool) (xs ys : List Change) → CanKeepAll wide xs → CanKeepAll wide ys → CanKeepAll wide (xs ++ ys)
 both_kept wide [] ys a b = b
@@ -54,8 +53,8 @@ zeros (suc n) zero = omega arith
 zeros (suc n) (suc k) = zeros n k
 
 small_front : (panels : ℕ) (counters behind : List ℕ) → AreCounters counters → AreCounters behind → AreCounters (take panels counters ++ behind)
-small_front zero counters behind small rest = rest
-small_front (suc panels) [] behind small rest = rest
+small_front zero counters behind small rest k = rest k
+small_front (suc panels) [] behind small rest k = rest k
 small_front (suc panels) (counter ∷ counters) behind small rest zero = small 0
 small_front (suc panels) (counter ∷ counters) behind small rest (suc k) = small_front panels counters behind (λ j. small (suc j)) rest k
 

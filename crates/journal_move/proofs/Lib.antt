@@ -1,3 +1,4 @@
 pub mod CarriedStates
 pub mod Sparing
 pub mod Targets
+pub mod Answering

@@ -1,5 +1,5 @@
 -- What was made in a file, and what it was before.
-use Rattle.std.proofs.Common.{◌≡◌, ℕ, Bool, List, Option, Some, None, length, subst, sym, ◌∙◌, ap}
+use Rattle.std.proofs.Common.{◌≡◌, ℕ, Bool, List, Option, Some, None, length, subst}
 use Rattle.std.specs.Prelude.{IfSome}
 use Rattle.panel_edges.specs.Disks.{Becomes}
 use Rattle.retained_journal.specs.NewFiles.{BecomesNew}

@@ -23,8 +23,8 @@ module _ {D : Type 0} (seen : D → Option (List ℕ)) (honest : D → Type 0) (
   disks_of old new target_old target_new =
       record { journal = disk_call old new; target = disk_call target_old target_new }
 
-  -- nothing is written to a file that isn't empty, so a crash leaves what it might have left before; and what is said of
-  -- a crash holds of the disk after the call as before it
+  -- nothing is written to a file that isn't empty, so a crash leaves what it might have left before; and what is said
+  -- of a crash holds of the disk after the call as before it
   pub record Spares (moment : D → ℕ) (left_since : D → ℕ → List ℕ → Type 0) (old new : D) : Type 0 where
     pub same : UnlessEmpty (seen old) (seen new ≡ seen old)
     pub left : SparesFull honest seen moment left_since images old new

@@ -94,11 +94,15 @@ MovesTo old digest disks before after outcome (Ok site) =
 MovesTo old digest disks before after outcome (Err stop) =
     StopsAtSite disks stop (stop_text stop) before after outcome
 
+abbrev pub MovesOn : SiteFile → List ℕ → Files → Disks → Option (List ℕ) → Option (List ℕ) → Outcome → Type 0
+MovesOn old new_name files disks before after outcome =
+    AnswersOver files new_name (λ digest. MovesTo old digest disks before after outcome)
+
 -- what a move comes to, by what stands under the name of the old site
 abbrev pub MovesFrom : Files → List ℕ → List ℕ → Disks → Option (List ℕ) → Option (List ℕ) → Outcome
     → Result Site Stop → Type 0
 MovesFrom files new_name digest disks before after outcome (Ok site) =
-    AnswersOver files new_name (λ other. MovesTo (record { site = site; digest = digest }) other disks before after outcome)
+    MovesOn (record { site = site; digest = digest }) new_name files disks before after outcome
 MovesFrom files new_name digest disks before after outcome (Err stop) =
     StopsAtSite disks stop (old_stop_text stop) before after outcome
 

@@ -19,12 +19,7 @@ pub fn stop_at_target<K: Sink>(refusal: &CreateRefusal, out: &mut K) -> Outcome
     ensures write { BlamesWrites result (K.write_faults out.old) (K.write_faults out.new) }
 {
     let line = target_line(refusal);
-    say(
-        line.as_str().as_bytes(),
-        status_of_target(refusal),
-        0,
-        out,
-    )
+    say(line.as_str().as_bytes(), status_of_target(refusal), 0, out)
 }
 
 fn status_of_target(refusal: &CreateRefusal) -> Status

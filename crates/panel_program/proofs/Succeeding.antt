@@ -1,6 +1,6 @@
 -- A well made run comes to its end where nothing fails.
 use Rattle.std.proofs.Common.{◌≡◌, ◌∙◌, ◌⊎◌, ◌++◌, ℕ, List, [], ◌∷◌, Option, Some, Result, Ok, Err, IfSome, map, refl, subst, inl, inr}
-use Rattle.std.specs.Prelude.{String, string_bytes}
+use Rattle.std.specs.Prelude.{codes, String, string_bytes}
 use Rattle.std.specs.declared.alloc.Global.{Global}
 use Rattle.panel_edges.specs.Faults.{Rose}
 use Rattle.panel_edges.specs.Shelves.{file_of}

@@ -4,7 +4,7 @@ use Rattle.std.specs.Prelude.{String, string_bytes}
 use Rattle.std.specs.declared.alloc.Global.{Global}
 use Rattle.site_types.specs.declared.site.Site.{Site}
 use Rattle.drill_site.specs.Files.{drill_file}
-use Rattle.journal_move.specs.Disks.{Disks}
+use Rattle.journal_move.specs.Disks.{Disks, disks_of}
 use Rattle.journal_move.specs.Moves.{AnswersMove}
 use Rattle.import_command.specs.Imports.{AnswersImport, KeptTables}
 use Rattle.panel_drill.specs.Drills.{drill_line}
@@ -15,7 +15,7 @@ use Rattle.program_status.specs.declared.status.Status.TheVariants as exit
 use Rattle.site_commands.specs.declared.stop.Stop.{Stop}
 use Rattle.panel_program.specs.Usage.{usage_line}
 use Rattle.site_commands.specs.Refusals.{stop_status, stop_text}
-use Rattle.panel_program.specs.PowerCuts.{JournalDisk}
+use Rattle.panel_program.specs.PowerCuts.{JournalDisk, disk_of}
 use Rattle.panel_program.specs.Runs.{RanOver, Streams}
 use Rattle.site_commands.specs.Commands.{AnswersOver, Checks, Draws, RanNothing, Tells}
 use Rattle.site_commands.specs.Files.{Files}
@@ -73,8 +73,14 @@ pub record CallDisks : Type 1 where
   pub journal : JournalDisk
   pub both : Disks
 
-abbrev pub call_disks : JournalDisk → Disks → CallDisks
-call_disks journal both = record { journal = journal; both = both }
+module _ {D : Type 0} where
+  abbrev pub call_disks : (D → Option (List ℕ)) → (D → Type 0) → (D → List ℕ → Type 0) → (D → ℕ)
+      → (D → ℕ → List ℕ → Type 0) → D → D → D → D → CallDisks
+  call_disks seen honest images moment left_since old new target_old target_new =
+      record {
+        journal = disk_of seen honest images moment left_since old new;
+        both = disks_of seen honest images old new target_old target_new;
+      }
 
 -- what a command answers: on its words alone, or by the files where the shelf tells them; a run by the bytes of the
 -- record, where the input tells them, and by what the journal's disk holds; a move by what its two disks hold; an

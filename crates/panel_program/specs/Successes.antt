@@ -19,7 +19,6 @@ use Rattle.program_status.specs.declared.status.Status.TheVariants.{Done, NoMemo
 use Rattle.program_status.specs.Statuses.{BlamesDisk, BlamesWrites, IsSilentWithoutMemory, number_of}
 use Rattle.panel_program.specs.declared.command.Command.TheVariants.{Run}
 use Rattle.panel_program.specs.declared.run_end.RunEnd.TheVariants.{Ended}
-use Rattle.journal_move.specs.Disks.{disks_of}
 use Rattle.panel_program.specs.Commands.{Answers, call_disks, site_word}
 use Rattle.panel_program.specs.Endings.{end_of}
 use Rattle.panel_program.specs.PowerCuts.{JournalDisk, disk_of}
@@ -79,6 +78,5 @@ abbrev pub WellMadeRunsSucceed : {D : Type 0} → (D → Option (List ℕ)) → 
     → (D → ℕ) → (D → ℕ → List ℕ → Type 0) → Type 0
 WellMadeRunsSucceed {D} seen honest images moment left_since = (words : List (String Global)) (files : Files)
     (old new other other' : D) (streams : Streams) (outcome : Outcome)
-    → Answers words files (call_disks (disk_of seen honest images moment left_since old new)
-    (disks_of seen honest images old new other other')) streams outcome
+    → Answers words files (call_disks seen honest images moment left_since old new other other') streams outcome
     → SucceedsWellMade words files (disk_of seen honest images moment left_since old new) streams outcome

@@ -1,6 +1,6 @@
 ghost use Rattle.std.specs.Prelude.{◌≡◌, ◌⊎◌};
 ghost use Rattle.import_command.specs.Imports.{kept_tables};
-ghost use Rattle.journal_move.specs.Disks.{Spares, disks_of};
+ghost use Rattle.journal_move.specs.Disks.{Spares};
 ghost use Rattle.panel_edges.specs.Faults.{Rose};
 ghost use Rattle.panel_program.specs.Commands.{Answers, AnswersIfImport, AnswersRun, ImportsNothing};
 ghost use Rattle.panel_program.specs.Commands.{IsImport, KeepsNothing, MovesNothing, RunsNothing, call_disks};
@@ -38,8 +38,7 @@ pub fn panel<F: Shelf, S: Source, K: Sink, D: Disk, R: Keeper>(
     keeper: &mut R,
 ) -> Outcome
     ensures answers { Answers words.now (files_of F.files F.faults shelf.old shelf.new) (call_disks
-        (disk_of D.seen D.honest D.images D.moment D.left_since disk.old disk.new)
-        (disks_of D.seen D.honest D.images disk.old disk.new target.old target.new))
+        D.seen D.honest D.images D.moment D.left_since disk.old disk.new target.old target.new)
         (streams_of S.left S.read_faults K.written input.old input.new out.old out.new) result }
     ensures imports { AnswersIfImport words.now (files_of F.files F.faults shelf.old shelf.new)
         (kept_tables R.tables keeper.old keeper.new) (K.written out.old) (K.written out.new)

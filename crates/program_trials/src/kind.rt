@@ -24,8 +24,8 @@ pub(crate) enum Kind {
     Move,
     /// `move-stops OLD NEW: RECORD | RECORD; OPTIONS`: what a stop at each call of the two disks of a move leaves.
     MoveStops,
-    /// `failing-move OLD NEW: RECORD | RECORD; OPTIONS`: each fetch, each call of the two disks and each write of a move
-    /// fails once.
+    /// `failing-move OLD NEW: RECORD | RECORD; OPTIONS`: each fetch, each call of the two disks and each write of a
+    /// move fails once.
     FailingMove,
     /// `import SITE FILE: OPTIONS`: an import, and once more the same over the register that it left.
     Import,

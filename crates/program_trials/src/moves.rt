@@ -13,8 +13,8 @@ use panel_edges::MemoryDisk;
 use std::alloc::Global;
 use trial_cases::Lines;
 
-/// What a move tells, and what runs then tell at their opening: of the old site over the old journal, of the new site over
-/// the new journal, and of the old site over that.
+/// What a move tells, and what runs then tell at their opening: of the old site over the old journal, of the new site
+/// over the new journal, and of the old site over that.
 pub(crate) fn try_move(alloc: Global, trial: &Trial) -> Result<String> {
     let given = trial.given();
     let called = call(alloc, given, trial.outside)?;
@@ -87,8 +87,8 @@ fn opened(alloc: Global, given: Given, is_new: bool, journal: &[u8]) -> Result<S
 }
 
 /// What a run of the old site tells where the move was stopped after each of the calls that the old journal's disk
-/// logged, and one of the new site after each of those of the new journal's. One call may leave several files, which then
-/// tell several things.
+/// logged, and one of the new site after each of those of the new journal's. One call may leave several files, which
+/// then tell several things.
 pub(crate) fn try_stops(alloc: Global, trial: &Trial) -> Result<String> {
     let called = call(alloc, trial.given(), trial.outside)?;
     let mut lines = Lines::new(alloc);

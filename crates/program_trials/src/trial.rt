@@ -43,8 +43,8 @@ impl<'a> Trial<'a> {
     }
 
     /// The trial of a case `KIND OLD NEW: RECORD | RECORD; OPTIONS`, a move from the old site to the new one over the
-    /// journal that runs of the old one over these records leave. `target N` has the file of the new journal hold so many
-    /// bytes, `again` what the same move leaves there.
+    /// journal that runs of the old one over these records leave. `target N` has the file of the new journal hold so
+    /// many bytes, `again` what the same move leaves there.
     pub(crate) fn of_moves(rt: &HostRuntime, case: &Case<'a>) -> Result<Trial<'a>> {
         let (records, options) = parts_of(case.rest);
         let old = match option(options, "before-at") {

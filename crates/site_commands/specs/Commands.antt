@@ -51,4 +51,3 @@ abbrev pub Draws : Option (List ℕ) → Option (List ℕ) → Outcome → Resul
 Draws old new outcome (Ok site) =
     RanNothing old new outcome ⊎ ((text : List ℕ) × IsMatrix site text × Tells exit.Done text old new outcome)
 Draws old new outcome (Err stop) = Tells (stop_status stop) (stop_text stop) old new outcome
-

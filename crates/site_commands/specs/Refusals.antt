@@ -22,8 +22,8 @@ abbrev pub crossing_text : List ℕ → ℕ → ℕ → ℕ → List ℕ
 crossing_text word panel line place =
     word ++ codes " 8 " ++ decimal panel ++ codes " " ++ decimal line ++ codes " " ++ decimal place ++ codes "\n"
 
--- the line of a refused site: the words that it begins with, the number of the refusal and what is told besides; nothing
--- is said of want of memory
+-- the line of a refused site: the words that it begins with, the number of the refusal and what is told besides;
+-- nothing is said of want of memory
 abbrev pub refusal_text : List ℕ → SiteRefusal → List ℕ
 refusal_text word code.NotToml = word ++ codes " 1\n"
 refusal_text word (code.Missing key) = named_text (word ++ codes " 2 ") key (codes "\n")

@@ -20,7 +20,12 @@ use site_types::Site;
 use std::alloc::Global;
 
 /// Tells the counts of a site, or why it is refused.
-pub fn tell_counts<F: Shelf, K: Sink>(alloc: Global, name: &str, shelf: &mut F, out: &mut K) -> Outcome
+pub fn tell_counts<F: Shelf, K: Sink>(
+    alloc: Global,
+    name: &str,
+    shelf: &mut F,
+    out: &mut K,
+) -> Outcome
     ensures answers { IfSome (F.files shelf.old) (λ held. AnswersBy
         (Rose (F.faults shelf.old) (F.faults shelf.new)) (file_of name.now held)
         (Checks (K.written out.old) (K.written out.new) result)) }
@@ -40,7 +45,12 @@ pub fn tell_counts<F: Shelf, K: Sink>(alloc: Global, name: &str, shelf: &mut F, 
 }
 
 /// Tells which outputs each zone asks for where it alone is released, or why the site is refused.
-pub fn tell_matrix<F: Shelf, K: Sink>(alloc: Global, name: &str, shelf: &mut F, out: &mut K) -> Outcome
+pub fn tell_matrix<F: Shelf, K: Sink>(
+    alloc: Global,
+    name: &str,
+    shelf: &mut F,
+    out: &mut K,
+) -> Outcome
     ensures answers { IfSome (F.files shelf.old) (λ held. AnswersBy
         (Rose (F.faults shelf.old) (F.faults shelf.new)) (file_of name.now held)
         (Draws (K.written out.old) (K.written out.new) result)) }

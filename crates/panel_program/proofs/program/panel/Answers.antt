@@ -4,12 +4,12 @@ use Rattle.panel_program.specs.declared.command.Command.TheVariants.{Usage, Chec
 use Rattle.journal_move.specs.Disks.{disks_of}
 use Rattle.panel_program.specs.Commands.{AnswersCommand, SiteNames, call_disks, file_word, names_of, new_site_word, site_word}
 use Rattle.panel_program.specs.Usage.{usage_line}
-use Rattle.panel_program.specs.PowerCuts.{disk_of}
 use Rattle.panel_program.specs.Runs.{streams_of}
 use Rattle.site_commands.specs.Files.{files_of}
 use Rattle.panel_program.specs.Words.{IsBounded, command_of}
 use Rattle.import_command.specs.Imports.{AnswersImport, kept_tables}
 use Rattle.journal_move.specs.Moves.{AnswersMove}
+use Rattle.journal_move.proofs.Sparing.{spares_alone}
 use Rattle.panel_program.proofs.Naming.{file_word_is, new_site_word_is, site_word_is}
 use Rattle.panel_program.proofs.program.panel.Goals as goal
 
@@ -41,9 +41,8 @@ returns-in-Usage-clause-answers g c =
     let streams =
     streams_of g.S.Stream.left g.S.Stream.read_faults g.K.Stream.written c.args.input.now c.args.input.now c.args.out.now c.say.new.out in
     let files = files_of g.F.Shelf.files g.F.Shelf.faults same same in
-    let journal = disk_of g.D.Disk.seen g.D.Disk.honest g.D.Disk.images g.D.Disk.moment g.D.Disk.left_since c.args.disk.now c.args.disk.now in
     let disks =
-    call_disks journal (disks_of g.D.Disk.seen g.D.Disk.honest g.D.Disk.images c.args.disk.now c.args.disk.now c.args.target.now c.args.target.now) in
+    call_disks g.D.Disk.seen g.D.Disk.honest g.D.Disk.images g.D.Disk.moment g.D.Disk.left_since c.args.disk.now c.args.disk.now c.args.target.now c.args.target.now in
     subst (λ command. AnswersCommand command (names_of words) files disks streams c.say.result) (sym is)
     (record { says = c.say.ensures.says; ticks = c.say.ensures.ticks.0; failures = c.say.ensures.ticks.1 })
 
@@ -54,9 +53,8 @@ returns-in-Check-clause-answers g c =
     let files = files_of g.F.Shelf.files g.F.Shelf.faults shelf c.tell_counts.new.shelf in
     let streams =
     streams_of g.S.Stream.left g.S.Stream.read_faults g.K.Stream.written c.args.input.now c.args.input.now c.args.out.now c.tell_counts.new.out in
-    let journal = disk_of g.D.Disk.seen g.D.Disk.honest g.D.Disk.images g.D.Disk.moment g.D.Disk.left_since c.args.disk.now c.args.disk.now in
     let disks =
-    call_disks journal (disks_of g.D.Disk.seen g.D.Disk.honest g.D.Disk.images c.args.disk.now c.args.disk.now c.args.target.now c.args.target.now) in
+    call_disks g.D.Disk.seen g.D.Disk.honest g.D.Disk.images g.D.Disk.moment g.D.Disk.left_since c.args.disk.now c.args.disk.now c.args.target.now c.args.target.now in
     let is : command_of words ≡ Check = sym c.command_of.ensures.command ∙ c.in-Check.is in
     let name : c.as_str.result.now ≡ site_word words =
     c.as_str.ensures.value ∙ ap string_bytes c.index-words-1.is ∙ sym
@@ -72,9 +70,8 @@ returns-in-Run-clause-answers g c =
     let files = files_of g.F.Shelf.files g.F.Shelf.faults shelf c.run.new.shelf in
     let streams =
     streams_of g.S.Stream.left g.S.Stream.read_faults g.K.Stream.written c.args.input.now c.run.new.input c.args.out.now c.run.new.out in
-    let journal = disk_of g.D.Disk.seen g.D.Disk.honest g.D.Disk.images g.D.Disk.moment g.D.Disk.left_since c.args.disk.now c.run.new.disk in
     let disks =
-    call_disks journal (disks_of g.D.Disk.seen g.D.Disk.honest g.D.Disk.images c.args.disk.now c.run.new.disk c.args.target.now c.args.target.now) in
+    call_disks g.D.Disk.seen g.D.Disk.honest g.D.Disk.images g.D.Disk.moment g.D.Disk.left_since c.args.disk.now c.run.new.disk c.args.target.now c.args.target.now in
     let is : command_of words ≡ Run = sym c.command_of.ensures.command ∙ c.in-Run.is in
     let name : c.as_str-in-Run.result.now ≡ site_word words =
     c.as_str-in-Run.ensures.value ∙ ap string_bytes c.index-words-1-in-Run.is ∙ sym
@@ -90,9 +87,8 @@ returns-in-Matrix-clause-answers g c =
     let files = files_of g.F.Shelf.files g.F.Shelf.faults shelf c.tell_matrix.new.shelf in
     let streams =
     streams_of g.S.Stream.left g.S.Stream.read_faults g.K.Stream.written c.args.input.now c.args.input.now c.args.out.now c.tell_matrix.new.out in
-    let journal = disk_of g.D.Disk.seen g.D.Disk.honest g.D.Disk.images g.D.Disk.moment g.D.Disk.left_since c.args.disk.now c.args.disk.now in
     let disks =
-    call_disks journal (disks_of g.D.Disk.seen g.D.Disk.honest g.D.Disk.images c.args.disk.now c.args.disk.now c.args.target.now c.args.target.now) in
+    call_disks g.D.Disk.seen g.D.Disk.honest g.D.Disk.images g.D.Disk.moment g.D.Disk.left_since c.args.disk.now c.args.disk.now c.args.target.now c.args.target.now in
     let is : command_of words ≡ Matrix = sym c.command_of.ensures.command ∙ c.in-Matrix.is in
     let name : c.as_str-in-Matrix.result.now ≡ site_word words =
     c.as_str-in-Matrix.ensures.value ∙ ap string_bytes c.index-words-1-in-Matrix.is ∙ sym
@@ -110,9 +106,8 @@ returns-in-Drill-clause-answers g c =
     let files = files_of g.F.Shelf.files g.F.Shelf.faults shelf shelf in
     let streams =
     streams_of g.S.Stream.left g.S.Stream.read_faults g.K.Stream.written c.args.input.now c.args.input.now c.args.out.now c.run_drill.new.out in
-    let journal = disk_of g.D.Disk.seen g.D.Disk.honest g.D.Disk.images g.D.Disk.moment g.D.Disk.left_since c.args.disk.now c.args.disk.now in
     let disks =
-    call_disks journal (disks_of g.D.Disk.seen g.D.Disk.honest g.D.Disk.images c.args.disk.now c.args.disk.now c.args.target.now c.args.target.now) in
+    call_disks g.D.Disk.seen g.D.Disk.honest g.D.Disk.images g.D.Disk.moment g.D.Disk.left_since c.args.disk.now c.args.disk.now c.args.target.now c.args.target.now in
     let is : command_of words ≡ Drill seed ticks = sym c.command_of.ensures.command ∙ c.in-Drill.is in
     subst (λ command. AnswersCommand command (names_of words) files disks streams c.run_drill.result) (sym is) c.run_drill.ensures.drills
 
@@ -123,10 +118,10 @@ returns-in-Move-clause-answers g c =
     let files = files_of g.F.Shelf.files g.F.Shelf.faults shelf c.move_journal.new.shelf in
     let streams =
     streams_of g.S.Stream.left g.S.Stream.read_faults g.K.Stream.written c.args.input.now c.args.input.now c.args.out.now c.move_journal.new.out in
-    let journal = disk_of g.D.Disk.seen g.D.Disk.honest g.D.Disk.images g.D.Disk.moment g.D.Disk.left_since c.args.disk.now c.move_journal.new.disk in
     let both =
     disks_of g.D.Disk.seen g.D.Disk.honest g.D.Disk.images c.args.disk.now c.move_journal.new.disk c.args.target.now c.move_journal.new.target in
-    let disks = call_disks journal both in
+    let disks =
+    call_disks g.D.Disk.seen g.D.Disk.honest g.D.Disk.images g.D.Disk.moment g.D.Disk.left_since c.args.disk.now c.move_journal.new.disk c.args.target.now c.move_journal.new.target in
     let is : command_of words ≡ Move = sym c.command_of.ensures.command ∙ c.in-Move.is in
     let old : c.as_str-in-Move.result.now ≡ site_word words =
     c.as_str-in-Move.ensures.value ∙ ap string_bytes c.index-words-1-in-Move.is ∙ sym
@@ -147,9 +142,8 @@ returns-in-Import-clause-answers g c =
     let files = files_of g.F.Shelf.files g.F.Shelf.faults shelf c.import_file.new.shelf in
     let streams =
     streams_of g.S.Stream.left g.S.Stream.read_faults g.K.Stream.written c.args.input.now c.args.input.now c.args.out.now c.import_file.new.out in
-    let journal = disk_of g.D.Disk.seen g.D.Disk.honest g.D.Disk.images g.D.Disk.moment g.D.Disk.left_since c.args.disk.now c.args.disk.now in
     let disks =
-    call_disks journal (disks_of g.D.Disk.seen g.D.Disk.honest g.D.Disk.images c.args.disk.now c.args.disk.now c.args.target.now c.args.target.now) in
+    call_disks g.D.Disk.seen g.D.Disk.honest g.D.Disk.images g.D.Disk.moment g.D.Disk.left_since c.args.disk.now c.args.disk.now c.args.target.now c.args.target.now in
     let is : command_of words ≡ Import = sym c.command_of.ensures.command ∙ c.in-Import.is in
     subst (λ command. AnswersCommand command (names_of words) files disks streams c.import_file.result) (sym is) tt
 
@@ -173,3 +167,51 @@ returns-in-Import-clause-imports g c is =
 
 pub run_drill-requires : goal.run_drill-requires
 run_drill-requires g c = subst IsBounded c.in-Drill.is c.command_of.ensures.bounded
+
+-- a disk that no call was made of is spared
+pub returns-in-Usage-clause-disk_spared : goal.returns-in-Usage-clause-disk_spared
+returns-in-Usage-clause-disk_spared g c nothing =
+    spares_alone g.D.Disk.seen g.D.Disk.honest g.D.Disk.images g.D.Disk.moment g.D.Disk.left_since c.args.disk.now (g.met.D.Disk.only_now c.args.disk.now)
+
+pub returns-in-Check-clause-disk_spared : goal.returns-in-Check-clause-disk_spared
+returns-in-Check-clause-disk_spared g c nothing =
+    spares_alone g.D.Disk.seen g.D.Disk.honest g.D.Disk.images g.D.Disk.moment g.D.Disk.left_since c.args.disk.now (g.met.D.Disk.only_now c.args.disk.now)
+
+pub returns-in-Matrix-clause-disk_spared : goal.returns-in-Matrix-clause-disk_spared
+returns-in-Matrix-clause-disk_spared g c nothing =
+    spares_alone g.D.Disk.seen g.D.Disk.honest g.D.Disk.images g.D.Disk.moment g.D.Disk.left_since c.args.disk.now (g.met.D.Disk.only_now c.args.disk.now)
+
+pub returns-in-Drill-clause-disk_spared : goal.returns-in-Drill-clause-disk_spared
+returns-in-Drill-clause-disk_spared g c nothing =
+    spares_alone g.D.Disk.seen g.D.Disk.honest g.D.Disk.images g.D.Disk.moment g.D.Disk.left_since c.args.disk.now (g.met.D.Disk.only_now c.args.disk.now)
+
+pub returns-in-Run-clause-disk_spared : goal.returns-in-Run-clause-disk_spared
+returns-in-Run-clause-disk_spared g c nothing = absurd (nothing (sym c.command_of.ensures.command ∙ c.in-Run.is))
+
+pub returns-in-Usage-clause-target_spared : goal.returns-in-Usage-clause-target_spared
+returns-in-Usage-clause-target_spared g c =
+    spares_alone g.D.Disk.seen g.D.Disk.honest g.D.Disk.images g.D.Disk.moment g.D.Disk.left_since c.args.target.now (g.met.D.Disk.only_now c.args.target.now)
+
+pub returns-in-Check-clause-target_spared : goal.returns-in-Check-clause-target_spared
+returns-in-Check-clause-target_spared g c =
+    spares_alone g.D.Disk.seen g.D.Disk.honest g.D.Disk.images g.D.Disk.moment g.D.Disk.left_since c.args.target.now (g.met.D.Disk.only_now c.args.target.now)
+
+pub returns-in-Run-clause-target_spared : goal.returns-in-Run-clause-target_spared
+returns-in-Run-clause-target_spared g c =
+    spares_alone g.D.Disk.seen g.D.Disk.honest g.D.Disk.images g.D.Disk.moment g.D.Disk.left_since c.args.target.now (g.met.D.Disk.only_now c.args.target.now)
+
+pub returns-in-Matrix-clause-target_spared : goal.returns-in-Matrix-clause-target_spared
+returns-in-Matrix-clause-target_spared g c =
+    spares_alone g.D.Disk.seen g.D.Disk.honest g.D.Disk.images g.D.Disk.moment g.D.Disk.left_since c.args.target.now (g.met.D.Disk.only_now c.args.target.now)
+
+pub returns-in-Drill-clause-target_spared : goal.returns-in-Drill-clause-target_spared
+returns-in-Drill-clause-target_spared g c =
+    spares_alone g.D.Disk.seen g.D.Disk.honest g.D.Disk.images g.D.Disk.moment g.D.Disk.left_since c.args.target.now (g.met.D.Disk.only_now c.args.target.now)
+
+pub returns-in-Import-clause-disk_spared : goal.returns-in-Import-clause-disk_spared
+returns-in-Import-clause-disk_spared g c nothing =
+    spares_alone g.D.Disk.seen g.D.Disk.honest g.D.Disk.images g.D.Disk.moment g.D.Disk.left_since c.args.disk.now (g.met.D.Disk.only_now c.args.disk.now)
+
+pub returns-in-Import-clause-target_spared : goal.returns-in-Import-clause-target_spared
+returns-in-Import-clause-target_spared g c =
+    spares_alone g.D.Disk.seen g.D.Disk.honest g.D.Disk.images g.D.Disk.moment g.D.Disk.left_since c.args.target.now (g.met.D.Disk.only_now c.args.target.now)
