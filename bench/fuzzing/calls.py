@@ -6,8 +6,8 @@ import sys
 import tempfile
 
 SECONDS, CLOCK, RESIDENT = 5, 30, 20 * 1024
-# the tree of a hostile document takes up to some 200 bytes for each of its own
-SMALL, RESIDENT_OF_A_BYTE = 65_536, 1 / 4
+# the tree of a hostile document takes up to some 600 bytes for each of its own
+SMALL, RESIDENT_OF_A_BYTE = 16_384, 5 / 8
 BATCH = 16
 Call = collections.namedtuple("Call", "words site input journal expected")
 

@@ -6,12 +6,30 @@ HEAD = 'format = 1\nsite = "large"\npanels = 1\n'
 LONGEST = 1_048_576
 # what is repeated, between its front and its end; `#` stands for a number that rises
 WIDE = [
-    ("{},", "zone = [", "]\n"), ("[],", "zone = [", "]\n"), ("{a={}},", "zone = [", "]\n"), ("{a=1,b=2},", "zone = [", "]\n"), ("1.5e300,", "zone = [", "]\n"),
-    ('{name="z#",panel=1,number=1},', "zone = [", "]\n"), ('{name="p#",panel=1,loop=1,address=1,zone="z"},', "point = [", "]\n"),
-    ("1,", "loop = [{panel=1,loop=1,last=96,isolators=[", "]}]\n"), ('"zone:a",', 'marker = [{name="m",kind="any",terms=[', "]}]\n"),
-    ('{name="m#",kind="any",terms=["marker:m#"]},', "marker = [", "]\n"), ('"' + "0" * 64 + '",', "level2 = [", "]\n"),
-    ("k# = 1\n", "", ""), ("a#.b.c = 1\n", "", ""), ("[a#.b#.c#]\n", "", ""), ("[[zone]]\n", "", ""), ("[[zone]]\nname = 'z#'\n", "", ""), ("a = 1\n", "", ""),
-    ("\n", "", ""), ("\r\n", "", ""), ("\0", "", ""), ("\\u0041", 'text = "', '"\n'), ('"\n', 'text = """', '"""\n'), ("x", 'text = "', '"\n'),
+    ('{},', 'zone = [', ']\n'),
+    ('[],', 'zone = [', ']\n'),
+    ('{a={}},', 'zone = [', ']\n'),
+    ('{a=1,b=2},', 'zone = [', ']\n'),
+    ('1.5e300,', 'zone = [', ']\n'),
+    ('{name="z#",panel=1,number=1},', 'zone = [', ']\n'),
+    ('{name="p#",panel=1,loop=1,address=1,zone="z"},', 'point = [', ']\n'),
+    ('1,', 'loop = [{panel=1,loop=1,last=96,isolators=[', ']}]\n'),
+    ('"zone:a",', 'marker = [{name="m",kind="any",terms=[', ']}]\n'),
+    ('{name="m#",kind="any",terms=["marker:m#"]},', 'marker = [', ']\n'),
+    ('"' + "0" * 64 + '",', "level2 = [", "]\n"),
+    ('k# = 1\n', '', ''),
+    ('a#.b.c = 1\n', '', ''),
+    ("a#" + ".b" * 75 + " = 1\n", "", ""),
+    ('[a#.b#.c#]\n', '', ''),
+    ('[[zone]]\n', '', ''),
+    ("[[zone]]\nname = 'z#'\n", '', ''),
+    ('a = 1\n', '', ''),
+    ('\n', '', ''),
+    ('\r\n', '', ''),
+    ('\x00', '', ''),
+    ('\\u0041', 'text = "', '"\n'),
+    ('"\n', 'text = """', '"""\n'),
+    ('x', 'text = "', '"\n'),
 ]
 DEEP = [("[", "]", "zone = "), ("{a=", "}", "zone = "), ("a.", "", "")]
 
