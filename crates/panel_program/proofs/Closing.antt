@@ -1,5 +1,5 @@
 -- What is written when a tick is closed.
-use Rattle.std.proofs.Common.{◌≡◌, ◌∙◌, ◌++◌, ℕ, true, false, List, ◌∷◌, Option, Some, None, refl, sym, ap, subst}
+use Rattle.std.proofs.Common.{◌≡◌, ◌∙◌, ◌++◌, ℕ, Bool, true, false, List, ◌∷◌, Option, Some, None, refl, sym, ap, subst}
 use Rattle.site_types.specs.declared.site.Site.{Site}
 use Rattle.site_types.specs.declared.retained.Retained.{Retained}
 use Rattle.face_text.specs.declared.answers.Answers.{Answers}
@@ -37,6 +37,12 @@ module _ (site : Site) (kept : Retained) (run : Run) (answers : Answers) (told_s
 -- what was written of a tick is what the text of all ticks has more
 abbrev pub Told : (List ℕ → Type 0) → Site → Retained → List TickBlock → List TickBlock → Type 0
 Told Wrote site kept before after = (more : List ℕ) × (text_so_far site kept after ≡ text_so_far site kept before ++ more) × Wrote more
+
+-- where a tick was open, one more is closed
+pub one_more : (site : Site) (kept : Retained) (run : Run) (ticks : List TickBlock) (o : Option Block) → Stands site kept (record { run = ticks; block = o }) run
+    → run.is_open ≡ true → (failed : Bool) → (last : TickBlock) × (closed_by failed o ticks ≡ last ∷ ticks)
+one_more site kept run ticks None h open_is failed = not_open (sym open_is ∙ h.open_is)
+one_more site kept run ticks (Some block) h open_is failed = (ticked failed block, refl)
 
 module _ (disks : Disks) (Wrote : List ℕ → Type 0) (site there : Site) (kept : Retained) (old run : Run) (before after : List Face) (answers : Answers) (told_so :
     AnswersAsRuled run.system answers) (same : there ≡ site) (before_is : before ≡ run.next.items) (after_is : after ≡ run.shown.items) (wrote :

@@ -3,6 +3,7 @@ pub mod Numbers
 pub mod Progresses
 pub mod Codes
 pub mod Answered
+pub mod LineEnds
 pub mod Stood
 pub mod Cuts
 pub mod TickCuts
@@ -17,6 +18,5 @@ pub mod Steps
 pub mod Readings
 pub mod Outcomes
 pub mod Succeeding
-pub mod Matrices
 pub mod Naming
 pub mod Faces

@@ -1,5 +1,5 @@
 -- What a run came to.
-use Rattle.std.proofs.Common.{◌≡◌, ◌∙◌, ◌++◌, ℕ, List, [], Option, None, refl, sym, subst, inl, inr}
+use Rattle.std.proofs.Common.{◌≡◌, ◌∙◌, ℕ, List, [], Option, refl, sym, subst, inl, inr}
 use Rattle.panel_edges.specs.Contents.{Grows, GrowsByFront}
 use Rattle.panel_edges.specs.Faults.{Rose}
 use Rattle.site_types.specs.declared.retained.Retained.{Retained}
@@ -14,15 +14,15 @@ use Rattle.program_status.specs.Statuses.{number_of}
 use Rattle.panel_program.specs.Endings.{status_of, last_line}
 use Rattle.panel_program.specs.Runs.{HasMade, Input, IsUnread, RanOn, ReadsTo, ReadsUntil}
 use Rattle.panel_program.specs.PowerCuts.{JournalDisk, LeavesAcknowledged}
-use Rattle.panel_program.specs.Records.{at_beginning}
 use Rattle.panel_program.specs.Outside.{DiskKind, Outside}
-use Rattle.panel_program.specs.Stands.{AreTicksOf, HasRun, Stands, Stores}
+use Rattle.panel_program.specs.Writings.{Breaks}
+use Rattle.panel_program.specs.Ahead.{AreTicksOf}
+use Rattle.panel_program.specs.Stands.{HasRun, Stores}
 use Rattle.run_text.proofs.PromisesHold.{are_kept}
 use Rattle.run_text.proofs.WholeTexts.{of_run}
-use Rattle.panel_program.proofs.Stood.{has_run}
 use Rattle.run_text.specs.SoFar.{opening_text, text_so_far}
 use Rattle.program_status.specs.Sayings.{Says}
-use Rattle.panel_program.proofs.Written.{grows_then, front_then, says_then}
+use Rattle.panel_program.proofs.Written.{grows_then}
 
 -- what a run has made is what its outcome tells
 made_by : (site : Site) (kept : Retained) (consumed : List ℕ) (ticks : List TickBlock) (run : Run) (outcome : Outcome) → AreTicksOf site consumed ticks
@@ -47,21 +47,11 @@ module _ (site : Site) (kept : Retained) (digest : List ℕ) (disk : JournalDisk
       inl (record { status = status; ticks = ticks; failures = failed; same = refl }, unread, cut)
 
   -- the first write failed
-  pub ran_opening : (old new : Option (List ℕ)) (run : Run) → Stands site kept at_beginning run → outcome.status ≡ number_of WriteFault
+  pub ran_opening : (old new : Option (List ℕ)) → IsUnread input → outcome.status ≡ number_of WriteFault
       → outcome.ticks ≡ 0 → outcome.store_failures ≡ 0 → GrowsByFront old new (opening_text site kept)
       → LeavesAcknowledged site kept digest disk [] → RanOn site kept digest disk input bytes old new outcome
-  ran_opening old new run h status ticks failed broke cut =
-      let ran = has_run site kept [] None run h in
-      inr (inr (record {
-        consumed = [];
-        rest = bytes;
-        run = [];
-        whole = refl;
-        made = made_by site kept [] [] run outcome refl ran (ticks ∙ sym ran.count) (failed ∙ sym ran.failed);
-        cut = cut;
-        status = status;
-        broke = broke;
-      }))
+  ran_opening old new unread status ticks failed broke cut =
+      inr (inl (record { unread = unread; cut = cut; status = status; ticks = ticks; failures = failed; broke = broke }))
 
   -- a later write failed
   pub ran_until : {kind : DiskKind} (old : Option (List ℕ)) (mid new : Outside kind) (run : Run) → outcome.status ≡ number_of WriteFault → outcome.ticks ≡ run.ticks
@@ -70,18 +60,26 @@ module _ (site : Site) (kept : Retained) (digest : List ℕ) (disk : JournalDisk
       → LeavesAcknowledged site kept digest disk ticks)
       → RanOn site kept digest disk input bytes old new.written outcome
   ran_until old mid new run status ticks failed opened r cut =
+      let part = r.broke in
       inr
       (inr
-      (record {
+      (inr (record {
         consumed = r.consumed;
         rest = r.rest;
-        run = r.ticks;
+        last = part.last;
+        before = part.whole;
         whole = r.whole;
-        made = made_by site kept r.consumed r.ticks run outcome r.of r.ran ticks failed;
-        cut = cut r.ticks r.ran r.broke.stores;
+        ahead = r.ahead;
+        closed = r.closed;
+        made =
+            subst (λ ts. HasMade site kept r.consumed ts outcome) part.is
+            (made_by site kept r.consumed r.ticks run outcome r.of r.ran ticks failed);
+        cut = subst (LeavesAcknowledged site kept digest disk) part.is (cut r.ticks r.ran part.stores);
         status = status;
-        broke = front_then old mid.written new.written (text_so_far site kept []) (text_so_far site kept r.ticks) opened r.broke.text;
-      }))
+        mid = part.mid;
+        told = grows_then old mid.written part.mid (text_so_far site kept []) (text_so_far site kept part.whole) opened part.grew;
+        broke = subst (λ ts. Breaks part.mid new.written (text_so_far site kept part.whole) (text_so_far site kept ts)) part.is part.broke;
+      })))
 
   -- the run ended
   pub ran_to : {kind : DiskKind} (old new : Option (List ℕ)) (mid last : Outside kind) (run : Run) (end : RunEnd) → outcome.ticks ≡ run.ticks → outcome.store_failures ≡ run.store_failures
@@ -92,6 +90,7 @@ module _ (site : Site) (kept : Retained) (digest : List ℕ) (disk : JournalDisk
       → RanOn site kept digest disk input bytes old new outcome
   ran_to old new mid last run end ticks failed rose opened r says cut =
       inr
+      (inr
       (inl (
         end,
         record {
@@ -99,13 +98,13 @@ module _ (site : Site) (kept : Retained) (digest : List ℕ) (disk : JournalDisk
           rest = r.rest;
           run = r.ticks;
           whole = r.whole;
+          ahead = r.ahead;
           ended = r.ended;
           fault = λ e. (rose e, r.unread e);
           made = made_by site kept r.consumed r.ticks run outcome r.of r.ran ticks failed;
           cut = cut r.ticks r.ran r.wrote.stores;
-          says =
-              subst (λ n. Says (status_of end) (text_so_far site kept r.ticks ++ last_line n end) old new outcome.status) (sym ticks)
-              (says_then (status_of end) outcome.status old last.written new (text_so_far site kept r.ticks) (last_line run.ticks end)
-              (grows_then old mid.written last.written (text_so_far site kept []) (text_so_far site kept r.ticks) opened r.wrote.text) says);
+          mid = last.written;
+          told = grows_then old mid.written last.written (text_so_far site kept []) (text_so_far site kept r.ticks) opened r.wrote.text;
+          says = subst (λ n. Says (status_of end) (last_line n end) last.written new outcome.status) (sym ticks) says;
         },
-      ))
+      )))

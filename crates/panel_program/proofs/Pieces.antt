@@ -9,11 +9,12 @@ use Rattle.panel_program.specs.declared.run.Run.{Run}
 use Rattle.panel_program.specs.declared.run_end.RunEnd.{RunEnd}
 use Rattle.panel_edges.proofs.Growing.{split_more}
 use Rattle.panel_program.specs.Records.{Progress}
-use Rattle.panel_program.specs.Stands.{AreTicksOf, AreWithin, BreaksOff, EndsIn, GoesOnAt, HasEnded, IsAt, MayPiece, Writes, WritesPart}
+use Rattle.panel_program.specs.Ahead.{AreTicksOf, EndWithClosing}
+use Rattle.panel_program.specs.Stands.{AreWithin, BreaksOff, EndsIn, GoesOnAt, HasEnded, IsAt, MayPiece, Writes, WritesPart}
 use Rattle.run_text.specs.SoFar.{text_so_far}
 use Rattle.panel_program.specs.Outside.{DiskKind, Outside}
 use Rattle.panel_program.proofs.Cuts.{stores_more, writes_same}
-use Rattle.panel_program.proofs.Written.{advances_more, breaks_more}
+use Rattle.panel_program.proofs.Written.{advances_more}
 
 module _ {kind : DiskKind} (site : Site) (kept : Retained) where
   pub writes_more : (a b c : Outside kind) (x y z : List TickBlock) → Writes site kept a b x y → Writes site kept b c y z → Writes site kept a c x z
@@ -22,10 +23,15 @@ module _ {kind : DiskKind} (site : Site) (kept : Retained) where
     stores = stores_more site kept a.stored b.stored c.stored x y z g.stores h.stores;
   }
 
-  pub writes_part : (a b c : Outside kind) (x y z : List TickBlock) → Writes site kept a b x y → WritesPart site kept b c y z
+  unfoldable pub writes_part : (a b c : Outside kind) (x y z : List TickBlock) → Writes site kept a b x y → WritesPart site kept b c y z
       → WritesPart site kept a c x z
   writes_part a b c x y z g h = record {
-    text = breaks_more a.written b.written c.written (text_so_far site kept x) (text_so_far site kept y) (text_so_far site kept z) g.text h.text;
+    last = h.last;
+    whole = h.whole;
+    is = h.is;
+    mid = h.mid;
+    grew = advances_more a.written b.written h.mid (text_so_far site kept x) (text_so_far site kept y) (text_so_far site kept h.whole) g.text h.grew;
+    broke = h.broke;
     stores = stores_more site kept a.stored b.stored c.stored x y z g.stores h.stores;
   }
 
@@ -101,6 +107,7 @@ module _ {kind : DiskKind} (site : Site) (kept : Retained) where
 
     -- a write failed in it
     pub taking_breaks : (new_run : Run) → BreaksOff site kept t.now (before ++ t.front) rest mid new new_run → BreaksOff site kept p before piece old new new_run
+    unfolding writes_part
     taking_breaks new_run b =
         let whole = append_assoc before t.front b.front in
         record {
@@ -111,6 +118,7 @@ module _ {kind : DiskKind} (site : Site) (kept : Retained) where
           of = subst (λ xs. AreTicksOf site xs b.ticks) whole b.of;
           ran = b.ran;
           broke = writes_part old mid new p.run t.now.run b.ticks t.wrote b.broke;
+          closed = subst (λ xs. EndWithClosing site xs b.broke.whole) whole b.closed;
         }
 
   -- the whole piece was taken

@@ -14,7 +14,8 @@ use Rattle.panel_program.specs.declared.run_end.RunEnd.{RunEnd}
 use Rattle.panel_program.specs.declared.run_end.RunEnd.TheVariants.{Ended, Refused, TooManyBytes, ReadFault}
 use Rattle.record_lines.specs.Stands.{StandsFor as ReadsFor}
 use Rattle.panel_program.specs.Records.{Progress, at_beginning}
-use Rattle.panel_program.specs.Stands.{AreTicksOf, AreWithin, BreaksOff, EndsAt, EndsIn, GoesOnAt, HasRun, IsAt, MayPiece, Stands}
+use Rattle.panel_program.specs.Ahead.{AreTicksOf, ReadsAhead, piece_bytes}
+use Rattle.panel_program.specs.Stands.{AreWithin, BreaksOff, EndsAt, EndsIn, GoesOnAt, HasRun, IsAt, MayPiece, Stands}
 use Rattle.panel_program.specs.Runs.{EndsRun, ReadsTo, ReadsUntil}
 use Rattle.panel_program.proofs.Ends.{ends_whole, truncated_whole, limit_whole}
 use Rattle.panel_program.proofs.Pieces.{SoFar, writes_more, writes_part}
@@ -30,6 +31,10 @@ told rest xs left new e h = go new (subst (λ o. Consumes o new xs) e h)
     go : (o : Option (List ℕ)) → Consumes (Some rest) o xs → (more : List ℕ) × (o ≡ Some more) × (rest ≡ xs ++ more)
     go None h = absurd h
     go (Some more) h = (more, refl, h)
+
+-- nothing was read ahead
+none_ahead : (rest : List ℕ) (left : Option (List ℕ)) → left ≡ Some rest → ReadsAhead rest left
+none_ahead rest left is = record { ahead = []; unread = rest; is = refl; few = omega arith; left_is = is }
 
 -- a reader and a run at the beginning
 pub begins_at : (site : Site) (kept : Retained) (reader : LineReader) (run : Run) → ReadsFor site [] reader → Stands site kept at_beginning run
@@ -110,6 +115,7 @@ module _ {kind : DiskKind} (site : Site) (kept : Retained) where
           rest = s.rest;
           ticks = s.now.run;
           whole = s.whole;
+          ahead = none_ahead s.rest left' (same ∙ s.left_is);
           unread = λ e. (same ∙ s.left_is);
           ended = s.is_at.going;
           of = of;
@@ -118,17 +124,20 @@ module _ {kind : DiskKind} (site : Site) (kept : Retained) where
         }
 
     -- the input ended
-    pub input_ends : (refusal : Refusal) (n : ℕ) (left' : Option (List ℕ)) → read < most_record_bytes → IfSome left (λ xs. (n ≡ 0) ↔ (xs ≡ [])) → n ≡ 0
+    pub input_ends : (refusal : Refusal) (n : ℕ) (piece : List ℕ) (left' : Option (List ℕ)) → Consumes left left' piece → length piece ≤ piece_bytes
+        → read < most_record_bytes → IfSome left (λ xs. (n ≡ 0) ↔ (xs ≡ [])) → n ≡ 0
         → refusal ≡ record { line = (reading_of site s.consumed).number; why = Truncated }
         → ReadsTo site kept bytes left' old mid run (Refused refusal)
-    input_ends refusal n left' few ends none is =
+    input_ends refusal n piece left' consumes short few ends none is =
         let count = s.count in
+        let more = told s.rest piece left left' s.left_is consumes in
         let empty : s.rest ≡ [] = (subst (λ o. IfSome o (λ xs. (n ≡ 0) ↔ (xs ≡ []))) s.left_is ends).0 none in
         record {
           consumed = s.consumed;
           rest = s.rest;
           ticks = s.now.run;
           whole = s.whole;
+          ahead = record { ahead = piece; unread = more.0; is = more.2; few = short; left_is = more.1 };
           unread = λ e. absurd cc;
           ended =
               subst (λ r. EndsRun site bytes s.consumed (Refused r)) (sym is)
@@ -140,13 +149,14 @@ module _ {kind : DiskKind} (site : Site) (kept : Retained) where
         }
 
     -- as many bytes were read as a record may have
-    pub limit_ends : (left' : Option (List ℕ)) → read ≡ most_record_bytes → ReadsTo site kept bytes left' old mid run TooManyBytes
-    limit_ends left' full =
+    pub limit_ends : read ≡ most_record_bytes → ReadsTo site kept bytes left old mid run TooManyBytes
+    limit_ends full =
         record {
           consumed = s.consumed;
           rest = s.rest;
           ticks = s.now.run;
           whole = s.whole;
+          ahead = none_ahead s.rest left s.left_is;
           unread = λ e. absurd cc;
           ended = limit_whole site bytes s.consumed s.rest s.whole (sym s.count ∙ full) s.is_at.going;
           of = of;
@@ -160,9 +170,9 @@ module _ {kind : DiskKind} (site : Site) (kept : Retained) where
 
     -- the run ended in a piece
     pub piece_ends : (piece : List ℕ) (left' : Option (List ℕ)) (new : Outside kind) (new_run : Run) (end : RunEnd) → Consumes left left' piece
-        → read + length piece ≤ most_record_bytes → EndsIn site kept s.now s.consumed piece end mid new new_run
+        → length piece ≤ piece_bytes → read + length piece ≤ most_record_bytes → EndsIn site kept s.now s.consumed piece end mid new new_run
         → ReadsTo site kept bytes left' old new new_run end
-    piece_ends piece left' new new_run end consumes few g =
+    piece_ends piece left' new new_run end consumes short few g =
         let more = told s.rest piece left left' s.left_is consumes in
         let count = s.count in
         let front_length = length-append g.front g.rest in
@@ -177,6 +187,7 @@ module _ {kind : DiskKind} (site : Site) (kept : Retained) where
           rest = g.rest ++ more.0;
           ticks = g.has.ticks;
           whole = whole;
+          ahead = record { ahead = g.rest; unread = more.0; is = refl; few = omega (arith, short, front_length, piece_length); left_is = more.1 };
           unread = no_fault site (s.consumed ++ g.front) end g.has.ended;
           ended =
               ends_whole site bytes (s.consumed ++ g.front) (g.rest ++ more.0) whole (omega (arith, few, count, front_length, piece_length, all_length))
@@ -188,9 +199,10 @@ module _ {kind : DiskKind} (site : Site) (kept : Retained) where
 
     -- a write failed in a piece
     pub piece_breaks : (piece : List ℕ) (left' : Option (List ℕ)) (new : Outside kind) (new_run : Run) → Consumes left left' piece
-        → read + length piece ≤ most_record_bytes → BreaksOff site kept s.now s.consumed piece mid new new_run
+        → length piece ≤ piece_bytes → read + length piece ≤ most_record_bytes → BreaksOff site kept s.now s.consumed piece mid new new_run
         → ReadsUntil site kept bytes left' old new new_run
-    piece_breaks piece left' new new_run consumes few b =
+    unfolding writes_part
+    piece_breaks piece left' new new_run consumes short few b =
         let more = told s.rest piece left left' s.left_is consumes in
         let count = s.count in
         let front_length = length-append b.front b.rest in
@@ -203,10 +215,12 @@ module _ {kind : DiskKind} (site : Site) (kept : Retained) where
           whole =
               s.whole ∙ ap (λ xs. s.consumed ++ xs) (more.2 ∙ ap (λ xs. xs ++ more.0) b.is ∙ append_assoc b.front b.rest more.0) ∙ sym
               (append_assoc s.consumed b.front (b.rest ++ more.0));
+          ahead = record { ahead = b.rest; unread = more.0; is = refl; few = omega (arith, short, front_length, piece_length); left_is = more.1 };
           few = omega (arith, few, count, front_length, piece_length, all_length);
           of = b.of;
           ran = b.ran;
           broke = writes_part site kept old mid new [] s.now.run b.ticks s.wrote b.broke;
+          closed = b.closed;
         }
 
     -- a whole piece was taken

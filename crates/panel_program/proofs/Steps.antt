@@ -1,6 +1,6 @@
 -- What a reader's answer makes of a run.
 use Rattle.std.proofs.Common.{◌≡◌, ◌∙◌, ◌-◌, ◌*◌, ◌^◌, ◌<◌, ◌≤◌, ◌++◌, ℕ, false, List, [], ◌∷◌, length, take, drop, take-append-drop, Option, Some, None}
-use Rattle.std.proofs.Common.{Bool, Result, Ok, Err, sym, ap, subst, arith, lit<, length-append}
+use Rattle.std.proofs.Common.{Bool, Result, Ok, Err, refl, sym, ap, subst, arith, lit<, length-append}
 use Rattle.panel_edges.specs.Limits.{most_record_bytes}
 use Rattle.site_types.specs.declared.retained.Retained.{Retained}
 use Rattle.site_types.specs.declared.site.Site.{Site}
@@ -21,11 +21,13 @@ use Rattle.panel_program.specs.declared.run_end.RunEnd.{RunEnd}
 use Rattle.panel_program.specs.declared.run_end.RunEnd.TheVariants.{Ended, Refused, TooManyBytes, ReadFault}
 use Rattle.panel_program.specs.Records.{Progress, after_line, closed, moments_in, progress_of, recorded}
 use Rattle.run_text.specs.Failures.{as_recorded}
-use Rattle.panel_program.specs.Stands.{AreFew, AreTicksOf, AreWithin, BreaksOff, GoesOn, HasRun, IsAt, IsGoing, IsNext, IsSmall, MayStep, Stands, Takes, TakesStep, Writes}
+use Rattle.panel_program.specs.Ahead.{AreTicksOf, EndsOneLine}
+use Rattle.panel_program.specs.Stands.{AreFew, AreWithin, BreaksOff, GoesOn, HasRun, IsAt, IsGoing, IsNext, IsSmall, MayStep, Stands, Takes, TakesStep, Writes}
 use Rattle.panel_program.proofs.Numbers.{counted, few_lines, next_of}
 use Rattle.panel_program.proofs.Progresses.{line_moments, progress_length, progress_more, recorded_length, recorded_line}
 use Rattle.panel_program.specs.Outside.{DiskKind, Outside}
 use Rattle.panel_program.proofs.Cuts.{writes_same}
+use Rattle.panel_program.proofs.LineEnds.{one_line}
 use Rattle.panel_program.proofs.Stood.{has_run}
 
 -- ---- what may come
@@ -145,10 +147,10 @@ module _ {kind : DiskKind} (site : Site) (kept : Retained) (before piece : List 
   small_still : more ≡ lines → IsSmall site after p
   small_still e = let small = h.small in let count = ap (λ (ls : List Line). length ls) e in omega (arith, small, count)
 
-  next_line_by : (line : Line) (result : Result (Option RunEnd) Failed) → more ≡ lines ++ line_view line ∷ []
+  next_line_by : (line : Line) (result : Result (Option RunEnd) Failed) → EndsOneLine (take used piece) → more ≡ lines ++ line_view line ∷ []
       → (reading_of site after).ending ≡ ends_with line → Takes site kept p line old new new_run result
       → NextBy site kept p before piece used old new new_reader new_run result
-  next_line_by line (Ok None) e ending t =
+  next_line_by line (Ok None) one e ending t =
       let acts = t.1 in
       record {
         p' = after_line site acts.failed p (line_view line);
@@ -161,7 +163,7 @@ module _ {kind : DiskKind} (site : Site) (kept : Retained) (before piece : List 
         };
         wrote = acts.wrote;
       }
-  next_line_by line (Ok (Some Ended)) e ending t =
+  next_line_by line (Ok (Some Ended)) one e ending t =
       let ends = t.1 in
       record {
         ticks = closed ends.failed p;
@@ -170,10 +172,10 @@ module _ {kind : DiskKind} (site : Site) (kept : Retained) (before piece : List 
         ran = ends.ran;
         wrote = ends.wrote;
       }
-  next_line_by line (Ok (Some (Refused refusal))) e ending t = absurd t
-  next_line_by line (Ok (Some TooManyBytes)) e ending t = absurd t
-  next_line_by line (Ok (Some ReadFault)) e ending t = absurd t
-  next_line_by line (Err failed) e ending t =
+  next_line_by line (Ok (Some (Refused refusal))) one e ending t = absurd t
+  next_line_by line (Ok (Some TooManyBytes)) one e ending t = absurd t
+  next_line_by line (Ok (Some ReadFault)) one e ending t = absurd t
+  next_line_by line (Err failed) one e ending t =
       record {
         front = take used piece;
         rest = drop used piece;
@@ -182,11 +184,18 @@ module _ {kind : DiskKind} (site : Site) (kept : Retained) (before piece : List 
         of = ticks_after t.failed line e;
         ran = t.ran;
         broke = t.broke;
+        closed = record {
+          front = before;
+          last = take used piece;
+          is = refl;
+          line = one;
+          ran = ap as_recorded t.first ∙ ap (λ (q : Progress). q.run) h.made;
+        };
       }
 
   next_by : (step : Step) (result : Result (Option RunEnd) Failed) → Tells (reading_of site before) (reading_of site after) step
-      → TakesStep site kept p step old new run new_run result → NextBy site kept p before piece used old new new_reader new_run result
-  next_by Need result tells t =
+      → Uses site before piece used step → TakesStep site kept p step old new run new_run result → NextBy site kept p before piece used old new new_reader new_run result
+  next_by Need result tells uses t =
       subst (NextBy site kept p before piece used old new new_reader new_run) (sym t.0) (record {
         p' = p;
         is_at = record {
@@ -198,8 +207,9 @@ module _ {kind : DiskKind} (site : Site) (kept : Retained) (before piece : List 
         };
         wrote = same_text site kept p.run old new t.1;
       })
-  next_by (LineStep line) result tells t = next_line_by line result tells.0 tells.1 t
-  next_by (RefusedStep refusal) result tells t =
+  next_by (LineStep line) result tells uses t =
+      next_line_by line result (one_line site before piece used uses.0 (line_view line) h.going uses.1 tells.0) tells.0 tells.1 t
+  next_by (RefusedStep refusal) result tells uses t =
       subst (NextBy site kept p before piece used old new new_reader new_run) (sym t.0) (record {
         ticks = p.run;
         ended = tells.1;
@@ -218,5 +228,6 @@ fed_next site there kept before piece p fed old new reader new_reader run new_ru
     let fed_so =
     subst (λ s. Feeds s before piece fed new_reader) same (feeds before (subst (λ s. ReadsFor s before reader) (sym same) h.reads)) in
     let may = may_step site kept before piece p fed reader new_reader run h within fed_so (subst (λ s. StepBelongs s fed.step) same belongs) in
+    let now = told_now site before piece fed new_reader fed_so h.going in
     next_by site kept before piece p fed.used old new reader new_reader run new_run h within fed_so.stands fed.step result
-    (told_now site before piece fed new_reader fed_so h.going).0 (takes may)
+    now.0 now.1 (takes may)

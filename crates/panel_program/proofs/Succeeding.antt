@@ -18,18 +18,19 @@ use Rattle.program_status.specs.declared.status.Status.{Status}
 use Rattle.program_status.specs.declared.status.Status.TheVariants as exit
 use Rattle.program_status.specs.Sayings.{Says}
 use Rattle.program_status.specs.Statuses.{number_of}
-use Rattle.run_text.specs.SoFar.{text_so_far}
 use Rattle.panel_program.specs.declared.run_end.RunEnd.{RunEnd}
 use Rattle.panel_program.specs.declared.run_end.RunEnd.TheVariants.{Ended, Refused as RefusedEnd, TooManyBytes, ReadFault as ReadFaultEnd}
-use Rattle.panel_program.specs.declared.stop.Stop.{Stop}
-use Rattle.panel_program.specs.declared.stop.Stop.TheVariants.{Absent, Refused, Cycle, ReadFault, NoMemory}
-use Rattle.panel_program.specs.Commands.{Answers, AnswersBy, AnswersCommand, Runs, site_word}
+use Rattle.site_commands.specs.declared.stop.Stop.{Stop}
+use Rattle.site_commands.specs.declared.stop.Stop.TheVariants.{Absent, Refused, Cycle, ReadFault, NoMemory}
+use Rattle.panel_program.specs.Commands.{Answers, AnswersCommand, Runs, site_word}
+use Rattle.site_commands.specs.Commands.{AnswersBy}
 use Rattle.panel_program.specs.Endings.{last_line, status_of}
-use Rattle.panel_program.specs.Runs.{EndsRun, Files, Ran, RanOn, StopsAtJournal, Streams}
+use Rattle.panel_program.specs.Runs.{EndsRun, Ran, RanOn, StopsAtJournal, Streams}
+use Rattle.site_commands.specs.Files.{Files}
 use Rattle.panel_program.specs.PowerCuts.{JournalDisk}
 use Rattle.panel_program.specs.Journals.{journal_status, journal_text}
-use Rattle.panel_program.specs.Refusals.{refusal_status, refusal_text}
-use Rattle.panel_program.specs.Sites.{Loads, file_digest}
+use Rattle.site_commands.specs.Refusals.{refusal_status, refusal_text}
+use Rattle.site_commands.specs.Sites.{Loads, file_digest}
 use Rattle.panel_program.specs.Successes.{IsWellMade, NothingFails, SucceedsWellMade}
 
 -- ---- a site without a cycle has none to tell
@@ -95,12 +96,13 @@ module _ (words : List (String Global)) (files : Files) (disk : JournalDisk) (st
       where
         on : RanOn site k.kept (digest_of made.file) disk streams.input made.bytes streams.old streams.new outcome → Succeeds
         on (inl nothing) = without_memory nothing.0.status
-        on (inr (inl (end, to))) =
+        on (inr (inl stops)) = no_write_fault stops.status
+        on (inr (inr (inl (end, to)))) =
             let is = ends end to.consumed to.ended (λ e. fine.input (to.fault e).0) in
-            let text = text_so_far site k.kept to.run ++ last_line outcome.ticks end in
+            let text = last_line outcome.ticks end in
             inl
-            (said exit.Done text streams.old streams.new (subst (λ e. Says (status_of e) text streams.old streams.new outcome.status) is to.says))
-        on (inr (inr until)) = no_write_fault until.status
+            (said exit.Done text to.mid streams.new (subst (λ e. Says (status_of e) text to.mid streams.new outcome.status) is to.says))
+        on (inr (inr (inr until))) = no_write_fault until.status
 
   by_result : (result : Result Site Stop) → Loads (Rose files.faults_before files.faults_after) (Some made.file) result
       → Runs (digest_of made.file) disk streams outcome result → Succeeds

@@ -20,7 +20,7 @@ use Rattle.panel_program.specs.declared.run_end.RunEnd.TheVariants.{Ended}
 use Rattle.panel_program.specs.Acting.{ClosesBadly, ClosesWell, TellsEvent}
 use Rattle.panel_program.specs.Records.{Progress, after_line, closed, new_block, with_order}
 use Rattle.panel_program.specs.Outside.{Disks, Outside, outside_after, outside_before, stored_new, stored_old}
-use Rattle.panel_program.specs.Stands.{AreFew, HasRun, MayCome, OpensTick, Stands, StandsClosed, Takes, WritesPart}
+use Rattle.panel_program.specs.Stands.{AreFew, HasRun, MayCome, OpensTick, Stands, StandsClosed, Takes, BreaksTick}
 use Rattle.panel_program.proofs.Cuts.{stores_as, writes_same}
 use Rattle.panel_program.proofs.Progresses.{closed_length, same_moments}
 use Rattle.panel_program.proofs.Stood.{has_run}
@@ -82,12 +82,14 @@ module _ (disks : Disks) (site : Site) (kept : Retained) (p : Progress) where
 
   failed_by : (line : Line) (old new : Outside disks.kind) (run : Run) (result : Result (Option RunEnd) Failed) (failed : Bool) → IsErr result
       → (after_line site failed p (line_view line)).run ≡ closed failed p → Stands site kept (record { run = closed failed p; block = None }) run
-      → WritesPart site kept old new p.run (closed failed p) → Takes site kept p line old new run result
+      → BreaksTick site kept old new p.run (closed failed p) → Takes site kept p line old new run result
   failed_by line old new run (Err f) failed err same stands broke =
+      let part = subst (BreaksTick site kept old new p.run) (sym same) broke in
       record {
         failed = failed;
         ran = subst (λ ts. HasRun site kept ts run) (sym same) (has_run site kept (closed failed p) None run stands);
-        broke = subst (WritesPart site kept old new p.run) (sym same) broke;
+        broke = part.0;
+        first = part.1;
       }
   failed_by line old new run (Ok end) failed err same stands broke = absurd (let no_way = err in cc)
 

@@ -16,7 +16,7 @@ use Rattle.record_lines.specs.declared.line.Line.TheVariants.{Event as EventLine
 use Rattle.panel_program.specs.declared.run.Run.{Run}
 use Rattle.panel_program.specs.Records.{Progress, after_line, closed, moments_in}
 use Rattle.panel_program.specs.Outside.{Disks, outside_after, outside_before, stored_new, stored_old}
-use Rattle.panel_program.specs.Stands.{AreFew, Stands, Stores, Writes, WritesPart, after_close, order_by}
+use Rattle.panel_program.specs.Stands.{AreFew, Stands, Stores, Writes, BreaksTick, after_close, order_by}
 
 -- the system stands for some history, and there is room for a face of each panel
 pub record MayShow (system : System) (faces : List Face) : Type 0 where
@@ -88,5 +88,5 @@ abbrev pub ClosesBadly : Disks → Option (List ℕ) → Option (List ℕ) → R
 ClosesBadly disks written written' old run =
     (site : Site) (kept : Retained) (p : Progress) → Stands site kept p old
     → AreFew (moments (closed false p))
-    → Closes (λ failed. WritesPart site kept (outside_before disks written old) (outside_after disks written' run) p.run
+    → Closes (λ failed. BreaksTick site kept (outside_before disks written old) (outside_after disks written' run) p.run
     (closed failed p)) site kept p run

@@ -1,24 +1,22 @@
 -- What each command answers.
-use Rattle.std.specs.Prelude.{◌≡◌, ◌≢◌, ◌⊎◌, ℕ, List, [], ◌∷◌, Option, IfSome, Result, Ok, Err, map}
+use Rattle.std.specs.Prelude.{◌≡◌, ◌≢◌, ◌⊎◌, ℕ, List, [], ◌∷◌, Option, Result, Ok, Err, map}
 use Rattle.std.specs.Prelude.{String, string_bytes}
 use Rattle.std.specs.declared.alloc.Global.{Global}
-use Rattle.panel_edges.specs.Faults.{Rose}
-use Rattle.panel_edges.specs.Shelves.{file_of}
 use Rattle.site_types.specs.declared.site.Site.{Site}
 use Rattle.drill_site.specs.Files.{drill_file}
 use Rattle.panel_drill.specs.Drills.{drill_line}
 use Rattle.panel_program.specs.declared.command.Command.{Command}
 use Rattle.panel_program.specs.declared.command.Command.TheVariants.{Usage, Check, Run, Matrix, Drill}
 use Rattle.program_status.specs.declared.outcome.Outcome.{Outcome}
-use Rattle.program_status.specs.declared.status.Status.{Status}
 use Rattle.program_status.specs.declared.status.Status.TheVariants as exit
-use Rattle.panel_program.specs.declared.stop.Stop.{Stop}
-use Rattle.panel_program.specs.Lines.{counts_line, usage_line}
-use Rattle.panel_program.specs.Refusals.{stop_status, stop_text}
-use Rattle.panel_program.specs.Matrix.{IsMatrix}
+use Rattle.site_commands.specs.declared.stop.Stop.{Stop}
+use Rattle.panel_program.specs.Usage.{usage_line}
+use Rattle.site_commands.specs.Refusals.{stop_status, stop_text}
 use Rattle.panel_program.specs.PowerCuts.{JournalDisk}
-use Rattle.panel_program.specs.Runs.{Files, RanNothing, RanOver, Streams}
-use Rattle.panel_program.specs.Sites.{IsAtHand, Loads, file_digest}
+use Rattle.panel_program.specs.Runs.{RanOver, Streams}
+use Rattle.site_commands.specs.Commands.{AnswersOver, Checks, Draws, RanNothing, Tells}
+use Rattle.site_commands.specs.Files.{Files}
+use Rattle.site_commands.specs.Sites.{IsAtHand}
 use Rattle.program_status.specs.Sayings.{Says}
 use Rattle.panel_program.specs.Words.{command_of}
 
@@ -27,30 +25,11 @@ abbrev pub site_word : List (List ℕ) → List ℕ
 site_word (word ∷ site ∷ rest) = site
 site_word _ = []
 
--- one text was written, and no tick was run
-pub record Tells (status : Status) (text : List ℕ) (old new : Option (List ℕ)) (outcome : Outcome) : Type 0 where
-  pub says : Says status text old new outcome.status
-  pub ticks : outcome.ticks ≡ 0
-  pub failures : outcome.store_failures ≡ 0
-
 -- one text was written, after so many ticks
 pub record TellsAfter (ticks : ℕ) (text : List ℕ) (old new : Option (List ℕ)) (outcome : Outcome) : Type 0 where
   pub says : Says exit.Done text old new outcome.status
   pub ticks_run : outcome.ticks ≡ ticks
   pub failures : outcome.store_failures ≡ 0
-
--- a check tells the counts of the site, or why there is none
-abbrev pub Checks : Option (List ℕ) → Option (List ℕ) → Outcome → Result Site Stop → Type 0
-Checks old new outcome (Ok site) = Tells exit.Done (counts_line site) old new outcome
-Checks old new outcome (Err stop) = Tells (stop_status stop) (stop_text stop) old new outcome
-
--- The matrix tells which outputs each zone asks for, or why there is no site. Where memory ran out it ends so
--- and has written nothing. When memory is ample no clause can say, so this alone allows such an answer for
--- every site: trials ask for it with ample memory.
-abbrev pub Draws : Option (List ℕ) → Option (List ℕ) → Outcome → Result Site Stop → Type 0
-Draws old new outcome (Ok site) =
-    RanNothing old new outcome ⊎ ((text : List ℕ) × IsMatrix site text × Tells exit.Done text old new outcome)
-Draws old new outcome (Err stop) = Tells (stop_status stop) (stop_text stop) old new outcome
 
 -- a run runs the site over the record where the input tells its bytes, or tells why there is no site
 abbrev pub Runs : List ℕ → JournalDisk → Streams → Outcome → Result Site Stop → Type 0
@@ -63,17 +42,6 @@ abbrev pub Drills : ℕ → ℕ → Option (List ℕ) → Option (List ℕ) → 
 Drills seed ticks old new outcome =
     RanNothing old new outcome
     ⊎ ((site : Site) × IsAtHand drill_file site × TellsAfter ticks (drill_line site seed ticks) old new outcome)
-
--- what a command that has a site answers, by the file under the site's name
-pub record AnswersBy (rose : Type 0) (file : Option (List ℕ)) (does : Result Site Stop → Type 0) : Type 0 where
-  pub result : Result Site Stop
-  pub loads : Loads rose file result
-  pub did : does result
-
--- what a command that has a site answers, by the file under its name and the digest of that file
-abbrev pub AnswersOver : Files → List ℕ → (List ℕ → Result Site Stop → Type 0) → Type 0
-AnswersOver files name does = IfSome files.held (λ held. AnswersBy (Rose files.faults_before files.faults_after)
-    (file_of name held) (does (file_digest (file_of name held))))
 
 -- what a command answers: on its words alone, or by the files where the shelf tells them; a run by the bytes of the
 -- record, where the input tells them, and by what the journal's disk holds

@@ -1,7 +1,7 @@
 -- What a run over the bytes of a record comes to.
-use Rattle.std.specs.Prelude.{◌≡◌, ◌⊎◌, ◌+◌, ◌-◌, ◌^◌, ◌<◌, ◌≤◌, ℕ, List, [], ◌++◌, length, Option, Some, IfSome}
+use Rattle.std.specs.Prelude.{◌≡◌, ◌⊎◌, ◌+◌, ◌-◌, ◌^◌, ◌<◌, ◌≤◌, ℕ, List, [], ◌∷◌, ◌++◌, length, Option, Some, IfSome}
 use Rattle.std.specs.Prelude.{Result, Ok, Err}
-use Rattle.panel_edges.specs.Contents.{GrowsByFront}
+use Rattle.panel_edges.specs.Contents.{Grows, GrowsByFront}
 use Rattle.panel_edges.specs.Faults.{Rose}
 use Rattle.panel_edges.specs.Limits.{most_record_bytes}
 use Rattle.panel_edges.specs.declared.failed.Failed.{Failed}
@@ -20,15 +20,18 @@ use Rattle.program_status.specs.declared.outcome.Outcome.{Outcome}
 use Rattle.panel_program.specs.declared.run.Run.{Run}
 use Rattle.panel_program.specs.declared.run_end.RunEnd.{RunEnd}
 use Rattle.panel_program.specs.declared.run_end.RunEnd.TheVariants.{ReadFault}
-use Rattle.program_status.specs.declared.status.Status.TheVariants.{NoMemory, WriteFault}
+use Rattle.program_status.specs.declared.status.Status.TheVariants.{WriteFault}
 use Rattle.program_status.specs.Statuses.{number_of}
 use Rattle.panel_program.specs.Endings.{end_of, within_limit, status_of, last_line}
 use Rattle.panel_program.specs.Journals.{KeepsFor, journal_status, journal_text}
 use Rattle.panel_program.specs.Outside.{DiskKind, Disks, Outside, outside_after, outside_before}
 use Rattle.panel_program.specs.PowerCuts.{IsJournalOf, JournalDisk, LeavesAcknowledged}
 use Rattle.panel_program.specs.Records.{at_beginning, ticks_run}
-use Rattle.panel_program.specs.Stands.{AreTicksOf, HasRun, IsGoing, Stands, Writes, WritesPart}
-use Rattle.run_text.specs.SoFar.{text_so_far}
+use Rattle.panel_program.specs.Ahead.{AreTicksOf, EndWithClosing, ReadsAhead}
+use Rattle.panel_program.specs.Writings.{Breaks}
+use Rattle.panel_program.specs.Stands.{HasRun, IsGoing, Stands, Writes, WritesPart}
+use Rattle.run_text.specs.SoFar.{opening_text, text_so_far}
+use Rattle.site_commands.specs.Commands.{RanNothing}
 use Rattle.run_text.specs.Failures.{failures}
 use Rattle.program_status.specs.Sayings.{Says}
 
@@ -70,6 +73,7 @@ module _ {kind : DiskKind} (site : Site) (kept : Retained) (bytes : List ℕ) (l
     pub rest : List ℕ
     pub ticks : List TickBlock
     pub whole : bytes ≡ consumed ++ rest
+    pub ahead : ReadsAhead rest left
     pub unread : end ≡ ReadFault → left ≡ Some rest
     pub ended : EndsRun site bytes consumed end
     pub of : AreTicksOf site consumed ticks
@@ -82,10 +86,12 @@ module _ {kind : DiskKind} (site : Site) (kept : Retained) (bytes : List ℕ) (l
     pub rest : List ℕ
     pub ticks : List TickBlock
     pub whole : bytes ≡ consumed ++ rest
+    pub ahead : ReadsAhead rest left
     pub few : length consumed ≤ most_record_bytes
     pub of : AreTicksOf site consumed ticks
     pub ran : HasRun site kept ticks run
     pub broke : WritesPart site kept old new [] ticks
+    pub closed : EndWithClosing site consumed broke.whole
 
   abbrev pub ReadsRecord : Run → Result RunEnd Failed → Type 0
   ReadsRecord run (Ok end) = ReadsTo run end
@@ -115,61 +121,62 @@ pub record BlamesStores (outcome : Outcome) (before after : ℕ) : Type 0 where
   pub later : before ≤ after
   pub failed : after < 2 ^ 64 - 1 → outcome.store_failures + before ≤ after
 
--- the files that a shelf tells, where it tells them, and how many of its reads have failed before a call and after it
-pub record Files : Type 0 where
-  pub held : Option (List (List ℕ × List ℕ))
-  pub faults_before : ℕ
-  pub faults_after : ℕ
-
-abbrev pub files_of : {F : Type 0} → (F → Option (List (List ℕ × List ℕ))) → (F → ℕ) → F → F → Files
-files_of held faults old new =
-    record { held = held old; faults_before = faults old; faults_after = faults new }
-
 -- nothing was read of an input
 pub record IsUnread (input : Input) : Type 0 where
   pub left : input.after ≡ input.before
   pub faults : input.faults_after ≡ input.faults_before
 
--- memory ran out before anything was written
-pub record RanNothing (old new : Option (List ℕ)) (outcome : Outcome) : Type 0 where
-  pub status : outcome.status ≡ number_of NoMemory
-  pub ticks : outcome.ticks ≡ 0
-  pub failures : outcome.store_failures ≡ 0
-  pub same : new ≡ old
-
 module _ (site : Site) (kept : Retained) (digest : List ℕ) (disk : JournalDisk) (input : Input) (bytes : List ℕ) (old
     new : Option (List ℕ)) (outcome : Outcome) where
-  -- the run read these bytes and ended so: it wrote the text of their ticks and the last line, or a front of
-  -- that with a write fault
+  -- the run read these bytes and ended so: it wrote the text of their ticks and then the last line, or a front of that
+  -- with a write fault
   pub record RanTo (end : RunEnd) : Type 0 where
     pub consumed : List ℕ
     pub rest : List ℕ
     pub run : List TickBlock
     pub whole : bytes ≡ consumed ++ rest
+    pub ahead : ReadsAhead rest input.after
     pub ended : EndsRun site bytes consumed end
     -- a read failed, and what was read holds neither the end nor a refused line
     pub fault : end ≡ ReadFault → Rose input.faults_before input.faults_after × (input.after ≡ Some rest)
     pub made : HasMade site kept consumed run outcome
     pub cut : LeavesAcknowledged site kept digest disk run
-    pub says : Says (status_of end) (text_so_far site kept run ++ last_line outcome.ticks end) old new
-        outcome.status
+    pub mid : Option (List ℕ)
+    pub told : Grows old mid (text_so_far site kept run)
+    pub says : Says (status_of end) (last_line outcome.ticks end) mid new outcome.status
 
-  -- the run had read these bytes when a write failed: it wrote a front of the text of their ticks
+  -- A write failed in the text of the last of these ticks, which the last line of these bytes closed: it wrote a front
+  -- of that behind the text of the ticks before, and no more of the record was read than comes at a time.
   pub record RanUntil : Type 0 where
     pub consumed : List ℕ
     pub rest : List ℕ
-    pub run : List TickBlock
+    pub last : TickBlock
+    pub before : List TickBlock
     pub whole : bytes ≡ consumed ++ rest
-    pub made : HasMade site kept consumed run outcome
-    pub cut : LeavesAcknowledged site kept digest disk run
+    pub ahead : ReadsAhead rest input.after
+    pub closed : EndWithClosing site consumed before
+    pub made : HasMade site kept consumed (last ∷ before) outcome
+    pub cut : LeavesAcknowledged site kept digest disk (last ∷ before)
     pub status : outcome.status ≡ number_of WriteFault
-    pub broke : GrowsByFront old new (text_so_far site kept run)
+    pub mid : Option (List ℕ)
+    pub told : Grows old mid (text_so_far site kept before)
+    pub broke : Breaks mid new (text_so_far site kept before) (text_so_far site kept (last ∷ before))
 
-  -- a run with what the journal kept: memory ran out before anything was read or written, it came to an end, or a
-  -- write failed
+  -- The first write failed: a front of what is told before the first tick was written, and nothing of the record was
+  -- read.
+  pub record StopsAtOpening : Type 0 where
+    pub unread : IsUnread input
+    pub cut : LeavesAcknowledged site kept digest disk []
+    pub status : outcome.status ≡ number_of WriteFault
+    pub ticks : outcome.ticks ≡ 0
+    pub failures : outcome.store_failures ≡ 0
+    pub broke : GrowsByFront old new (opening_text site kept)
+
+  -- a run with what the journal kept: memory ran out before anything was read or written, the first write failed, the
+  -- run came to an end, or a later write failed
   abbrev pub RanOn : Type 0
   RanOn = (RanNothing old new outcome × IsUnread input × LeavesAcknowledged site kept digest disk [])
-      ⊎ ((end : RunEnd) × RanTo end) ⊎ RanUntil
+      ⊎ StopsAtOpening ⊎ ((end : RunEnd) × RanTo end) ⊎ RanUntil
 
 -- a run with a journal, whatever its disk told when it was opened
 abbrev pub RanFrom : Site → Journal → (Option (List ℕ) → JournalDisk) → Streams → Outcome → Type 0

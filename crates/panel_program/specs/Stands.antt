@@ -1,5 +1,6 @@
 -- What a run stands for, after some lines of its record.
-use Rattle.std.specs.Prelude.{◌≡◌, ◌+◌, ◌-◌, ◌*◌, ◌^◌, ◌<◌, ◌≤◌, ◌↔◌, ℕ, Bool, true, false, List, ◌++◌, length, take}
+use Rattle.std.specs.Prelude.{◌≡◌, ◌+◌, ◌-◌, ◌*◌, ◌^◌, ◌<◌, ◌≤◌, ◌↔◌, ℕ, Bool, true, false, List, ◌∷◌, ◌++◌, length}
+use Rattle.std.specs.Prelude.{take}
 use Rattle.std.specs.Prelude.{Option, Some, None, Result, Ok, Err, is_some}
 use Rattle.tick_units.specs.declared.seat.Seat.{Seat}
 use Rattle.tick_units.specs.Orders.{IsOrder, canonical_seats}
@@ -33,11 +34,11 @@ use Rattle.panel_program.specs.declared.run_end.RunEnd.{RunEnd}
 use Rattle.panel_program.specs.declared.run_end.RunEnd.TheVariants.{Ended, Refused, TooManyBytes, ReadFault}
 use Rattle.panel_program.specs.Records.{Block, Progress, at_beginning, closed, after_line, new_block, progress_of}
 use Rattle.panel_program.specs.Records.{with_order}
-use Rattle.panel_program.specs.Records.{moments_in, recorded, ticks_run}
-use Rattle.run_text.specs.Failures.{as_recorded}
+use Rattle.panel_program.specs.Records.{moments_in, recorded}
 use Rattle.panel_program.specs.declared.taken.Taken.{Taken}
 use Rattle.run_text.specs.SoFar.{text_so_far}
 use Rattle.run_text.specs.Failures.{failures}
+use Rattle.panel_program.specs.Ahead.{AreTicksOf, EndWithClosing}
 use Rattle.panel_program.specs.Outside.{DiskKind, Disks, Outside, Stored, outside_after, outside_before}
 use Rattle.panel_program.specs.PowerCuts.{LeavesTicks}
 use Rattle.panel_program.specs.Writings.{Advances, Breaks}
@@ -164,9 +165,19 @@ module _ (site : Site) (kept : Retained) where
     pub text : Advances old.written new.written (text_so_far site kept before) (text_so_far site kept after)
     pub stores : Stores old.stored new.stored before after
 
+  -- a write failed in the text of the last of these ticks: that of the others was written
   pub record WritesPart {kind : DiskKind} (old new : Outside kind) (before after : List TickBlock) : Type 0 where
-    pub text : Breaks old.written new.written (text_so_far site kept before) (text_so_far site kept after)
+    pub last : TickBlock
+    pub whole : List TickBlock
+    pub is : after ≡ last ∷ whole
+    pub mid : Option (List ℕ)
+    pub grew : Advances old.written mid (text_so_far site kept before) (text_so_far site kept whole)
+    pub broke : Breaks mid new.written (text_so_far site kept whole) (text_so_far site kept after)
     pub stores : Stores old.stored new.stored before after
+
+  -- a write failed in the text of the first tick behind those before
+  abbrev pub BreaksTick : {kind : DiskKind} → Outside kind → Outside kind → List TickBlock → List TickBlock → Type 0
+  BreaksTick old new before after = (part : WritesPart old new before after) × (part.whole ≡ before)
 
   -- a line acted, and the text of the tick that it closed was written
   pub record Acts {kind : DiskKind} (p : Progress) (line : Line) (old new : Outside kind) (run : Run) : Type 0 where
@@ -185,6 +196,7 @@ module _ (site : Site) (kept : Retained) where
     pub failed : Bool
     pub ran : HasRun site kept (after_line site failed p (line_view line)).run run
     pub broke : WritesPart old new p.run (after_line site failed p (line_view line)).run
+    pub first : broke.whole ≡ p.run
 
   -- how a line was taken: it acts, it ends the run, or a write failed
   abbrev pub Takes : {kind : DiskKind} → Progress → Line → Outside kind → Outside kind → Run
@@ -279,10 +291,6 @@ EndsAt site bytes (Refused refusal) = (reading_of site bytes).ending ≡ Some (O
 EndsAt site bytes TooManyBytes = ⊥
 EndsAt site bytes ReadFault = ⊥
 
--- the ticks that were run are those of these bytes
-abbrev pub AreTicksOf : Site → List ℕ → List TickBlock → Type 0
-AreTicksOf site bytes ticks = as_recorded ticks ≡ ticks_run site bytes
-
 module _ {kind : DiskKind} (site : Site) (kept : Retained) (p : Progress) where
   -- bytes more were taken, and the run goes on
   pub record GoesOnAt (after : List ℕ) (old new : Outside kind) (reader : LineReader) (run : Run) : Type 0 where
@@ -311,6 +319,7 @@ module _ {kind : DiskKind} (site : Site) (kept : Retained) (p : Progress) where
     pub of : AreTicksOf site (before ++ front) ticks
     pub ran : HasRun site kept ticks run
     pub broke : WritesPart site kept old new p.run ticks
+    pub closed : EndWithClosing site (before ++ front) broke.whole
 
   -- the next line of a piece was taken, or the whole of it where no line ends in it
   abbrev pub TakesNext : List ℕ → List ℕ → Outside kind → Outside kind → LineReader → Run

@@ -22,7 +22,8 @@ use Rattle.panel_program.specs.declared.run_end.RunEnd.TheVariants.{Ended}
 use Rattle.panel_program.specs.Commands.{Answers, site_word}
 use Rattle.panel_program.specs.Endings.{end_of}
 use Rattle.panel_program.specs.PowerCuts.{JournalDisk, disk_of}
-use Rattle.panel_program.specs.Runs.{Files, Streams}
+use Rattle.panel_program.specs.Runs.{Streams}
+use Rattle.site_commands.specs.Files.{Files}
 use Rattle.panel_program.specs.Words.{command_of}
 
 -- no refusal of a site file but want of memory is called for, and in the site that it spells no marker depends on

@@ -4,15 +4,14 @@ ghost use Rattle.std.specs.Prelude.{◌≡◌, ◌≢◌, ◌≤◌, Ok};
 ghost use Rattle.drill_site.specs.Files.{drill_file as file_text};
 ghost use Rattle.panel_drill.specs.Running.{most_ticks};
 ghost use Rattle.panel_program.specs.Commands.{Drills};
-ghost use Rattle.panel_program.specs.Sites.{IsAtHand, IsLoaded};
+ghost use Rattle.site_commands.specs.Sites.{IsAtHand, IsLoaded};
 ghost use Rattle.program_status.specs.Statuses.{BlamesWrites, IsSilentWithoutMemory, number_of};
 
-use crate::loaded::Loaded;
-use crate::loading::read_file;
 use drill_site::drill_file;
 use panel_drill::drill;
 use panel_edges::Sink;
 use program_status::{Outcome, Status, say};
+use site_commands::{Loaded, read_file};
 use std::alloc::Global;
 
 /// Runs a drill and tells its line. No clause says that the site file of a drill is accepted: were it refused, it would

@@ -7,8 +7,7 @@
 //! specs/Runs: the text of the ticks that site, record and journal make (specs/Records, and `text_so_far` of run_text),
 //! the last line and the status of the end that the bytes have (specs/Endings). In which ticks the journal could not be
 //! kept is told by the text; how many these are is tied to the outcome and to the faults of its disk. Which site a
-//! command has at hand, or why it has none, stands in specs/Sites, with the lines of refusals in specs/Refusals and
-//! Journals.
+//! command has at hand, or why it has none, stands in site_commands.
 //!
 //! `run_site` of src/reading opens the journal and reads the record piece by piece; `Run` takes it line by line. A
 //! tick's turns are made when the line behind its block was read, and its text is written then, a short one in one
@@ -17,22 +16,16 @@
 #![tactic(auto)]
 
 mod command;
-mod cycle_lines;
 mod drilling;
 mod journal_lines;
 mod last_lines;
 mod laws;
 mod lines;
-mod loaded;
-mod loading;
-mod matrix;
 mod program;
 mod reading;
 mod run;
 mod run_end;
-mod site_lines;
 mod sized;
-mod stop;
 mod taken;
 mod usage;
 mod writing;

@@ -11,7 +11,7 @@ ghost use Rattle.panel_program.specs.Outside.{disks_of};
 ghost use Rattle.panel_program.specs.PowerCuts.{disk_after, disk_of};
 ghost use Rattle.panel_program.specs.Records.{at_beginning};
 ghost use Rattle.panel_program.specs.Runs.{BlamesStores, HasReadRecord, RanFrom, RanOver, streams_of};
-ghost use Rattle.panel_program.specs.Sites.{IsLoaded};
+ghost use Rattle.site_commands.specs.Sites.{IsLoaded};
 ghost use Rattle.panel_program.specs.Stands.{HasTakenNext, HasTakenPiece, HasTakenStep, MayPiece, MayStepSome};
 ghost use Rattle.panel_program.specs.Stands.{Stands, StandsAtBeginning};
 ghost use Rattle.program_status.specs.Statuses.{BlamesDisk, BlamesReads, BlamesWrites, IsSilentWithoutMemory};
@@ -25,7 +25,6 @@ ghost use Rattle.site_types.specs.declared.site.Site.{Site as SiteOf};
 
 use crate::journal_lines::stop_at_journal;
 use crate::last_lines::last_line;
-use crate::loaded::Loaded;
 use crate::run::Run;
 use crate::run_end::{RunEnd, status_of};
 use crate::taken::Taken;
@@ -34,6 +33,7 @@ use panel_edges::{Disk, Failed, MOST_RECORD_BYTES, Sink, Source};
 use program_status::{Outcome, Status, say};
 use record_lines::{LineReader, Step};
 use retained_journal::Journal;
+use site_commands::Loaded;
 use site_types::Site;
 use std::alloc::Global;
 

@@ -4,6 +4,7 @@ use Rattle.site_types.specs.declared.retained.Retained.{Retained}
 use Rattle.site_types.specs.declared.site.Site.{Site}
 use Rattle.site_types.specs.Done.{Done}
 use Rattle.face_text.specs.declared.face.Face.{Face}
+use Rattle.panel_rules.specs.Markers.{Facts}
 use Rattle.panel_rules.specs.Moments.{Moment, tick_of}
 use Rattle.panel_rules.specs.Faces.{face_with}
 use Rattle.panel_rules.specs.Operations.{operations}
@@ -46,6 +47,11 @@ module _ (settings : Settings) (history : List Moment) where
   DrivesBy driving =
       DrivesFor settings.site.now (facts_of settings.site.now settings.kept.now (all_done settings.done.now)) history
       driving
+
+-- the facts that a turn of Effect of a panel goes by
+abbrev pub facts_by : Settings → ℕ → List Moment → Facts
+facts_by settings panel history =
+    facts_of settings.site.now settings.kept.now (all_done settings.done.now) panel history
 
 -- the face that a panel shows in a tick by what the network and the outputs stand for, with what is stored by then
 abbrev pub TellsFace : Settings → Network → Driving → ℕ → Retained → ℕ → Face → Type 0

@@ -1,11 +1,13 @@
 //! Trials of the rules themselves: whole records run by the definitions, through the plain slow program that computes
 //! them.
 //!
-//! There is one kind of case: `run SITE RECORD` prints the text of the record at that site, both files. The head of
-//! trial_cases says how a list of cases is written.
+//! `run SITE RECORD` prints the text of the record at that site, both files; `steps SITE RECORD` tells for each of its
+//! ticks how many markers are evaluated by the facts of the rules. The head of trial_cases says how a list of cases is
+//! written.
 #![tactic(auto)]
 
 mod moments;
+mod steps;
 
 use anyhow::{Result, bail};
 use moments::moments_of;
@@ -13,6 +15,7 @@ use plain_panel::timeline;
 use site_types::Retained;
 use std::fs;
 use std::process::ExitCode;
+use steps::steps_told;
 use timeline_text::text_of;
 use trial_cases::{Words, answer_cases, site_at};
 
@@ -20,13 +23,17 @@ use trial_cases::{Words, answer_cases, site_at};
 #[derive(Clone, Copy)]
 enum Kind {
     Run,
+    Steps,
 }
 
 fn main(rt: HostRuntime) -> Result<ExitCode> {
     answer_cases(
         &rt,
-        &[("run", Kind::Run)],
-        |_, case| run(&rt, Words::of(case.subject)),
+        &[("run", Kind::Run), ("steps", Kind::Steps)],
+        |kind, case| match kind {
+            Kind::Run => run(&rt, Words::of(case.subject)),
+            Kind::Steps => count_steps(&rt, Words::of(case.subject)),
+        },
     )
 }
 
@@ -39,4 +46,12 @@ fn run(rt: &HostRuntime, mut words: Words) -> Result<String> {
         Ok(run) => text_of(alloc, &site, &run),
         Err(_) => bail!("no memory"),
     }
+}
+
+// How many markers the definitions have evaluated in each tick of a record.
+fn count_steps(rt: &HostRuntime, mut words: Words) -> Result<String> {
+    let alloc = rt.alloc();
+    let site = site_at(rt, words.next())?;
+    let moments = moments_of(alloc, &site, &fs::read_to_string(rt, words.next())?)?;
+    steps_told(alloc, &site, &moments)
 }

@@ -2,9 +2,10 @@ use Rattle.std.proofs.Common.{◌≡◌, ◌∙◌, ap, sym, subst}
 use Rattle.std.specs.Prelude.{map, string_bytes}
 use Rattle.panel_program.specs.declared.command.Command.TheVariants.{Usage, Check, Run, Matrix, Drill}
 use Rattle.panel_program.specs.Commands.{AnswersCommand, site_word}
-use Rattle.panel_program.specs.Lines.{usage_line}
+use Rattle.panel_program.specs.Usage.{usage_line}
 use Rattle.panel_program.specs.PowerCuts.{disk_of}
-use Rattle.panel_program.specs.Runs.{files_of, streams_of}
+use Rattle.panel_program.specs.Runs.{streams_of}
+use Rattle.site_commands.specs.Files.{files_of}
 use Rattle.panel_program.specs.Words.{IsBounded, command_of}
 use Rattle.panel_program.proofs.Naming.{site_word_is}
 use Rattle.panel_program.proofs.program.panel.Goals as goal
@@ -35,17 +36,17 @@ pub returns-in-Check-clause-answers : goal.returns-in-Check-clause-answers
 returns-in-Check-clause-answers g c =
     let words = map string_bytes c.args.words.now in
     let shelf = c.args.shelf.now in
-    let files = files_of g.F.Shelf.files g.F.Shelf.faults shelf c.check.new.shelf in
+    let files = files_of g.F.Shelf.files g.F.Shelf.faults shelf c.tell_counts.new.shelf in
     let streams =
-    streams_of g.S.Stream.left g.S.Stream.read_faults g.K.Stream.written c.args.input.now c.args.input.now c.args.out.now c.check.new.out in
+    streams_of g.S.Stream.left g.S.Stream.read_faults g.K.Stream.written c.args.input.now c.args.input.now c.args.out.now c.tell_counts.new.out in
     let disk = disk_of g.D.Disk.seen g.D.Disk.honest g.D.Disk.images g.D.Disk.moment g.D.Disk.left_since c.args.disk.now c.args.disk.now in
     let is : command_of words ≡ Check = sym c.command_of.ensures.command ∙ c.in-Check.is in
     let name : c.as_str.result.now ≡ site_word words =
     c.as_str.ensures.value ∙ ap string_bytes c.index-words-1.is ∙ sym
     (site_word_is c.args.words.now c.index-words-1.result (λ e. check_is (sym is ∙ e)))
     in
-    subst (λ command. AnswersCommand command (site_word words) files disk streams c.check.result) (sym is)
-    (subst (λ text. AnswersCommand Check text files disk streams c.check.result) name c.check.ensures.answers)
+    subst (λ command. AnswersCommand command (site_word words) files disk streams c.tell_counts.result) (sym is)
+    (subst (λ text. AnswersCommand Check text files disk streams c.tell_counts.result) name c.tell_counts.ensures.answers)
 
 pub returns-in-Run-clause-answers : goal.returns-in-Run-clause-answers
 returns-in-Run-clause-answers g c =
@@ -67,17 +68,17 @@ pub returns-in-Matrix-clause-answers : goal.returns-in-Matrix-clause-answers
 returns-in-Matrix-clause-answers g c =
     let words = map string_bytes c.args.words.now in
     let shelf = c.args.shelf.now in
-    let files = files_of g.F.Shelf.files g.F.Shelf.faults shelf c.matrix.new.shelf in
+    let files = files_of g.F.Shelf.files g.F.Shelf.faults shelf c.tell_matrix.new.shelf in
     let streams =
-    streams_of g.S.Stream.left g.S.Stream.read_faults g.K.Stream.written c.args.input.now c.args.input.now c.args.out.now c.matrix.new.out in
+    streams_of g.S.Stream.left g.S.Stream.read_faults g.K.Stream.written c.args.input.now c.args.input.now c.args.out.now c.tell_matrix.new.out in
     let disk = disk_of g.D.Disk.seen g.D.Disk.honest g.D.Disk.images g.D.Disk.moment g.D.Disk.left_since c.args.disk.now c.args.disk.now in
     let is : command_of words ≡ Matrix = sym c.command_of.ensures.command ∙ c.in-Matrix.is in
     let name : c.as_str-in-Matrix.result.now ≡ site_word words =
     c.as_str-in-Matrix.ensures.value ∙ ap string_bytes c.index-words-1-in-Matrix.is ∙ sym
     (site_word_is c.args.words.now c.index-words-1-in-Matrix.result (λ e. matrix_is (sym is ∙ e)))
     in
-    subst (λ command. AnswersCommand command (site_word words) files disk streams c.matrix.result) (sym is)
-    (subst (λ text. AnswersCommand Matrix text files disk streams c.matrix.result) name c.matrix.ensures.answers)
+    subst (λ command. AnswersCommand command (site_word words) files disk streams c.tell_matrix.result) (sym is)
+    (subst (λ text. AnswersCommand Matrix text files disk streams c.tell_matrix.result) name c.tell_matrix.ensures.answers)
 
 pub returns-in-Drill-clause-answers : goal.returns-in-Drill-clause-answers
 returns-in-Drill-clause-answers g c =

@@ -2,6 +2,7 @@ use Rattle.std.proofs.Common.{◌≡◌, ◌<◌, ◌≤◌, ◌+◌, ◌-◌, �
 use Rattle.panel_edges.specs.Limits.{most_record_bytes}
 use Rattle.std.proofs.lemmas.Result.{err_from_is_err_and}
 use Rattle.panel_program.specs.declared.run_end.RunEnd.{RunEnd}
+use Rattle.panel_program.specs.Ahead.{piece_bytes}
 use Rattle.panel_program.specs.Outside.{disks_of, outside_after, outside_before}
 use Rattle.panel_program.specs.Records.{at_beginning}
 use Rattle.panel_program.specs.Runs.{ReadsRecord}
@@ -16,6 +17,10 @@ use Rattle.panel_program.proofs.reading.read_record.Goals as goal
 piece_fits : (read most count : ℕ) (piece : List ℕ) → read < most_record_bytes → most ≡ min 4096 (most_record_bytes - read) → count ≤ most
     → length piece ≡ count → read + length piece ≤ most_record_bytes
 piece_fits read most count piece less most_is bound is = omega (arith, less, most_is, bound, is)
+
+-- and is no longer than what is read at a time
+piece_short : (read most count : ℕ) (piece : List ℕ) → most ≡ min 4096 (most_record_bytes - read) → count ≤ most → length piece ≡ count → length piece ≤ piece_bytes
+piece_short read most count piece most_is bound is = omega (arith, most_is, bound, is)
 
 pub loop-read-init : goal.loop-read-init
 loop-read-init g c =
@@ -62,7 +67,9 @@ returns-then-count-eq0-clause-reads g c site kept h =
     some_weaker (g.S.Stream.left c.args.input.now)
     (λ bytes (s : SoFar site kept bytes left old mid c.loop-read.reader c.loop-read.run c.loop-read.read).
     input_ends site kept bytes left old mid c.loop-read.reader c.loop-read.run c.loop-read.read s c.finish.result c.in-Ok.count
-    (g.S.Stream.left c.read_piece.new.input) (omega (arith, lt)) c.in-Ok.ensures.ends c.if-count-eq0.true
+    (take c.in-Ok.count c.read_piece.new.buffer) (g.S.Stream.left c.read_piece.new.input) c.in-Ok.ensures.bytes
+    (piece_short c.loop-read.read c.min-most.result c.in-Ok.count (take c.in-Ok.count c.read_piece.new.buffer) c.min-most.ensures c.in-Ok.ensures.bound
+    c.in-Ok.ensures.count) (omega (arith, lt)) c.in-Ok.ensures.ends c.if-count-eq0.true
     (c.finish.ensures site s.consumed s.is_at.reads s.is_at.going))
     (c.loop-read.invariant.so_far site kept h)
 
@@ -91,7 +98,9 @@ returns-in_err-end-clause-reads g c site kept h =
     let within = piece_within site kept bytes left old mid c.loop-read.reader c.loop-read.run c.loop-read.read s piece fits in
     subst (ReadsRecord site kept bytes left' old new c.take_piece.new.run) (sym q.1)
     (piece_breaks site kept bytes left old mid c.loop-read.reader c.loop-read.run c.loop-read.read s piece left' new
-    c.take_piece.new.run c.in-Ok.ensures.bytes fits (c.in_err-end.ensures.takes site kept s.consumed s.now s.is_at within)))
+    c.take_piece.new.run c.in-Ok.ensures.bytes
+    (piece_short c.loop-read.read c.min-most.result c.in-Ok.count piece c.min-most.ensures c.in-Ok.ensures.bound c.in-Ok.ensures.count) fits
+    (c.in_err-end.ensures.takes site kept s.consumed s.now s.is_at within)))
     (c.loop-read.invariant.so_far site kept h)
 
 pub returns-in-Some-clause-reads : goal.returns-in-Some-clause-reads
@@ -113,7 +122,8 @@ returns-in-Some-clause-reads g c site kept h =
     subst (λ (o : Option RunEnd). TakesPiece site kept s.now s.consumed piece mid new c.take_piece.new.reader c.take_piece.new.run (Ok o)) c.in-Some.is
     (c.in_ok-end.ensures.takes site kept s.consumed s.now s.is_at within) in
     piece_ends site kept bytes left old mid c.loop-read.reader c.loop-read.run c.loop-read.read s piece left' new c.take_piece.new.run c.in-Some.end
-    c.in-Ok.ensures.bytes fits ended)
+    c.in-Ok.ensures.bytes
+    (piece_short c.loop-read.read c.min-most.result c.in-Ok.count piece c.min-most.ensures c.in-Ok.ensures.bound c.in-Ok.ensures.count) fits ended)
     (c.loop-read.invariant.so_far site kept h)
 
 pub returns-in_err-end-clause-disk : goal.returns-in_err-end-clause-disk
@@ -179,5 +189,5 @@ returns-clause-reads g c site kept h =
     let few = c.loop-read.invariant.few in
     some_weaker (g.S.Stream.left c.args.input.now)
     (λ bytes (s : SoFar site kept bytes left old mid c.loop-read.reader c.loop-read.run c.loop-read.read).
-    limit_ends site kept bytes left old mid c.loop-read.reader c.loop-read.run c.loop-read.read s left (omega (arith, full, few)))
+    limit_ends site kept bytes left old mid c.loop-read.reader c.loop-read.run c.loop-read.read s (omega (arith, full, few)))
     (c.loop-read.invariant.so_far site kept h)

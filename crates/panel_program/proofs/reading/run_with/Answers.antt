@@ -27,7 +27,7 @@ returns-in_default-write_opening-clause-ran g c digest seen is =
     (disk_kind g.D.Disk.honest g.D.Disk.images g.D.Disk.moment g.D.Disk.left_since) c.args.site c.args.journal.kept digest seen
     c.args.disk.now c.args.journal c.requires.journal c.requires.stands is (g.D.Disk.seen c.args.disk.now) in
     some_always (g.S.Stream.left c.args.input.now)
-    (λ bytes. ran_opening c.args.site c.args.journal.kept digest _ _ bytes outcome old new c.in-Ok.run' c.in-Ok.ensures.stands
+    (λ bytes. ran_opening c.args.site c.args.journal.kept digest _ _ bytes outcome old new (record { left = refl; faults = refl })
     (ap (λ (o : Outcome). o.status) told) (ap (λ (o : Outcome). o.ticks) told) (ap (λ (o : Outcome). o.store_failures) told)
     (c.in_default-write_opening.ensures.err c.args.site c.args.journal.kept c.in-Ok.ensures.stands c.in-Ok.ensures.empty) cut)
 

@@ -1,11 +1,36 @@
-use Rattle.std.proofs.Common.{refl}
+use Rattle.std.proofs.Common.{◌≡◌, true, Bool, refl}
 use Rattle.panel_edges.specs.Contents.{Grows, GrowsByFront}
-use Rattle.panel_program.specs.Outside.{disks_of, outside_after, outside_before}
-use Rattle.panel_program.specs.Records.{moments_in}
-use Rattle.panel_program.specs.Stands.{Writes, WritesPart, after_close}
-use Rattle.panel_program.proofs.Closing.{shut_closes, told_more}
-use Rattle.panel_program.proofs.Written.{on_ok, on_err}
+use Rattle.site_types.specs.declared.retained.Retained.{Retained}
+use Rattle.site_types.specs.declared.site.Site.{Site}
+use Rattle.run_text.specs.SoFar.{text_so_far}
+use Rattle.panel_program.specs.declared.run.Run.{Run}
+use Rattle.panel_program.specs.Outside.{DiskKind, Outside, disks_of, outside_after, outside_before}
+use Rattle.panel_program.specs.Writings.{Breaks}
+use Rattle.panel_program.specs.Records.{Progress, closed, moments_in}
+use Rattle.panel_program.specs.Stands.{Stands, Stores, Writes, BreaksTick, after_close}
+use Rattle.panel_program.proofs.Closing.{one_more, shut_closes, told_more}
+use Rattle.panel_program.proofs.Written.{stays}
+use Rattle.site_commands.proofs.Results.{on_ok, on_err}
 use Rattle.panel_program.proofs.run.Run.close.Goals as goal
+
+-- a write failed in the text of the tick that was open
+part_of : {kind : DiskKind} (site : Site) (kept : Retained) (run : Run) (p : Progress) → Stands site kept p run → run.is_open ≡ true → (failed : Bool)
+    (old new : Outside kind) → Breaks old.written new.written (text_so_far site kept p.run) (text_so_far site kept (closed failed p))
+    → Stores site kept old.stored new.stored p.run (closed failed p)
+    → BreaksTick site kept old new p.run (closed failed p)
+part_of site kept run p h open_is failed old new text stores =
+    let more = one_more site kept run p.run p.block h open_is failed in (
+      record {
+        last = more.0;
+        whole = p.run;
+        is = more.1;
+        mid = old.written;
+        grew = stays old.written (text_so_far site kept p.run);
+        broke = text;
+        stores = stores;
+      },
+      refl,
+    )
 
 pub returns-then-not-self-clause-ok : goal.returns-then-not-self-clause-ok
 returns-then-not-self-clause-ok g c site kept p h short =
@@ -39,6 +64,8 @@ returns-clause-err g c =
     told_more disks (GrowsByFront old new) site c.site.result.now kept c.args.self.now c.make_turns.new.self c.as_slice.result.now
     c.as_slice-2.result.now c.answers.result.now c.answers.ensures
     (c.site.ensures site kept (moments_in (after_close made.failed p)) made.stands.system) c.as_slice.ensures.value c.as_slice-2.ensures.value wrote
-    (WritesPart site kept (outside_before disks old c.args.self.now) (outside_after disks new c.make_turns.new.self)) p c.write.new.page h c.if-not-self.false made
-    (λ text stores. record { text = text; stores = stores }))
+    (BreaksTick site kept (outside_before disks old c.args.self.now) (outside_after disks new c.make_turns.new.self))
+    p c.write.new.page h c.if-not-self.false made
+    (λ text stores. part_of site kept c.args.self.now p h c.if-not-self.false made.failed (outside_before disks old c.args.self.now)
+    (outside_after disks new c.make_turns.new.self) text stores))
     c.write.ensures.err

@@ -7,7 +7,7 @@ use Rattle.site_types.specs.declared.site.Site.{Site}
 use Rattle.panel_rules.specs.Timeline.{faces_of}
 use Rattle.run_text.specs.SoFar.{opening_text}
 use Rattle.panel_program.specs.Records.{at_beginning, moments_in}
-use Rattle.panel_program.proofs.Written.{on_ok, on_err}
+use Rattle.site_commands.proofs.Results.{on_ok, on_err}
 use Rattle.panel_program.proofs.run.Run.write_opening.Goals as goal
 
 opening_is : (site there : Site) (kept : Retained) (before after : List Face) → there ≡ site → before ≡ empty_faces site → after ≡ faces_of site kept []
