@@ -1,0 +1,2 @@
+pub mod FaceObjects
+pub mod Standing
