@@ -1,4 +1,4 @@
-use Rattle.std.proofs.Common.{◌≡◌, true, Bool, refl}
+use Rattle.std.proofs.Common.{◌≡◌, ◌∙◌, true, Bool, refl, sym}
 use Rattle.panel_edges.specs.Contents.{Grows, GrowsByFront}
 use Rattle.site_types.specs.declared.retained.Retained.{Retained}
 use Rattle.site_types.specs.declared.site.Site.{Site}
@@ -69,3 +69,6 @@ returns-clause-err g c =
     (λ text stores. part_of site kept c.args.self.now p h c.if-not-self.false made.failed (outside_before disks old c.args.self.now)
     (outside_after disks new c.make_turns.new.self) text stores))
     c.write.ensures.err
+
+pub write-requires-clause-same : goal.write-requires-clause-same
+write-requires-clause-same g c none = c.as_slice.ensures.value ∙ c.make_turns.ensures.same none ∙ sym c.as_slice-2.ensures.value
