@@ -36,10 +36,10 @@ ShowsFaces system old faces =
 
 -- a face is that of the rules now, if another one is that of the end of the tick before
 abbrev pub ShowsNow : System → ℕ → Face → Face → Type 0
-ShowsNow system panel then now =
+ShowsNow system panel last now =
     (site : Site) (kept : Retained) (before : List Moment)
     → SystemStands site kept before system → IsRun site.panels before → AreMarked site kept before system.changed
-    → then ≡ face_of site kept panel (before_tick before) → now ≡ face_of site kept panel before
+    → last ≡ face_of site kept panel (before_tick before) → now ≡ face_of site kept panel before
 
 -- the same of all panels
 abbrev pub ShowAllNow : System → List Face → List Face → List Face → Type 0

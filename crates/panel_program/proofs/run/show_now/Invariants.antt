@@ -15,7 +15,7 @@ invariant-loop-place l =
       room : length l.faces.items ≡ length l.initial.faces.items;
       within : l.place ≤ length l.initial.faces.items;
       shown : (site : Site) (kept : Retained) (before : List Moment) → StandsFor site kept before l.system → IsRun site.panels before
-          → AreMarked site kept before l.system → length l.initial.faces.items ≡ site.panels → l.shown ≡ faces_of site kept (before_tick before)
+          → AreMarked site kept before l.system.changed → length l.initial.faces.items ≡ site.panels → l.shown ≡ faces_of site kept (before_tick before)
           → take l.place l.faces.items ≡ map (λ panel. face_of site kept panel before) (range_with_len 1 l.place);
       same : l.changed ≡ false → take l.place l.faces.items ≡ take l.place l.shown;
     }
