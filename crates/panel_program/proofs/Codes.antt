@@ -1,5 +1,5 @@
 -- Of the code of an operation its bytes alone count.
-use Rattle.std.proofs.Common.{◌≡◌, ◌∙◌, ◌+◌, ◌++◌, ℕ, List, [], ◌∷◌, length, Option, Some, None, refl, ap, subst}
+use Rattle.std.proofs.Common.{◌≡◌, ◌∙◌, ◌+◌, ◌++◌, ℕ, Bool, List, [], ◌∷◌, length, Option, Some, None, refl, ap, subst}
 use Rattle.std.specs.Prelude.{filter, option_map}
 use Rattle.arrayvec.specs.ArrayString.{ArrayString}
 use Rattle.site_types.specs.declared.event.Event.{Event}
@@ -18,6 +18,7 @@ use Rattle.panel_rules.specs.Operations.{operations, request_of, requests, reque
 use Rattle.panel_rules.specs.Timeline.{busy_count}
 use Rattle.panel_core.specs.declared.parts.Parts.{Parts}
 use Rattle.panel_core.specs.declared.system.System.{System}
+use Rattle.panel_core.specs.Marks.{AreMarked}
 use Rattle.panel_core.specs.Stands.{PanelStands, StandsFor}
 
 module _ (site : Site) (kept : Retained) (panel : ℕ) (operation : Operation) (before : List Moment) where
@@ -90,6 +91,16 @@ module _ (site : Site) (kept : Retained) (panel : ℕ) (operation : Operation) (
           own = h.own;
           counts = record { counted = h.counts.counted; counters = h.counts.counters };
         }
+
+-- its panels are marked as with the event as a record has it
+pub marked_for_view : (site : Site) (kept : Retained) (event : Event) (before : List Moment) (marks : List Bool)
+    → AreMarked site kept (Happened event ∷ before) marks → AreMarked site kept (Happened (event_view event) ∷ before) marks
+marked_for_view site kept (Point point state) before marks h = h
+marked_for_view site kept (Cable panel line piece state) before marks h = h
+marked_for_view site kept (Supply panel kind bad) before marks h = h
+marked_for_view site kept (Link link up) before marks h = h
+marked_for_view site kept (Confirmed output) before marks h = h
+marked_for_view site kept (Op panel code operation) before marks h = h
 
 -- the system stands for the history with the event as a record has it
 pub stands_for_view : (site : Site) (kept : Retained) (event : Event) (before : List Moment) (system : System)

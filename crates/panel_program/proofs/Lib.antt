@@ -18,3 +18,4 @@ pub mod Outcomes
 pub mod Succeeding
 pub mod Naming
 pub mod Faces
+pub mod SameFaces

@@ -3,6 +3,9 @@ use Rattle.std.proofs.Common.{◌≡◌, ◌∙◌, ◌+◌, ◌-◌, ◌^◌, �
 use Rattle.std.proofs.Common.{refl, sym, ap, subst, arith, lit<, lit≤}
 use Rattle.std.proofs.lemmas.List.FromFn.{length-map-range_with_len}
 use Rattle.std.proofs.lemmas.List.Sorted.{IsPermutation-refl}
+use Rattle.tick_units.specs.declared.seat.Seat.{Seat}
+use Rattle.tick_units.specs.declared.task.Task.{Task}
+use Rattle.tick_units.specs.declared.task.Task.TheVariants.{Poll, Decide, Supply, Desk, Hold, Link, Effect, Drive, Keep}
 use Rattle.tick_units.specs.Orders.{IsOrder, canonical_seats}
 use Rattle.tick_units.specs.Ticks.{last_tick}
 use Rattle.site_types.specs.declared.event.Event.{Event}
@@ -13,12 +16,13 @@ use Rattle.site_types.specs.Valid.{IsValid}
 use Rattle.face_text.specs.declared.face.Face.{Face}
 use Rattle.keep_turn.specs.declared.store.Store.{Store}
 use Rattle.panel_edges.specs.declared.sound_memory_sink.SoundMemorySink.{SoundMemorySink}
-use Rattle.panel_rules.specs.Moments.{Moment, Began, Happened, TickBlock, IsRun, moments, and_events, and_turns, tick_of}
+use Rattle.panel_rules.specs.Moments.{Moment, Began, Happened, TickBlock, IsRun, moments, and_events, and_turns, tick_of, turn_of}
 use Rattle.panel_rules.specs.Records.{AreOrdered}
 use Rattle.panel_rules.specs.Timeline.{face_of, faces_of}
 use Rattle.panel_rules.proofs.RecordRuns.{records_are_runs}
 use Rattle.panel_core.specs.declared.system.System.{System}
 use Rattle.panel_core.specs.Keeping.{HasTurned, KeepsRun, MayTurnAll, has_failed}
+use Rattle.panel_core.specs.Marks.{AreMarked, before_tick}
 use Rattle.panel_core.specs.Stands.{StandsFor as SystemStands}
 use Rattle.retained_journal.specs.declared.journal.Journal.{Journal}
 use Rattle.panel_program.specs.declared.run.Run.{Run}
@@ -67,6 +71,7 @@ opened site kept run valid counters opens stands shut canonical none fine shown 
       order_is = tt;
       ordered = tt;
       shown = shown;
+      marks = λ panel member unmarked. refl;
       room = room;
       count = none;
       failed = fine;
@@ -76,9 +81,9 @@ opened site kept run valid counters opens stands shut canonical none fine shown 
 
 -- a tick begins
 pub begun : (site : Site) (kept : Retained) (ticks : List TickBlock) (old : Run) (system : System) → Stands site kept (record { run = ticks; block = None }) old
-    → SystemStands site kept (Began ∷ moments ticks) system → length ticks + 1 ≤ last_tick → AreFew (Began ∷ moments ticks)
+    → SystemStands site kept (Began ∷ moments ticks) system → AreMarked site kept (Began ∷ moments ticks) system.changed → length ticks + 1 ≤ last_tick → AreFew (Began ∷ moments ticks)
     → Stands site kept (record { run = ticks; block = Some (new_block site) }) (record old { system = system; is_open = true; order = None })
-begun site kept ticks old system h stands few short =
+begun site kept ticks old system h stands marks few short =
     record {
       valid = h.valid;
       counters = h.counters;
@@ -90,6 +95,7 @@ begun site kept ticks old system h stands few short =
       order_is = sym h.canonical;
       ordered = (h.ordered, IsPermutation-refl (canonical_seats site.panels));
       shown = h.shown;
+      marks = marks;
       room = h.room;
       count = h.count;
       failed = h.failed;
@@ -105,10 +111,11 @@ not_open e = absurd (go e)
 
 told_by : (site : Site) (kept : Retained) (ticks : List TickBlock) (o : Option Block) (old : Run) (event : Event) (system : System)
     → Stands site kept (record { run = ticks; block = o }) old → old.is_open ≡ true → SystemStands site kept (Happened event ∷ moments_by o ticks) system
+    → AreMarked site kept (Happened event ∷ moments_by o ticks) system.changed
     → AreFew (moments_by (with_event event o) ticks)
     → Stands site kept (record { run = ticks; block = with_event event o }) (record old { system = system })
-told_by site kept ticks None old event system h open_is stands short = not_open (sym open_is ∙ h.open_is)
-told_by site kept ticks (Some block) old event system h open_is stands short =
+told_by site kept ticks None old event system h open_is stands marks short = not_open (sym open_is ∙ h.open_is)
+told_by site kept ticks (Some block) old event system h open_is stands marks short =
     let more = sym (events_more block.events event (Began ∷ moments ticks)) in
     record {
       valid = h.valid;
@@ -121,6 +128,7 @@ told_by site kept ticks (Some block) old event system h open_is stands short =
       order_is = h.order_is;
       ordered = h.ordered;
       shown = h.shown;
+      marks = subst (λ ms. AreMarked site kept ms system.changed) more marks;
       room = h.room;
       count = h.count;
       failed = h.failed;
@@ -131,9 +139,10 @@ told_by site kept ticks (Some block) old event system h open_is stands short =
 -- an event comes in an open tick
 pub told : (site : Site) (kept : Retained) (p : Progress) (old : Run) (event : Event) (system : System) → Stands site kept p old
     → old.is_open ≡ true → SystemStands site kept (Happened event ∷ moments_by p.block p.run) system
+    → AreMarked site kept (Happened event ∷ moments_by p.block p.run) system.changed
     → AreFew (moments_by (with_event event p.block) p.run)
     → Stands site kept (record { run = p.run; block = with_event event p.block }) (record old { system = system })
-told site kept p old event system h open_is stands short = told_by site kept p.run p.block old event system h open_is stands short
+told site kept p old event system h open_is stands marks short = told_by site kept p.run p.block old event system h open_is stands marks short
 
 untold_by : (site : Site) (kept : Retained) (ticks : List TickBlock) (o : Option Block) (run : Run) (event : Event)
     → Stands site kept (record { run = ticks; block = o }) run → run.is_open ≡ false
@@ -147,6 +156,33 @@ pub untold : (site : Site) (kept : Retained) (p : Progress) (run : Run) (event :
 untold site kept p run event h shut = untold_by site kept p.run p.block run event h shut
 
 -- ---- the turns of a tick
+
+-- what had befallen before a tick of a record
+before_events : (events : List Event) (past : List Moment) → before_tick (and_events events (Began ∷ past)) ≡ past
+before_events events past = go events (Began ∷ past)
+  where
+    go : (xs : List Event) (ms : List Moment) → before_tick (and_events xs ms) ≡ before_tick ms
+    go [] ms = refl
+    go (x ∷ xs) ms = go xs (Happened x ∷ ms)
+
+before_turns : (failed : Bool) (order : List Seat) (past : List Moment) → before_tick (and_turns failed order past) ≡ before_tick past
+before_turns failed [] past = refl
+before_turns failed (seat ∷ seats) past = before_turns failed seats (turn_of failed seat.panel seat.task ∷ past) ∙ one seat.task
+  where
+    one : (task : Task) → before_tick (turn_of failed seat.panel task ∷ past) ≡ before_tick past
+    one Keep = refl
+    one Poll = refl
+    one Decide = refl
+    one Supply = refl
+    one Desk = refl
+    one Hold = refl
+    one Link = refl
+    one Effect = refl
+    one Drive = refl
+
+pub before_block : (tick : TickBlock) (ticks : List TickBlock) → before_tick (moments (tick ∷ ticks)) ≡ moments ticks
+before_block tick ticks =
+    before_turns tick.failed tick.order (and_events tick.events (Began ∷ moments ticks)) ∙ before_events tick.events (moments ticks)
 
 module _ (site : Site) (kept : Retained) (ticks : List TickBlock) (block : Block) (run : Run) (h :
     Stands site kept (record { run = ticks; block = Some block }) run) where
@@ -184,6 +220,13 @@ module _ (site : Site) (kept : Retained) (ticks : List TickBlock) (block : Block
       subst (λ order. HasTurned site kept (and_turns (has_failed store) order before) store turned.journal turned.system)
       (sym h.order_is) (turns.turns site kept before h.system h.journal order_run in_time)
 
+  -- and each panel that isn't marked shows what it showed at its beginning
+  pub marked_block : (store : Store) (turned : Run) → TurnsAll run store turned
+      → AreMarked site kept (moments (ticked (has_failed store) block ∷ ticks)) turned.system.changed
+  marked_block store turned turns =
+      subst (λ order. AreMarked site kept (and_turns (has_failed store) order before) turned.system.changed)
+      (sym h.order_is) (turns.marks site kept before h.system h.journal order_run in_time h.marks)
+
 may_turn_by : (site : Site) (kept : Retained) (ticks : List TickBlock) (o : Option Block) (run : Run)
     → Stands site kept (record { run = ticks; block = o }) run → run.is_open ≡ true
     → MayTurnAll (order_by run.order run.canonical) run.journal run.system
@@ -206,6 +249,7 @@ pub record TickMade (store : Store) (turned run : Run) : Type 0 where
 
 module _ (site : Site) (kept : Retained) (store : Store) (old turned run : Run) (turns : TurnsAll old store turned) (made :
     TickMade store turned run) (shows : (before : List Moment) → SystemStands site kept before turned.system → IsRun site.panels before
+    → AreMarked site kept before turned.system.changed → length old.next.items ≡ site.panels → old.shown.items ≡ faces_of site kept (before_tick before)
     → run.shown.items ≡ faces_of site kept before) (disks : Disks) (stores : (ticks : List TickBlock) (block : Block)
     → Stands site kept (record { run = ticks; block = Some block }) old
     → Stores site kept (stored_old disks old) (stored_new disks run) ticks (ticked (has_failed store) block ∷ ticks)) where
@@ -215,6 +259,7 @@ module _ (site : Site) (kept : Retained) (store : Store) (old turned run : Run) 
       let failed = has_failed store in
       let all = ticked failed block ∷ ticks in
       let turned_so = turned_block site kept ticks block old h store turned turns in
+      let marked = marked_block site kept ticks block old h store turned turns in
       let ordered = closed_ordered site.panels failed (Some block) ticks h.ordered in
       let runs = records_are_runs site.panels all ordered in
       let count = h.count in
@@ -238,7 +283,10 @@ module _ (site : Site) (kept : Retained) (store : Store) (old turned run : Run) 
           canonical = made.canonical ∙ ap (λ (r : Run). r.canonical) turns.rest ∙ h.canonical;
           order_is = tt;
           ordered = ordered;
-          shown = shows (moments all) turned_so.stands runs.0;
+          shown =
+              shows (moments all) turned_so.stands runs.0 marked h.room
+              (h.shown ∙ ap (faces_of site kept) (sym (before_block (ticked failed block) ticks)));
+          marks = subst (λ (s : System). AreMarked site kept (moments all) s.changed) (sym made.system) marked;
           room =
               ap (λ (fs : List Face). length fs) (shown_were ∙ h.shown)
               ∙ length-map-range_with_len (λ panel. face_of site kept panel (moments ticks)) 1 site.panels;
@@ -365,6 +413,7 @@ with_page site kept p run page h =
       order_is = h.order_is;
       ordered = h.ordered;
       shown = h.shown;
+      marks = h.marks;
       room = h.room;
       count = h.count;
       failed = h.failed;

@@ -8,9 +8,10 @@ use Rattle.keep_turn.specs.declared.store.Store.{Store}
 use Rattle.panel_core.specs.declared.system.System.{System}
 use Rattle.retained_journal.specs.Images.{HasRoom}
 use Rattle.panel_core.specs.Keeping.{LeavesAfterTurns, LeavesInTurns, MakesAllTurns}
+use Rattle.panel_core.specs.Marks.{AreMarked, MarksAllTurns, before_tick}
 use Rattle.panel_core.specs.Stands.{StandsFor as SystemStands}
 use Rattle.panel_rules.specs.Moments.{Moment, IsRun, moments}
-use Rattle.panel_rules.specs.Timeline.{faces_of}
+use Rattle.panel_rules.specs.Timeline.{face_of, faces_of}
 use Rattle.record_lines.specs.Events.{event_view}
 use Rattle.record_lines.specs.declared.line.Line.TheVariants.{Event as EventLine}
 use Rattle.panel_program.specs.declared.run.Run.{Run}
@@ -33,6 +34,21 @@ ShowsFaces system old faces =
     → SystemStands site kept before system → IsRun site.panels before → length old ≡ site.panels
     → faces ≡ faces_of site kept before
 
+-- a face is that of the rules now, if another one is that of the end of the tick before
+abbrev pub ShowsNow : System → ℕ → Face → Face → Type 0
+ShowsNow system panel last now =
+    (site : Site) (kept : Retained) (before : List Moment)
+    → SystemStands site kept before system → IsRun site.panels before → AreMarked site kept before system.changed
+    → last ≡ face_of site kept panel (before_tick before) → now ≡ face_of site kept panel before
+
+-- the same of all panels
+abbrev pub ShowAllNow : System → List Face → List Face → List Face → Type 0
+ShowAllNow system shown old faces =
+    (site : Site) (kept : Retained) (before : List Moment)
+    → SystemStands site kept before system → IsRun site.panels before → AreMarked site kept before system.changed
+    → length old ≡ site.panels → shown ≡ faces_of site kept (before_tick before)
+    → faces ≡ faces_of site kept before
+
 -- an event was told, with the bytes of its code alone
 abbrev pub TellsEvent : Event → Run → Run → Type 0
 TellsEvent event old run =
@@ -48,6 +64,7 @@ failures_with failed n = if failed then n + 1 else n
 pub record TurnsAll (old : Run) (store : Store) (run : Run) : Type 0 where
   pub rest : run ≡ record old { system = run.system; journal = run.journal }
   pub turns : MakesAllTurns old.system (order_by old.order old.canonical) old.journal store run.journal run.system
+  pub marks : MarksAllTurns old.system (order_by old.order old.canonical) old.journal store run.system.changed
   pub tried : run.journal.tried ≤ old.journal.tried + 1
 
 -- what power cuts leave in these turns and after them

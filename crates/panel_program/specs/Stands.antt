@@ -28,6 +28,7 @@ use Rattle.panel_laws.specs.FormLaws.{CanBeTold}
 use Rattle.panel_rules.specs.Records.{AreOrdered}
 use Rattle.panel_rules.specs.Timeline.{faces_of}
 use Rattle.panel_core.specs.Keeping.{KeepsRun}
+use Rattle.panel_core.specs.Marks.{AreMarked}
 use Rattle.panel_core.specs.Stands.{StandsFor as SystemStands}
 use Rattle.panel_program.specs.declared.run.Run.{Run}
 use Rattle.panel_program.specs.declared.run_end.RunEnd.{RunEnd}
@@ -69,6 +70,7 @@ pub record Stands (site : Site) (kept : Retained) (p : Progress) (run : Run) : T
   pub order_is : OrderIs p.block (order_by run.order run.canonical)
   pub ordered : AreOrdered site.panels (closed false p)
   pub shown : run.shown.items ≡ faces_of site kept (moments p.run)
+  pub marks : AreMarked site kept (moments_in p) run.system.changed
   pub room : length run.next.items ≡ site.panels
   pub count : run.ticks ≡ length p.run
   pub failed : run.store_failures ≡ failures p.run

@@ -1,13 +1,14 @@
-ghost use Rattle.std.specs.Prelude.{◌≡◌, ◌<◌, ◌-◌, ◌^◌, IfOk, OnErr, OnOk, length, map};
+ghost use Rattle.std.specs.Prelude.{◌≡◌, ◌<◌, ◌-◌, ◌^◌, ◌||◌, IfOk, OnErr, OnOk, false, length, map};
 ghost use Rattle.std.specs.List.{range_with_len};
 ghost use Rattle.face_text.specs.Faces.{empty_face};
 ghost use Rattle.face_text.specs.Timelines.{empty_faces};
 ghost use Rattle.panel_core.specs.Keeping.{has_failed};
-ghost use Rattle.panel_core.specs.Stands.{HasPlan};
+ghost use Rattle.panel_core.specs.Marks.{is_marked};
+ghost use Rattle.panel_core.specs.Stands.{HasPanel, HasPlan};
 ghost use Rattle.panel_edges.specs.Contents.{Grows, GrowsByFront};
 ghost use Rattle.panel_edges.specs.Faults.{HasCause};
 ghost use Rattle.panel_program.specs.Acting.{ClosesBadly, ClosesWell, MakesTicks, MayShow, ShowsFaces, TellsEvent};
-ghost use Rattle.panel_program.specs.Acting.{LeavesInTick, TurnsAll, failures_with};
+ghost use Rattle.panel_program.specs.Acting.{LeavesInTick, ShowAllNow, ShowsNow, TurnsAll, failures_with};
 ghost use Rattle.panel_program.specs.Disks.{KeepsOn, TurnsOn};
 ghost use Rattle.panel_program.specs.Journals.{IsOpenFor};
 ghost use Rattle.panel_program.specs.Outside.{disks_of};
@@ -220,10 +221,11 @@ impl Run {
         if !self.is_open {
             return Ok(());
         }
-        self.make_turns(disk);
+        let changed = self.make_turns(disk);
         let page = TickPage {
             site: self.system.site(),
             tick: self.ticks,
+            changed,
             before: self.next.as_slice(),
             after: self.shown.as_slice(),
             answers: self.system.answers(),
@@ -231,22 +233,25 @@ impl Run {
         page.write(&mut self.page, out)
     }
 
-    // Makes the turns of the tick whose block was read. What was shown before it stands in `next` then.
-    fn make_turns<D: Disk>(&mut self, disk: &mut D)
+    // Makes the turns of the tick whose block was read. What was shown before it stands in `next` then. Tells whether
+    // something else may be shown.
+    fn make_turns<D: Disk>(&mut self, disk: &mut D) -> bool
         requires may { MayClose self.old }
         requires stands { StandsOn D.honest D.images disk.old self.old.journal }
         ensures makes { MakesTicks
             (disks_of D.honest D.images D.moment D.left_since disk.old disk.new)
             self.old self.new }
         ensures room { length self.new.next.items ≡ length self.new.shown.items }
+        ensures same { result ≡ false → self.new.next.items ≡ self.new.shown.items }
         ensures disk { KeepsOn D.honest D.images D.faults disk.old disk.new self.old self.new }
     {
         let store = self.turn_all(disk);
         self.store_failures = with_failure(self.store_failures, store);
         self.is_open = false;
         self.ticks += 1;
-        show(&self.system, &mut self.next);
+        let changed = show_now(&self.system, self.shown.as_slice(), &mut self.next);
         mem::swap(&mut self.shown, &mut self.next);
+        changed
     }
 
     // Each seat has its turn, in the order that was given, else in the canonical one.
@@ -319,5 +324,41 @@ fn show(system: &System, faces: &mut Vec<Face>)
 {
     for place in 0..faces.len() {
         faces[place] = system.face(place as u8 + 1);
+    }
+}
+
+// What the panels show, with what they showed at the end of the tick before. Tells whether it may be something else.
+fn show_now(system: &System, shown: &[Face], faces: &mut Vec<Face>) -> bool
+    requires may { MayShow system.now faces.old.items }
+    requires before { length shown.now ≡ length faces.old.items }
+    ensures shows { ShowAllNow system.now shown.now faces.old.items faces.new.items }
+    ensures same { result ≡ false → faces.new.items ≡ shown.now }
+    ensures room { length faces.new.items ≡ length faces.old.items }
+{
+    let mut changed = false;
+    for place in 0..faces.len() {
+        let panel = place as u8 + 1;
+        changed = either(changed, system.has_changed(panel));
+        faces[place] = face_now(system, panel, &shown[place]);
+    }
+    changed
+}
+
+fn either(one: bool, other: bool) -> bool
+    ensures { result ≡ (one || other) }
+{
+    one || other
+}
+
+// What a panel shows, with what it showed at the end of the tick before.
+fn face_now(system: &System, panel: u8, shown: &Face) -> Face
+    requires { HasPanel panel system.now }
+    ensures shows { ShowsNow system.now panel shown.now result }
+    ensures same { is_marked system.now.changed panel ≡ false → result ≡ shown.now }
+{
+    if system.has_changed(panel) {
+        system.face(panel)
+    } else {
+        *shown
     }
 }

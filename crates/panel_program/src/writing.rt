@@ -1,6 +1,6 @@
 //! Writing what is shown at opening, and what changed and was answered in a tick.
 
-ghost use Rattle.std.specs.Prelude.{◌≡◌, ◌≤◌, ◌++◌, length, OnErr, OnOk};
+ghost use Rattle.std.specs.Prelude.{◌≡◌, ◌≤◌, ◌++◌, false, length, not, OnErr, OnOk};
 ghost use Rattle.std.specs.List.{list_any};
 ghost use Rattle.face_text.specs.Faces.{has_some, same_faces};
 ghost use Rattle.face_text.specs.Holding.{Puts};
@@ -44,6 +44,8 @@ pub fn write_opening<K: Sink>(
 pub struct TickPage<'a> {
     pub site: &'a Site,
     pub tick: u64,
+    /// Where it isn't set, all panels show the same as before.
+    pub changed: bool,
     pub before: &'a [Face],
     pub after: &'a [Face],
     pub answers: &'a Answers,
@@ -52,7 +54,8 @@ pub struct TickPage<'a> {
 impl TickPage<'_> {
     /// Writes it, in one piece where it fits the page. Where there is nothing to tell nothing is written.
     pub fn write<K: Sink>(&self, page: &mut SoundMemorySink, out: &mut K) -> Result<(), Failed>
-        requires { length self.now.before.now ≡ length self.now.after.now }
+        requires room { length self.now.before.now ≡ length self.now.after.now }
+        requires same { self.now.changed ≡ false → self.now.before.now ≡ self.now.after.now }
         ensures ok { OnOk result (Grows (K.written out.old) (K.written out.new)
             (written_text self.now.site.now self.now.tick self.now.before.now self.now.after.now
             self.now.answers.now)) }
@@ -75,9 +78,22 @@ impl TickPage<'_> {
 
     // Whether there is anything to tell.
     fn is_told(&self) -> bool
+        requires { self.now.changed ≡ false → self.now.before.now ≡ self.now.after.now }
         ensures { result ≡ is_told_of self.now.before.now self.now.after.now self.now.answers.now }
     {
-        !are_same(self.after, self.before) || has_answers(self.answers)
+        self.differs() || has_answers(self.answers)
+    }
+
+    // Whether some panel shows something else than before.
+    fn differs(&self) -> bool
+        requires { self.now.changed ≡ false → self.now.before.now ≡ self.now.after.now }
+        ensures { result ≡ not (same_faces self.now.after.now self.now.before.now) }
+    {
+        if self.changed {
+            !are_same(self.after, self.before)
+        } else {
+            false
+        }
     }
 
     // Puts its lines, in as few pieces as the room for lines allows.

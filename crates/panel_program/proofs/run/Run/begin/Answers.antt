@@ -21,4 +21,4 @@ returns-clause-opens c site kept ticks h tick few short =
     let count = tick_moments ticks in
     begun site kept ticks c.args.self.now c.begin.new.self h
     (c.begin.ensures.begins site kept (moments ticks) h.system (omega (arith, tick, count)) (records_are_runs site.panels ticks h.ordered))
-    (omega (arith, tick, few)) short
+    (c.begin.ensures.marks site kept (moments ticks) h.system (records_are_runs site.panels ticks h.ordered)) (omega (arith, tick, few)) short

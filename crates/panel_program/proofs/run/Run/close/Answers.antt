@@ -1,4 +1,4 @@
-use Rattle.std.proofs.Common.{◌≡◌, true, Bool, refl}
+use Rattle.std.proofs.Common.{◌≡◌, ◌∙◌, true, Bool, refl, sym}
 use Rattle.panel_edges.specs.Contents.{Grows, GrowsByFront}
 use Rattle.site_types.specs.declared.retained.Retained.{Retained}
 use Rattle.site_types.specs.declared.site.Site.{Site}
@@ -40,32 +40,35 @@ returns-then-not-self-clause-ok g c site kept p h short =
 
 pub returns-clause-ok : goal.returns-clause-ok
 returns-clause-ok g c =
-    let disks = disks_of g.D.Disk.honest g.D.Disk.images g.D.Disk.moment g.D.Disk.left_since c.args.disk.now c.make_turns.new.disk in
+    let disks = disks_of g.D.Disk.honest g.D.Disk.images g.D.Disk.moment g.D.Disk.left_since c.args.disk.now c.make_turns-changed.new.disk in
     let old = g.K.Stream.written c.args.out.now in
     let new = g.K.Stream.written c.write.new.out in
     on_ok c.write.result
     (λ wrote site kept p h short.
-    let made = c.make_turns.ensures.makes site kept p h short in
-    told_more disks (Grows old new) site c.site.result.now kept c.args.self.now c.make_turns.new.self c.as_slice.result.now c.as_slice-2.result.now
+    let made = c.make_turns-changed.ensures.makes site kept p h short in
+    told_more disks (Grows old new) site c.site.result.now kept c.args.self.now c.make_turns-changed.new.self c.as_slice.result.now c.as_slice-2.result.now
     c.answers.result.now c.answers.ensures (c.site.ensures site kept (moments_in (after_close made.failed p)) made.stands.system)
     c.as_slice.ensures.value c.as_slice-2.ensures.value wrote
-    (Writes site kept (outside_before disks old c.args.self.now) (outside_after disks new c.make_turns.new.self)) p c.write.new.page h c.if-not-self.false made
+    (Writes site kept (outside_before disks old c.args.self.now) (outside_after disks new c.make_turns-changed.new.self)) p c.write.new.page h c.if-not-self.false made
     (λ text stores. record { text = text; stores = stores }))
     c.write.ensures.ok
 
 pub returns-clause-err : goal.returns-clause-err
 returns-clause-err g c =
-    let disks = disks_of g.D.Disk.honest g.D.Disk.images g.D.Disk.moment g.D.Disk.left_since c.args.disk.now c.make_turns.new.disk in
+    let disks = disks_of g.D.Disk.honest g.D.Disk.images g.D.Disk.moment g.D.Disk.left_since c.args.disk.now c.make_turns-changed.new.disk in
     let old = g.K.Stream.written c.args.out.now in
     let new = g.K.Stream.written c.write.new.out in
     on_err c.write.result
     (λ wrote site kept p h short.
-    let made = c.make_turns.ensures.makes site kept p h short in
-    told_more disks (GrowsByFront old new) site c.site.result.now kept c.args.self.now c.make_turns.new.self c.as_slice.result.now
+    let made = c.make_turns-changed.ensures.makes site kept p h short in
+    told_more disks (GrowsByFront old new) site c.site.result.now kept c.args.self.now c.make_turns-changed.new.self c.as_slice.result.now
     c.as_slice-2.result.now c.answers.result.now c.answers.ensures
     (c.site.ensures site kept (moments_in (after_close made.failed p)) made.stands.system) c.as_slice.ensures.value c.as_slice-2.ensures.value wrote
-    (BreaksTick site kept (outside_before disks old c.args.self.now) (outside_after disks new c.make_turns.new.self))
+    (BreaksTick site kept (outside_before disks old c.args.self.now) (outside_after disks new c.make_turns-changed.new.self))
     p c.write.new.page h c.if-not-self.false made
     (λ text stores. part_of site kept c.args.self.now p h c.if-not-self.false made.failed (outside_before disks old c.args.self.now)
-    (outside_after disks new c.make_turns.new.self) text stores))
+    (outside_after disks new c.make_turns-changed.new.self) text stores))
     c.write.ensures.err
+
+pub write-requires-clause-same : goal.write-requires-clause-same
+write-requires-clause-same g c none = c.as_slice.ensures.value ∙ c.make_turns-changed.ensures.same none ∙ sym c.as_slice-2.ensures.value

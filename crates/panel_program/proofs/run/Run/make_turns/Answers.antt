@@ -15,8 +15,8 @@ with_failure-self-requires g c =
     let same = ap (λ (run : Run). run.store_failures) c.turn_all-store.ensures.turns.rest in
     omega (arith, few, same)
 
-pub show-requires : goal.show-requires
-show-requires g c =
+pub show_now-changed-requires-clause-may : goal.show_now-changed-requires-clause-may
+show_now-changed-requires-clause-may g c =
     may_show c.args.self.now c.turn_all-store.new.self c.turn_all-store.result c.requires.may c.turn_all-store.ensures.turns
 
 pub returns-clause-makes : goal.returns-clause-makes
@@ -33,8 +33,9 @@ returns-clause-makes g c site kept p h short =
       failed = c.with_failure-self.ensures;
       before = ap (λ (v : Vec Face Global). v.items) c.swap.ensures.y_after;
     })
-    (λ before stands run. ap (λ (v : Vec Face Global). v.items) c.swap.ensures.x_after
-    ∙ c.show.ensures.shows site kept before stands run (ap (λ (r : Run). length r.next.items) turns.rest ∙ h.room))
+    (λ before stands run marked room last. ap (λ (v : Vec Face Global). v.items) c.swap.ensures.x_after
+    ∙ c.show_now-changed.ensures.shows site kept before stands run marked (ap (λ (r : Run). length r.next.items) turns.rest ∙ room)
+    (c.as_slice.ensures.value ∙ ap (λ (r : Run). r.shown.items) turns.rest ∙ last))
     disks
     (λ ticks block stands. stores_tick disks site kept ticks block c.args.self.now c.turn_all-store.new.self c.turn_all-store.result stands
     c.turn_all-store.ensures.leaves c.turn_all-store.ensures.disk.digest c.turn_all-store.ensures.disk.early turns.tried)
@@ -48,5 +49,21 @@ returns-clause-room g c =
     ∙ ap (λ (run : Run). length run.shown.items) turns.rest
     ∙ same_room r.site r.kept r.p c.args.self.now r.stands
     ∙ sym (ap (λ (run : Run). length run.next.items) turns.rest)
-    ∙ sym c.show.ensures.room
+    ∙ sym c.show_now-changed.ensures.room
     ∙ sym (ap (λ (v : Vec Face Global). length v.items) c.swap.ensures.x_after)
+
+pub show_now-changed-requires-clause-before : goal.show_now-changed-requires-clause-before
+show_now-changed-requires-clause-before g c =
+    let r = c.requires.may in
+    let turns = c.turn_all-store.ensures.turns in
+    ap length c.as_slice.ensures.value
+    ∙ ap (λ (run : Run). length run.shown.items) turns.rest
+    ∙ same_room r.site r.kept r.p c.args.self.now r.stands
+    ∙ sym (ap (λ (run : Run). length run.next.items) turns.rest)
+
+pub returns-clause-same : goal.returns-clause-same
+returns-clause-same g c none =
+    ap (λ (v : Vec Face Global). v.items) c.swap.ensures.y_after
+    ∙ sym c.as_slice.ensures.value
+    ∙ sym (c.show_now-changed.ensures.same none)
+    ∙ sym (ap (λ (v : Vec Face Global). v.items) c.swap.ensures.x_after)

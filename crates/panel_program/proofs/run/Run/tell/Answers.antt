@@ -1,7 +1,7 @@
 use Rattle.std.proofs.Common.{arith}
 use Rattle.record_lines.specs.Events.{event_view}
 use Rattle.panel_program.specs.Records.{moments_in}
-use Rattle.panel_program.proofs.Codes.{stands_for_view}
+use Rattle.panel_program.proofs.Codes.{marked_for_view, stands_for_view}
 use Rattle.panel_program.proofs.Progresses.{few_asked}
 use Rattle.panel_program.proofs.Stood.{told, untold}
 use Rattle.panel_program.proofs.run.Run.tell.Goals as goal
@@ -23,7 +23,8 @@ event-requires c =
 pub returns-then-self-clause-tells : goal.returns-then-self-clause-tells
 returns-then-self-clause-tells c site kept p h short =
     told site kept p c.args.self.now (event_view c.args.event) c.event.new.self h c.if-self.true
-    (stands_for_view site kept c.args.event (moments_in p) c.event.new.self (c.event.ensures.takes site kept (moments_in p) h.system)) short
+    (stands_for_view site kept c.args.event (moments_in p) c.event.new.self (c.event.ensures.takes site kept (moments_in p) h.system))
+    (marked_for_view site kept c.args.event (moments_in p) c.event.new.self.changed (c.event.ensures.marks site kept (moments_in p) h.system h.marks)) short
 
 pub returns-else-self-clause-tells : goal.returns-else-self-clause-tells
 returns-else-self-clause-tells c site kept p h short = untold site kept p c.args.self.now (event_view c.args.event) h c.if-self.false
