@@ -35,6 +35,12 @@ impl Called {
     pub(crate) fn is_told_by(&self, other: &Called) -> bool {
         self.outcome == other.outcome && self.text.as_str() == other.text.as_str()
     }
+
+    /// What the register keeps that the call left.
+    pub(crate) fn into_tables(self) -> MemoryTables {
+        let Called { keeper, .. } = self;
+        keeper.tables
+    }
 }
 
 /// Calls `panel` over forms in memory, with an empty register.

@@ -15,7 +15,7 @@ pub(crate) fn try_import(alloc: Global, trial: &Trial) -> Result<String> {
     let mut lines = Lines::new(alloc);
     lines.say("    ");
     say_import(&mut lines, &first);
-    let again = call_over(alloc, trial.given(), SOUND, first.keeper.tables)?;
+    let again = call_over(alloc, trial.given(), SOUND, first.into_tables())?;
     lines.say("\n    again ");
     say_import(&mut lines, &again);
     lines.say("\n");
@@ -60,7 +60,7 @@ fn failures_of(
     for done in 0..calls.min(100_000) {
         let called = call(alloc, trial.given(), failing(trial.outside, edge, done + 1))?;
         let words = told(alloc, &called)?;
-        let again = call_over(alloc, trial.given(), trial.outside, called.keeper.tables)?;
+        let again = call_over(alloc, trial.given(), trial.outside, called.into_tables())?;
         if !again.is_told_by(whole) || !keeps_same(&again, whole) {
             bail!("a call fails: the same import does not complete it");
         }

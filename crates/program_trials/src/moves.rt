@@ -71,19 +71,8 @@ fn opened(alloc: Global, given: Given, is_new: bool, journal: &[u8]) -> Result<S
     let Some(name) = given.words.get(place) else {
         bail!("no site");
     };
-    let mut words = Vec::new(alloc);
-    words.push(String::from_str(alloc, "run")?)?;
-    words.push(name.clone()?)?;
-    words.push(String::from_str(alloc, "journal")?)?;
-    let given = Given {
-        words: words.as_slice(),
-        site,
-        third: None,
-        record: b"end\n".as_slice(),
-        journal,
-        target: b"".as_slice(),
-    };
-    opening_of(alloc, &call(alloc, given, SOUND)?)
+    let trial = Trial::of_opening(alloc, name.as_str(), site, journal)?;
+    opening_of(alloc, &call(alloc, trial.given(), SOUND)?)
 }
 
 /// What a run of the old site tells where the move was stopped after each of the calls that the old journal's disk

@@ -4,6 +4,7 @@ use crate::options::{edited, option, outside_of};
 use crate::outside::{Outside, SOUND};
 use crate::records::record_of;
 use anyhow::Result;
+use std::alloc::Global;
 use std::fs;
 use trial_cases::Case;
 
@@ -56,7 +57,8 @@ impl<'a> Trial<'a> {
         trial.journal = edited(rt, journal_of(rt, old, records)?, options)?;
         for part in options.split(", ") {
             if part == "again" {
-                trial.target = call(rt.alloc(), trial.given(), SOUND)?.target.bytes;
+                let Called { target, .. } = call(rt.alloc(), trial.given(), SOUND)?;
+                trial.target = target.bytes;
             }
             if let Some(length) = part.strip_prefix("target ") {
                 trial.target.resize(length.parse::<u16>()? as usize, 0)?;
@@ -75,6 +77,33 @@ impl<'a> Trial<'a> {
             file.resize(length.parse::<u32>()? as usize, 0)?;
         }
         Ok(trial)
+    }
+
+    /// A run without a tick over a journal, of a site of this name whose file is at hand.
+    pub(crate) fn of_opening(
+        alloc: Global,
+        name: &str,
+        site: Option<&[u8]>,
+        journal: &[u8],
+    ) -> Result<Trial<'a>> {
+        let mut words = Vec::new(alloc);
+        words.push(String::from_str(alloc, "run")?)?;
+        words.push(String::from_str(alloc, name)?)?;
+        words.push(String::from_str(alloc, "journal")?)?;
+        let site = match site {
+            Some(bytes) => Some(Vec::from_slice(alloc, bytes)?),
+            None => None,
+        };
+        Ok(Trial {
+            words,
+            site,
+            third: None,
+            record: Vec::from_slice(alloc, b"end\n")?,
+            journal: Vec::from_slice(alloc, journal)?,
+            target: Vec::new(alloc),
+            outside: SOUND,
+            options: "",
+        })
     }
 
     // A call over no journal. The file that the second word names is on the shelf, where there is one, and for a move
