@@ -10,7 +10,7 @@ import tempfile
 
 REQUESTS = """import json, requests, sys
 for method, url, body in json.load(sys.stdin):
-    it = requests.request(method, url, data=body.encode() if body else None)
+    it = requests.request(method, url, data=body.encode() if body else None, timeout=12)
     print(json.dumps([it.status_code, it.reason, it.headers["Content-Type"], it.text]))
 """
 FETCH = """async function all(calls) {
@@ -31,7 +31,7 @@ PAGE = "<meta charset=utf-8><pre id=told></pre><script>%sall(%s).then(it => told
 def by_curl(calls):
     told = []
     for method, url, body in calls:
-        words = ["curl", "-sS", "-i", "-m", "20", "-X", method, url, *(["--data-binary", body] if body else [])]
+        words = ["curl", "-sS", "-i", "-m", "12", "-X", method, url, *(["--data-binary", body] if body else [])]
         head, text = subprocess.run(words, stdout=subprocess.PIPE, check=True, timeout=30).stdout.decode().split("\r\n\r\n", 1)
         _, status, phrase = head.split("\r\n")[0].split(" ", 2)
         told.append([int(status), phrase, re.search(r"Content-Type: (.*)\r", head)[1], text])
@@ -42,7 +42,7 @@ def by_http_client(calls):
     told = []
     for method, url, body in calls:
         host, path = re.match(r"http://([^/]*)(.*)", url).groups()
-        one = http.client.HTTPConnection(host, timeout=20)
+        one = http.client.HTTPConnection(host, timeout=12)
         one.request(method, path, body.encode() if body else None)
         got = one.getresponse()
         told.append([got.status, got.reason, got.headers["Content-Type"], got.read().decode()])
@@ -51,13 +51,13 @@ def by_http_client(calls):
 
 
 def by_requests(calls):
-    done = subprocess.run(["/usr/bin/python3", "-c", REQUESTS], input=json.dumps(calls).encode(), stdout=subprocess.PIPE, check=True, timeout=60)
+    done = subprocess.run(["/usr/bin/python3", "-c", REQUESTS], input=json.dumps(calls).encode(), stdout=subprocess.PIPE, check=True, timeout=30)
     return [json.loads(line) for line in done.stdout.decode().splitlines()]
 
 
 def by_node(calls):
     script = f"{FETCH}all({json.dumps(calls)}).then(it => console.log(JSON.stringify(it)));"
-    return json.loads(subprocess.run(["node", "-e", script], stdout=subprocess.PIPE, check=True, timeout=60).stdout)
+    return json.loads(subprocess.run(["node", "-e", script], stdout=subprocess.PIPE, check=True, timeout=30).stdout)
 
 
 def by_chromium(calls):
@@ -66,7 +66,7 @@ def by_chromium(calls):
         page.write_text(PAGE % (FETCH, json.dumps(calls)))
         words = [chromium(), "--headless", "--no-sandbox", "--disable-gpu", "--disable-web-security", f"--user-data-dir={folder}/profile",
                  "--virtual-time-budget=20000", "--dump-dom", page.as_uri()]
-        shown = subprocess.run(words, stdout=subprocess.PIPE, stderr=subprocess.DEVNULL, check=True, timeout=60).stdout.decode()
+        shown = subprocess.run(words, stdout=subprocess.PIPE, stderr=subprocess.DEVNULL, check=True, timeout=30).stdout.decode()
     return json.loads(re.search(r"<pre[^>]*>(.*?)</pre>", shown, re.S)[1].replace("&quot;", '"').replace("&lt;", "<").replace("&amp;", "&"))
 
 
