@@ -1,4 +1,4 @@
-"""What `.ci/desk` tries a desk with: the reports, servers of a program, and the bytes of requests and answers."""
+"""What `.ci/desk` and the checks of examples try a desk with: the reports, servers of a program, the bytes of requests and answers."""
 import contextlib
 import http.client
 import os
@@ -19,17 +19,18 @@ SECONDS = 10  # that one connection may take
 PHRASES = {200: "OK", 400: "Bad Request", 403: "Forbidden", 404: "Not Found", 405: "Method Not Allowed", 409: "Conflict",
            411: "Length Required", 413: "Payload Too Large", 501: "Not Implemented"}
 program = pathlib.Path(os.environ.get("PROGRAM", TOP / "crates" / "panel_main" / "out" / "panel_main"))
+name = pathlib.Path(sys.argv[0]).name
 failed = 0
 
 
 def fail(what):
     global failed
     failed += 1
-    print(f"desk: {what}")
+    print(f"{name}: {what}")
 
 
 def skip(what):
-    print(f"desk: {what}: not tried", file=sys.stderr)
+    print(f"{name}: {what}: not tried", file=sys.stderr)
 
 
 def guarded(tried, *given):
@@ -69,8 +70,8 @@ def is_open(port):
 class Server:
     """A program that serves so many connections of a site, over a journal in a new folder."""
 
-    def __init__(self, room, count, site=SITE, journal=None):
-        self.port = free_port()
+    def __init__(self, room, count, site=SITE, journal=None, port=None):
+        self.port = port or free_port()
         self.journal = journal or pathlib.Path(tempfile.mkdtemp(dir=room)) / "journal"
         words = [program, "serve", site, self.journal, str(self.port), str(count)]
         self.child = subprocess.Popen(words, stdin=subprocess.DEVNULL, stdout=subprocess.PIPE, stderr=subprocess.STDOUT)
