@@ -6,10 +6,10 @@ ghost use Rattle.desk_register.specs.Replies.{AnswersStop};
 ghost use Rattle.desk_register.specs.Statuses.{stop_reply};
 
 use crate::access::{NEEDED_LEVEL, level_by};
+use crate::refusals::reply_to_unread;
 use crate::reply::Reply;
 use desk_answers::Object;
-use desk_bodies::{BodyRefusal, StopBody, read_stop};
-use desk_requests::Status;
+use desk_bodies::{StopBody, read_stop};
 use site_types::Site;
 use std::alloc::Global;
 
@@ -20,8 +20,7 @@ pub fn reply_to_stop(alloc: Global, site: &Site, body: &[u8]) -> Reply
 {
     match read_stop(alloc, body) {
         Ok(stop) => judge(site, &stop),
-        Err(BodyRefusal::BadForm) => Reply::refused(Status::BadRequest),
-        Err(BodyRefusal::NoMemory) => Reply::refused(Status::NoRoom),
+        Err(refusal) => reply_to_unread(refusal),
     }
 }
 

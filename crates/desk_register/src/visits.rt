@@ -12,11 +12,10 @@ ghost use Rattle.service_register.specs.Points.{points_of};
 ghost use Rattle.site_types.specs.Valid.{IsValid};
 
 use crate::access::{NEEDED_LEVEL, level_by};
-use crate::refusals::reply_to_refusal;
+use crate::refusals::{reply_to_refusal, reply_to_unread};
 use crate::reply::Reply;
 use desk_answers::Object;
-use desk_bodies::{BodyRefusal, VisitBody, read_visit};
-use desk_requests::Status;
+use desk_bodies::{VisitBody, read_visit};
 use service_keepers::Keeper;
 use service_register::{Register, RegisterRefusal};
 use site_types::Site;
@@ -39,8 +38,7 @@ pub fn reply_to_visit<R: Keeper>(
 {
     match read_visit(alloc, site, body) {
         Ok(visit) => judge(alloc, site, &visit, register, keeper),
-        Err(BodyRefusal::BadForm) => Reply::refused(Status::BadRequest),
-        Err(BodyRefusal::NoMemory) => Reply::refused(Status::NoRoom),
+        Err(refusal) => reply_to_unread(refusal),
     }
 }
 
@@ -131,6 +129,7 @@ fn put_test<R: Keeper>(
     ensures refusals { IfErr result IsOfTests }
     ensures cause { HasRegisterCause (R.faults keeper.old) (R.faults keeper.new) result }
 {
-    let point = &site.points.as_slice()[place as usize];
+    let points = site.points.as_slice();
+    let point = &points[place as usize];
     register.tested(alloc, keeper, number, point.name.as_str())
 }
