@@ -1,5 +1,6 @@
 -- Visits and tests that are put in turn, where the keeper tells its tables.
-use Rattle.std.proofs.Common.{◌≡◌, ◌+◌, ◌<◌, ◌≤◌, inl, inr, ℕ, Bool, true, false, List, [], ◌∷◌, ◌++◌, Option, Some, None, arith, drop, get_or, length, map, take, refl, sym, ap, ◌∙◌, subst, add-one, drop-cons, take-append-drop}
+use Rattle.std.proofs.Common.{◌≡◌, ◌+◌, ◌<◌, ◌≤◌, inl, inr, ℕ, Bool, true, false, List, [], ◌∷◌, ◌++◌, Option, Some, None, refl, sym, ap, ◌∙◌, subst}
+use Rattle.std.proofs.Common.{arith, drop, get_or, length, map, take, add-one, drop-cons, take-append-drop}
 use Rattle.std.specs.Prelude.{Result, Ok, Err, MatchBool, MatchOption, slice_get}
 use Rattle.std.proofs.lemmas.Grind.{take_at_read}
 use Rattle.std.proofs.lemmas.List.{map-append, take_all}
@@ -91,12 +92,12 @@ is_kept visit a b accepts none =
 -- behind a visit that was accepted its tests are taken
 pub visit_then : (visit : VisitRow) (tests : List TestRow) (result : Result (Unit {0}) RegisterRefusal) (a b c : Tables) → AcceptsVisit visit a b
     → TestsTaken visit.number tests result b c → VisitTaken visit tests result a c
-visit_then visit tests (Ok done) a b c accepts taken = record { between = b; visit = accepts; tests = taken }
+visit_then visit tests (Ok done) a b c accepts taken = record { between = b; accepts = accepts; puts = taken }
 visit_then visit tests (Err NoSuchPoint) a b c accepts taken = absurd taken
 visit_then visit tests (Err (Differs other)) a b c accepts taken = absurd taken
 visit_then visit tests (Err NoSuchVisit) a b c accepts none = absurd (is_kept visit a b accepts none)
-visit_then visit tests (Err KeeperFault) a b c accepts taken = inr (record { between = b; visit = accepts; tests = taken })
-visit_then visit tests (Err NoMemory) a b c accepts taken = inr (record { between = b; visit = accepts; tests = taken })
+visit_then visit tests (Err KeeperFault) a b c accepts taken = inr (record { between = b; accepts = accepts; puts = taken })
+visit_then visit tests (Err NoMemory) a b c accepts taken = inr (record { between = b; accepts = accepts; puts = taken })
 
 -- a visit that is refused
 pub visit_ends : (visit : VisitRow) (tests : List TestRow) (why : RegisterRefusal) (a b : Tables) → VisitAnswered visit (Err why) a b

@@ -1,5 +1,5 @@
 -- Replies to a visit by what came of putting it.
-use Rattle.std.proofs.Common.{◌≡◌, ◌∙◌, ◌<◌, ◌≤◌, ℕ, List, Option, Some, None, ap, length, refl, subst}
+use Rattle.std.proofs.Common.{◌≡◌, ◌∙◌, ◌<◌, ◌≤◌, ℕ, List, Option, Some, None, ap, length, refl, subst, sym}
 use Rattle.std.specs.Global.{Vec}
 use Rattle.std.specs.Prelude.{◌≢◌, Result, Ok, Err, IfOk, IfSome}
 use Rattle.service_keepers.specs.Keeping.{ChangesBy}
@@ -101,13 +101,14 @@ listed_told points day places bytes None are is = tt
 listed_told points day places bytes (Some kept) are is = is ∙ ap (csv_text kept points) are
 
 -- the table is that of the places that were listed before
-pub listed_by : (points : List PointRow) (day : ℕ) (places : List ℕ) (result : Result (Vec ℕ) RegisterRefusal) (old middle : Option Tables)
-    → middle ≡ old → IfSome old (λ kept. places ≡ untested day kept points)
+pub listed_by : (points : List PointRow) (day : ℕ) (listed places : List ℕ) (result : Result (Vec ℕ) RegisterRefusal) (old middle : Option Tables)
+    → middle ≡ old → places ≡ listed → IfSome old (λ kept. listed ≡ untested day kept points)
     → IfOk result (λ bytes. IfSome middle (λ kept. bytes.items ≡ csv_text kept points places))
     → IfOk result (λ bytes. IfSome old (λ kept. bytes.items ≡ untested_text points day kept))
-listed_by points day places (Err why) old middle same are is = tt
-listed_by points day places (Ok bytes) old middle same are is =
-    listed_told points day places bytes.items old are
+listed_by points day listed places (Err why) old middle same these are is = tt
+listed_by points day listed places (Ok bytes) old middle same these are is =
+    listed_told points day places bytes.items old
+    (subst (λ (list : List ℕ). IfSome old (λ kept. list ≡ untested day kept points)) (sym these) are)
     (subst (λ (told : Option Tables). IfSome told (λ kept. bytes.items ≡ csv_text kept points places)) same is)
 
 -- ---- which refusals

@@ -1,11 +1,11 @@
 -- The places that the body of a visit says are those of points of the site.
-use Rattle.std.proofs.Common.{◌≡◌, ◌<◌, ◌||◌, ℕ, zero, suc, Bool, true, false, List, [], ◌∷◌, Option, Some, None, length, refl, sym, ap, ◌∙◌, map, subst}
+use Rattle.std.proofs.Common.{◌≡◌, ◌<◌, ◌||◌, ℕ, zero, suc, Bool, true, false, List, [], ◌∷◌, Option, Some, None, get_or, length, refl, sym, ap, ◌∙◌, map, subst}
 use Rattle.std.specs.Prelude.{All, ◌↔◌, Result, Ok, Err, IfErr, codes, if◌then◌else◌, nat_le, option_map, slice_get}
 use Rattle.std.specs.Option.{option_and_then}
 use Rattle.std.specs.Str.{bytes_eq}
 use Rattle.std.proofs.lemmas.Cmp.{nat_list_eq_equiv}
 use Rattle.std.proofs.lemmas.List.Elements.{All-cons, All-nil}
-use Rattle.std.proofs.lemmas.Option.{same_Some, slice_get_within}
+use Rattle.std.proofs.lemmas.Option.{same_Some, slice_get_read, slice_get_within}
 use Rattle.serde_json.specs.Data.{Data, Items, item, no_items}
 use Rattle.serde_json.specs.Events.{items_len}
 use Rattle.serde_json.specs.Find.{as_str}
@@ -118,6 +118,12 @@ listed_at site (first ∷ rest) zero point at =
 listed_at site (first ∷ rest) (suc place) point at =
     ap (λ b. bytes_eq first.name.bytes point.name.bytes || b) (listed_at site rest place point at)
     ∙ or_true (bytes_eq first.name.bytes point.name.bytes)
+
+-- the point that is read at a place
+pub read_at : (read points : List PointPlan) (place : ℕ) (point : PointPlan) → read ≡ points → place < length points → point ≡ get_or read place point
+    → slice_get points place ≡ Some point
+read_at read points place point same within is =
+    slice_get_read points (length points) place point refl within (is ∙ ap (λ (list : List PointPlan). get_or list place point) same)
 
 pub site_lists : (site : Site) (points : List PointRow) (place : ℕ) (point : PointPlan) → points ≡ points_of site
     → slice_get site.points place ≡ Some point → lists_point point.name.bytes points ≡ true

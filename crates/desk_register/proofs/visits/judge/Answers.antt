@@ -7,16 +7,16 @@ use Rattle.desk_register.specs.Replies.{all_is_put, level_is_enough, level_is_to
 use Rattle.desk_register.proofs.Replied.{Takes, denied_at, enough_at, low_at, not_point_of_visit, put_done, put_refused}
 use Rattle.desk_register.proofs.visits.judge.Goals as goal
 
-pub returns-then-level-clause-answers : goal.returns-then-level-clause-answers
-returns-then-level-clause-answers g c =
-    level_is_too_low (low_at c.level_by.result _ c.level_by.ensures c.if-level.true) refl
-    (denied_at c.level_by.result _ c.denied.result c.level_by.ensures c.denied.ensures)
+pub returns-then-level-lt-NEEDED_LEVEL-clause-answers : goal.returns-then-level-lt-NEEDED_LEVEL-clause-answers
+returns-then-level-lt-NEEDED_LEVEL-clause-answers g c =
+    level_is_too_low (low_at c.level_by-level.result _ c.level_by-level.ensures c.if-level-lt-NEEDED_LEVEL.true) refl
+    (denied_at c.level_by-level.result _ c.denied.result c.level_by-level.ensures c.denied.ensures)
 
 pub returns-in-Ok-clause-answers : goal.returns-in-Ok-clause-answers
 returns-in-Ok-clause-answers g c =
     let said = visit_view c.args.visit.now in
     let sides = sides_of g.R.Keeper.tables g.R.Keeper.faults c.args.keeper.now c.put_visit.new.keeper in
-    level_is_enough (enough_at c.level_by.result _ c.level_by.ensures c.if-level.false)
+    level_is_enough (enough_at c.level_by-level.result _ c.level_by-level.ensures c.if-level-lt-NEEDED_LEVEL.false)
     (put_done c.args.site.now said sides c.done.result c.len.result c.put_visit.result c.in-Ok.is c.put_visit.ensures.takes c.len.ensures
     c.done.ensures)
 
@@ -28,6 +28,6 @@ returns-in-Err-clause-answers g c =
     let said = visit_view c.args.visit.now in
     let sides = sides_of g.R.Keeper.tables g.R.Keeper.faults c.args.keeper.now c.put_visit.new.keeper in
     let takes = subst (λ result. ChangesBy (Takes c.args.site.now said result) sides.before sides.after) c.in-Err.is c.put_visit.ensures.takes in
-    level_is_enough (enough_at c.level_by.result _ c.level_by.ensures c.if-level.false)
+    level_is_enough (enough_at c.level_by-level.result _ c.level_by-level.ensures c.if-level-lt-NEEDED_LEVEL.false)
     (put_refused c.args.site.now said sides c.reply_to_refusal.result c.in-Err.refusal c.reply_to_refusal.ensures takes c.in-Err.ensures.other
     (λ is. c.put_visit.ensures.cause.failed (c.in-Err.is ∙ ap (λ (why : RegisterRefusal). Err why) is)))

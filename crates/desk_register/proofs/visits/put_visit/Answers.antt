@@ -1,5 +1,5 @@
 use Rattle.std.proofs.Common.{subst}
-use Rattle.std.specs.Prelude.{Err}
+use Rattle.std.specs.Prelude.{List, ℕ, Err}
 use Rattle.std.proofs.lemmas.Result.{IfErr-weaker, err_from_is_err_and}
 use Rattle.service_keepers.specs.Keeping.{ChangesBy}
 use Rattle.service_keepers.specs.Rows.{visit_row}
@@ -38,9 +38,11 @@ returns-clause-takes g c =
     let old = g.R.Keeper.tables c.args.keeper.now in
     let middle = g.R.Keeper.tables c.visit.new.keeper in
     let new = g.R.Keeper.tables c.put_tests.new.keeper in
+    let taken = subst (λ (places : List ℕ). ChangesBy (TestsTaken visit.number (tests_at c.args.site.now visit.number places) c.put_tests.result) middle new)
+    c.as_slice.ensures.value c.put_tests.ensures.takes in
     let accepts = subst (λ result. ChangesBy (VisitAnswered visit result) old middle) c.in_ok-visit.was c.visit.ensures.answer in
     goes_on (AcceptsVisit visit) (TestsTaken visit.number tests c.put_tests.result) (VisitTaken visit tests c.put_tests.result)
-    (visit_then visit tests c.put_tests.result) old middle new accepts c.put_tests.ensures.takes
+    (visit_then visit tests c.put_tests.result) old middle new accepts taken
 
 pub returns-clause-refusals : goal.returns-clause-refusals
 returns-clause-refusals g c = IfErr-weaker c.put_tests.result IsOfTests IsOfVisitWithTests test_or_visit c.put_tests.ensures.refusals
