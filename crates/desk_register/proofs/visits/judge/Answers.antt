@@ -1,4 +1,4 @@
-use Rattle.std.proofs.Common.{◌∙◌, ap, refl, subst}
+use Rattle.std.proofs.Common.{◌≡◌, ◌∙◌, ap, arith, length, refl, subst}
 use Rattle.std.specs.Prelude.{Err}
 use Rattle.service_keepers.specs.Keeping.{ChangesBy}
 use Rattle.service_register.specs.declared.refusal.RegisterRefusal.{RegisterRefusal}
@@ -16,8 +16,9 @@ pub returns-in-Ok-clause-answers : goal.returns-in-Ok-clause-answers
 returns-in-Ok-clause-answers g c =
     let said = visit_view c.args.visit.now in
     let sides = sides_of g.R.Keeper.tables g.R.Keeper.faults c.args.keeper.now c.put_visit.new.keeper in
+    let counts : c.len.result ≡ length c.args.visit.now.points.items = omega arith in
     level_is_enough (enough_at c.level_by-level.result _ c.level_by-level.ensures c.if-level-lt-NEEDED_LEVEL.false)
-    (put_done c.args.site.now said sides c.done.result c.len.result c.put_visit.result c.in-Ok.is c.put_visit.ensures.takes c.len.ensures
+    (put_done c.args.site.now said sides c.done.result c.len.result c.put_visit.result c.in-Ok.is c.put_visit.ensures.takes counts
     c.done.ensures)
 
 pub reply_to_refusal-requires : goal.reply_to_refusal-requires
