@@ -1,18 +1,17 @@
 -- Visits and tests that are put in turn, where the keeper tells its tables.
 use Rattle.std.proofs.Common.{◌≡◌, ◌+◌, ◌<◌, ◌≤◌, inl, inr, ℕ, Bool, true, false, List, [], ◌∷◌, ◌++◌, Option, Some, None, refl, sym, ap, ◌∙◌, subst}
-use Rattle.std.proofs.Common.{arith, drop, get_or, length, map, take, add-one, drop-cons, take-append-drop}
+use Rattle.std.proofs.Common.{arith, drop, get_or, length, take, add-one, drop-cons, take-append-drop}
 use Rattle.std.specs.Prelude.{Result, Ok, Err, MatchBool, MatchOption, slice_get}
 use Rattle.std.proofs.lemmas.Grind.{take_at_read}
 use Rattle.std.proofs.lemmas.List.{map-append, take_all}
-use Rattle.service_keepers.specs.Keeping.{AddsTest, AddsVisit, ChangesBy, PutsTest}
-use Rattle.service_keepers.specs.Rows.{visit_row}
+use Rattle.service_keepers.specs.Keeping.{AddsTest, AddsVisit, ChangesBy}
 use Rattle.service_keepers.specs.Tables.{Tables, TestRow, VisitRow, has_test, visit_numbered}
-use Rattle.service_register.specs.Answers.{AcceptsTest, AcceptsVisit, IsOfVisit, TestAnswered, VisitAnswered, test_named}
+use Rattle.service_register.specs.Answers.{AcceptsTest, AcceptsVisit, TestAnswered, VisitAnswered, test_named}
 use Rattle.service_register.specs.declared.refusal.RegisterRefusal.{RegisterRefusal}
 use Rattle.service_register.specs.declared.refusal.RegisterRefusal.TheVariants.{Differs, KeeperFault, NoMemory, NoSuchPoint, NoSuchVisit}
 use Rattle.service_register.proofs.Twice.{visit_twice}
 use Rattle.site_types.specs.declared.site.Site.{Site}
-use Rattle.desk_register.specs.Puts.{PutsFirstTests, PutsInPart, PutsTests, PutsVisitAndTests, PutsVisitInPart, name_of_point, test_at, tests_at}
+use Rattle.desk_register.specs.Puts.{PutsFirstTests, PutsTests, name_of_point, test_at, tests_at}
 use Rattle.desk_register.specs.Taken.{IsOfTests, TestsTaken, VisitTaken}
 
 -- ---- steps of told tables

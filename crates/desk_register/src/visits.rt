@@ -88,7 +88,14 @@ fn put_visit<R: Keeper>(
     ensures cause { HasRegisterCause (R.faults keeper.old) (R.faults keeper.new) result }
 {
     register.visit(alloc, keeper, &visit.visit)?;
-    put_tests(alloc, site, visit.visit.number, visit.points.as_slice(), register, keeper)
+    put_tests(
+        alloc,
+        site,
+        visit.visit.number,
+        visit.points.as_slice(),
+        register,
+        keeper,
+    )
 }
 
 // Puts that the visit of a number tested the points at some places.

@@ -3,7 +3,7 @@ use Rattle.std.specs.Prelude.{Err}
 use Rattle.service_keepers.specs.Keeping.{ChangesBy}
 use Rattle.service_register.specs.declared.refusal.RegisterRefusal.{RegisterRefusal}
 use Rattle.desk_bodies.specs.Views.{visit_view}
-use Rattle.desk_register.specs.Replies.{all_is_put, level_is_enough, level_is_too_low, sides_of}
+use Rattle.desk_register.specs.Replies.{level_is_enough, level_is_too_low, sides_of}
 use Rattle.desk_register.proofs.Replied.{Takes, denied_at, enough_at, low_at, not_point_of_visit, put_done, put_refused}
 use Rattle.desk_register.proofs.visits.judge.Goals as goal
 

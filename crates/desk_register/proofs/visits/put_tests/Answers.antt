@@ -4,7 +4,7 @@ use Rattle.std.proofs.lemmas.Result.{err_from_is_err_and}
 use Rattle.service_keepers.specs.Keeping.{ChangesBy}
 use Rattle.service_keepers.specs.Tables.{TestRow}
 use Rattle.service_register.specs.Answers.{AcceptsTest, TestAnswered}
-use Rattle.desk_register.specs.Puts.{PutsTests, name_of_point, test_at, tests_at}
+use Rattle.desk_register.specs.Puts.{PutsTests, test_at, tests_at}
 use Rattle.desk_register.specs.Taken.{TestsTaken}
 use Rattle.desk_register.proofs.InTurn.{all_taken, goes_on, stays, tests_around, tests_end_at, tests_more, tests_up_to}
 use Rattle.desk_register.proofs.visits.put_tests.Goals as goal
