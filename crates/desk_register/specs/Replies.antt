@@ -73,12 +73,16 @@ PutsAll site said = PutsVisitAndTests said.visit (tests_at site said.visit.numbe
 abbrev pub PutsPart : Site → VisitSaid → Tables → Tables → Type 0
 PutsPart site said = PutsInPart said.visit (tests_at site said.visit.number said.points)
 
+-- another visit is kept under the number, where that is told
+abbrev pub FindsOther : VisitSaid → Visit → KeeperSides → Type 0
+FindsOther said visit sides = IfSome sides.before (HasOtherVisit said.visit (visit_row visit))
+
 -- What is replied to a visit whose code is enough: all is put, another visit has the number, which is handed back, the
 -- keeper failed, or memory ran out.
 pub data AnswersPut (site : Site) (said : VisitSaid) (sides : KeeperSides) (reply : Reply) : Type 0 where
   all_is_put : WentBy (PutsAll site said) sides → reply ≡ done (Tested said.visit.number (length said.points))
       → AnswersPut site said sides reply
-  other_is_kept : (visit : Visit) → IfSome sides.before (HasOtherVisit said.visit (visit_row visit)) → IsUnchanged sides
+  other_is_kept : (visit : Visit) → FindsOther said visit sides → IsUnchanged sides
       → reply ≡ Object Conflict (OtherVisit visit) → AnswersPut site said sides reply
   put_has_failed : WentBy (PutsPart site said) sides → HasFailed sides → reply ≡ refused Unavailable
       → AnswersPut site said sides reply
