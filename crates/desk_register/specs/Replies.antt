@@ -88,11 +88,15 @@ pub data AnswersPut (site : Site) (said : VisitSaid) (sides : KeeperSides) (repl
       → AnswersPut site said sides reply
   put_has_no_memory : WentBy (PutsPart site said) sides → reply ≡ refused NoRoom → AnswersPut site said sides reply
 
+-- the level of the code that a visit says
+abbrev pub level_said : Site → VisitSaid → ℕ
+level_said site said = level_of site said.code
+
 -- what is replied to a visit that is said: the level of its code is too low, or it is put
 pub data AnswersSaid (site : Site) (said : VisitSaid) (sides : KeeperSides) (reply : Reply) : Type 0 where
-  level_is_too_low : level_of site said.code < needed_level → IsUnchanged sides → reply ≡ denied (level_of site said.code)
+  level_is_too_low : level_said site said < needed_level → IsUnchanged sides → reply ≡ denied (level_said site said)
       → AnswersSaid site said sides reply
-  level_is_enough : needed_level ≤ level_of site said.code → AnswersPut site said sides reply
+  level_is_enough : needed_level ≤ level_said site said → AnswersPut site said sides reply
       → AnswersSaid site said sides reply
 
 -- What is replied to a visit: the body isn't of its form, memory ran out before it was read, or it goes by what the
