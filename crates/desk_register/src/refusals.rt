@@ -1,0 +1,38 @@
+//! What a body and the register refuse.
+
+ghost use Rattle.std.specs.Prelude.{◌≡◌, ◌≢◌};
+ghost use Rattle.desk_register.specs.Statuses.{refusal_reply, unread_reply};
+ghost use Rattle.service_register.specs.declared.refusal.RegisterRefusal.TheVariants.{NoSuchPoint};
+
+use crate::reply::Reply;
+use desk_answers::Object;
+use desk_bodies::BodyRefusal;
+use desk_requests::Status;
+use service_register::RegisterRefusal;
+
+// What is replied where a body isn't read.
+pub(crate) fn reply_to_unread(refusal: BodyRefusal) -> Reply
+    ensures { result ≡ unread_reply refusal }
+{
+    match refusal {
+        BodyRefusal::BadForm => Reply::refused(Status::BadRequest),
+        BodyRefusal::NoMemory => Reply::refused(Status::NoRoom),
+    }
+}
+
+// What is replied where the register refuses. That a visit isn't kept once it was accepted can come of a keeper alone
+// that doesn't tell its tables.
+pub(crate) fn reply_to_refusal(refusal: RegisterRefusal) -> Reply
+    requires { refusal ≢ NoSuchPoint }
+    ensures { result ≡ refusal_reply refusal }
+{
+    match refusal {
+        RegisterRefusal::Differs(visit) => Reply::Object {
+            status: Status::Conflict,
+            object: Object::OtherVisit(visit),
+        },
+        RegisterRefusal::KeeperFault => Reply::refused(Status::Unavailable),
+        RegisterRefusal::NoMemory | RegisterRefusal::NoSuchVisit => Reply::refused(Status::NoRoom),
+        RegisterRefusal::NoSuchPoint => unreachable!(),
+    }
+}
