@@ -1,0 +1,5 @@
+pub mod FirstOnes
+pub mod OneVerdict
+pub mod HeardStamps
+pub mod SmallSite
+pub mod SmallCases
