@@ -33,14 +33,14 @@ pub record PutsFirstTests (tests : List TestRow) (old new : Tables) : Type 0 whe
 -- the visit is put and then its tests, in their order
 pub record PutsVisitAndTests (visit : VisitRow) (tests : List TestRow) (old new : Tables) : Type 0 where
   pub between : Tables
-  pub visit : AcceptsVisit visit old between
-  pub tests : PutsTests tests between new
+  pub accepts : AcceptsVisit visit old between
+  pub puts : PutsTests tests between new
 
 -- the visit is put and some first tests, and not all
 pub record PutsVisitInPart (visit : VisitRow) (tests : List TestRow) (old new : Tables) : Type 0 where
   pub between : Tables
-  pub visit : AcceptsVisit visit old between
-  pub tests : PutsFirstTests tests between new
+  pub accepts : AcceptsVisit visit old between
+  pub puts : PutsFirstTests tests between new
 
 -- nothing is put, or the visit and some first tests, and not all
 abbrev pub PutsInPart : VisitRow → List TestRow → Tables → Tables → Type 0

@@ -58,9 +58,9 @@ SaysNothing of_value bytes = (value : Data) → IsJson bytes value → of_value 
 -- What is replied to the end of serving: the body isn't of its form, memory ran out, or it goes by the level of the
 -- code that the body says.
 pub data AnswersStop (site : Site) (body : List ℕ) (reply : Reply) : Type 0 where
-  bad_form : SaysNothing stop_of body → reply ≡ refused BadRequest → AnswersStop site body reply
-  no_memory : reply ≡ refused NoRoom → AnswersStop site body reply
-  judged : (code : Option (List ℕ)) → SaysBody stop_of body code → reply ≡ stop_reply (level_of site code)
+  stop_isnt_read : SaysNothing stop_of body → reply ≡ refused BadRequest → AnswersStop site body reply
+  stop_has_no_memory : reply ≡ refused NoRoom → AnswersStop site body reply
+  stop_is_judged : (code : Option (List ℕ)) → SaysBody stop_of body code → reply ≡ stop_reply (level_of site code)
       → AnswersStop site body reply
 
 -- ---- a visit
@@ -76,28 +76,28 @@ PutsPart site said = PutsInPart said.visit (tests_at site said.visit.number said
 -- What is replied to a visit whose code is enough: all is put, another visit has the number, which is handed back, the
 -- keeper failed, or memory ran out.
 pub data AnswersPut (site : Site) (said : VisitSaid) (sides : KeeperSides) (reply : Reply) : Type 0 where
-  all : WentBy (PutsAll site said) sides → reply ≡ done (Tested said.visit.number (length said.points))
+  all_is_put : WentBy (PutsAll site said) sides → reply ≡ done (Tested said.visit.number (length said.points))
       → AnswersPut site said sides reply
-  other : (visit : Visit) → IfSome sides.before (HasOtherVisit said.visit (visit_row visit)) → IsUnchanged sides
+  other_is_kept : (visit : Visit) → IfSome sides.before (HasOtherVisit said.visit (visit_row visit)) → IsUnchanged sides
       → reply ≡ Object Conflict (OtherVisit visit) → AnswersPut site said sides reply
-  failed : WentBy (PutsPart site said) sides → HasFailed sides → reply ≡ refused Unavailable
+  put_has_failed : WentBy (PutsPart site said) sides → HasFailed sides → reply ≡ refused Unavailable
       → AnswersPut site said sides reply
-  no_memory : WentBy (PutsPart site said) sides → reply ≡ refused NoRoom → AnswersPut site said sides reply
+  put_has_no_memory : WentBy (PutsPart site said) sides → reply ≡ refused NoRoom → AnswersPut site said sides reply
 
 -- what is replied to a visit that is said: the level of its code is too low, or it is put
 pub data AnswersSaid (site : Site) (said : VisitSaid) (sides : KeeperSides) (reply : Reply) : Type 0 where
-  too_low : level_of site said.code < needed_level → IsUnchanged sides → reply ≡ denied (level_of site said.code)
+  level_is_too_low : level_of site said.code < needed_level → IsUnchanged sides → reply ≡ denied (level_of site said.code)
       → AnswersSaid site said sides reply
-  enough : needed_level ≤ level_of site said.code → AnswersPut site said sides reply
+  level_is_enough : needed_level ≤ level_of site said.code → AnswersPut site said sides reply
       → AnswersSaid site said sides reply
 
 -- What is replied to a visit: the body isn't of its form, memory ran out before it was read, or it goes by what the
 -- body says.
 pub data AnswersVisit (site : Site) (body : List ℕ) (sides : KeeperSides) (reply : Reply) : Type 0 where
-  bad_form : SaysNothing (visit_of site) body → IsUnchanged sides → reply ≡ refused BadRequest
+  visit_isnt_read : SaysNothing (visit_of site) body → IsUnchanged sides → reply ≡ refused BadRequest
       → AnswersVisit site body sides reply
-  no_memory : IsUnchanged sides → reply ≡ refused NoRoom → AnswersVisit site body sides reply
-  judged : (said : VisitSaid) → SaysBody (visit_of site) body said → AnswersSaid site said sides reply
+  visit_has_no_memory : IsUnchanged sides → reply ≡ refused NoRoom → AnswersVisit site body sides reply
+  visit_is_judged : (said : VisitSaid) → SaysBody (visit_of site) body said → AnswersSaid site said sides reply
       → AnswersVisit site body sides reply
 
 -- ---- the untested points
@@ -109,7 +109,7 @@ untested_text points day kept = csv_text kept points (untested day kept points)
 -- What is replied to the question which of some points weren't tested since a day: their table, or the keeper failed,
 -- or memory ran out.
 pub data AnswersUntested (points : List PointRow) (day : ℕ) (sides : KeeperSides) (reply : Reply) : Type 0 where
-  table : (text : Vec ℕ) → IfSome sides.before (λ kept. text.items ≡ untested_text points day kept)
+  table_is_made : (text : Vec ℕ) → IfSome sides.before (λ kept. text.items ≡ untested_text points day kept)
       → reply ≡ Table text → AnswersUntested points day sides reply
-  failed : HasFailed sides → reply ≡ refused Unavailable → AnswersUntested points day sides reply
-  no_memory : reply ≡ refused NoRoom → AnswersUntested points day sides reply
+  table_has_failed : HasFailed sides → reply ≡ refused Unavailable → AnswersUntested points day sides reply
+  table_has_no_memory : reply ≡ refused NoRoom → AnswersUntested points day sides reply

@@ -2,6 +2,8 @@
 use Rattle.std.specs.Prelude.{ℕ, nat_lt, if◌then◌else◌}
 use Rattle.desk_answers.specs.declared.object.Object.{Object as Json}
 use Rattle.desk_answers.specs.declared.object.Object.TheVariants.{Denied, Empty, OtherVisit, Stopped}
+use Rattle.desk_bodies.specs.declared.refusal.BodyRefusal.{BodyRefusal}
+use Rattle.desk_bodies.specs.declared.refusal.BodyRefusal.TheVariants as body
 use Rattle.desk_requests.specs.declared.status.Status.{Status}
 use Rattle.desk_requests.specs.declared.status.Status.TheVariants as status
 use Rattle.service_register.specs.declared.refusal.RegisterRefusal.{RegisterRefusal}
@@ -33,6 +35,11 @@ needed_level = 3
 -- the reply to the end of serving, by the level of its code
 abbrev pub stop_reply : ℕ → Reply
 stop_reply level = if nat_lt level needed_level then denied level else done Stopped
+
+-- the reply to a body that isn't read
+abbrev pub unread_reply : BodyRefusal → Reply
+unread_reply body.BadForm = refused status.BadRequest
+unread_reply body.NoMemory = refused status.NoRoom
 
 -- the reply to what the register refuses
 abbrev pub refusal_reply : RegisterRefusal → Reply

