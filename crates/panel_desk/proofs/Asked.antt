@@ -1,92 +1,27 @@
 -- What is asked for has no body that is too long, and a panel that is asked for is one of the site's.
-use Rattle.std.proofs.Common.{◌≡◌, ◌∙◌, ◌≤◌, ◌+◌, ◌^◌, not, ℕ, Bool, true, false, List, [], ◌∷◌, length, take, drop, Option, Some, None, Result, Ok, Err}
-use Rattle.std.proofs.Common.{if◌then◌else◌, refl, sym, ap, subst, arith, length-append, length-take}
+use Rattle.std.proofs.Common.{◌≡◌, ◌≤◌, ◌+◌, ◌^◌, ℕ, Bool, true, false, List, length, drop, Option, Some, None}
+use Rattle.std.proofs.Common.{if◌then◌else◌, refl, ap, subst, arith, length-append, length-take}
 use Rattle.std.specs.Prelude.{◌&&◌, nat_le, map}
 use Rattle.std.proofs.lemmas.Bool.{and_parts, leb-true}
-use Rattle.httparse.specs.Grammar.{RequestHead, print_request}
+use Rattle.httparse.specs.Grammar.{print_request}
 use Rattle.httparse.specs.Spans.{name_and_value}
-use Rattle.desk_requests.specs.Asked.{allowed_length, asked_by, by_route, counted_length, encoding_name, field_values, has_field, has_method}
-use Rattle.desk_requests.specs.Asked.{length_name, only_length, unencoded, with_body, with_length}
-use Rattle.desk_requests.specs.Paths.{face_route, is_posted, route_at, route_found, route_of, the_paths, untested_since}
+use Rattle.desk_requests.proofs.AskedLaws.{route_asked}
+use Rattle.desk_requests.specs.Paths.{face_route, route_at, route_found, route_of, the_paths, untested_since}
 use Rattle.desk_requests.specs.Taking.{HasWhole, body_of}
-use Rattle.desk_requests.specs.declared.asking.Asking.{Asking}
 use Rattle.desk_requests.specs.declared.paths.Path.{Path}
 use Rattle.desk_requests.specs.declared.paths.Path.TheVariants.{Face as AtFace, Ticks as AtTicks, Table as AtTable}
 use Rattle.desk_requests.specs.declared.paths.Path.TheVariants.{Visits as AtVisits, Untested as AtUntested, Stop as AtStop}
 use Rattle.desk_requests.specs.declared.route.Route.{Route}
 use Rattle.desk_requests.specs.declared.route.Route.TheVariants.{Face, Ticks, Table, Visits, Untested, Stop}
-use Rattle.desk_requests.specs.declared.status.Status.{Status}
-use Rattle.desk_requests.specs.declared.status.Status.TheVariants.{BodyTooLarge, MethodNotAllowed, NotImplemented}
 use Rattle.desk_requests.specs.declared.taken.Request.{Request}
 use Rattle.line_fields.specs.Numbers.{number_below}
 use Rattle.matchit.specs.Router.{RouteOf}
 use Rattle.matchit.specs.Seek.{first}
 use Rattle.panel_desk.specs.Acting.{IsOfSite}
-use Rattle.panel_rules.specs.Moments.{IsPanel}
-use Rattle.site_types.specs.Numbers.{number_of}
 use Rattle.site_types.specs.declared.site.Site.{Site}
-
-ok_same : {A E : Type 0} (a b : A) → Ok {A} {E} a ≡ Ok b → a ≡ b
-ok_same a b e = cc
 
 some_same : {A : Type 0} (a b : A) → Some a ≡ Some b → a ≡ b
 some_same a b e = cc
-
--- ---- lengths
-
-allowed_short : (count : Option ℕ) (n : ℕ) → allowed_length count ≡ Ok n → n ≤ 65536
-allowed_short None n e = absurd cc
-allowed_short (Some count) n e = by (nat_le count 65536) refl e
-  where
-    by : (b : Bool) → nat_le count 65536 ≡ b → (if b then Ok count else Err BodyTooLarge) ≡ Ok n → n ≤ 65536
-    by true is h = subst (λ m. m ≤ 65536) (ok_same count n h) (leb-true count 65536 is)
-    by false is h = absurd cc
-
-only_short : (values : List (List ℕ)) (n : ℕ) → only_length values ≡ Ok n → n ≤ 65536
-only_short [] n e = absurd cc
-only_short (text ∷ []) n e = allowed_short (number_of text) n e
-only_short (text ∷ other ∷ more) n e = absurd cc
-
--- the route that was found is asked for, with a body of so many bytes
-pub record IsAsked (route : Route) (asks : Asking) : Type 0 where
-  pub route_is : asks.route ≡ route
-  pub short : asks.length ≤ 65536
-
-length_asked : (route : Route) (found : Result ℕ Status) (asks : Asking) → ((n : ℕ) → found ≡ Ok n → n ≤ 65536) → with_length route found ≡ Ok asks
-    → IsAsked route asks
-length_asked route (Ok n) asks short e =
-    let is = ok_same _ asks e in
-    record { route_is = sym (ap (λ (a : Asking). a.route) is); short = subst (λ m. m ≤ 65536) (ap (λ (a : Asking). a.length) is) (short n refl) }
-length_asked route (Err status) asks short e = absurd cc
-
-body_asked : (route : Route) (fields : List (List ℕ × List ℕ)) (asks : Asking) → with_body route fields ≡ Ok asks → IsAsked route asks
-body_asked route fields asks e = by (not (is_posted route)) e
-  where
-    by : (b : Bool) → (if b then Ok (record { route = route; length = 0 }) else with_length route (only_length (field_values length_name fields))) ≡ Ok asks
-        → IsAsked route asks
-    by true h =
-        let is = ok_same _ asks h in
-        record {
-          route_is = sym (ap (λ (a : Asking). a.route) is);
-          short = (let none = ap (λ (a : Asking). a.length) is in omega (arith, none));
-        }
-    by false h = length_asked route (only_length (field_values length_name fields)) asks (only_short (field_values length_name fields)) h
-
-unencoded_asked : (route : Route) (fields : List (List ℕ × List ℕ)) (asks : Asking) → unencoded route fields ≡ Ok asks → IsAsked route asks
-unencoded_asked route fields asks e = by (has_field encoding_name fields) e
-  where
-    by : (b : Bool) → (if b then Err NotImplemented else with_body route fields) ≡ Ok asks → IsAsked route asks
-    by true h = absurd cc
-    by false h = body_asked route fields asks h
-
-route_asked : (method : List ℕ) (fields : List (List ℕ × List ℕ)) (found : Option Route) (asks : Asking) → by_route method fields found ≡ Ok asks
-    → (found ≡ Some asks.route) × (asks.length ≤ 65536)
-route_asked method fields None asks e = absurd cc
-route_asked method fields (Some route) asks e = by (not (has_method route method)) e
-  where
-    by : (b : Bool) → (if b then Err MethodNotAllowed else unencoded route fields) ≡ Ok asks → (Some route ≡ Some asks.route) × (asks.length ≤ 65536)
-    by true h = absurd cc
-    by false h = let asked = unencoded_asked route fields asks h in (sym (ap Some asked.route_is), asked.short)
 
 -- ---- routes
 
@@ -123,7 +58,7 @@ module _ (site : Site) (bytes : List ℕ) (request : Request) (whole : HasWhole 
   asked : (route_of site.panels whole.head.target ≡ Some request.route) × (request.body ≤ 65536)
   asked =
       route_asked whole.head.method (map name_and_value whole.head.fields) (route_of site.panels whole.head.target)
-      (record { route = request.route; length = request.body }) whole.judged
+      request.route request.body whole.judged
 
   pub is_of_site : IsOfSite site request.route
   is_of_site = found_path site whole.head.target (first the_paths whole.head.target) request.route asked.0

@@ -1,19 +1,19 @@
 -- One connection, from what was read to what was sent.
-use Rattle.std.proofs.Common.{◌≡◌, ◌+◌, ◌^◌, ◌≤◌, ℕ, List, length, refl, sym, ap, subst, arith}
+use Rattle.std.proofs.Common.{◌≡◌, ℕ, List, Option, refl, sym, ap, subst, arith}
 use Rattle.desk_register.specs.Replies.{IsUnchanged, KeeperSides}
 use Rattle.desk_requests.specs.Taking.{ReadsOneRequest, body_of}
 use Rattle.desk_requests.specs.declared.status.Status.{Status}
 use Rattle.desk_requests.specs.declared.taken.Request.{Request}
+use Rattle.desk_requests.specs.declared.taken.Taken.{Taken}
 use Rattle.desk_requests.specs.declared.taken.Taken.TheVariants as taken
 use Rattle.desk_runs.specs.Ticks.{at_rest}
-use Rattle.panel_desk.specs.Acting.{HasReplied, IsAtHand}
+use Rattle.panel_desk.specs.Acting.{HasReplied}
 use Rattle.panel_desk.specs.Replies.{Replies, refused_reply}
 use Rattle.panel_desk.specs.Serving.{ConnSides, Sends, ServesOne}
 use Rattle.panel_desk.specs.declared.reply.Reply.{Reply}
 use Rattle.panel_desk.specs.declared.served.Served.{Served}
 use Rattle.panel_desk.specs.declared.served.Served.TheVariants.{Ended, ReadFault}
-use Rattle.panel_rules.specs.Moments.{TickBlock, moments}
-use Rattle.retained_journal.specs.declared.journal.Journal.{Journal}
+use Rattle.panel_rules.specs.Moments.{TickBlock}
 use Rattle.site_run.specs.Outside.{Disks, stored_new, stored_old}
 use Rattle.site_run.specs.Stands.{Stands}
 use Rattle.site_run.specs.declared.run.Run.{Run}
@@ -99,3 +99,9 @@ module _ (site : Site) (kept : Retained) (ticks : List TickBlock) (conn : ConnSi
         stands = page_stands did.after mid paged rest did.stands;
         few = did.few;
       }
+
+-- what was read of a connection, at the site and as far as it is left in the end
+pub read_here : (panels there : ℕ) (left mid rest : Option (List ℕ)) (bytes : List ℕ) (what : Taken) → panels ≡ there → rest ≡ mid
+    → ReadsOneRequest panels left mid bytes what → ReadsOneRequest there left rest bytes what
+read_here panels there left mid rest bytes what same is read =
+    subst (λ n. ReadsOneRequest n left rest bytes what) same (subst (λ o. ReadsOneRequest panels left o bytes what) (sym is) read)

@@ -1,5 +1,5 @@
 -- What is done for a reply.
-use Rattle.std.proofs.Common.{◌≡◌, ◌∙◌, ◌+◌, ◌^◌, ◌≤◌, ℕ, Bool, true, false, List, ◌∷◌, length, Ok, Err, refl, sym, ap, subst, arith}
+use Rattle.std.proofs.Common.{◌≡◌, ◌∙◌, ◌≤◌, ℕ, Bool, true, false, List, ◌∷◌, length, Ok, Err, refl, sym, ap, subst, arith}
 use Rattle.panel_desk.specs.Acting.{HasReplied, IsAtHand}
 use Rattle.panel_desk.specs.Replies.{AnswersBlock, TakesBlock, other_tick, refused_line}
 use Rattle.panel_desk.specs.declared.reply.Reply.{Reply}
@@ -82,14 +82,14 @@ module _ (site : Site) (kept : Retained) (ticks : List TickBlock) (body : List �
       let after = tick_told site ran.failed body ∷ ticks in
       let takes : TakesBlock site found body ticks after (Tick changed) =
       record {
-        runs = λ is. (ran.failed, (changed, (refl, refl)));
+        runs = λ is. (ran.failed, changed, refl, refl);
         refuses = λ other. both (is_next found (length ticks)) next other;
       } in
       record {
         after = after;
         does = subst (λ v. AnswersBlock site body ticks after v (Tick changed)) (sym verdict) takes;
         stands = ran.stands;
-        at_hand = (tick_told site ran.failed body, (ticks, (refl, (ran.shown, ran.same))));
+        at_hand = (tick_told site ran.failed body, ticks, refl, ran.shown, ran.same);
         stores = ran.stores;
         few = ran.few;
       }

@@ -1,5 +1,5 @@
 -- What each step makes of a run while a connection is served.
-use Rattle.std.specs.Prelude.{◌≡◌, ◌+◌, ◌^◌, ◌≤◌, ℕ, true, false, List, ◌∷◌, length, Result, Ok, Err}
+use Rattle.std.specs.Prelude.{◌≡◌, ◌+◌, ◌^◌, ◌≤◌, ℕ, true, false, List, Option, ◌∷◌, length, Result, Ok, Err}
 use Rattle.desk_register.specs.Replies.{KeeperSides}
 use Rattle.desk_requests.specs.declared.route.Route.{Route}
 use Rattle.desk_requests.specs.declared.route.Route.TheVariants as route

@@ -18,6 +18,8 @@ use Rattle.panel_edges.specs.Limits.{most_record_bytes}
 use Rattle.panel_edges.specs.declared.failed.Failed.{Failed}
 use Rattle.panel_rules.specs.Moments.{TickBlock, moments}
 use Rattle.site_run.specs.declared.run.Run.{Run}
+use Rattle.site_run.specs.Stands.{AreFew, HasRun, IsNext, Stands}
+use Rattle.site_run.specs.Stands.{Writes, WritesPart}
 use Rattle.panel_program.specs.declared.run_end.RunEnd.{RunEnd}
 use Rattle.panel_program.specs.declared.run_end.RunEnd.TheVariants.{Ended, Refused, TooManyBytes, ReadFault}
 use Rattle.site_run.specs.Records.{Progress, closed, after_line, progress_of}
@@ -45,19 +47,19 @@ module _ (site : Site) (kept : Retained) where
   pub record Acts {kind : DiskKind} (p : Progress) (line : Line) (old new : Outside kind) (run : Run) : Type 0 where
     pub failed : Bool
     pub stands : Stands site kept (after_line site failed p (line_view line)) run
-    pub wrote : Writes old new p.run (after_line site failed p (line_view line)).run
+    pub wrote : Writes site kept old new p.run (after_line site failed p (line_view line)).run
 
   -- the line `end` closed the last tick
   pub record Finishes {kind : DiskKind} (p : Progress) (old new : Outside kind) (run : Run) : Type 0 where
     pub failed : Bool
     pub ran : HasRun site kept (closed failed p) run
-    pub wrote : Writes old new p.run (closed failed p)
+    pub wrote : Writes site kept old new p.run (closed failed p)
 
   -- a write failed in the text of the tick that the line closed
   pub record Fails {kind : DiskKind} (p : Progress) (line : Line) (old new : Outside kind) (run : Run) : Type 0 where
     pub failed : Bool
     pub ran : HasRun site kept (after_line site failed p (line_view line)).run run
-    pub broke : WritesPart old new p.run (after_line site failed p (line_view line)).run
+    pub broke : WritesPart site kept old new p.run (after_line site failed p (line_view line)).run
     pub first : broke.whole ≡ p.run
 
   -- how a line was taken: it acts, it ends the run, or a write failed

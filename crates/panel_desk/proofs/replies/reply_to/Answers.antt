@@ -2,7 +2,7 @@ use Rattle.std.proofs.Common.{◌≡◌, ◌∙◌, refl, sym, subst}
 use Rattle.desk_register.specs.Replies.{AnswersStop, AnswersUntested, AnswersVisit, sides_of}
 use Rattle.panel_desk.proofs.Replied.{replied_as, same_site, without_tick}
 use Rattle.panel_desk.specs.Replies.{AnswersBlock, Replies}
-use Rattle.panel_desk.specs.declared.reply.Reply.TheVariants.{Other}
+use Rattle.panel_desk.specs.declared.reply.Reply.TheVariants.{Face, Profile, Other}
 use Rattle.desk_requests.specs.declared.route.Route.TheVariants as route
 use Rattle.panel_rules.specs.Moments.{IsPanel}
 use Rattle.service_register.specs.Points.{points_of}
@@ -17,21 +17,26 @@ returns-in-Face-clause-replies g c site kept ticks stands room =
     let r = c.requires.may in
     let disks = disks_of g.D.Disk.honest g.D.Disk.images g.D.Disk.moment g.D.Disk.left_since c.args.disk.now c.args.disk.now in
     let of = subst (λ route. IsOfSite r.site route) c.in-Face.is r.of in
-    without_tick _ site kept ticks disks _ c.args.run.now refl stands
-    (subst (λ asked. Replies site asked c.args.body.now _ ticks ticks _) (sym c.in-Face.is) (refl, (refl, refl)))
+    let sides = sides_of g.R.Keeper.tables g.R.Keeper.faults c.args.keeper.now c.args.keeper.now in
+    without_tick (λ after. Replies site c.args.route c.args.body.now sides ticks after (Face c.in-Face.panel)) site kept ticks disks (Face c.in-Face.panel) c.args.run.now refl stands
+    (subst (λ asked. Replies site asked c.args.body.now sides ticks ticks (Face c.in-Face.panel)) (sym c.in-Face.is) (refl, (refl, refl)))
     (subst (λ s. IsPanel s.panels c.in-Face.panel) (same_site r.site site r.kept kept _ _ c.args.run.now r.stands stands) of)
 
 pub returns-in-Table-clause-replies : goal.returns-in-Table-clause-replies
 returns-in-Table-clause-replies g c site kept ticks stands room =
     let disks = disks_of g.D.Disk.honest g.D.Disk.images g.D.Disk.moment g.D.Disk.left_since c.args.disk.now c.args.disk.now in
-    without_tick _ site kept ticks disks _ c.args.run.now refl stands
-    (subst (λ asked. Replies site asked c.args.body.now _ ticks ticks _) (sym c.in-Table.is) (refl, (refl, refl))) tt
+    let sides = sides_of g.R.Keeper.tables g.R.Keeper.faults c.args.keeper.now c.args.keeper.now in
+    without_tick (λ after. Replies site c.args.route c.args.body.now sides ticks after Profile) site kept ticks disks Profile c.args.run.now refl stands
+    (subst (λ asked. Replies site asked c.args.body.now sides ticks ticks Profile) (sym c.in-Table.is) (refl, (refl, refl))) tt
 
 pub returns-in-Ticks-clause-replies : goal.returns-in-Ticks-clause-replies
 returns-in-Ticks-clause-replies g c site kept ticks stands room =
     let disks = disks_of g.D.Disk.honest g.D.Disk.images g.D.Disk.moment g.D.Disk.left_since c.args.disk.now c.reply_to_block.new.disk in
-    replied_as _ _ site kept ticks disks _ c.args.run.now c.reply_to_block.new.run
-    (λ after does. subst (λ asked. Replies site asked c.args.body.now _ ticks after _) (sym c.in-Ticks.is) (refl, does))
+    let sides = sides_of g.R.Keeper.tables g.R.Keeper.faults c.args.keeper.now c.args.keeper.now in
+    let reply = c.reply_to_block.result in
+    replied_as (λ after. AnswersBlock site c.args.body.now ticks after (verdict_of site c.args.body.now) reply)
+    (λ after. Replies site c.args.route c.args.body.now sides ticks after reply) site kept ticks disks reply c.args.run.now c.reply_to_block.new.run
+    (λ after does. subst (λ asked. Replies site asked c.args.body.now sides ticks after reply) (sym c.in-Ticks.is) (refl, does))
     (c.reply_to_block.ensures.replies site kept ticks stands room)
 
 pub returns-in-Visits-clause-replies : goal.returns-in-Visits-clause-replies
@@ -40,8 +45,9 @@ returns-in-Visits-clause-replies g c site kept ticks stands room =
     let same = c.site.ensures site kept _ stands in
     let sides = sides_of g.R.Keeper.tables g.R.Keeper.faults c.args.keeper.now c.reply_to_visit.new.keeper in
     let answers = subst (λ s. AnswersVisit s c.args.body.now sides c.reply_to_visit.result) same c.reply_to_visit.ensures.answers in
-    without_tick _ site kept ticks disks _ c.args.run.now refl stands
-    (subst (λ asked. Replies site asked c.args.body.now sides ticks ticks _) (sym c.in-Visits.is) (c.reply_to_visit.result, (answers, (refl, refl)))) tt
+    let reply = Other c.reply_to_visit.result in
+    without_tick (λ after. Replies site c.args.route c.args.body.now sides ticks after reply) site kept ticks disks reply c.args.run.now refl stands
+    (subst (λ asked. Replies site asked c.args.body.now sides ticks ticks reply) (sym c.in-Visits.is) (c.reply_to_visit.result, answers, (refl, refl))) tt
 
 pub returns-in-Untested-clause-replies : goal.returns-in-Untested-clause-replies
 returns-in-Untested-clause-replies g c site kept ticks stands room =
@@ -51,17 +57,20 @@ returns-in-Untested-clause-replies g c site kept ticks stands room =
     let points = subst (λ s. c.args.register.now ≡ points_of s) (same_site r.site site r.kept kept _ _ c.args.run.now r.stands stands) r.points_are in
     let answers =
     subst (λ ps. AnswersUntested ps c.in-Untested.day sides c.reply_to_untested.result) points c.reply_to_untested.ensures.answers in
-    without_tick _ site kept ticks disks _ c.args.run.now refl stands
-    (subst (λ asked. Replies site asked c.args.body.now sides ticks ticks _) (sym c.in-Untested.is)
-    (c.reply_to_untested.ensures.same, (c.reply_to_untested.result, (answers, (refl, refl))))) tt
+    let reply = Other c.reply_to_untested.result in
+    without_tick (λ after. Replies site c.args.route c.args.body.now sides ticks after reply) site kept ticks disks reply c.args.run.now refl stands
+    (subst (λ asked. Replies site asked c.args.body.now sides ticks ticks reply) (sym c.in-Untested.is)
+    (c.reply_to_untested.ensures.same, (c.reply_to_untested.result, answers, (refl, refl)))) tt
 
 pub returns-in-Stop-clause-replies : goal.returns-in-Stop-clause-replies
 returns-in-Stop-clause-replies g c site kept ticks stands room =
     let disks = disks_of g.D.Disk.honest g.D.Disk.images g.D.Disk.moment g.D.Disk.left_since c.args.disk.now c.args.disk.now in
     let same = c.site-in-Stop.ensures site kept _ stands in
     let answers = subst (λ s. AnswersStop s c.args.body.now c.reply_to_stop.result) same c.reply_to_stop.ensures in
-    without_tick _ site kept ticks disks _ c.args.run.now refl stands
-    (subst (λ asked. Replies site asked c.args.body.now _ ticks ticks _) (sym c.in-Stop.is) (refl, (c.reply_to_stop.result, (answers, (refl, refl))))) tt
+    let sides = sides_of g.R.Keeper.tables g.R.Keeper.faults c.args.keeper.now c.args.keeper.now in
+    let reply = Other c.reply_to_stop.result in
+    without_tick (λ after. Replies site c.args.route c.args.body.now sides ticks after reply) site kept ticks disks reply c.args.run.now refl stands
+    (subst (λ asked. Replies site asked c.args.body.now sides ticks ticks reply) (sym c.in-Stop.is) (refl, (c.reply_to_stop.result, answers, (refl, refl)))) tt
 
 pub reply_to_visit-requires-clause-valid : goal.reply_to_visit-requires-clause-valid
 reply_to_visit-requires-clause-valid g c =

@@ -4,7 +4,7 @@ use Rattle.panel_desk.proofs.writing.send.Goals as goal
 
 pub returns-clause-sends : goal.returns-clause-sends
 returns-clause-sends g c site kept ticks stands at_hand =
-    let written = c.write_reply in
+    let written = c.write_reply-written in
     sent site kept ticks c.args.reply.now (g.K.Stream.written c.args.out.now) (g.K.Stream.written written.new.out) written.result c.served.result
     c.served.ensures (on_ok written.result (λ tells. tells site kept ticks stands at_hand) written.ensures.ok)
     (on_err written.result (λ tells. tells site kept ticks stands at_hand) written.ensures.err)
