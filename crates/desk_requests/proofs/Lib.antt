@@ -1,3 +1,4 @@
+pub mod AskedLaws
 pub mod FieldValues
 pub mod HeadLaws
 pub mod ReadPieces

@@ -2,7 +2,9 @@
 use Rattle.std.proofs.Common.{◌≡◌, ◌∙◌, ◌+◌, ◌<◌, ◌≤◌, ◌++◌, ◌==◌, not, ℕ, Bool, true, false, List, [], ◌∷◌, length, take, drop, take-append-drop}
 use Rattle.std.proofs.Common.{Option, Some, None, refl, sym, ap, subst, arith, append_assoc, append-nil, length-append}
 use Rattle.std.proofs.lemmas.Bool.{ne_eqb}
+use Rattle.site_types.specs.declared.event.Event.{Event as EventOf}
 use Rattle.site_types.specs.declared.site.Site.{Site}
+use Rattle.tick_units.specs.declared.seat.Seat.{Seat as SeatOf}
 use Rattle.tick_units.specs.declared.tick.Tick.{Tick as TickOf}
 use Rattle.record_lines.specs.Judged.{line_view}
 use Rattle.record_lines.specs.Lines.{accepted, at_start, cut, ends_with, reading_of}
@@ -63,6 +65,11 @@ none_read site all reader stands reads =
       few = omega arith;
     }
 
+pub nothing_read : (site : Site) (all : List ℕ) (reader : LineReader) → StandsFor site (first_line site) reader
+    → reading_of site (first_line site) ≡ accepted at_start tick_one → (read : IsRead site all all reader 2) × (read.tail ≡ [])
+unfolding none_read
+nothing_read site all reader stands reads = (none_read site all reader stands reads, refl)
+
 -- what was used of a piece
 pub uses_fit : (site : Site) (before piece : List ℕ) (used : ℕ) (step : Step) → Uses site before piece used step → used ≤ length piece
 uses_fit site before piece used Need uses = omega (arith, uses)
@@ -106,7 +113,7 @@ module _ (site : Site) (all left : List ℕ) (reader new_reader : LineReader) (n
   abbrev more : List ℕ
   more = take fed.used left
 
-  abbrev Told : Step → Type 0
+  abbrev pub Told : Step → Type 0
   Told step = Tells (reading_of site before) (reading_of site (before ++ more)) step × Uses site before left fed.used step
 
   told : Told fed.step
@@ -223,3 +230,14 @@ module _ (site : Site) (all left : List ℕ) (reader new_reader : LineReader) (n
 
   pub told_so : Told fed.step
   told_so = told
+
+  -- an event or an order more was read
+  pub goes_event : (event : EventOf) → LineStep (Event event) ≡ fed.step
+      → (read : IsRead site all (drop fed.used left) new_reader (number + 1)) × (read.tail ≡ h.tail ++ line_view (Event event) ∷ [])
+  unfolding goes_line
+  goes_event event is = (goes_line (Event event) refl refl (subst Told (sym is) told), refl)
+
+  pub goes_order : (order : List SeatOf) → LineStep (Order order) ≡ fed.step
+      → (read : IsRead site all (drop fed.used left) new_reader (number + 1)) × (read.tail ≡ h.tail ++ line_view (Order order) ∷ [])
+  unfolding goes_line
+  goes_order order is = (goes_line (Order order) refl refl (subst Told (sym is) told), refl)

@@ -1,7 +1,7 @@
 //! Checking a block whole.
 
 ghost use Rattle.std.specs.Prelude.{◌≡◌, ◌≤◌, [], length};
-ghost use Rattle.desk_ticks.specs.Blocks.{first_line, most_block_bytes, refusal_behind as refusal_of, tick_one};
+ghost use Rattle.desk_ticks.specs.Blocks.{behind_line, first_line, most_block_bytes, refusal_behind as refusal_of, tick_one};
 ghost use Rattle.desk_ticks.specs.Blocks.{verdict_of};
 ghost use Rattle.record_lines.specs.Lines.{accepted, at_start, reading_of};
 ghost use Rattle.record_lines.specs.Stands.{StandsFor};
@@ -40,8 +40,7 @@ fn refusal_behind(site: &Site, rest: &[u8]) -> Option<BlockRefusal>
     requires room { length rest.now ≤ most_block_bytes }
     ensures { result ≡ refusal_of site.now rest.now }
 {
-    let mut reader = LineReader::new();
-    begin(site, &mut reader);
+    let mut reader = reader_behind_tick(site);
     let mut left = rest;
     let mut number = 2;
     while !left.is_empty() {
@@ -55,6 +54,29 @@ fn refusal_behind(site: &Site, rest: &[u8]) -> Option<BlockRefusal>
         }
     }
     None
+}
+
+/// A reader of the lines behind the first: it stands behind the line of the first tick.
+pub fn reader_behind_tick(site: &Site) -> LineReader
+    requires { IsValid site.now }
+    ensures stands { StandsFor site.now (first_line site.now) result }
+    ensures reads { reading_of site.now (first_line site.now) ≡ accepted at_start tick_one }
+{
+    let mut reader = LineReader::new();
+    begin(site, &mut reader);
+    reader
+}
+
+/// The lines of a block behind its first.
+pub fn behind_first_line(block: &[u8]) -> &[u8]
+    ensures { result.now ≡ behind_line block.now }
+{
+    for place in 0..block.len() {
+        if block[place] == b'\n' {
+            return block.split_at(place + 1).1;
+        }
+    }
+    &[]
 }
 
 // Reads the line of the first tick.

@@ -2,10 +2,12 @@
 //!
 //! It takes the words behind its name, and ends with the status of the outcome. The journal's disk is the file that
 //! the third word names, for a move the fourth, whose fifth names the file in which the new journal is made. The
-//! register of an import is the file of the fourth word. A file is opened when `panel` first calls its disk or keeper.
+//! register of an import is the file of the fourth word; that of serving stands beside its journal, with `.register`
+//! behind the name. A file is opened when `panel` first calls its disk or keeper, a port when serving starts the door.
 //! No clause speaks of a real file or stream, so there is none here.
 #![tactic(auto)]
 
+use desk_doors::TcpDoor;
 use panel_edges::{FileDisk, FileShelf, StdSink, StdSource};
 use panel_program::panel;
 use program_status::Status;
@@ -25,7 +27,7 @@ fn main(rt: HostRuntime) -> ExitCode {
     let Ok(words) = words_of(&rt) else {
         return ExitCode::from(Status::NoMemory.number());
     };
-    let place = if is_move(words.as_slice()) { 3 } else { 2 };
+    let place = if is_command(words.as_slice(), "move") { 3 } else { 2 };
     let Ok(journal) = word_at(rt.alloc(), words.as_slice(), place) else {
         return ExitCode::from(Status::NoMemory.number());
     };
@@ -37,6 +39,7 @@ fn main(rt: HostRuntime) -> ExitCode {
     let Ok(register) = register_of(rt.alloc(), words.as_slice()) else {
         return ExitCode::from(Status::NoMemory.number());
     };
+    let mut door = TcpDoor::new(rt);
     let mut keeper = TableKeeper::at(rt, register);
     let mut shelf = FileShelf::new(&rt, rt.alloc());
     let mut input = StdSource::new(&rt);
@@ -49,6 +52,7 @@ fn main(rt: HostRuntime) -> ExitCode {
         &mut out,
         &mut disk,
         &mut target,
+        &mut door,
         &mut keeper,
     );
     ExitCode::from(outcome.status)
@@ -72,16 +76,21 @@ fn words_of(rt: &HostRuntime) -> Result<Vec<String>, AllocError> {
     Ok(words)
 }
 
-// Whether the words are those of a move, which names two journals.
-fn is_move(words: &[String]) -> bool {
+// Whether the words begin with that of a command.
+fn is_command(words: &[String], command: &str) -> bool {
     match words.first() {
-        Some(word) => word.as_str() == "move",
+        Some(word) => word.as_str() == command,
         None => false,
     }
 }
 
-// The register's file, which an import names behind the file that it reads.
+// The register's file: an import names it behind the file that it reads, and serving has it beside its journal.
 fn register_of(alloc: Global, words: &[String]) -> Result<String, AllocError> {
+    if is_command(words, "serve") {
+        let mut name = word_at(alloc, words, 2)?;
+        name.push_str(".register")?;
+        return Ok(name);
+    }
     word_at(alloc, words, 3)
 }
 

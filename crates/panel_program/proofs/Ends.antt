@@ -12,9 +12,9 @@ use Rattle.record_lines.specs.declared.over.Over.TheVariants.{Ended as OverEnded
 use Rattle.record_lines.specs.declared.why.Why.TheVariants.{Truncated}
 use Rattle.panel_program.specs.declared.run_end.RunEnd.{RunEnd}
 use Rattle.panel_program.specs.declared.run_end.RunEnd.TheVariants.{Ended, Refused, TooManyBytes, ReadFault}
-use Rattle.panel_program.specs.Records.{progress_of, ticks_run}
+use Rattle.site_run.specs.Records.{progress_of, ticks_run}
 use Rattle.panel_program.specs.Endings.{end_of, end_in, end_by, end_without, within_limit}
-use Rattle.panel_program.specs.Stands.{EndsAt, IsGoing}
+use Rattle.panel_program.specs.Taking.{EndsAt, IsGoing}
 use Rattle.panel_program.specs.Runs.{EndsRun}
 use Rattle.record_readings.proofs.Growths.{Grown, grown}
 

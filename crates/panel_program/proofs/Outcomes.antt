@@ -6,23 +6,23 @@ use Rattle.site_types.specs.declared.retained.Retained.{Retained}
 use Rattle.site_types.specs.declared.site.Site.{Site}
 use Rattle.program_status.specs.declared.outcome.Outcome.{Outcome}
 use Rattle.panel_rules.specs.Moments.{TickBlock}
-use Rattle.panel_program.specs.declared.run.Run.{Run}
+use Rattle.site_run.specs.declared.run.Run.{Run}
 use Rattle.panel_program.specs.declared.run_end.RunEnd.{RunEnd}
 use Rattle.panel_program.specs.declared.run_end.RunEnd.TheVariants.{ReadFault}
 use Rattle.program_status.specs.declared.status.Status.TheVariants.{NoMemory, WriteFault}
 use Rattle.program_status.specs.Statuses.{number_of}
 use Rattle.panel_program.specs.Endings.{status_of, last_line}
 use Rattle.panel_program.specs.Runs.{HasMade, Input, IsUnread, RanOn, ReadsTo, ReadsUntil}
-use Rattle.panel_program.specs.PowerCuts.{JournalDisk, LeavesAcknowledged}
-use Rattle.panel_program.specs.Outside.{DiskKind, Outside}
-use Rattle.panel_program.specs.Writings.{Breaks}
+use Rattle.site_run.specs.PowerCuts.{JournalDisk, LeavesAcknowledged}
+use Rattle.site_run.specs.Outside.{DiskKind, Outside}
+use Rattle.site_run.specs.Writings.{Breaks}
 use Rattle.panel_program.specs.Ahead.{AreTicksOf}
-use Rattle.panel_program.specs.Stands.{HasRun, Stores}
+use Rattle.site_run.specs.Stands.{HasRun, Stores}
 use Rattle.run_text.proofs.PromisesHold.{are_kept}
 use Rattle.run_text.proofs.WholeTexts.{of_run}
 use Rattle.run_text.specs.SoFar.{opening_text, text_so_far}
 use Rattle.program_status.specs.Sayings.{Says}
-use Rattle.panel_program.proofs.Written.{grows_then}
+use Rattle.site_run.proofs.Written.{grows_then}
 
 -- what a run has made is what its outcome tells
 made_by : (site : Site) (kept : Retained) (consumed : List ℕ) (ticks : List TickBlock) (run : Run) (outcome : Outcome) → AreTicksOf site consumed ticks

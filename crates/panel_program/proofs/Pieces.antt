@@ -5,16 +5,17 @@ use Rattle.site_types.specs.declared.retained.Retained.{Retained}
 use Rattle.site_types.specs.declared.site.Site.{Site}
 use Rattle.record_lines.specs.declared.reader.LineReader.{LineReader}
 use Rattle.panel_rules.specs.Moments.{TickBlock}
-use Rattle.panel_program.specs.declared.run.Run.{Run}
+use Rattle.site_run.specs.declared.run.Run.{Run}
 use Rattle.panel_program.specs.declared.run_end.RunEnd.{RunEnd}
 use Rattle.panel_edges.proofs.Growing.{split_more}
-use Rattle.panel_program.specs.Records.{Progress}
+use Rattle.site_run.specs.Records.{Progress}
 use Rattle.panel_program.specs.Ahead.{AreTicksOf, EndWithClosing}
-use Rattle.panel_program.specs.Stands.{AreWithin, BreaksOff, EndsIn, GoesOnAt, HasEnded, IsAt, MayPiece, Writes, WritesPart}
+use Rattle.site_run.specs.Stands.{Writes, WritesPart}
+use Rattle.panel_program.specs.Taking.{AreWithin, BreaksOff, EndsIn, GoesOnAt, HasEnded, IsAt, MayPiece}
 use Rattle.run_text.specs.SoFar.{text_so_far}
-use Rattle.panel_program.specs.Outside.{DiskKind, Outside}
-use Rattle.panel_program.proofs.Cuts.{stores_more, writes_same}
-use Rattle.panel_program.proofs.Written.{advances_more}
+use Rattle.site_run.specs.Outside.{DiskKind, Outside}
+use Rattle.site_run.proofs.Cuts.{stores_more, writes_same}
+use Rattle.site_run.proofs.Written.{advances_more}
 
 module _ {kind : DiskKind} (site : Site) (kept : Retained) where
   pub writes_more : (a b c : Outside kind) (x y z : List TickBlock) → Writes site kept a b x y → Writes site kept b c y z → Writes site kept a c x z

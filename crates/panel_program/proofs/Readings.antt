@@ -9,19 +9,20 @@ use Rattle.record_lines.specs.Lines.{reading_of}
 use Rattle.record_lines.specs.declared.reader.LineReader.{LineReader}
 use Rattle.record_lines.specs.declared.refusal.Refusal.{Refusal}
 use Rattle.record_lines.specs.declared.why.Why.TheVariants.{Truncated}
-use Rattle.panel_program.specs.declared.run.Run.{Run}
+use Rattle.site_run.specs.declared.run.Run.{Run}
 use Rattle.panel_program.specs.declared.run_end.RunEnd.{RunEnd}
 use Rattle.panel_program.specs.declared.run_end.RunEnd.TheVariants.{Ended, Refused, TooManyBytes, ReadFault}
 use Rattle.record_lines.specs.Stands.{StandsFor as ReadsFor}
-use Rattle.panel_program.specs.Records.{Progress, at_beginning}
+use Rattle.site_run.specs.Records.{Progress, at_beginning}
 use Rattle.panel_program.specs.Ahead.{AreTicksOf, ReadsAhead, piece_bytes}
-use Rattle.panel_program.specs.Stands.{AreWithin, BreaksOff, EndsAt, EndsIn, GoesOnAt, HasRun, IsAt, MayPiece, Stands}
+use Rattle.site_run.specs.Stands.{HasRun, Stands}
+use Rattle.panel_program.specs.Taking.{AreWithin, BreaksOff, EndsAt, EndsIn, GoesOnAt, IsAt, MayPiece}
 use Rattle.panel_program.specs.Runs.{EndsRun, ReadsTo, ReadsUntil}
 use Rattle.panel_program.proofs.Ends.{ends_whole, truncated_whole, limit_whole}
 use Rattle.panel_program.proofs.Pieces.{SoFar, writes_more, writes_part}
-use Rattle.panel_program.proofs.Stood.{has_run}
-use Rattle.panel_program.specs.Outside.{DiskKind, Outside}
-use Rattle.panel_program.proofs.Cuts.{writes_same}
+use Rattle.site_run.proofs.Stood.{has_run}
+use Rattle.site_run.specs.Outside.{DiskKind, Outside}
+use Rattle.site_run.proofs.Cuts.{writes_same}
 
 -- a source that told what was left tells what is left
 told : (rest xs : List ℕ) (left new : Option (List ℕ)) → left ≡ Some rest → Consumes left new xs → (more : List ℕ) × (new ≡ Some more)

@@ -16,20 +16,22 @@ use Rattle.record_lines.specs.declared.line.Line.TheVariants.{Tick, Event as Eve
 use Rattle.record_lines.specs.declared.reader.LineReader.{LineReader}
 use Rattle.record_lines.specs.declared.step.Step.{Step}
 use Rattle.record_lines.specs.declared.step.Step.TheVariants.{Need, Line as LineStep, Refused as RefusedStep}
-use Rattle.panel_program.specs.declared.run.Run.{Run}
+use Rattle.site_run.specs.declared.run.Run.{Run}
 use Rattle.panel_program.specs.declared.run_end.RunEnd.{RunEnd}
 use Rattle.panel_program.specs.declared.run_end.RunEnd.TheVariants.{Ended, Refused, TooManyBytes, ReadFault}
-use Rattle.panel_program.specs.Records.{Progress, after_line, closed, moments_in, progress_of, recorded}
+use Rattle.site_run.specs.Records.{Progress, after_line, closed, moments_in, progress_of, recorded}
 use Rattle.run_text.specs.Failures.{as_recorded}
 use Rattle.record_readings.specs.OneLine.{EndsOneLine}
 use Rattle.panel_program.specs.Ahead.{AreTicksOf}
-use Rattle.panel_program.specs.Stands.{AreFew, AreWithin, BreaksOff, GoesOn, HasRun, IsAt, IsGoing, IsNext, IsSmall, MayStep, Stands, Takes, TakesStep, Writes}
-use Rattle.panel_program.proofs.Numbers.{counted, few_lines, next_of}
-use Rattle.panel_program.proofs.Progresses.{line_moments, progress_length, progress_more, recorded_length, recorded_line}
-use Rattle.panel_program.specs.Outside.{DiskKind, Outside}
-use Rattle.panel_program.proofs.Cuts.{writes_same}
+use Rattle.site_run.specs.Stands.{AreFew, HasRun, IsNext, Stands, Writes}
+use Rattle.panel_program.specs.Taking.{AreWithin, BreaksOff, GoesOn, IsAt, IsGoing, IsSmall, MayStep, Takes}
+use Rattle.panel_program.specs.Taking.{TakesStep}
+use Rattle.site_run.proofs.Numbers.{counted, few_lines, next_of}
+use Rattle.site_run.proofs.Progresses.{line_moments, progress_length, progress_more, recorded_length, recorded_line}
+use Rattle.site_run.specs.Outside.{DiskKind, Outside}
+use Rattle.site_run.proofs.Cuts.{writes_same}
 use Rattle.record_readings.proofs.LineEnds.{one_line}
-use Rattle.panel_program.proofs.Stood.{has_run}
+use Rattle.site_run.proofs.Stood.{has_run}
 
 -- ---- what may come
 

@@ -27,7 +27,7 @@ use Rattle.site_commands.specs.Commands.{AnswersBy}
 use Rattle.panel_program.specs.Endings.{last_line, status_of}
 use Rattle.panel_program.specs.Runs.{EndsRun, Ran, RanOn, StopsAtJournal, Streams}
 use Rattle.site_commands.specs.Files.{Files}
-use Rattle.panel_program.specs.PowerCuts.{JournalDisk}
+use Rattle.site_run.specs.PowerCuts.{JournalDisk}
 use Rattle.journal_refusals.specs.JournalTexts.{journal_status, journal_text}
 use Rattle.site_commands.specs.Refusals.{refusal_status, refusal_text}
 use Rattle.site_commands.specs.Sites.{Loads, file_digest}

@@ -14,16 +14,17 @@ use Rattle.record_lines.specs.Belongs.{Belongs}
 use Rattle.record_lines.specs.Judged.{line_view}
 use Rattle.record_lines.specs.declared.line.Line.{Line}
 use Rattle.record_lines.specs.declared.line.Line.TheVariants.{Tick, Event as EventLine, Order, End}
-use Rattle.panel_program.specs.declared.run.Run.{Run}
+use Rattle.site_run.specs.declared.run.Run.{Run}
 use Rattle.panel_program.specs.declared.run_end.RunEnd.{RunEnd}
 use Rattle.panel_program.specs.declared.run_end.RunEnd.TheVariants.{Ended}
-use Rattle.panel_program.specs.Acting.{ClosesBadly, ClosesWell, TellsEvent}
-use Rattle.panel_program.specs.Records.{Progress, after_line, closed, new_block, with_order}
-use Rattle.panel_program.specs.Outside.{Disks, Outside, outside_after, outside_before, stored_new, stored_old}
-use Rattle.panel_program.specs.Stands.{AreFew, HasRun, MayCome, OpensTick, Stands, StandsClosed, Takes, BreaksTick}
-use Rattle.panel_program.proofs.Cuts.{stores_as, writes_same}
-use Rattle.panel_program.proofs.Progresses.{closed_length, same_moments}
-use Rattle.panel_program.proofs.Stood.{has_run}
+use Rattle.site_run.specs.Acting.{ClosesBadly, ClosesWell, TellsEvent}
+use Rattle.site_run.specs.Records.{Progress, after_line, closed, new_block, with_order}
+use Rattle.site_run.specs.Outside.{Disks, Outside, outside_after, outside_before, stored_new, stored_old}
+use Rattle.site_run.specs.Stands.{AreFew, HasRun, OpensTick, Stands, StandsClosed, BreaksTick}
+use Rattle.panel_program.specs.Taking.{MayCome, Takes}
+use Rattle.site_run.proofs.Cuts.{stores_as, writes_same}
+use Rattle.site_run.proofs.Progresses.{closed_length, same_moments}
+use Rattle.site_run.proofs.Stood.{has_run}
 
 module _ (disks : Disks) (site : Site) (kept : Retained) (p : Progress) where
   -- few moments befall up to the end of a tick that a line closes

@@ -4,7 +4,7 @@ use Rattle.site_types.specs.declared.site.Site.{Site}
 use Rattle.record_readings.specs.OneLine.{EndsOneLine}
 use Rattle.panel_rules.specs.Moments.{TickBlock}
 use Rattle.run_text.specs.Failures.{as_recorded}
-use Rattle.panel_program.specs.Records.{ticks_run}
+use Rattle.site_run.specs.Records.{ticks_run}
 
 -- the most bytes of a record that are read at a time
 abbrev pub piece_bytes : ℕ

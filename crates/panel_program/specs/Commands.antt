@@ -9,14 +9,18 @@ use Rattle.journal_move.specs.Moves.{AnswersMove}
 use Rattle.import_command.specs.Imports.{AnswersImport, KeptTables}
 use Rattle.panel_drill.specs.Drills.{drill_line}
 use Rattle.panel_program.specs.declared.command.Command.{Command}
-use Rattle.panel_program.specs.declared.command.Command.TheVariants.{Usage, Check, Run, Matrix, Drill, Move, Import}
+use Rattle.panel_program.specs.declared.command.Command.TheVariants.{Usage, Check, Run, Matrix, Drill, Move}
+use Rattle.panel_program.specs.declared.command.Command.TheVariants.{Import, Serve}
 use Rattle.program_status.specs.declared.outcome.Outcome.{Outcome}
 use Rattle.program_status.specs.declared.status.Status.TheVariants as exit
 use Rattle.site_commands.specs.declared.stop.Stop.{Stop}
 use Rattle.panel_program.specs.Usage.{usage_line}
 use Rattle.site_commands.specs.Refusals.{stop_status, stop_text}
-use Rattle.panel_program.specs.PowerCuts.{JournalDisk, disk_of}
+use Rattle.site_run.specs.PowerCuts.{JournalDisk, disk_of}
 use Rattle.panel_program.specs.Runs.{RanOver, Streams}
+use Rattle.desk_register.specs.Replies.{KeeperSides}
+use Rattle.serve_command.specs.Doors.{DoorSides}
+use Rattle.serve_command.specs.Serving.{AnswersServe}
 use Rattle.site_commands.specs.Commands.{AnswersOver, Checks, Draws, RanNothing, Tells}
 use Rattle.site_commands.specs.Files.{Files}
 use Rattle.site_commands.specs.Sites.{IsAtHand}
@@ -84,7 +88,7 @@ module _ {D : Type 0} where
 
 -- what a command answers: on its words alone, or by the files where the shelf tells them; a run by the bytes of the
 -- record, where the input tells them, and by what the journal's disk holds; a move by what its two disks hold; an
--- import, which alone sees a register, as `AnswersIfImport` says
+-- import and serving, which see a register, as `AnswersIfImport` and `AnswersIfServing` say
 abbrev pub AnswersCommand : Command → SiteNames → Files → CallDisks → Streams → Outcome → Type 0
 AnswersCommand Usage names files disks streams outcome = Tells exit.Usage usage_line streams.old streams.new outcome
 AnswersCommand Check names files disks streams outcome =
@@ -97,12 +101,13 @@ AnswersCommand (Drill seed ticks) names files disks streams outcome =
 AnswersCommand Move names files disks streams outcome =
     AnswersMove names.site names.new_site files disks.both streams.old streams.new outcome
 AnswersCommand Import names files disks streams outcome = ⊤
+AnswersCommand (Serve port count) names files disks streams outcome = ⊤
 
 -- what a call with these words answers
 abbrev pub Answers : List (String Global) → Files → CallDisks → Streams → Outcome → Type 0
 Answers words = AnswersCommand (command_of (map string_bytes words)) (names_of (map string_bytes words))
 
--- a command that runs no site leaves its input unread
+-- a command that reads no record leaves its input unread
 abbrev pub RunsNothing : List (String Global) → Type 0
 RunsNothing words = command_of (map string_bytes words) ≢ Run
 
@@ -121,10 +126,26 @@ AnswersIfImport words files register old new outcome = IsImport words
     → AnswersImport files (site_word (map string_bytes words)) (file_word (map string_bytes words)) register old new
     outcome
 
--- a command that imports nothing leaves the keeper alone
-abbrev pub ImportsNothing : List (String Global) → Type 0
-ImportsNothing words = command_of (map string_bytes words) ≢ Import
+-- one that serves nothing leaves the door alone
+abbrev pub ServesNothing : List (String Global) → Type 0
+ServesNothing words = (port count : ℕ) → command_of (map string_bytes words) ≢ Serve port count
 
--- and one that neither runs nor moves leaves the first disk alone too
+-- what serving with these words answers, by what the journal's disk holds, the connections that the door gives and the
+-- tables of the register, where they are told
+abbrev pub AnswersIfServing : List (String Global) → Files → JournalDisk → DoorSides → KeeperSides → Option (List ℕ)
+    → Option (List ℕ) → Outcome → Type 0
+AnswersIfServing words files disk door keeper old new outcome =
+    (port count : ℕ) → command_of (map string_bytes words) ≡ Serve port count
+    → AnswersServe (site_word (map string_bytes words)) files disk door keeper count old new outcome
+
+-- a command that neither imports nor serves leaves the keeper alone
+abbrev pub AsksNothing : List (String Global) → Type 0
+AsksNothing words = (command_of (map string_bytes words) ≢ Import) × ServesNothing words
+
+-- one that neither runs nor serves writes to the first disk only where it was empty
+abbrev pub WorksNothing : List (String Global) → Type 0
+WorksNothing words = RunsNothing words × ServesNothing words
+
+-- and one that doesn't move either leaves it alone
 abbrev pub KeepsNothing : List (String Global) → Type 0
-KeepsNothing words = RunsNothing words × MovesNothing words
+KeepsNothing words = WorksNothing words × MovesNothing words

@@ -1,16 +1,8 @@
 pub mod Words
 pub mod Usage
-pub mod Records
 pub mod Endings
-pub mod Writings
-pub mod Journals
-pub mod Outside
 pub mod Ahead
-pub mod Stands
-pub mod Acting
-pub mod Disks
-pub mod Pages
-pub mod PowerCuts
+pub mod Taking
 pub mod Runs
 pub mod Commands
 pub mod Successes

@@ -17,20 +17,21 @@ use Rattle.retained_journal.specs.declared.open_refusal.OpenRefusal.{OpenRefusal
 use Rattle.retained_journal.specs.Outcomes.{IsRefusalOf, UnlessEmpty}
 use Rattle.keep_batch.specs.MakingLaws.{is_wide}
 use Rattle.program_status.specs.declared.outcome.Outcome.{Outcome}
-use Rattle.panel_program.specs.declared.run.Run.{Run}
+use Rattle.site_run.specs.declared.run.Run.{Run}
 use Rattle.panel_program.specs.declared.run_end.RunEnd.{RunEnd}
 use Rattle.panel_program.specs.declared.run_end.RunEnd.TheVariants.{ReadFault}
 use Rattle.program_status.specs.declared.status.Status.TheVariants.{WriteFault}
 use Rattle.program_status.specs.Statuses.{number_of}
 use Rattle.panel_program.specs.Endings.{end_of, within_limit, status_of, last_line}
 use Rattle.journal_refusals.specs.JournalTexts.{journal_status, journal_text}
-use Rattle.panel_program.specs.Journals.{KeepsFor}
-use Rattle.panel_program.specs.Outside.{DiskKind, Disks, Outside, outside_after, outside_before}
-use Rattle.panel_program.specs.PowerCuts.{IsJournalOf, JournalDisk, LeavesAcknowledged}
-use Rattle.panel_program.specs.Records.{at_beginning, ticks_run}
+use Rattle.site_run.specs.Journals.{KeepsFor}
+use Rattle.site_run.specs.Outside.{DiskKind, Disks, Outside, outside_after, outside_before}
+use Rattle.site_run.specs.PowerCuts.{IsJournalOf, JournalDisk, LeavesAcknowledged}
+use Rattle.site_run.specs.Records.{at_beginning, ticks_run}
 use Rattle.panel_program.specs.Ahead.{AreTicksOf, EndWithClosing, ReadsAhead}
-use Rattle.panel_program.specs.Writings.{Breaks}
-use Rattle.panel_program.specs.Stands.{HasRun, IsGoing, Stands, Writes, WritesPart}
+use Rattle.site_run.specs.Writings.{Breaks}
+use Rattle.site_run.specs.Stands.{HasRun, Stands, Writes, WritesPart}
+use Rattle.panel_program.specs.Taking.{IsGoing}
 use Rattle.run_text.specs.SoFar.{opening_text, text_so_far}
 use Rattle.site_commands.specs.Commands.{RanNothing}
 use Rattle.run_text.specs.Failures.{failures}
@@ -116,11 +117,6 @@ pub record HasMade (site : Site) (kept : Retained) (consumed : List ℕ) (ticks 
   pub promises : KeepsPromises site kept ticks
   pub form : IsInForm site (timeline_of site kept (moments ticks))
   pub told : whole_text site kept ticks ≡ text_of site (timeline_of site kept (moments ticks))
-
--- the failed ticks are no more than the disk's count of faults rose by, unless that stands at its last value
-pub record BlamesStores (outcome : Outcome) (before after : ℕ) : Type 0 where
-  pub later : before ≤ after
-  pub failed : after < 2 ^ 64 - 1 → outcome.store_failures + before ≤ after
 
 -- nothing was read of an input
 pub record IsUnread (input : Input) : Type 0 where

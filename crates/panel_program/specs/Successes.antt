@@ -21,7 +21,7 @@ use Rattle.panel_program.specs.declared.command.Command.TheVariants.{Run}
 use Rattle.panel_program.specs.declared.run_end.RunEnd.TheVariants.{Ended}
 use Rattle.panel_program.specs.Commands.{Answers, call_disks, site_word}
 use Rattle.panel_program.specs.Endings.{end_of}
-use Rattle.panel_program.specs.PowerCuts.{JournalDisk, disk_of}
+use Rattle.site_run.specs.PowerCuts.{JournalDisk, disk_of}
 use Rattle.panel_program.specs.Runs.{Streams}
 use Rattle.site_commands.specs.Files.{Files}
 use Rattle.panel_program.specs.Words.{command_of}

@@ -1,14 +1,22 @@
 -- What the words of a call ask for.
-use Rattle.std.specs.Prelude.{◌&&◌, ◌≤◌, ℕ, nat_le, List, [], ◌∷◌, Option, Some, codes, if◌then◌else◌}
+use Rattle.std.specs.Prelude.{◌&&◌, ◌≤◌, ℕ, Bool, nat_le, List, [], ◌∷◌, Option, Some, codes, if◌then◌else◌}
 use Rattle.std.specs.Str.{bytes_eq}
 use Rattle.site_types.specs.Numbers.{number_of}
 use Rattle.panel_drill.specs.Running.{most_ticks}
 use Rattle.panel_program.specs.declared.command.Command.{Command}
-use Rattle.panel_program.specs.declared.command.Command.TheVariants.{Usage, Check, Run, Matrix, Drill, Move, Import}
+use Rattle.panel_program.specs.declared.command.Command.TheVariants.{Usage, Check, Run, Matrix, Drill, Move, Import, Serve}
 
--- a drill has no more ticks than it may have
+-- the greatest port, and the most connections that may be served
+abbrev pub most_port : ℕ
+most_port = 65535
+
+abbrev pub most_connections : ℕ
+most_connections = 1000000
+
+-- a drill has no more ticks than it may have, and serving as many connections
 abbrev pub IsBounded : Command → Type 0
 IsBounded (Drill seed ticks) = ticks ≤ most_ticks
+IsBounded (Serve port count) = (1 ≤ count) × (count ≤ most_connections)
 IsBounded _ = Unit {0}
 
 -- a drill from a seed, of 1 to 100,000 ticks
@@ -17,8 +25,18 @@ drill_by (Some seed) (Some ticks) =
     if nat_le 1 ticks && nat_le ticks most_ticks then Drill seed ticks else Usage
 drill_by _ _ = Usage
 
+abbrev pub is_serving : ℕ → ℕ → Bool
+is_serving port count =
+    nat_le 1 port && (nat_le port most_port && (nat_le 1 count && nat_le count most_connections))
+
+-- serving at a port from 1 to 65,535, 1 to 1,000,000 connections
+abbrev pub serving_by : Option ℕ → Option ℕ → Command
+serving_by (Some port) (Some count) = if is_serving port count then Serve port count else Usage
+serving_by _ _ = Usage
+
 -- `check SITE`, `matrix SITE`, `run SITE JOURNAL`, `drill SEED TICKS`, whose two numbers are decimal without sign or
--- leading zero, `import SITE FILE REGISTER` and `move OLD NEW JOURNAL TARGET`; all other words are a question for usage
+-- leading zero, `import SITE FILE REGISTER`, `move OLD NEW JOURNAL TARGET` and `serve SITE JOURNAL PORT COUNT`, whose
+-- last two are such numbers too; all other words are a question for usage
 abbrev pub command_of : List (List ℕ) → Command
 command_of (word ∷ site ∷ []) =
     if bytes_eq word (codes "check") then Check else
@@ -27,5 +45,7 @@ command_of (word ∷ second ∷ third ∷ []) =
     if bytes_eq word (codes "run") then Run else
     (if bytes_eq word (codes "drill") then drill_by (number_of second) (number_of third) else Usage)
 command_of (word ∷ site ∷ file ∷ register ∷ []) = if bytes_eq word (codes "import") then Import else Usage
-command_of (word ∷ old ∷ new ∷ journal ∷ target ∷ []) = if bytes_eq word (codes "move") then Move else Usage
+command_of (word ∷ second ∷ third ∷ fourth ∷ fifth ∷ []) =
+    if bytes_eq word (codes "move") then Move else
+    (if bytes_eq word (codes "serve") then serving_by (number_of fourth) (number_of fifth) else Usage)
 command_of _ = Usage

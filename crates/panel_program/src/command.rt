@@ -1,9 +1,15 @@
 ghost use Rattle.std.specs.Prelude.{◌≡◌, map, string_bytes};
-ghost use Rattle.panel_program.specs.Words.{IsBounded, command_of as command_by, drill_by};
+ghost use Rattle.panel_program.specs.Words.{IsBounded, command_of as command_by, drill_by, serving_by};
 ghost use Rattle.site_types.specs.Numbers.{number_of};
 
 use panel_drill::MOST_TICKS;
 use site_types::read_number;
+
+/// The greatest port of a door.
+const MOST_PORT: u64 = 65_535;
+
+/// The most connections that may be served.
+const MOST_CONNECTIONS: u64 = 1_000_000;
 
 /// What the words of a call ask for. The second word names the site, but for a drill.
 #[derive(Clone, Copy, Debug, PartialEq, Eq)]
@@ -19,6 +25,8 @@ pub enum Command {
     Move,
     /// An import of the file that the third word names.
     Import,
+    /// Serving behind a door at a port, so many connections.
+    Serve { port: u16, count: u32 },
 }
 
 /// The command that has these words.
@@ -52,9 +60,11 @@ pub fn command_of(words: &[String]) -> Command
                 Command::Usage
             }
         }
-        [word, _old, _new, _journal, _target] => {
+        [word, _second, _third, fourth, fifth] => {
             if word.as_str() == "move" {
                 Command::Move
+            } else if word.as_str() == "serve" {
+                serving_of(fourth.as_str(), fifth.as_str())
             } else {
                 Command::Usage
             }
@@ -72,6 +82,26 @@ fn drill_of(seed: &str, ticks: &str) -> Command
         (Some(seed), Some(ticks)) => {
             if ticks >= 1 && ticks <= MOST_TICKS {
                 Command::Drill { seed, ticks }
+            } else {
+                Command::Usage
+            }
+        }
+        _ => Command::Usage,
+    }
+}
+
+// Serving at a port, so many connections, where both are numbers and there are neither none nor too many of these.
+fn serving_of(port: &str, count: &str) -> Command
+    ensures command { result ≡ serving_by (number_of port.now) (number_of count.now) }
+    ensures bounded { IsBounded result }
+{
+    match (read_number(port.as_bytes()), read_number(count.as_bytes())) {
+        (Some(port), Some(count)) => {
+            if port >= 1 && port <= MOST_PORT && count >= 1 && count <= MOST_CONNECTIONS {
+                Command::Serve {
+                    port: port as u16,
+                    count: count as u32,
+                }
             } else {
                 Command::Usage
             }

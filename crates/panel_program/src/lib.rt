@@ -20,15 +20,11 @@ mod command;
 mod drilling;
 mod last_lines;
 mod laws;
-mod lines;
 mod program;
 mod reading;
-mod run;
 mod run_end;
-mod sized;
 mod taken;
 mod usage;
-mod writing;
 
 pub use laws::well_made_runs_succeed;
 pub use program::panel;

@@ -2,32 +2,38 @@ ghost use Rattle.std.specs.Prelude.{◌≡◌, ◌⊎◌};
 ghost use Rattle.import_command.specs.Imports.{kept_tables};
 ghost use Rattle.journal_move.specs.Disks.{Spares};
 ghost use Rattle.panel_edges.specs.Faults.{Rose};
-ghost use Rattle.panel_program.specs.Commands.{Answers, AnswersIfImport, AnswersRun, ImportsNothing};
+ghost use Rattle.panel_program.specs.Commands.{Answers, AnswersIfImport, AnswersIfServing, AnswersRun};
+ghost use Rattle.panel_program.specs.Commands.{AsksNothing, ServesNothing, WorksNothing};
 ghost use Rattle.panel_program.specs.Commands.{IsImport, KeepsNothing, MovesNothing, RunsNothing, call_disks};
-ghost use Rattle.panel_program.specs.PowerCuts.{disk_of};
-ghost use Rattle.panel_program.specs.Runs.{BlamesStores, streams_of};
+ghost use Rattle.site_run.specs.PowerCuts.{disk_of};
+ghost use Rattle.panel_program.specs.Runs.{streams_of};
 ghost use Rattle.program_status.specs.Statuses.{BlamesDisk, BlamesKeeper, BlamesWrites, IsSilentWithoutMemory};
 ghost use Rattle.program_status.specs.Statuses.{number_of};
+ghost use Rattle.desk_register.specs.Replies.{sides_of};
+ghost use Rattle.serve_command.specs.Doors.{door_sides};
+ghost use Rattle.serve_command.specs.Serving.{BlamesStores};
 ghost use Rattle.site_commands.specs.Files.{files_of};
 
 use crate::command::{Command, command_of};
 use crate::drilling::run_drill;
 use crate::reading::run_site;
 use crate::usage::USAGE;
+use desk_doors::Door;
 use import_command::import_file;
 use journal_move::move_journal;
 use panel_edges::{Disk, Shelf, Sink, Source};
 use program_status::{Outcome, Status, say};
+use serve_command::serve_site;
 use service_keepers::Keeper;
 use site_commands::{load, stop_with, tell_counts, tell_matrix};
 use std::alloc::Global;
 
 /// Does what the words ask for. All that is said goes to `out`, refusals too. A run keeps its journal on `disk`; a move
 /// opens that of the old site there and makes that of the new one on `target`. An import puts its rows into the
-/// register of `keeper`.
+/// register of `keeper`. Serving answers the connections that `door` gives over that register.
 ///
 /// The status of the outcome is the number of a [`Status`]. Where memory ran out nothing was written.
-pub fn panel<F: Shelf, S: Source, K: Sink, D: Disk, R: Keeper>(
+pub fn panel<F: Shelf, S: Source, K: Sink, D: Disk, G: Door, R: Keeper>(
     alloc: Global,
     words: &[String],
     shelf: &mut F,
@@ -35,19 +41,28 @@ pub fn panel<F: Shelf, S: Source, K: Sink, D: Disk, R: Keeper>(
     out: &mut K,
     disk: &mut D,
     target: &mut D,
+    door: &mut G,
     keeper: &mut R,
 ) -> Outcome
+    requires { G.is_out door.old ≡ false }
     ensures answers { Answers words.now (files_of F.files F.faults shelf.old shelf.new) (call_disks
         D.seen D.honest D.images D.moment D.left_since disk.old disk.new target.old target.new)
         (streams_of S.left S.read_faults K.written input.old input.new out.old out.new) result }
     ensures imports { AnswersIfImport words.now (files_of F.files F.faults shelf.old shelf.new)
         (kept_tables R.tables keeper.old keeper.new) (K.written out.old) (K.written out.new)
         result }
+    ensures serves { AnswersIfServing words.now
+        (files_of F.files F.faults shelf.old shelf.new)
+        (disk_of D.seen D.honest D.images D.moment D.left_since disk.old disk.new)
+        (door_sides G.waiting G.handed door.old door.new)
+        (sides_of R.tables R.faults keeper.old keeper.new) (K.written out.old) (K.written out.new)
+        result }
     ensures input_alone { RunsNothing words.now → input.new ≡ input.old }
     ensures disk_alone { KeepsNothing words.now → disk.new ≡ disk.old }
     ensures target_alone { MovesNothing words.now → target.new ≡ target.old }
-    ensures keeper_alone { ImportsNothing words.now → keeper.new ≡ keeper.old }
-    ensures disk_spared { RunsNothing words.now → Spares D.seen D.honest D.images D.moment
+    ensures door_alone { ServesNothing words.now → door.new ≡ door.old }
+    ensures keeper_alone { AsksNothing words.now → keeper.new ≡ keeper.old }
+    ensures disk_spared { WorksNothing words.now → Spares D.seen D.honest D.images D.moment
         D.left_since disk.old disk.new }
     ensures target_spared { Spares D.seen D.honest D.images D.moment D.left_since
         target.old target.new }
@@ -63,6 +78,8 @@ pub fn panel<F: Shelf, S: Source, K: Sink, D: Disk, R: Keeper>(
         → Rose (D.faults disk.old) (D.faults disk.new)
         ⊎ Rose (D.faults target.old) (D.faults target.new) }
     ensures stores { BlamesStores result (D.faults disk.old) (D.faults disk.new) }
+    ensures door { result.status ≡ number_of Status.DoorFault
+        → Rose (G.faults door.old) (G.faults door.new) }
     ensures keeper { IsImport words.now
         → BlamesKeeper result (R.faults keeper.old) (R.faults keeper.new) }
 {
@@ -84,6 +101,10 @@ pub fn panel<F: Shelf, S: Source, K: Sink, D: Disk, R: Keeper>(
         Command::Import => {
             let (site, file) = (&words[1], &words[2]);
             import_file(alloc, site.as_str(), file.as_str(), shelf, out, keeper)
+        }
+        Command::Serve { port, count } => {
+            let name = words[1].as_str();
+            serve_site(alloc, name, port, count, shelf, out, disk, door, keeper)
         }
     }
 }

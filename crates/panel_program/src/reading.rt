@@ -1,39 +1,38 @@
 //! Reading a record, tick by tick.
 
-ghost use Rattle.std.specs.Prelude.{◌≡◌, ◌≢◌, ◌<◌, ◌≤◌, ◌↔◌, [], List, ℕ, IfOk, IfSome, OnErr, Ok, length, take};
+ghost use Rattle.std.specs.Prelude.{◌≡◌, ◌≢◌, ◌<◌, ◌≤◌, ◌↔◌, [], IfOk, IfSome, OnErr, Ok, length, take};
 ghost use Rattle.panel_core.specs.Stands.{HasPlan};
 ghost use Rattle.panel_edges.specs.Contents.{Consumes};
 ghost use Rattle.panel_edges.specs.Faults.{HasCause, Rose};
-ghost use Rattle.panel_program.specs.Disks.{KeepsOn};
+ghost use Rattle.site_run.specs.Disks.{KeepsOn};
 ghost use Rattle.panel_program.specs.Endings.{last_line as last_text, status_of as status_of_end};
-ghost use Rattle.panel_program.specs.Journals.{IsOpenFor};
-ghost use Rattle.panel_program.specs.Outside.{disks_of};
-ghost use Rattle.panel_program.specs.PowerCuts.{disk_after, disk_of};
-ghost use Rattle.panel_program.specs.Records.{at_beginning};
-ghost use Rattle.panel_program.specs.Runs.{BlamesStores, HasReadRecord, RanFrom, RanOver, streams_of};
+ghost use Rattle.site_run.specs.Journals.{IsOpenFor};
+ghost use Rattle.site_run.specs.Outside.{disks_of};
+ghost use Rattle.site_run.specs.PowerCuts.{disk_after, disk_of};
+ghost use Rattle.serve_command.specs.Serving.{BlamesStores};
+ghost use Rattle.panel_program.specs.Runs.{HasReadRecord, RanFrom, RanOver, streams_of};
 ghost use Rattle.site_commands.specs.Sites.{IsLoaded};
-ghost use Rattle.panel_program.specs.Stands.{HasTakenNext, HasTakenPiece, HasTakenStep, MayPiece, MayStepSome};
-ghost use Rattle.panel_program.specs.Stands.{Stands, StandsAtBeginning};
+ghost use Rattle.panel_program.specs.Taking.{HasTakenLine, MayTake, HasTakenNext, HasTakenPiece, HasTakenStep, MayPiece};
+ghost use Rattle.panel_program.specs.Taking.{MayStepSome};
+ghost use Rattle.site_run.specs.Stands.{StandsAtBeginning};
 ghost use Rattle.program_status.specs.Statuses.{BlamesDisk, BlamesReads, BlamesWrites, IsSilentWithoutMemory};
 ghost use Rattle.program_status.specs.Statuses.{number_of};
 ghost use Rattle.program_status.specs.Sayings.{Says};
 ghost use Rattle.panel_program.specs.declared.run_end.RunEnd.TheVariants.{ReadFault as ReadFaultEnd};
 ghost use Rattle.retained_journal.specs.Images.{Stands as StandsOn};
 ghost use Rattle.site_types.specs.Valid.{IsValid};
-ghost use Rattle.site_types.specs.declared.retained.Retained.{Retained as RetainedOf};
-ghost use Rattle.site_types.specs.declared.site.Site.{Site as SiteOf};
 
 use crate::last_lines::last_line;
-use crate::run::Run;
 use crate::run_end::{RunEnd, status_of};
 use crate::taken::Taken;
 use cause_effect::Plan;
 use journal_refusals::stop_at_journal;
 use panel_edges::{Disk, Failed, MOST_RECORD_BYTES, Sink, Source};
 use program_status::{Outcome, Status, say};
-use record_lines::{LineReader, Step};
+use record_lines::{Line, LineReader, Step};
 use retained_journal::Journal;
 use site_commands::Loaded;
+use site_run::Run;
 use site_types::Site;
 use std::alloc::Global;
 
@@ -229,8 +228,45 @@ fn take_step<K: Sink, D: Disk>(
 {
     match step {
         Step::Need => Ok(None),
-        Step::Line(line) => run.take(line, disk, out),
+        Step::Line(line) => take_line(run, line, disk, out),
         Step::Refused(refusal) => Ok(Some(RunEnd::Refused(refusal))),
+    }
+}
+
+// Takes a line of the record. The turns of a tick are made when the line behind its block comes, and what changed in it
+// is written then.
+fn take_line<D: Disk, K: Sink>(
+    run: &mut Run,
+    line: Line,
+    disk: &mut D,
+    out: &mut K,
+) -> Result<Option<RunEnd>, Failed>
+    requires may { MayTake line run.old }
+    requires stands { StandsOn D.honest D.images disk.old run.old.journal }
+    ensures takes { HasTakenLine line
+        (disks_of D.honest D.images D.moment D.left_since disk.old disk.new)
+        (K.written out.old) (K.written out.new) run.old run.new result }
+    ensures disk { KeepsOn D.honest D.images D.faults disk.old disk.new run.old run.new }
+    ensures cause { HasCause (K.write_faults out.old) (K.write_faults out.new) result }
+{
+    match line {
+        Line::Tick(tick) => {
+            run.close(disk, out)?;
+            run.begin(tick);
+            Ok(None)
+        }
+        Line::Event(event) => {
+            run.tell(event);
+            Ok(None)
+        }
+        Line::Order(order) => {
+            run.set_order(order);
+            Ok(None)
+        }
+        Line::End => {
+            run.close(disk, out)?;
+            Ok(Some(RunEnd::Ended))
+        }
     }
 }
 

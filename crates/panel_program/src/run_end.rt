@@ -1,4 +1,4 @@
-ghost use Rattle.std.specs.Prelude.{◌≡◌, ◌≢◌};
+ghost use Rattle.std.specs.Prelude.{◌≡◌};
 ghost use Rattle.panel_program.specs.Endings.{status_by as status_told_by, status_of as status_told};
 
 use program_status::Status;

@@ -3,11 +3,10 @@ use Rattle.desk_ticks.specs.Blocks.{first_line}
 use Rattle.desk_ticks.proofs.Behind.{IsRead, goes, none_read, some_left, stops, told_so, uses_fit, uses_some}
 use Rattle.desk_ticks.proofs.checking.refusal_behind.Goals as goal
 
-pub begin-requires-clause-fresh : goal.begin-requires-clause-fresh
-begin-requires-clause-fresh c = c.new-reader.ensures c.args.site.now
-
 pub loop-left-init : goal.loop-left-init
-loop-left-init c = none_read c.args.site.now c.args.rest.now c.begin.new.reader c.begin.ensures.stands c.begin.ensures.reads
+loop-left-init c =
+    let reader = c.reader_behind_tick-reader in
+    none_read c.args.site.now c.args.rest.now reader.result reader.ensures.stands reader.ensures.reads
 
 pub returns-in-Some : goal.returns-in-Some
 returns-in-Some c =

@@ -3,14 +3,14 @@ use Rattle.panel_edges.specs.Limits.{most_record_bytes}
 use Rattle.std.proofs.lemmas.Result.{err_from_is_err_and}
 use Rattle.panel_program.specs.declared.run_end.RunEnd.{RunEnd}
 use Rattle.panel_program.specs.Ahead.{piece_bytes}
-use Rattle.panel_program.specs.Outside.{disks_of, outside_after, outside_before}
-use Rattle.panel_program.specs.Records.{at_beginning}
+use Rattle.site_run.specs.Outside.{disks_of, outside_after, outside_before}
+use Rattle.site_run.specs.Records.{at_beginning}
 use Rattle.panel_program.specs.Runs.{ReadsRecord}
-use Rattle.panel_program.specs.Stands.{TakesPiece}
-use Rattle.panel_program.proofs.Disks.{keeps_more, keeps_same}
+use Rattle.panel_program.specs.Taking.{TakesPiece}
+use Rattle.site_run.proofs.Disks.{keeps_more, keeps_same}
 use Rattle.panel_program.proofs.Pieces.{SoFar}
 use Rattle.panel_program.proofs.Readings.{begins_at, fault_ends, input_ends, limit_ends, may_piece, piece_breaks, piece_ends, piece_more, piece_within, reads_on, so_far_none, still_within}
-use Rattle.panel_program.proofs.Written.{some_weaker}
+use Rattle.site_run.proofs.Written.{some_weaker}
 use Rattle.panel_program.proofs.reading.read_record.Goals as goal
 
 -- a piece stays within the bytes that a record may have

@@ -3,10 +3,10 @@ use Rattle.std.specs.Prelude.{IfSome}
 use Rattle.panel_edges.specs.Limits.{most_record_bytes}
 use Rattle.site_types.specs.declared.retained.Retained.{Retained}
 use Rattle.site_types.specs.declared.site.Site.{Site}
-use Rattle.panel_program.specs.Disks.{KeepsOn}
-use Rattle.panel_program.specs.Outside.{disks_of, outside_after, outside_before}
-use Rattle.panel_program.specs.Records.{at_beginning}
-use Rattle.panel_program.specs.Stands.{Stands}
+use Rattle.site_run.specs.Disks.{KeepsOn}
+use Rattle.site_run.specs.Outside.{disks_of, outside_after, outside_before}
+use Rattle.site_run.specs.Records.{at_beginning}
+use Rattle.site_run.specs.Stands.{Stands}
 use Rattle.panel_program.proofs.Pieces.{SoFar}
 use Rattle.panel_program.proofs.Readings.{IsReading}
 use Rattle.panel_program.proofs.reading.read_record.Given as goal

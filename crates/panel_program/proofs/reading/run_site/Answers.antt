@@ -1,7 +1,7 @@
 use Rattle.std.proofs.Common.{inl, inr, refl, subst, sym}
-use Rattle.panel_program.specs.Journals.{KeepsFor}
-use Rattle.panel_program.proofs.PowerCuts.{opened_of}
-use Rattle.panel_program.proofs.Written.{some_always, some_weaker}
+use Rattle.site_run.specs.Journals.{KeepsFor}
+use Rattle.site_run.proofs.PowerCuts.{opened_of}
+use Rattle.site_run.proofs.Written.{some_always, some_weaker}
 use Rattle.panel_program.proofs.reading.run_site.Goals as goal
 
 pub returns-in-Ok-clause-ran : goal.returns-in-Ok-clause-ran

@@ -1,9 +1,9 @@
 use Rattle.std.proofs.Common.{◌∙◌, Ok, ap, refl}
 use Rattle.program_status.specs.declared.outcome.Outcome.{Outcome}
-use Rattle.panel_program.specs.Outside.{disk_kind, disks_of, outside_after, outside_before, stored_new}
+use Rattle.site_run.specs.Outside.{disk_kind, disks_of, outside_after, outside_before, stored_new}
 use Rattle.panel_program.proofs.Outcomes.{ran_nothing, ran_opening, ran_until, ran_to}
-use Rattle.panel_program.proofs.PowerCuts.{leaves_opened, leaves_run}
-use Rattle.panel_program.proofs.Written.{some_always, some_weaker}
+use Rattle.site_run.proofs.PowerCuts.{leaves_opened, leaves_run}
+use Rattle.site_run.proofs.Written.{some_always, some_weaker}
 use Rattle.panel_program.proofs.reading.run_with.Goals as goal
 
 pub returns-in_default-clause-ran : goal.returns-in_default-clause-ran

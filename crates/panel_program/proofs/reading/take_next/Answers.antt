@@ -2,8 +2,8 @@ use Rattle.std.proofs.Common.{sym, subst}
 use Rattle.std.proofs.lemmas.Result.{err_from_is_err_and}
 use Rattle.record_lines.specs.Belongs.{StepBelongs}
 use Rattle.record_lines.specs.Stands.{StandsFor as ReadsFor, Feeds}
-use Rattle.panel_program.specs.Outside.{disks_of, outside_after, outside_before}
-use Rattle.panel_program.specs.Stands.{TakesNext}
+use Rattle.site_run.specs.Outside.{disks_of, outside_after, outside_before}
+use Rattle.panel_program.specs.Taking.{TakesNext}
 use Rattle.panel_program.proofs.Steps.{fed_next, may_step, NextBy}
 use Rattle.panel_program.proofs.reading.take_next.Goals as goal
 

@@ -1,9 +1,9 @@
 use Rattle.std.proofs.Common.{◌≡◌, ◌∙◌, ◌++◌, ◌==◌, ℕ, List, [], ◌∷◌, true, length, take, refl, sym, subst, arith}
 use Rattle.std.proofs.lemmas.Bool.{eqb-true}
 use Rattle.std.proofs.lemmas.Result.{err_from_is_err_and}
-use Rattle.panel_program.specs.Outside.{disks_of, outside_after, outside_before}
-use Rattle.panel_program.specs.Stands.{GoesOn, TakesPiece}
-use Rattle.panel_program.proofs.Disks.{keeps_more, keeps_same}
+use Rattle.site_run.specs.Outside.{disks_of, outside_after, outside_before}
+use Rattle.panel_program.specs.Taking.{GoesOn, TakesPiece}
+use Rattle.site_run.proofs.Disks.{keeps_more, keeps_same}
 use Rattle.panel_program.proofs.Pieces.{may_rest, rest_within, taking_none, taking_more, taking_ends, taking_breaks, taking_whole}
 use Rattle.panel_program.proofs.reading.take_piece.Goals as goal
 

@@ -1,10 +1,10 @@
 use Rattle.std.proofs.Common.{◌≤◌, ◌++◌, List, ℕ, length}
 use Rattle.site_types.specs.declared.retained.Retained.{Retained}
 use Rattle.site_types.specs.declared.site.Site.{Site}
-use Rattle.panel_program.specs.Disks.{KeepsOn}
-use Rattle.panel_program.specs.Outside.{disks_of, outside_after, outside_before}
-use Rattle.panel_program.specs.Records.{Progress}
-use Rattle.panel_program.specs.Stands.{AreWithin, IsAt, MayPiece}
+use Rattle.site_run.specs.Disks.{KeepsOn}
+use Rattle.site_run.specs.Outside.{disks_of, outside_after, outside_before}
+use Rattle.site_run.specs.Records.{Progress}
+use Rattle.panel_program.specs.Taking.{AreWithin, IsAt, MayPiece}
 use Rattle.panel_program.proofs.Pieces.{Taking}
 use Rattle.panel_program.proofs.reading.take_piece.Given as goal
 

@@ -1,0 +1,86 @@
+-- The tick of a block, from its beginning to its turns.
+use Rattle.std.proofs.Common.{◌≡◌, ◌∙◌, ◌+◌, ◌-◌, ◌^◌, ◌<◌, ◌≤◌, ◌==◌, ℕ, Bool, true, false, List, ◌∷◌, length, Some}
+use Rattle.std.proofs.Common.{ap, subst, arith, nat_lt}
+use Rattle.std.proofs.lemmas.Bool.{and_parts, eqb-true, ltb-true}
+use Rattle.desk_runs.specs.Running.{MayRunWith, MayTellWith, RanBlock, ToldLines}
+use Rattle.desk_runs.specs.Ticks.{at_rest, block_of, is_next, lines_behind}
+use Rattle.desk_runs.proofs.Telling.{behind_short, events_few, none_refused}
+use Rattle.desk_ticks.specs.Blocks.{behind_line, named_of, refusal_behind}
+use Rattle.panel_rules.specs.Moments.{TickBlock, Began, moments}
+use Rattle.record_lines.specs.Lines.{reading_of}
+use Rattle.site_run.specs.Acting.{MakesTick}
+use Rattle.site_run.specs.Outside.{Disks, stored_new, stored_old}
+use Rattle.site_run.specs.Records.{Block, closed, ticked}
+use Rattle.site_run.specs.Stands.{AreFew, OpensTick, Stands, Stores}
+use Rattle.site_run.specs.declared.run.Run.{Run}
+use Rattle.site_run.proofs.Progresses.{closed_moments, events_length}
+use Rattle.site_types.specs.declared.retained.Retained.{Retained}
+use Rattle.site_types.specs.declared.site.Site.{Site}
+use Rattle.tick_units.specs.Ticks.{last_tick}
+
+pub may_begin : (tick count : ℕ) → is_next tick count ≡ true → (count < last_tick) × (tick ≡ count + 1)
+may_begin tick count next =
+    let parts = and_parts (nat_lt count last_tick) (tick == count + 1) next in
+    (ltb-true count last_tick parts.0, eqb-true tick (count + 1) parts.1)
+
+module _ (site : Site) (kept : Retained) (ticks : List TickBlock) (tick : ℕ) (block : List ℕ) where
+  -- the tick has begun, and its lines may be told
+  pub begun_with : (old begun : Run) → MayRunWith site kept ticks tick block old → OpensTick tick old begun → (rest : List ℕ) → rest ≡ behind_line block
+      → MayTellWith site kept ticks rest begun
+  begun_with old begun may opens rest is =
+      let next = may_begin tick (length ticks) may.next in
+      let before = next.0 in
+      let tick_is = next.1 in
+      let room = may.room in
+      let short = may.short in
+      let behind = behind_short block in
+      let same = ap (λ (xs : List ℕ). length xs) is in
+      record {
+        stands = opens site kept ticks may.stands tick_is (omega (arith, before, tick_is)) (omega (arith, room));
+        accepted = ap (refusal_behind site) is ∙ none_refused (named_of (reading_of site block)) (refusal_behind site (behind_line block)) tick may.accepted;
+        short = omega (arith, short, behind, same);
+        room = room;
+      }
+
+  module _ (disks : Disks) (changed : Bool) (old told run : Run) (may : MayRunWith site kept ticks tick block old) (rest : List ℕ) (is :
+      rest ≡ behind_line block) (lines : ToldLines site kept ticks rest told) where
+    abbrev block_told : Block
+    block_told = block_of site (lines_behind site rest)
+
+    -- at most one event for each byte befell, and the turns
+    few_moments : (failed : Bool) → length (moments (ticked failed block_told ∷ ticks)) ≤ length (moments ticks) + 65602
+    few_moments failed =
+        let told_so = events_length block_told.events (Began ∷ moments ticks) in
+        let events = events_few site (lines_behind site rest) in
+        let few = lines.few in
+        let short = may.short in
+        let behind = behind_short block in
+        let same = ap (λ (xs : List ℕ). length xs) is in
+        let panels = may.stands.valid.forms.panels.1 in
+        let turns = closed_moments site.panels failed (Some block_told) ticks panels lines.stands.ordered in
+        omega (arith, told_so, events, few, short, behind, same, turns)
+
+    pub ran_block : told.journal ≡ old.journal
+        → (Stands site kept (record { run = ticks; block = Some block_told }) told → AreFew (moments (closed false (record { run = ticks; block = Some block_told })))
+        → MakesTick disks site kept (record { run = ticks; block = Some block_told }) told run) → (changed ≡ false → run.next.items ≡ run.shown.items)
+        → RanBlock site kept ticks block disks changed old run
+    ran_block same makes unchanged =
+        let room = may.room in
+        let few = few_moments false in
+        let made = makes lines.stands (omega (arith, room, few)) in
+        let failed = made.failed in
+        let all = few_moments failed in
+        record {
+          failed = failed;
+          stands = subst (λ xs. Stands site kept (at_rest (ticked failed (block_of site (lines_behind site xs)) ∷ ticks)) run) is made.stands;
+          shown = made.before ∙ lines.stands.shown;
+          same = unchanged;
+          stores =
+              subst
+              (λ xs. Stores site kept (stored_old disks old) (stored_new disks run) ticks (ticked failed (block_of site (lines_behind site xs)) ∷ ticks)) is
+              (subst (λ j. Stores site kept (record { disk = disks.old; journal = j }) (stored_new disks run) ticks (ticked failed block_told ∷ ticks)) same
+              made.stores);
+          few =
+              subst (λ xs. length (moments (ticked failed (block_of site (lines_behind site xs)) ∷ ticks)) ≤ length (moments ticks) + 2 ^ 17) is
+              (omega (arith, all));
+        }

@@ -1,0 +1,100 @@
+use Rattle.std.proofs.Common.{◌≡◌, ◌∙◌, ◌++◌, refl, sym, subst, arith}
+use Rattle.desk_runs.proofs.Telling.{SoFar, all_told, feeds_here, fits, may_tell_fed, none_left, nothing_told, told_more, uses}
+use Rattle.desk_ticks.specs.Blocks.{first_line, tick_one}
+use Rattle.desk_ticks.proofs.Behind.{some_left}
+use Rattle.record_lines.specs.Belongs.{StepBelongs}
+use Rattle.record_lines.specs.Lines.{accepted, at_start, reading_of}
+use Rattle.record_lines.specs.Stands.{StandsFor}
+use Rattle.site_types.specs.Valid.{IsValid}
+use Rattle.desk_runs.proofs.ticks.tell_lines.Goals as goal
+
+pub reader_behind_tick-reader-requires : goal.reader_behind_tick-reader-requires
+reader_behind_tick-reader-requires c =
+    let r = c.requires.may in
+    subst IsValid (sym (c.site.ensures r.site r.kept _ r.with.stands)) r.with.stands.valid
+
+pub loop-left-init : goal.loop-left-init
+loop-left-init c =
+    let reader = c.reader_behind_tick-reader in
+    record {
+      told = λ site kept ticks may.
+          let same = c.site.ensures site kept _ may.stands in
+          nothing_told site c.args.rest.now c.args.run.now reader.result (subst (λ s. StandsFor s (first_line s) reader.result) same reader.ensures.stands)
+          (subst (λ s. reading_of s (first_line s) ≡ accepted at_start tick_one) same reader.ensures.reads) kept ticks may;
+      journal = refl;
+      failures = refl;
+    }
+
+pub feed-fed-requires : goal.feed-fed-requires
+feed-fed-requires c =
+    let r = c.requires.may in
+    let h = c.loop-left.invariant.told r.site r.kept r.ticks r.with in
+    subst IsValid (sym (c.site-in-loop-left.ensures r.site r.kept _ h.stands)) h.stands.valid
+
+pub tell_step-requires : goal.tell_step-requires
+tell_step-requires c =
+    let r = c.requires.may in
+    let left = c.loop-left.left.now in
+    let fed = c.feed-fed in
+    let h = c.loop-left.invariant.told r.site r.kept r.ticks r.with in
+    let same = c.site-in-loop-left.ensures r.site r.kept _ h.stands in
+    let some = some_left left (sym c.is_empty.ensures ∙ c.loop-left-test.true) in
+    let feeds = feeds_here _ r.site (first_line r.site ++ h.read.front) left c.loop-left.reader fed.new.self fed.result same fed.ensures.feeds h.read.reads in
+    record {
+      may =
+          may_tell_fed r.site r.kept r.ticks c.args.rest.now left c.loop-left.reader fed.new.self fed.result c.args.run.now c.loop-left.run r.with h some feeds
+          (subst (λ s. StepBelongs s fed.result.step) same fed.ensures.belongs);
+    }
+
+pub split_at-requires : goal.split_at-requires
+split_at-requires c =
+    let r = c.requires.may in
+    let left = c.loop-left.left.now in
+    let fed = c.feed-fed in
+    let h = c.loop-left.invariant.told r.site r.kept r.ticks r.with in
+    let same = c.site-in-loop-left.ensures r.site r.kept _ h.stands in
+    let some = some_left left (sym c.is_empty.ensures ∙ c.loop-left-test.true) in
+    let feeds = feeds_here _ r.site (first_line r.site ++ h.read.front) left c.loop-left.reader fed.new.self fed.result same fed.ensures.feeds h.read.reads in
+    fits r.site r.kept r.ticks c.args.rest.now left c.loop-left.reader fed.new.self fed.result c.args.run.now c.loop-left.run r.with h some feeds
+    (subst (λ s. StepBelongs s fed.result.step) same fed.ensures.belongs)
+
+pub loop-left-smaller : goal.loop-left-smaller
+loop-left-smaller c =
+    let r = c.requires.may in
+    let left = c.loop-left.left.now in
+    let fed = c.feed-fed in
+    let h = c.loop-left.invariant.told r.site r.kept r.ticks r.with in
+    let same = c.site-in-loop-left.ensures r.site r.kept _ h.stands in
+    let some = some_left left (sym c.is_empty.ensures ∙ c.loop-left-test.true) in
+    let feeds = feeds_here _ r.site (first_line r.site ++ h.read.front) left c.loop-left.reader fed.new.self fed.result same fed.ensures.feeds h.read.reads in
+    let belongs = subst (λ s. StepBelongs s fed.result.step) same fed.ensures.belongs in
+    let fit =
+    fits r.site r.kept r.ticks c.args.rest.now left c.loop-left.reader fed.new.self fed.result c.args.run.now c.loop-left.run r.with h some feeds belongs in
+    let more =
+    uses r.site r.kept r.ticks c.args.rest.now left c.loop-left.reader fed.new.self fed.result c.args.run.now c.loop-left.run r.with h some feeds belongs in
+    let back = c.split_at.ensures.back_len in
+    omega (arith, more, fit, back)
+
+pub loop-left-preserved : goal.loop-left-preserved
+loop-left-preserved c =
+    let left = c.loop-left.left.now in
+    let fed = c.feed-fed in
+    let inv = c.loop-left.invariant in
+    let some = some_left left (sym c.is_empty.ensures ∙ c.loop-left-test.true) in
+    record {
+      told = λ site kept ticks may.
+          let h = inv.told site kept ticks may in
+          let same = c.site-in-loop-left.ensures site kept _ h.stands in
+          let feeds = feeds_here _ site (first_line site ++ h.read.front) left c.loop-left.reader fed.new.self fed.result same fed.ensures.feeds h.read.reads in
+          let belongs = subst (λ s. StepBelongs s fed.result.step) same fed.ensures.belongs in
+          subst (λ xs. SoFar site kept ticks c.args.rest.now xs fed.new.self c.tell_step.new.run) (sym c.split_at.ensures.back)
+          (told_more site kept ticks c.args.rest.now left c.loop-left.reader fed.new.self fed.result c.args.run.now c.loop-left.run may h some feeds belongs
+          fed.result.step refl belongs c.tell_step.new.run c.tell_step.ensures.tells);
+      journal = c.tell_step.ensures.journal ∙ inv.journal;
+      failures = c.tell_step.ensures.failures ∙ inv.failures;
+    }
+
+pub returns-clause-tells : goal.returns-clause-tells
+returns-clause-tells c site kept ticks may =
+    all_told site kept ticks c.args.rest.now c.loop-left.left.now c.loop-left.reader c.loop-left.run
+    (none_left c.loop-left.left.now (sym c.is_empty.ensures ∙ c.loop-left-test.false)) (c.loop-left.invariant.told site kept ticks may)

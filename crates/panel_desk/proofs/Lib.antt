@@ -1,0 +1,4 @@
+pub mod Asked
+pub mod Replied
+pub mod Sending
+pub mod Connections

@@ -1,0 +1,14 @@
+use desk_register::Reply as RegisterReply;
+
+/// What is replied to a request.
+#[derive(Drop)]
+pub enum Reply {
+    /// The face of this panel.
+    Face(u8),
+    /// The profile's table.
+    Profile,
+    /// The text of the tick that was run. Where it isn't changed, all panels show the same as before.
+    Tick { changed: bool },
+    /// An object, or the table of the untested points.
+    Other(RegisterReply),
+}

@@ -1,0 +1,3 @@
+pub mod Doors
+pub mod Serving
+pub mod Acting

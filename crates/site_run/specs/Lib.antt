@@ -1,0 +1,9 @@
+pub mod Records
+pub mod Writings
+pub mod Journals
+pub mod Outside
+pub mod Stands
+pub mod Acting
+pub mod Disks
+pub mod Pages
+pub mod PowerCuts
