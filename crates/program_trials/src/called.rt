@@ -1,3 +1,5 @@
+ghost use Rattle.std.specs.Prelude.{◌≡◌, false, IfOk};
+
 use crate::given::Given;
 use crate::outside::Outside;
 use crate::trickle_sink::TrickleSink;
@@ -149,7 +151,9 @@ fn disk_of(alloc: Global, journal: &[u8], failing: (u64, u64)) -> Result<MemoryD
 }
 
 // A door that gives no connection.
-fn door_of(alloc: Global, failing: u64) -> Result<MemoryDoor> {
+fn door_of(alloc: Global, failing: u64) -> Result<MemoryDoor>
+    ensures { IfOk result (λ door. door.is_out ≡ false) }
+{
     match MemoryDoor::new(alloc, Vec::new(alloc), vec![in alloc; failing]?) {
         Ok(door) => Ok(door),
         Err(_) => bail!("no memory"),

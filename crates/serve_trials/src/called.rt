@@ -1,3 +1,5 @@
+ghost use Rattle.std.specs.Prelude.{◌≡◌, false, IfOk};
+
 use crate::outside::Outside;
 use crate::trial::Trial;
 use anyhow::{Result, bail};
@@ -134,7 +136,9 @@ fn disk_of(alloc: Global, journal: &[u8], failing: u64) -> Result<MemoryDisk> {
 }
 
 // A door that gives a connection for each request, of which the first fails where the outside says.
-fn door_of(alloc: Global, requests: &[Vec<u8>], outside: Outside) -> Result<MemoryDoor> {
+fn door_of(alloc: Global, requests: &[Vec<u8>], outside: Outside) -> Result<MemoryDoor>
+    ensures { IfOk result (λ door. door.is_out ≡ false) }
+{
     let mut conns = Vec::new(alloc);
     for request in requests {
         let (read, write) = if conns.is_empty() {

@@ -7,7 +7,7 @@ use crate::telling::parts_of;
 use crate::trial::Trial;
 use anyhow::{Context, Result};
 use std::alloc::Global;
-use std::fs;
+use std::{fs, mem};
 use trial_cases::{Case, Lines};
 
 /// Whether serving tells, tick by tick, what a run of the record tells, and leaves the same journal.
@@ -44,10 +44,10 @@ fn posts_of(alloc: Global, record: &str) -> Result<Vec<Vec<u8>>> {
     let mut block = Lines::new(alloc);
     for line in record.lines() {
         if line == "end" || line.starts_with("tick ") {
-            if !block.is_empty() {
-                posts.push(post_of(alloc, block.done()?.as_str())?)?;
+            let whole = mem::replace(&mut block, Lines::new(alloc));
+            if !whole.is_empty() {
+                posts.push(post_of(alloc, whole.done()?.as_str())?)?;
             }
-            block = Lines::new(alloc);
         }
         block.say(line);
         block.say("\n");
@@ -57,20 +57,28 @@ fn posts_of(alloc: Global, record: &str) -> Result<Vec<Vec<u8>>> {
 
 // The first tick in which serving tells otherwise than a run, 0 for the opening and one behind the last for the end.
 fn first_other(served: &Called, run: &str) -> Option<u64> {
-    let (opening, _) = served.text.as_str().rsplit_once("served ").unwrap_or(("", ""));
+    let (opening, _) = served
+        .text
+        .as_str()
+        .rsplit_once("served ")
+        .unwrap_or(("", ""));
     let Some(mut rest) = run.strip_prefix(opening) else {
         return Some(0);
     };
-    let mut tick = 0;
+    let mut tick: u64 = 0;
     for answer in &served.answers {
-        tick += 1;
+        tick = tick.saturating_add(1);
         rest = match rest_behind(rest, answer.as_str()) {
             Some(rest) => rest,
             None => return Some(tick),
         };
     }
     let is_end = rest.starts_with("end ") && rest.lines().count() == 1;
-    if is_end { None } else { Some(tick.saturating_add(1)) }
+    if is_end {
+        None
+    } else {
+        Some(tick.saturating_add(1))
+    }
 }
 
 // What is left of a text behind what an answer tells of a tick, where that stands at its front.

@@ -14,7 +14,7 @@ pub(crate) fn told(alloc: Global, called: &Called) -> Result<String> {
     lines.say("\n");
     say_indented(&mut lines, called.text.as_str());
     for (place, answer) in called.answers.iter().enumerate() {
-        lines.count("    ", place as u64 + 1);
+        lines.count("    ", (place as u64).saturating_add(1));
         lines.say(": ");
         if place < called.given {
             say_answer(&mut lines, answer.as_str());
@@ -35,7 +35,7 @@ pub(crate) fn told_short(alloc: Global, called: &Called) -> Result<String> {
     }
     for (place, answer) in called.answers.iter().enumerate() {
         if place < called.given {
-            lines.count("; ", place as u64 + 1);
+            lines.count("; ", (place as u64).saturating_add(1));
             lines.say(": ");
             say_answer_short(&mut lines, answer.as_str());
         }
