@@ -1,8 +1,11 @@
+ghost use Rattle.std.specs.Prelude.{◌≡◌, false, IfOk};
+
 use crate::given::Given;
 use crate::outside::Outside;
 use crate::trickle_sink::TrickleSink;
 use crate::trickle_source::TrickleSource;
 use anyhow::{Result, bail};
+use desk_doors::MemoryDoor;
 use panel_edges::{MOST_DISK_BYTES, MemoryDisk, MemoryShelf, MemorySink, MemorySource, ShelfFile};
 use panel_program::panel;
 use program_status::Outcome;
@@ -43,7 +46,7 @@ impl Called {
     }
 }
 
-/// Calls `panel` over forms in memory, with an empty register.
+/// Calls `panel` over forms in memory, with an empty register and a door that gives no connection.
 pub(crate) fn call(alloc: Global, given: Given, outside: Outside) -> Result<Called> {
     match MemoryKeeper::new(alloc, Vec::new(alloc)) {
         Ok(keeper) => call_over(alloc, given, outside, keeper.tables),
@@ -69,6 +72,7 @@ pub(crate) fn call_over(
     };
     let mut disk = disk_of(alloc, given.journal, outside.disk)?;
     let mut target = disk_of(alloc, given.target, outside.target)?;
+    let mut door = door_of(alloc, outside.door)?;
     let mut keeper = MemoryKeeper {
         tables,
         fails: vec![in alloc; outside.keeper]?,
@@ -83,6 +87,7 @@ pub(crate) fn call_over(
         &mut out,
         &mut disk,
         &mut target,
+        &mut door,
         &mut keeper,
     );
     let TrickleSource { source, .. } = input;
@@ -141,6 +146,16 @@ fn disk_of(alloc: Global, journal: &[u8], failing: (u64, u64)) -> Result<MemoryD
     let journal = Vec::from_slice(alloc, journal)?;
     match MemoryDisk::new(alloc, journal, MOST_CALLS, MOST_WRITTEN, fails) {
         Ok(disk) => Ok(disk),
+        Err(_) => bail!("no memory"),
+    }
+}
+
+// A door that gives no connection.
+fn door_of(alloc: Global, failing: u64) -> Result<MemoryDoor>
+    ensures { IfOk result (λ door. door.is_out ≡ false) }
+{
+    match MemoryDoor::new(alloc, Vec::new(alloc), vec![in alloc; failing]?) {
+        Ok(door) => Ok(door),
         Err(_) => bail!("no memory"),
     }
 }

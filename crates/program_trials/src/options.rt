@@ -17,6 +17,7 @@ pub(crate) fn outside_of(options: &str) -> Result<Outside> {
                 "write" => outside.write = calls.0,
                 "disk" => outside.disk = calls,
                 "target" => outside.target = calls,
+                "door" => outside.door = calls.0,
                 "keeper" => outside.keeper = calls.0,
                 word => bail!("nothing that fails: {word}"),
             }

@@ -12,6 +12,8 @@ pub(crate) struct Outside {
     pub(crate) disk: (u64, u64),
     /// The first and the last of those of the disk on which a move makes the new journal.
     pub(crate) target: (u64, u64),
+    /// The call of the door that fails. Behind its start each does, since no connection comes.
+    pub(crate) door: u64,
     /// The call of the register's keeper that fails.
     pub(crate) keeper: u64,
 }
@@ -25,5 +27,6 @@ pub(crate) const SOUND: Outside = Outside {
     write: 0,
     disk: (0, 0),
     target: (0, 0),
+    door: 0,
     keeper: 0,
 };

@@ -1,0 +1,175 @@
+ghost use Rattle.std.specs.Prelude.{◌≡◌, false, IfOk};
+
+use crate::outside::Outside;
+use crate::trial::Trial;
+use anyhow::{Result, bail};
+use desk_doors::{MemoryConn, MemoryDoor};
+use panel_edges::{MOST_DISK_BYTES, MemoryDisk, MemoryShelf, MemorySink, MemorySource, ShelfFile};
+use panel_program::panel;
+use program_status::Outcome;
+use service_keepers::{MemoryKeeper, MemoryTables};
+use std::alloc::Global;
+
+/// How much text a sink has room for.
+const MOST_TEXT: usize = 20_000;
+
+/// How much a connection may be answered.
+const MOST_ANSWER: usize = 4_000;
+
+/// How many calls and written bytes the log of a disk has room for.
+const MOST_CALLS: usize = 1_000;
+
+const MOST_WRITTEN: usize = 125_000;
+
+/// What came of a call.
+#[derive(Drop)]
+pub(crate) struct Called {
+    pub(crate) outcome: Outcome,
+    pub(crate) text: String,
+    /// What each connection was answered, those too that the door didn't give.
+    pub(crate) answers: Vec<String>,
+    /// How many connections the door gave.
+    pub(crate) given: usize,
+    pub(crate) journal: Vec<u8>,
+    pub(crate) tables: MemoryTables,
+}
+
+impl Called {
+    /// The journal's file that the call left.
+    pub(crate) fn into_journal(self) -> Vec<u8> {
+        let Called { journal, .. } = self;
+        journal
+    }
+}
+
+/// Serves the requests of a trial.
+pub(crate) fn serve(alloc: Global, trial: &Trial, outside: Outside) -> Result<Called> {
+    let count = match outside.count {
+        0 => trial.requests.len().max(1) as u64,
+        count => count,
+    };
+    let mut words = Vec::new(alloc);
+    for word in ["serve", trial.name, "journal", "8080"] {
+        words.push(String::from_str(alloc, word)?)?;
+    }
+    words.push(format!(in alloc; "{count}")?)?;
+    call(alloc, words.as_slice(), trial, b"", outside)
+}
+
+/// Runs the site of a trial over a record.
+pub(crate) fn run(alloc: Global, trial: &Trial, record: &[u8]) -> Result<Called> {
+    let mut words = Vec::new(alloc);
+    for word in ["run", trial.name, "journal"] {
+        words.push(String::from_str(alloc, word)?)?;
+    }
+    call(alloc, words.as_slice(), trial, record, trial.outside)
+}
+
+// Calls `panel` over forms in memory, with an empty register.
+fn call(
+    alloc: Global,
+    words: &[String],
+    trial: &Trial,
+    record: &[u8],
+    outside: Outside,
+) -> Result<Called> {
+    let (Ok(mut input), Ok(mut out), Ok(mut keeper)) = (
+        MemorySource::new(alloc, Vec::from_slice(alloc, record)?, Vec::new(alloc)),
+        MemorySink::new(alloc, MOST_TEXT, vec![in alloc; outside.telling]?),
+        MemoryKeeper::new(alloc, vec![in alloc; outside.keeper]?),
+    ) else {
+        bail!("no memory");
+    };
+    let mut shelf = shelf_of(alloc, trial)?;
+    let mut disk = disk_of(alloc, trial.journal.as_slice(), outside.disk)?;
+    let mut target = disk_of(alloc, b"", 0)?;
+    let mut door = door_of(alloc, trial.requests.as_slice(), outside)?;
+    let outcome = panel(
+        alloc,
+        words,
+        &mut shelf,
+        &mut input,
+        &mut out,
+        &mut disk,
+        &mut target,
+        &mut door,
+        &mut keeper,
+    );
+    let MemoryDoor { conns, given, .. } = door;
+    let MemorySink { bytes: text, .. } = out;
+    let MemoryDisk { bytes: journal, .. } = disk;
+    let MemoryKeeper { tables, .. } = keeper;
+    Ok(Called {
+        outcome,
+        text: String::from_utf8(text)?,
+        answers: answers_of(alloc, conns)?,
+        given,
+        journal,
+        tables,
+    })
+}
+
+fn shelf_of(alloc: Global, trial: &Trial) -> Result<MemoryShelf> {
+    let mut files = Vec::new(alloc);
+    if let Some(bytes) = &trial.site {
+        files.push(ShelfFile {
+            name: String::from_str(alloc, trial.name)?,
+            bytes: bytes.clone()?,
+        })?;
+    }
+    match MemoryShelf::new(alloc, files, Vec::new(alloc)) {
+        Ok(shelf) => Ok(shelf),
+        Err(_) => bail!("no memory"),
+    }
+}
+
+fn disk_of(alloc: Global, journal: &[u8], failing: u64) -> Result<MemoryDisk> {
+    if journal.len() > MOST_DISK_BYTES {
+        bail!("a journal that is too long");
+    }
+    let journal = Vec::from_slice(alloc, journal)?;
+    let fails = vec![in alloc; failing]?;
+    match MemoryDisk::new(alloc, journal, MOST_CALLS, MOST_WRITTEN, fails) {
+        Ok(disk) => Ok(disk),
+        Err(_) => bail!("no memory"),
+    }
+}
+
+// A door that gives a connection for each request, of which the first fails where the outside says.
+fn door_of(alloc: Global, requests: &[Vec<u8>], outside: Outside) -> Result<MemoryDoor>
+    ensures { IfOk result (λ door. door.is_out ≡ false) }
+{
+    let mut conns = Vec::new(alloc);
+    for request in requests {
+        let (read, write) = if conns.is_empty() {
+            (outside.read, outside.write)
+        } else {
+            (0, 0)
+        };
+        conns.push(conn_of(alloc, request.as_slice(), read, write)?)?;
+    }
+    match MemoryDoor::new(alloc, conns, vec![in alloc; outside.door]?) {
+        Ok(door) => Ok(door),
+        Err(_) => bail!("no memory"),
+    }
+}
+
+fn conn_of(alloc: Global, request: &[u8], read: u64, write: u64) -> Result<MemoryConn> {
+    let bytes = Vec::from_slice(alloc, request)?;
+    let (reads, writes) = (vec![in alloc; read]?, vec![in alloc; write]?);
+    match MemoryConn::new(alloc, bytes, MOST_ANSWER, reads, writes) {
+        Ok(conn) => Ok(conn),
+        Err(_) => bail!("no memory"),
+    }
+}
+
+// What was written to each connection.
+fn answers_of(alloc: Global, conns: Vec<MemoryConn>) -> Result<Vec<String>> {
+    let mut answers = Vec::new(alloc);
+    for conn in conns {
+        let MemoryConn { output, .. } = conn;
+        let MemorySink { bytes, .. } = output;
+        answers.push(String::from_utf8(bytes)?)?;
+    }
+    Ok(answers)
+}
