@@ -1,2 +1,2 @@
 pub mod Doors
-pub mod Serving
+pub mod Each
