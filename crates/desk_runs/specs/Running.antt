@@ -19,7 +19,8 @@ use Rattle.site_types.specs.declared.site.Site.{Site}
 -- ---- the lines of a block
 
 -- a tick has begun, and the lines behind the first of its block are yet to be told
-pub record MayTellWith (site : Site) (kept : Retained) (ticks : List TickBlock) (rest : List ℕ) (run : Run) : Type 0 where
+pub record MayTellWith (site : Site) (kept : Retained) (ticks : List TickBlock) (rest : List ℕ) (run : Run) : Type 0
+    where
   pub stands : Stands site kept (record { run = ticks; block = Some (new_block site) }) run
   pub accepted : refusal_behind site rest ≡ None
   pub short : length rest ≤ most_block_bytes

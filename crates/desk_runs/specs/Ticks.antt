@@ -1,5 +1,6 @@
 -- The tick that a block tells, and which one may come.
-use Rattle.std.specs.Prelude.{◌+◌, ◌==◌, ◌&&◌, ◌++◌, nat_lt, ℕ, Bool, List, [], ◌∷◌, drop, length, None, ◌^◌, ◌≤◌, if◌then◌else◌}
+use Rattle.std.specs.Prelude.{◌+◌, ◌^◌, ◌≤◌, ◌==◌, ◌&&◌, ◌++◌, nat_lt, ℕ, Bool, List, [], ◌∷◌, None, drop, length}
+use Rattle.std.specs.Prelude.{if◌then◌else◌}
 use Rattle.std.specs.List.{fold}
 use Rattle.desk_ticks.specs.Blocks.{behind_line, reading_behind}
 use Rattle.panel_rules.specs.Moments.{TickBlock, moments}

@@ -32,7 +32,8 @@ pub fn run_block<D: Disk>(tick: u64, block: &[u8], run: &mut Run, disk: &mut D) 
     requires may { MayRunBlock tick block.now run.old }
     requires stands { StandsOn D.honest D.images disk.old run.old.journal }
     ensures runs { RunsBlock tick block.now
-        (disks_of D.honest D.images D.moment D.left_since disk.old disk.new) result run.old run.new }
+        (disks_of D.honest D.images D.moment D.left_since disk.old disk.new)
+        result run.old run.new }
     ensures disk { KeepsOn D.honest D.images D.faults disk.old disk.new run.old run.new }
 {
     run.begin(Tick(tick));

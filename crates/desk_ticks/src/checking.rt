@@ -1,8 +1,8 @@
 //! Checking a block whole.
 
 ghost use Rattle.std.specs.Prelude.{◌≡◌, ◌≤◌, [], length};
-ghost use Rattle.desk_ticks.specs.Blocks.{behind_line, first_line, most_block_bytes, refusal_behind as refusal_of, tick_one};
-ghost use Rattle.desk_ticks.specs.Blocks.{verdict_of};
+ghost use Rattle.desk_ticks.specs.Blocks.{behind_line, first_line, most_block_bytes};
+ghost use Rattle.desk_ticks.specs.Blocks.{refusal_behind as refusal_of, tick_one, verdict_of};
 ghost use Rattle.record_lines.specs.Lines.{accepted, at_start, reading_of};
 ghost use Rattle.record_lines.specs.Stands.{StandsFor};
 ghost use Rattle.site_types.specs.Valid.{IsValid};

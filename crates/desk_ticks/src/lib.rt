@@ -2,8 +2,8 @@
 //!
 //! [`tick_of_block`] answers which tick a block begins where all its lines are accepted, whatever the number of that
 //! tick, or the first line that is refused and why: `verdict_of` of specs/Blocks. It reads the block with `LineReader`
-//! of `record_lines`, does nothing with its lines and takes no memory. Whoever acts by an accepted block reads the lines
-//! that [`behind_first_line`] gives with the reader that [`reader_behind_tick`] gives.
+//! of `record_lines`, does nothing with its lines and takes no memory. Whoever acts by an accepted block reads the
+//! lines that [`behind_first_line`] gives with the reader that [`reader_behind_tick`] gives.
 #![tactic(auto)]
 
 mod block_refusal;

@@ -76,7 +76,7 @@ module _ (site : Site) (kept : Retained) where
       (served ≡ ReadFault) × IsSilent before after sides conn
 
   -- One connection was served behind these ticks: a request was read, or as much of one as was left, and what it asks
-  -- for was done and answered. What power cuts leave of the journal's disk goes on with the tick that was run, if one was.
+  -- for was done and answered. What power cuts leave of the journal's disk goes on with the tick that was run, if any.
   pub record IsServed {kind : DiskKind} (before : List TickBlock) (conn : ConnSides) (sides : KeeperSides)
       (old new : Stored kind) (served : Served) (after : List TickBlock) : Type 0 where
     pub bytes : List ℕ
@@ -86,8 +86,8 @@ module _ (site : Site) (kept : Retained) where
     pub stores : Stores site kept old new before after
 
   -- and the run stands for the ticks that were run then
-  pub record ServesOne (before : List TickBlock) (conn : ConnSides) (sides : KeeperSides) (disks : Disks) (old run : Run)
-      (served : Served) : Type 0 where
+  pub record ServesOne (before : List TickBlock) (conn : ConnSides) (sides : KeeperSides) (disks : Disks)
+      (old run : Run) (served : Served) : Type 0 where
     pub after : List TickBlock
     pub is : IsServed before conn sides (stored_old disks old) (stored_new disks run) served after
     pub stands : Stands site kept (at_rest after) run

@@ -54,10 +54,9 @@ impl Desk {
     ) -> Served
         requires may { MayServe self.old.panels register.now run.old }
         requires stands { StandsOn D.honest D.images disk.old run.old.journal }
-        ensures serves { HasServedOne (conn_sides C.left C.written conn.old conn.new)
-            (sides_of R.tables R.faults keeper.old keeper.new)
-            (disks_of D.honest D.images D.moment D.left_since disk.old disk.new)
-            run.old run.new result }
+        ensures serves { HasServedOne (conn_sides C.left C.written conn.old conn.new) (sides_of
+            R.tables R.faults keeper.old keeper.new) (disks_of D.honest D.images D.moment
+            D.left_since disk.old disk.new) run.old run.new result }
         ensures disk { KeepsOn D.honest D.images D.faults disk.old disk.new run.old run.new }
         ensures conn { BlamesConn (C.read_faults conn.old) (C.read_faults conn.new)
             (C.write_faults conn.old) (C.write_faults conn.new) result }

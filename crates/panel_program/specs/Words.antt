@@ -4,7 +4,8 @@ use Rattle.std.specs.Str.{bytes_eq}
 use Rattle.site_types.specs.Numbers.{number_of}
 use Rattle.panel_drill.specs.Running.{most_ticks}
 use Rattle.panel_program.specs.declared.command.Command.{Command}
-use Rattle.panel_program.specs.declared.command.Command.TheVariants.{Usage, Check, Run, Matrix, Drill, Move, Import, Serve}
+use Rattle.panel_program.specs.declared.command.Command.TheVariants.{Usage, Check, Run, Matrix, Drill, Move}
+use Rattle.panel_program.specs.declared.command.Command.TheVariants.{Import, Serve}
 
 -- the greatest port, and the most connections that may be served
 abbrev pub most_port : ℕ

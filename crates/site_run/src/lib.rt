@@ -6,8 +6,8 @@
 //! ticks that were run, and the block of the one that is open. What is written is `text_so_far` of run_text. What power
 //! cuts leave of its journal's disk, tick by tick, stands in specs/PowerCuts.
 //!
-//! All memory is taken by [`Run::open`]. A tick costs the turns of the system and a look at the faces of its panels; its
-//! text costs the lines that it has, and a short one goes out in one call.
+//! All memory is taken by [`Run::open`]. A tick costs the turns of the system and a look at the faces of its panels;
+//! its text costs the lines that it has, and a short one goes out in one call.
 #![tactic(auto)]
 
 mod lines;

@@ -202,7 +202,8 @@ impl Run {
     pub fn write_tick<K: Sink>(&mut self, changed: bool, out: &mut K) -> Result<(), Failed>
         requires room { length self.old.next.items ≡ length self.old.shown.items }
         requires same { changed ≡ false → self.old.next.items ≡ self.old.shown.items }
-        ensures ok { OnOk result (TellsTick (Grows (K.written out.old) (K.written out.new)) self.old) }
+        ensures ok { OnOk result
+            (TellsTick (Grows (K.written out.old) (K.written out.new)) self.old) }
         ensures err { OnErr result
             (TellsTick (GrowsByFront (K.written out.old) (K.written out.new)) self.old) }
         ensures rest { self.new ≡ record self.old { page = self.new.page } }
