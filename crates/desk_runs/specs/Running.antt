@@ -20,11 +20,11 @@ use Rattle.site_types.specs.declared.site.Site.{Site}
 
 -- a tick has begun, and the lines behind the first of its block are yet to be told
 pub record MayTellWith (site : Site) (kept : Retained) (ticks : List TickBlock) (rest : List ℕ) (run : Run) : Type 0
-    where
-  pub stands : Stands site kept (record { run = ticks; block = Some (new_block site) }) run
-  pub accepted : refusal_behind site rest ≡ None
-  pub short : length rest ≤ most_block_bytes
-  pub room : HasRoomForTick ticks
+  where
+    pub stands : Stands site kept (record { run = ticks; block = Some (new_block site) }) run
+    pub accepted : refusal_behind site rest ≡ None
+    pub short : length rest ≤ most_block_bytes
+    pub room : HasRoomForTick ticks
 
 pub record MayTellLines (rest : List ℕ) (run : Run) : Type 0 where
   pub site : Site
@@ -92,4 +92,3 @@ abbrev pub RunsBlock : ℕ → List ℕ → Disks → Bool → Run → Run → T
 RunsBlock tick block disks changed old run =
     (site : Site) (kept : Retained) (ticks : List TickBlock) → MayRunWith site kept ticks tick block old
     → RanBlock site kept ticks block disks changed old run
-

@@ -11,8 +11,7 @@ ghost use Rattle.site_run.specs.Outside.{disks_of};
 
 use crate::reply::Reply;
 use desk_answers::Object;
-use desk_register::Reply as RegisterReply;
-use desk_register::{reply_to_stop, reply_to_untested, reply_to_visit};
+use desk_register::{Reply as RegisterReply, reply_to_stop, reply_to_untested, reply_to_visit};
 use desk_requests::{Route, Status};
 use desk_runs::{expected, is_next, run_block};
 use desk_ticks::{BlockRefusal, tick_of_block};

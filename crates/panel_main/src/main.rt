@@ -27,7 +27,11 @@ fn main(rt: HostRuntime) -> ExitCode {
     let Ok(words) = words_of(&rt) else {
         return ExitCode::from(Status::NoMemory.number());
     };
-    let place = if is_command(words.as_slice(), "move") { 3 } else { 2 };
+    let place = if is_command(words.as_slice(), "move") {
+        3
+    } else {
+        2
+    };
     let Ok(journal) = word_at(rt.alloc(), words.as_slice(), place) else {
         return ExitCode::from(Status::NoMemory.number());
     };

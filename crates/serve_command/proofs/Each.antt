@@ -2,28 +2,19 @@
 use Rattle.std.proofs.Common.{◌≡◌, ◌∙◌, ◌++◌, ◌+◌, ◌*◌, ◌^◌, ◌≤◌, ◌<◌, ℕ, Bool, true, false, List, [], ◌∷◌, length, Option, Some, None}
 use Rattle.std.proofs.Common.{refl, sym, ap, subst, arith, length-append}
 use Rattle.desk_doors.specs.Doors.{StillTells}
+use Rattle.desk_runs.specs.Ticks.{HasRoomForTick}
 use Rattle.panel_desk.specs.declared.served.Served.{Served}
 use Rattle.panel_rules.specs.Moments.{TickBlock, moments}
 use Rattle.serve_command.specs.Acting.{GivesNone, IsAt, ServesAt, ServesSome, World, between}
 use Rattle.serve_command.specs.Doors.{DoorSides, GivesAndTakes, ServedConn, has_stop, is_stop}
 use Rattle.serve_command.specs.Serving.{Between, ServesConn, ServesEach, and_conn, no_conn}
 use Rattle.serve_command.specs.declared.counter.Counter.{Counter}
-use Rattle.serve_command.proofs.Doors.{gave_more, none_gave, still_tells, stops_more}
+use Rattle.serve_command.proofs.Doors.{door_from, gave_more, gave_same, none_gave, still_tells, stops_more}
 use Rattle.site_run.specs.Outside.{DiskKind, Stored}
 use Rattle.site_run.specs.Stands.{Stores}
 use Rattle.site_run.proofs.Cuts.{stores_more, stores_same}
 use Rattle.site_types.specs.declared.retained.Retained.{Retained}
 use Rattle.site_types.specs.declared.site.Site.{Site}
-
--- what a door tells from one moment to another
-abbrev pub door_from : DoorSides → DoorSides → DoorSides
-door_from first mid =
-    record {
-      waiting_before = first.waiting_before;
-      waiting_after = mid.waiting_after;
-      handed_before = first.handed_before;
-      handed_after = mid.handed_after;
-    }
 
 module _ (site : Site) (kept : Retained) {kind : DiskKind} where
   -- nothing was served yet
@@ -68,3 +59,30 @@ module _ (site : Site) (kept : Retained) {kind : DiskKind} where
   stores_each first conns last no_conn = stores_same site kept first.stored first.stored first.ticks refl refl
   stores_each first conns last (and_conn some conn mid next each none one) =
       stores_more site kept first.stored mid.stored next.stored first.ticks mid.ticks next.ticks (stores_each first some mid each) one.stores
+
+  -- there is room for another tick
+  pub room_for : (first last : World kind) (door : DoorSides) (before after : Counter) (served : ℕ) (stopped : Bool)
+      → (some : ServesSome site kept first last door before after served stopped) → served ≤ 1000000 → HasRoomForTick some.ticks
+  room_for first last door before after served stopped some few = let all = some.few in omega (arith, all, few)
+
+  pub stopped_as : (first last : World kind) (door : DoorSides) (before after : Counter) (served : ℕ) (b c : Bool) → b ≡ c
+      → ServesSome site kept first last door before after served b → ServesSome site kept first last door before after served c
+  stopped_as first last door before after served b c e = subst (λ s. ServesSome site kept first last door before after served s) e
+
+  -- the door gave none more
+  pub serves_same : (first last next : World kind) (door mid : DoorSides) (before between_them after : Counter) (served : ℕ) (stopped : Bool)
+      → mid.waiting_before ≡ door.waiting_after → mid.handed_before ≡ door.handed_after → ServesSome site kept first last door before between_them served stopped
+      → GivesNone site kept last next mid between_them after → ServesSome site kept first next (door_from door mid) before after served stopped
+  serves_same first last next door mid before between_them after served stopped waiting handed some none =
+      subst (λ w. ServesSome site kept first w (door_from door mid) before after served stopped) (sym none.world)
+      (subst (λ c. ServesSome site kept first last (door_from door mid) before c served stopped) (sym none.same)
+      (record {
+        ticks = some.ticks;
+        conns = some.conns;
+        each = some.each;
+        gave = gave_same some.conns door mid waiting handed some.gave none.waiting none.handed;
+        count = some.count;
+        stops = some.stops;
+        is_at = some.is_at;
+        few = some.few;
+      }))

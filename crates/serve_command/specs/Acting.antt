@@ -1,5 +1,6 @@
 -- What each step makes of a site at work behind its door.
-use Rattle.std.specs.Prelude.{◌≡◌, ◌+◌, ◌*◌, ◌^◌, ◌≤◌, ◌<◌, ◌⊎◌, ℕ, Bool, true, false, List, [], Option, Result, Ok, Err, length}
+use Rattle.std.specs.Prelude.{◌≡◌, ◌+◌, ◌*◌, ◌^◌, ◌≤◌, ◌<◌, ◌⊎◌, ℕ, Bool, true, false, List, [], Option, Result, Ok}
+use Rattle.std.specs.Prelude.{Err, length}
 use Rattle.desk_runs.specs.Ticks.{HasRoomForTick, at_rest}
 use Rattle.panel_desk.specs.declared.served.Served.{Served}
 use Rattle.panel_edges.specs.declared.failed.Failed.{Failed}
@@ -72,11 +73,11 @@ module _ (site : Site) (kept : Retained) where
 
   -- or the door gave none
   pub record GivesNone {kind : DiskKind} (old new : World kind) (door : DoorSides) (before after : Counter) : Type 0
-      where
-    pub world : new ≡ old
-    pub waiting : door.waiting_after ≡ door.waiting_before
-    pub handed : StillTells door.handed_before door.handed_after
-    pub same : after ≡ before
+    where
+      pub world : new ≡ old
+      pub waiting : door.waiting_after ≡ door.waiting_before
+      pub handed : StillTells door.handed_before door.handed_after
+      pub same : after ≡ before
 
   -- connections were served one after another
   pub record ServesSome {kind : DiskKind} (first last : World kind) (door : DoorSides) (before after : Counter)

@@ -1,5 +1,6 @@
 -- What serving a site comes to.
-use Rattle.std.specs.Prelude.{◌≡◌, ◌⊎◌, ◌+◌, ◌-◌, ◌^◌, ◌<◌, ◌≤◌, ℕ, false, true, List, [], ◌∷◌, ◌++◌, Option, Result, Ok, Err}
+use Rattle.std.specs.Prelude.{◌≡◌, ◌⊎◌, ◌+◌, ◌-◌, ◌^◌, ◌<◌, ◌≤◌, ℕ, false, true, List, [], ◌∷◌, ◌++◌, Option, Result}
+use Rattle.std.specs.Prelude.{Ok, Err}
 use Rattle.std.specs.Prelude.{codes, decimal, length}
 use Rattle.desk_register.specs.Replies.{KeeperSides}
 use Rattle.journal_refusals.specs.JournalTexts.{journal_status, journal_text}
@@ -65,21 +66,21 @@ door_line = codes "fault door\n"
 
 -- serving ended by itself: so many connections were served, or the last was a stop
 pub record EndsServing (count : ℕ) (conns : List ServedConn) (old new : Option (List ℕ)) (outcome : Outcome) : Type 0
-    where
-  pub enough : (length conns ≡ count) ⊎ (has_stop conns ≡ true)
-  pub says : Says Done (served_line (length conns)) old new outcome.status
+  where
+    pub enough : (length conns ≡ count) ⊎ (has_stop conns ≡ true)
+    pub says : Says Done (served_line (length conns)) old new outcome.status
 
 -- or the door failed before
 pub record EndsAtDoor (count : ℕ) (conns : List ServedConn) (old new : Option (List ℕ)) (outcome : Outcome) : Type 0
-    where
-  pub fewer : length conns < count
-  pub no_stop : has_stop conns ≡ false
-  pub says : Says DoorFault door_line old new outcome.status
+  where
+    pub fewer : length conns < count
+    pub no_stop : has_stop conns ≡ false
+    pub says : Says DoorFault door_line old new outcome.status
 
 -- ---- the whole of it
 
-module _ (site : Site) (kept : Retained) (digest : List ℕ) (disk : JournalDisk) (door : DoorSides) (keeper : KeeperSides)
-    (count : ℕ) (old new : Option (List ℕ)) (outcome : Outcome) where
+module _ (site : Site) (kept : Retained) (digest : List ℕ) (disk : JournalDisk) (door : DoorSides) (keeper :
+    KeeperSides) (count : ℕ) (old new : Option (List ℕ)) (outcome : Outcome) where
   -- nothing of the outside but the journal was touched
   pub record LeavesDoor : Type 0 where
     pub gave : GivesAndTakes [] door

@@ -1,10 +1,11 @@
 //! Serving a site.
 
-ghost use Rattle.std.specs.Prelude.{◌≡◌, ◌≢◌, false};
+ghost use Rattle.std.specs.Prelude.{◌≡◌, ◌≢◌, true, false};
 ghost use Rattle.desk_register.specs.Replies.{sides_of};
 ghost use Rattle.panel_core.specs.Stands.{HasPlan};
 ghost use Rattle.panel_edges.specs.Faults.{Rose};
-ghost use Rattle.program_status.specs.Statuses.{BlamesDisk, BlamesReads, BlamesWrites, IsSilentWithoutMemory};
+ghost use Rattle.program_status.specs.Statuses.{BlamesDisk, BlamesReads, BlamesWrites};
+ghost use Rattle.program_status.specs.Statuses.{IsSilentWithoutMemory};
 ghost use Rattle.program_status.specs.Statuses.{number_of};
 ghost use Rattle.retained_journal.specs.Images.{Stands as StandsOn};
 ghost use Rattle.serve_command.specs.Acting.{IsCount, SaysEnd};
@@ -48,10 +49,9 @@ pub fn serve_site<F: Shelf, K: Sink, D: Disk, G: Door, R: Keeper>(
     requires count { IsCount count }
     requires out { G.is_out door.old ≡ false }
     ensures answers { AnswersServe name.now (files_of F.files F.faults shelf.old shelf.new)
-        (disk_of D.seen D.honest D.images D.moment D.left_since disk.old disk.new)
-        (door_sides G.waiting G.handed door.old door.new)
-        (sides_of R.tables R.faults keeper.old keeper.new) count (K.written out.old)
-        (K.written out.new) result }
+        (disk_of D.seen D.honest D.images D.moment D.left_since disk.old disk.new) (door_sides
+        G.waiting G.handed door.old door.new) (sides_of R.tables R.faults keeper.old keeper.new)
+        count (K.written out.old) (K.written out.new) result }
     ensures read { BlamesReads result (F.faults shelf.old) (F.faults shelf.new) }
     ensures write { BlamesWrites result (K.write_faults out.old) (K.write_faults out.new) }
     ensures memory { IsSilentWithoutMemory result (K.written out.old) (K.written out.new) }
@@ -80,11 +80,10 @@ fn serve_loaded<K: Sink, D: Disk, G: Door, R: Keeper>(
     requires loaded { IsLoaded loaded }
     requires count { IsCount count }
     requires out { G.is_out door.old ≡ false }
-    ensures serves { ServesOver loaded.site loaded.digest
-        (disk_of D.seen D.honest D.images D.moment D.left_since disk.old disk.new)
-        (door_sides G.waiting G.handed door.old door.new)
-        (sides_of R.tables R.faults keeper.old keeper.new) count (K.written out.old)
-        (K.written out.new) result }
+    ensures serves { ServesOver loaded.site loaded.digest (disk_of D.seen D.honest D.images
+        D.moment D.left_since disk.old disk.new) (door_sides G.waiting G.handed door.old door.new)
+        (sides_of R.tables R.faults keeper.old keeper.new)
+        count (K.written out.old) (K.written out.new) result }
     ensures read { result.status ≢ number_of Status.ReadFault }
     ensures write { BlamesWrites result (K.write_faults out.old) (K.write_faults out.new) }
     ensures memory { IsSilentWithoutMemory result (K.written out.old) (K.written out.new) }
@@ -96,7 +95,9 @@ fn serve_loaded<K: Sink, D: Disk, G: Door, R: Keeper>(
     let Loaded { site, plan, digest } = loaded;
     match Journal::open(disk, digest, site.format == 2) {
         Ok((journal, _)) => {
-            serve_with(alloc, site, plan, journal, port, count, out, disk, door, keeper)
+            serve_with(
+                alloc, site, plan, journal, port, count, out, disk, door, keeper,
+            )
         }
         Err(refusal) => stop_at_journal(&refusal, out),
     }
@@ -121,11 +122,10 @@ fn serve_with<K: Sink, D: Disk, G: Door, R: Keeper>(
     requires stands { StandsOn D.honest D.images disk.old journal }
     requires count { IsCount count }
     requires out { G.is_out door.old ≡ false }
-    ensures serves { ServesFrom site journal
-        (disk_after D.seen D.honest D.images D.moment D.left_since disk.new)
-        (door_sides G.waiting G.handed door.old door.new)
-        (sides_of R.tables R.faults keeper.old keeper.new) count (K.written out.old)
-        (K.written out.new) result }
+    ensures serves { ServesFrom site journal (disk_after D.seen D.honest D.images D.moment
+        D.left_since disk.new) (door_sides G.waiting G.handed door.old door.new) (sides_of
+        R.tables R.faults keeper.old keeper.new) count (K.written out.old) (K.written out.new)
+        result }
     ensures read { result.status ≢ number_of Status.ReadFault }
     ensures write { BlamesWrites result (K.write_faults out.old) (K.write_faults out.new) }
     ensures memory { IsSilentWithoutMemory result (K.written out.old) (K.written out.new) }
@@ -151,6 +151,9 @@ fn finish<K: Sink>(end: ServingEnd, run: &Run, out: &mut K) -> Outcome
         × (result.store_failures ≡ run.now.store_failures) }
     ensures write { BlamesWrites result (K.write_faults out.old) (K.write_faults out.new) }
     ensures door { result.status ≡ number_of Status.DoorFault → end.failed ≡ true }
+    ensures read { result.status ≢ number_of Status.ReadFault }
+    ensures memory { result.status ≢ number_of Status.NoMemory }
+    ensures disk { result.status ≢ number_of Status.DiskFault }
 {
     let outcome = if end.failed {
         say(b"fault door\n", Status::DoorFault, run.ticks(), out)

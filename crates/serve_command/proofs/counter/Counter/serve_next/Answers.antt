@@ -1,0 +1,23 @@
+use Rattle.std.proofs.Common.{◌≡◌, ◌∙◌, refl, subst, sym}
+use Rattle.desk_doors.specs.Doors.{Gives, conn_told}
+use Rattle.serve_command.proofs.Doors.{handed_then}
+use Rattle.serve_command.proofs.counter.Counter.serve_next.Goals as goal
+
+pub returns-clause-serves : goal.returns-clause-serves
+returns-clause-serves g c site kept ticks at room =
+    let one = c.serve_one-served.ensures.serves site kept ticks at.stands room in
+    let given = c.in_ok-conn.conn in
+    let back = c.serve_one-served.new.conn in
+    let told = conn_told (g.G.Conn.Stream.left given) (g.G.Conn.Stream.written given) in
+    let told_back = conn_told (g.G.Conn.Stream.left back) (g.G.Conn.Stream.written back) in
+    record {
+      next = one.after;
+      conn = record { given = told; back = told_back; served = c.serve_one-served.result };
+      is_conn = refl;
+      gives = subst (λ o. Gives (g.G.Door.waiting c.args.door.now) o told) (sym c.finish.ensures.waiting) c.in_ok-conn.ensures.given;
+      takes = handed_then (g.G.Door.handed c.args.door.now) (g.G.Door.handed c.next.new.self) (g.G.Door.handed c.finish.new.self) told_back
+          c.next.ensures.handed c.finish.ensures.handed;
+      serves = one.is;
+      is_at = record { stands = one.stands; panels = c.serve_one-served.ensures.panels ∙ at.panels; points = at.points };
+      few = one.few;
+    }
