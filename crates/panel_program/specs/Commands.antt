@@ -24,6 +24,8 @@ use Rattle.serve_command.specs.Serving.{AnswersServe}
 use Rattle.site_commands.specs.Commands.{AnswersOver, Checks, Draws, RanNothing, Tells}
 use Rattle.site_commands.specs.Files.{Files}
 use Rattle.site_commands.specs.Sites.{IsAtHand}
+use Rattle.panel_edges.specs.Faults.{Rose}
+use Rattle.program_status.specs.Statuses.{number_of}
 use Rattle.program_status.specs.Sayings.{Says}
 use Rattle.panel_program.specs.Words.{command_of}
 
@@ -137,6 +139,12 @@ abbrev pub AnswersIfServing : List (String Global) → Files → JournalDisk →
 AnswersIfServing words files disk door keeper old new outcome =
     (port count : ℕ) → command_of (map string_bytes words) ≡ Serve port count
     → AnswersServe (site_word (map string_bytes words)) files disk door keeper count old new outcome
+
+-- serving ends with a door fault only where the door's count of faults rose
+abbrev pub BlamesDoorIfServing : List (String Global) → Outcome → ℕ → ℕ → Type 0
+BlamesDoorIfServing words outcome before after =
+    (port count : ℕ) → command_of (map string_bytes words) ≡ Serve port count
+    → outcome.status ≡ number_of exit.DoorFault → Rose before after
 
 -- a command that neither imports nor serves leaves the keeper alone
 abbrev pub AsksNothing : List (String Global) → Type 0

@@ -1,9 +1,9 @@
-ghost use Rattle.std.specs.Prelude.{◌≡◌, ◌⊎◌};
+ghost use Rattle.std.specs.Prelude.{◌≡◌, ◌⊎◌, false};
 ghost use Rattle.import_command.specs.Imports.{kept_tables};
 ghost use Rattle.journal_move.specs.Disks.{Spares};
 ghost use Rattle.panel_edges.specs.Faults.{Rose};
 ghost use Rattle.panel_program.specs.Commands.{Answers, AnswersIfImport, AnswersIfServing, AnswersRun};
-ghost use Rattle.panel_program.specs.Commands.{AsksNothing, ServesNothing, WorksNothing};
+ghost use Rattle.panel_program.specs.Commands.{AsksNothing, BlamesDoorIfServing, ServesNothing, WorksNothing};
 ghost use Rattle.panel_program.specs.Commands.{IsImport, KeepsNothing, MovesNothing, RunsNothing, call_disks};
 ghost use Rattle.site_run.specs.PowerCuts.{disk_of};
 ghost use Rattle.panel_program.specs.Runs.{streams_of};
@@ -51,12 +51,10 @@ pub fn panel<F: Shelf, S: Source, K: Sink, D: Disk, G: Door, R: Keeper>(
     ensures imports { AnswersIfImport words.now (files_of F.files F.faults shelf.old shelf.new)
         (kept_tables R.tables keeper.old keeper.new) (K.written out.old) (K.written out.new)
         result }
-    ensures serves { AnswersIfServing words.now
-        (files_of F.files F.faults shelf.old shelf.new)
-        (disk_of D.seen D.honest D.images D.moment D.left_since disk.old disk.new)
-        (door_sides G.waiting G.handed door.old door.new)
-        (sides_of R.tables R.faults keeper.old keeper.new) (K.written out.old) (K.written out.new)
-        result }
+    ensures serves { AnswersIfServing words.now (files_of F.files F.faults shelf.old shelf.new)
+        (disk_of D.seen D.honest D.images D.moment D.left_since disk.old disk.new) (door_sides
+        G.waiting G.handed door.old door.new) (sides_of R.tables R.faults keeper.old keeper.new)
+        (K.written out.old) (K.written out.new) result }
     ensures input_alone { RunsNothing words.now → input.new ≡ input.old }
     ensures disk_alone { KeepsNothing words.now → disk.new ≡ disk.old }
     ensures target_alone { MovesNothing words.now → target.new ≡ target.old }
@@ -78,8 +76,7 @@ pub fn panel<F: Shelf, S: Source, K: Sink, D: Disk, G: Door, R: Keeper>(
         → Rose (D.faults disk.old) (D.faults disk.new)
         ⊎ Rose (D.faults target.old) (D.faults target.new) }
     ensures stores { BlamesStores result (D.faults disk.old) (D.faults disk.new) }
-    ensures door { result.status ≡ number_of Status.DoorFault
-        → Rose (G.faults door.old) (G.faults door.new) }
+    ensures door { BlamesDoorIfServing words.now result (G.faults door.old) (G.faults door.new) }
     ensures keeper { IsImport words.now
         → BlamesKeeper result (R.faults keeper.old) (R.faults keeper.new) }
 {

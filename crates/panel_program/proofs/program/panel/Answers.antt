@@ -1,12 +1,16 @@
 use Rattle.std.proofs.Common.{◌≡◌, ◌∙◌, ap, sym, subst, List, ℕ}
 use Rattle.std.specs.Prelude.{map, string_bytes}
-use Rattle.panel_program.specs.declared.command.Command.TheVariants.{Usage, Check, Run, Matrix, Drill, Move, Import}
+use Rattle.panel_program.specs.declared.command.Command.TheVariants.{Usage, Check, Run, Matrix, Drill, Move, Import, Serve}
 use Rattle.journal_move.specs.Disks.{disks_of}
 use Rattle.panel_program.specs.Commands.{AnswersCommand, SiteNames, call_disks, file_word, names_of, new_site_word, site_word}
 use Rattle.panel_program.specs.Usage.{usage_line}
 use Rattle.panel_program.specs.Runs.{streams_of}
 use Rattle.site_commands.specs.Files.{files_of}
 use Rattle.panel_program.specs.Words.{IsBounded, command_of}
+use Rattle.desk_register.specs.Replies.{sides_of}
+use Rattle.serve_command.specs.Doors.{door_sides}
+use Rattle.serve_command.specs.Serving.{AnswersServe}
+use Rattle.site_run.specs.PowerCuts.{disk_of}
 use Rattle.import_command.specs.Imports.{AnswersImport, kept_tables}
 use Rattle.journal_move.specs.Moves.{AnswersMove}
 use Rattle.journal_move.proofs.Sparing.{spares_alone}
@@ -27,6 +31,12 @@ move_is e = cc
 
 import_is : Import ≡ Usage → ⊥
 import_is e = cc
+
+serve_is : (port count : ℕ) → Serve port count ≡ Usage → ⊥
+serve_is port count e = cc
+
+count_is : (port count other_port other : ℕ) → Serve port count ≡ Serve other_port other → count ≡ other
+count_is port count other_port other e = cc
 
 -- the names of a call whose site has this one
 abbrev named : List ℕ → List (List ℕ) → SiteNames
@@ -190,7 +200,7 @@ returns-in-Import-clause-disk_spared g c nothing =
     spares_alone g.D.Disk.seen g.D.Disk.honest g.D.Disk.images g.D.Disk.moment g.D.Disk.left_since c.args.disk.now (g.met.D.Disk.only_now c.args.disk.now)
 
 pub returns-in-Run-clause-disk_spared : goal.returns-in-Run-clause-disk_spared
-returns-in-Run-clause-disk_spared g c nothing = absurd (nothing (sym c.command_of.ensures.command ∙ c.in-Run.is))
+returns-in-Run-clause-disk_spared g c nothing = absurd (nothing.0 (sym c.command_of.ensures.command ∙ c.in-Run.is))
 
 pub returns-in-Usage-clause-target_spared : goal.returns-in-Usage-clause-target_spared
 returns-in-Usage-clause-target_spared g c =
@@ -214,4 +224,43 @@ returns-in-Drill-clause-target_spared g c =
 
 pub returns-in-Import-clause-target_spared : goal.returns-in-Import-clause-target_spared
 returns-in-Import-clause-target_spared g c =
+    spares_alone g.D.Disk.seen g.D.Disk.honest g.D.Disk.images g.D.Disk.moment g.D.Disk.left_since c.args.target.now (g.met.D.Disk.only_now c.args.target.now)
+
+pub serve_site-requires-clause-count : goal.serve_site-requires-clause-count
+serve_site-requires-clause-count g c = subst IsBounded c.in-Serve.is c.command_of.ensures.bounded
+
+pub returns-in-Serve-clause-answers : goal.returns-in-Serve-clause-answers
+returns-in-Serve-clause-answers g c =
+    let words = map string_bytes c.args.words.now in
+    let files = files_of g.F.Shelf.files g.F.Shelf.faults c.args.shelf.now c.serve_site.new.shelf in
+    let streams =
+    streams_of g.S.Stream.left g.S.Stream.read_faults g.K.Stream.written c.args.input.now c.args.input.now c.args.out.now c.serve_site.new.out in
+    let disks =
+    call_disks g.D.Disk.seen g.D.Disk.honest g.D.Disk.images g.D.Disk.moment g.D.Disk.left_since c.args.disk.now c.serve_site.new.disk c.args.target.now c.args.target.now in
+    let is : command_of words ≡ Serve c.in-Serve.port c.in-Serve.count = sym c.command_of.ensures.command ∙ c.in-Serve.is in
+    subst (λ command. AnswersCommand command (names_of words) files disks streams c.serve_site.result) (sym is) tt
+
+pub returns-in-Serve-clause-serves : goal.returns-in-Serve-clause-serves
+returns-in-Serve-clause-serves g c port count asked =
+    let words = map string_bytes c.args.words.now in
+    let files = files_of g.F.Shelf.files g.F.Shelf.faults c.args.shelf.now c.serve_site.new.shelf in
+    let disk = disk_of g.D.Disk.seen g.D.Disk.honest g.D.Disk.images g.D.Disk.moment g.D.Disk.left_since c.args.disk.now c.serve_site.new.disk in
+    let door = door_sides g.G.Door.waiting g.G.Door.handed c.args.door.now c.serve_site.new.door in
+    let sides = sides_of g.R.Keeper.tables g.R.Keeper.faults c.args.keeper.now c.serve_site.new.keeper in
+    let old = g.K.Stream.written c.args.out.now in
+    let new = g.K.Stream.written c.serve_site.new.out in
+    let is : command_of words ≡ Serve c.in-Serve.port c.in-Serve.count = sym c.command_of.ensures.command ∙ c.in-Serve.is in
+    let name : c.as_str-name.result.now ≡ site_word words =
+    c.as_str-name.ensures.value ∙ ap string_bytes c.index-words-1-in-Serve.is ∙ sym
+    (site_word_is c.args.words.now c.index-words-1-in-Serve.result (λ e. serve_is c.in-Serve.port c.in-Serve.count (sym is ∙ e)))
+    in
+    subst (λ n. AnswersServe (site_word words) files disk door sides n old new c.serve_site.result)
+    (count_is c.in-Serve.port c.in-Serve.count port count (sym is ∙ asked))
+    (subst (λ text. AnswersServe text files disk door sides c.in-Serve.count old new c.serve_site.result) name c.serve_site.ensures.answers)
+
+pub returns-in-Serve-clause-disk_spared : goal.returns-in-Serve-clause-disk_spared
+returns-in-Serve-clause-disk_spared g c nothing = absurd (nothing.1 c.in-Serve.port c.in-Serve.count (sym c.command_of.ensures.command ∙ c.in-Serve.is))
+
+pub returns-in-Serve-clause-target_spared : goal.returns-in-Serve-clause-target_spared
+returns-in-Serve-clause-target_spared g c =
     spares_alone g.D.Disk.seen g.D.Disk.honest g.D.Disk.images g.D.Disk.moment g.D.Disk.left_since c.args.target.now (g.met.D.Disk.only_now c.args.target.now)
