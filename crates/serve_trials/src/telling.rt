@@ -76,17 +76,22 @@ pub(crate) fn parts_of(answer: &str) -> Option<(&str, &str)> {
 fn say_answer(lines: &mut Lines, answer: &str) {
     match parts_of(answer) {
         Some((head, body)) => {
-            let mut separator = "";
-            for line in head.split("\r\n") {
-                lines.say(separator);
-                lines.say(line);
-                separator = "; ";
-            }
+            say_head(lines, head);
             lines.say("\n");
             say_indented(lines, body);
         }
         None if answer.is_empty() => lines.say("no answer\n"),
         None => lines.say("a front of a head\n"),
+    }
+}
+
+// Says the lines of a head in one line.
+fn say_head(lines: &mut Lines, head: &str) {
+    for (place, line) in head.split("\r\n").enumerate() {
+        if place > 0 {
+            lines.say("; ");
+        }
+        lines.say(line);
     }
 }
 
