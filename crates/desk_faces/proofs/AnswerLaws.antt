@@ -1,6 +1,6 @@
 -- Laws of an answer that is under way.
-use Rattle.std.proofs.Common.{◌≡◌, ◌≤◌, ◌++◌, ℕ, Bool, true, false, List, [], Option, Result, Ok, Err, arith, sym, subst, append_assoc, append-nil}
-use Rattle.std.specs.Prelude.{IsErr, OnErr, OnOk, is_err}
+use Rattle.std.proofs.Common.{◌≡◌, ◌≤◌, ◌++◌, ℕ, Bool, true, false, List, [], Result, Ok, Err, arith, sym, subst, append_assoc}
+use Rattle.std.specs.Prelude.{OnErr, OnOk, is_err}
 use Rattle.panel_edges.specs.Contents.{Grows, GrowsByFront}
 use Rattle.panel_edges.specs.Faults.{HasCause, Rose}
 use Rattle.panel_edges.proofs.Counting.{rose_since}
@@ -76,23 +76,6 @@ writes_all {begun} {from} {upto} {new} {answer} {text} {r} stands adds finishes 
 
 pub adds_as : {a b : Outlet} {x y : AnswerWriter} (first second : List ℕ) → first ≡ second → AddsText a x b y first → AddsText a x b y second
 adds_as {a} {b} {x} {y} first second same adds = subst (AddsText a x b y) same adds
-
--- ---- what is written at once
-
--- a long text behind what is held: both were written
-pub puts_after_flush : {T E : Type 0} (held holds : List ℕ) (a b d : Option (List ℕ)) (text : List ℕ) (r : Result T E) → holds ≡ [] → Grows a b held
-    → OnOk r (Grows b d text) → OnErr r (GrowsByFront b d text) → Puts held holds a d text r
-puts_after_flush held holds a b d text (Ok done) empty first ok err = record {
-  ok = (held ++ text, subst (λ (xs : List ℕ). held ++ text ≡ (held ++ text) ++ xs) (sym empty) (sym (append-nil (held ++ text))), grows_more a b d held text first ok);
-  err = tt;
-}
-puts_after_flush held holds a b d text (Err e) empty first ok err = record { ok = tt; err = front_more a b d held text first err }
-
--- a write failed before the long text
-pub puts_unflushed : {T E : Type 0} (held holds : List ℕ) (a b : Option (List ℕ)) (text : List ℕ) (r : Result T E) → IsErr r → GrowsByFront a b held
-    → Puts held holds a b text r
-puts_unflushed held holds a b text (Ok done) failed front = cc
-puts_unflushed held holds a b text (Err e) failed front = record { ok = tt; err = front_longer a b held text front }
 
 -- ---- the end of an answer
 

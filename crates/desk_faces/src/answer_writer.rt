@@ -1,11 +1,9 @@
 ghost use Rattle.std.specs.Prelude.{◌≡◌, ◌≤◌, [], is_err, length};
-ghost use Rattle.face_text.specs.Holding.{Puts};
 ghost use Rattle.face_text.specs.Lists.{list_text};
-ghost use Rattle.panel_edges.specs.Faults.{HasCause};
 ghost use Rattle.desk_faces.specs.Standing.{AddsText, EndsAnswer, Outlet, IsTold, outlet};
 
 use face_text::{Face, FaceList, Held, push_list};
-use panel_edges::{Failed, Sink, write_all};
+use panel_edges::{Failed, Sink};
 use site_types::Site;
 
 // An answer as it is written. What is pushed comes behind what was pushed before; once a write has failed, nothing
@@ -27,9 +25,9 @@ impl AnswerWriter {
         }
     }
 
-    // Puts a short text behind the rest.
+    // Puts a text of at most 1,024 bytes behind the rest.
     pub(crate) fn push<K: Sink>(&mut self, text: &[u8], out: &mut K)
-        requires { length text.now ≤ 64 }
+        requires { length text.now ≤ 1024 }
         ensures text { AddsText (outlet (K.written out.old) (K.write_faults out.old)) self.old
             (outlet (K.written out.new) (K.write_faults out.new)) self.new text.now }
         ensures left { K.left out.new ≡ K.left out.old }
@@ -61,19 +59,6 @@ impl AnswerWriter {
         self.failed = has_failed(push_list(site, face, list, &mut self.held, out));
     }
 
-    // Puts a long text behind the rest, and writes both.
-    pub(crate) fn push_bytes<K: Sink>(&mut self, text: &[u8], out: &mut K)
-        ensures text { AddsText (outlet (K.written out.old) (K.write_faults out.old)) self.old
-            (outlet (K.written out.new) (K.write_faults out.new)) self.new text.now }
-        ensures left { K.left out.new ≡ K.left out.old }
-        ensures reads { K.read_faults out.new ≡ K.read_faults out.old }
-    {
-        if self.failed {
-            return;
-        }
-        self.failed = has_failed(write_behind(&mut self.held, text, out));
-    }
-
     // Writes what is still held back.
     // It fails where a write has failed, now or before, and some front of all that was pushed is written then.
     pub(crate) fn finish<K: Sink>(&mut self, out: &mut K) -> Result<(), Failed>
@@ -93,15 +78,4 @@ fn has_failed(done: Result<(), Failed>) -> bool
     ensures { result ≡ is_err done }
 {
     done.is_err()
-}
-
-// Writes what is held, and a text behind it.
-fn write_behind<K: Sink>(held: &mut Held, text: &[u8], out: &mut K) -> Result<(), Failed>
-    ensures text { Puts held.old held.new (K.written out.old) (K.written out.new) text.now result }
-    ensures cause { HasCause (K.write_faults out.old) (K.write_faults out.new) result }
-    ensures left { K.left out.new ≡ K.left out.old }
-    ensures reads { K.read_faults out.new ≡ K.read_faults out.old }
-{
-    held.flush(out)?;
-    write_all(out, text)
 }

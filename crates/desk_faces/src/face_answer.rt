@@ -28,8 +28,8 @@ pub fn answer_face<K: Sink>(site: &Site, face: &Face, tick: u64, out: &mut K) ->
     let opening = head(Status::Done, Content::Json);
     let start = front(face);
     let mut writer = AnswerWriter::new();
-    writer.push_bytes(opening.as_str().as_bytes(), out);
-    writer.push_bytes(start.as_str().as_bytes(), out);
+    writer.push(opening.as_str().as_bytes(), out);
+    writer.push(start.as_str().as_bytes(), out);
     push_lists(&mut writer, site, face, tick, out);
     writer.finish(out)
 }

@@ -5,7 +5,7 @@
 //! `face_text` makes of the slots of a page.
 //!
 //! A write that fails leaves some front of the answer written. No call takes memory. What is written is held back in a
-//! room of 1,024 bytes, so that a face of which little is told goes out in three writes.
+//! room of 1,024 bytes, so that a face of which little is told goes out in one write.
 #![tactic(auto)]
 
 mod answer_writer;

@@ -1,6 +1,12 @@
 -- Items of a list, one after another.
-use Rattle.std.proofs.Common.{◌≡◌, ◌∙◌, ◌++◌, Bool, true, List, [], ◌∷◌, ℕ, refl, sym, ap, append_assoc}
-use Rattle.face_text.specs.Lists.{begun_after, comma, listed, quoted}
+use Rattle.std.proofs.Common.{◌≡◌, ◌∙◌, ◌++◌, Bool, true, false, List, [], ◌∷◌, ℕ, refl, sym, ap, append_assoc, if◌then◌else◌}
+use Rattle.std.specs.List.{flat_map, range_with_len}
+use Rattle.site_types.specs.declared.site.Site.{Site}
+use Rattle.face_text.specs.declared.face.Face.{Face}
+use Rattle.face_text.specs.declared.face_list.FaceList.{FaceList}
+use Rattle.face_text.specs.declared.group.Group.{Group}
+use Rattle.face_text.specs.Lists.{begun_after, comma, group_items, is_in, item_of, items_in, listed, named_item, quoted}
+use Rattle.face_text.specs.Slots.{last_of, name_in, shows}
 
 pub begun_more : (begun : Bool) (xs ys : List (List ℕ)) → begun_after begun (xs ++ ys) ≡ begun_after (begun_after begun xs) ys
 begun_more begun [] ys = refl
@@ -32,5 +38,20 @@ next_listed begun now all so_far part whole is =
 
 pub next_begun : (begun now after : Bool) (all so_far part : List (List ℕ)) → all ≡ so_far ++ part → now ≡ begun_after begun so_far
     → after ≡ begun_after now part → after ≡ begun_after begun all
-next_begun begun now after all so_far part whole is then =
-    then ∙ ap (λ b. begun_after b part) is ∙ sym (ap (begun_after begun) whole ∙ begun_more begun so_far part)
+next_begun begun now after all so_far part whole is moved =
+    moved ∙ ap (λ b. begun_after b part) is ∙ sym (ap (begun_after begun) whole ∙ begun_more begun so_far part)
+
+-- a group of which nothing is shown has no item
+pub blank_items : (site : Site) (face : Face) (list : FaceList) (group : Group) → ((number : ℕ) → shows face group number ≡ false)
+    → items_in site face list group ≡ []
+blank_items site face list group blank = go (is_in list group)
+  where
+    numbers : (all : List ℕ) → flat_map (item_of site face group) all ≡ []
+    numbers [] = refl
+    numbers (number ∷ all) =
+        ap (λ b. (if b then named_item group (name_in site face.panel group number) else []) ++ flat_map (item_of site face group) all) (blank number)
+        ∙ numbers all
+
+    go : (b : Bool) → (if b then group_items site face group (last_of group) else []) ≡ []
+    go true = numbers (range_with_len 1 (last_of group))
+    go false = refl

@@ -9,7 +9,7 @@ use crate::face::Face;
 use crate::face_list::FaceList;
 use crate::group::Group;
 use crate::held::Held;
-use crate::masks::{last_number, shows};
+use crate::masks::{is_blank, last_number, shows};
 use crate::naming::name_of;
 use crate::page::page;
 use crate::words::kind_word;
@@ -42,7 +42,7 @@ impl FaceItems<'_> {
         Ok(())
     }
 
-    // The items of a group, number by number, where it is of the list.
+    // The items of a group that is of the list, of which nothing is looked at where its mask is empty.
     fn push_group<K: Sink>(
         &self,
         group: Group,
@@ -61,6 +61,9 @@ impl FaceItems<'_> {
         ensures reads { K.read_faults out.new ≡ K.read_faults out.old }
     {
         if !is_in(self.list, group) {
+            return Ok(());
+        }
+        if is_blank(self.face, group) {
             return Ok(());
         }
         for place in 0..last_number(group) {

@@ -33,9 +33,9 @@ impl Held {
         }
     }
 
-    /// Puts a line behind what is held, and writes that first where there is no room.
+    /// Puts a text of at most 1,024 bytes behind what is held, and writes that first where there is no room.
     pub fn push<K: Sink>(&mut self, line: &[u8], out: &mut K) -> Result<(), Failed>
-        requires { length line.now ≤ 64 }
+        requires { length line.now ≤ 1024 }
         ensures text { Puts self.old self.new (K.written out.old) (K.written out.new) line.now
             result }
         ensures cause { HasCause (K.write_faults out.old) (K.write_faults out.new) result }

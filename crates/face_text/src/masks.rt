@@ -1,6 +1,6 @@
 //! What a face shows of a group, and whether two faces show the same.
 
-ghost use Rattle.std.specs.Prelude.{◌≡◌, ◌≤◌, ◌-◌, ℕ, [], true, slice_index_or};
+ghost use Rattle.std.specs.Prelude.{◌≡◌, ◌≤◌, ◌-◌, ℕ, [], ◌∷◌, true, false, slice_index_or};
 ghost use Rattle.face_text.specs.Slots.{HasPlace, last_of, shows as is_shown};
 
 use crate::face::Face;
@@ -68,6 +68,38 @@ fn is_same_loop(before: &PointSet, after: &PointSet, line: u8) -> bool
         [] }
 {
     before.loops[line as usize - 1] == after.loops[line as usize - 1]
+}
+
+/// Whether a face's mask of a group is empty.
+pub fn is_blank(face: &Face, group: Group) -> bool
+    requires { HasPlace group }
+    ensures { result ≡ true → (number : ℕ) → is_shown face.now group number ≡ false }
+{
+    match group {
+        Group::Zones(panel) => face.zones[panel as usize - 1] == 0,
+        Group::Firsts(panel) => face.firsts[panel as usize - 1] == 0,
+        Group::Missing(line) => is_blank_loop(&face.faults.missing, line),
+        Group::Broken => face.faults.broken == 0,
+        Group::Shorted => face.faults.shorted == 0,
+        Group::Supplies => face.faults.supply == 0,
+        Group::Silent => face.faults.silent == 0,
+        Group::Links => face.faults.links == 0,
+        Group::Unconfirmed => face.faults.unconfirmed == 0,
+        Group::Outputs => face.outputs == 0,
+        Group::Confirmed => face.confirmed == 0,
+        Group::PointsOff(line) => is_blank_loop(&face.points_off, line),
+        Group::ZonesOff => face.zones_off == 0,
+        Group::OutputsOff => face.outputs_off == 0,
+        Group::Tests => face.test == 0,
+    }
+}
+
+// Whether a set has no point of a loop.
+fn is_blank_loop(set: &PointSet, line: u8) -> bool
+    requires { (1 ≤ line) × (line ≤ 4) }
+    ensures { result ≡ true → slice_index_or set.now.loops (line - 1) [] ≡ 0 ∷ 0 ∷ [] }
+{
+    set.loops[line as usize - 1] == [0, 0]
 }
 
 /// The greatest number of a group.

@@ -10,8 +10,8 @@ pub returns-clause-text : goal.returns-clause-text
 returns-clause-text g c =
     let opening =
     adds_as c.as_bytes.result.now (answer_head Done Json) (c.as_bytes.ensures.value ∙ c.as_str.ensures.value ∙ c.head-opening.ensures.text)
-    c.push_bytes.ensures.text in
+    c.push.ensures.text in
     let start =
     adds_as c.as_bytes-2.result.now (face_front c.args.face.now) (c.as_bytes-2.ensures.value ∙ c.as_str-2.ensures.value ∙ c.front-start.ensures.text)
-    c.push_bytes-2.ensures.text in
+    c.push-2.ensures.text in
     writes_all (c.new-writer.ensures _) (adds_then opening (adds_then start c.push_lists.ensures.text)) c.finish.ensures.text

@@ -1,10 +1,20 @@
 use Rattle.std.proofs.Common.{◌≡◌, ◌∙◌, ◌+◌, ◌++◌, ◌<◌, [], ap, arith, if◌then◌else◌, subst, sym}
 use Rattle.face_text.specs.Lists.{begun_after, group_items, item_of, listed}
 use Rattle.face_text.specs.Slots.{last_of}
-use Rattle.face_text.proofs.Holding.{moves_next, puts_broken}
-use Rattle.face_text.proofs.ListItems.{next_begun, next_listed, part_listed}
+use Rattle.face_text.proofs.Holding.{moves_next, puts_broken, puts_nothing}
+use Rattle.face_text.proofs.ListItems.{blank_items, next_begun, next_listed, part_listed}
 use Rattle.face_text.proofs.Listing.{range_front, range_more}
 use Rattle.face_text.proofs.face_items.FaceItems.push_group.Goals as goal
+
+pub returns-then-is_blank-clause-text : goal.returns-then-is_blank-clause-text
+returns-then-is_blank-clause-text g c =
+    let blank = blank_items c.args.self.now.site.now c.args.self.now.face.now c.args.self.now.list c.args.group (c.is_blank.ensures c.if-is_blank.true) in
+    puts_nothing c.args.held.now _ _ (ap (listed c.args.begun.now) blank)
+
+pub returns-then-is_blank-clause-begun : goal.returns-then-is_blank-clause-begun
+returns-then-is_blank-clause-begun g c =
+    let blank = blank_items c.args.self.now.site.now c.args.self.now.face.now c.args.self.now.list c.args.group (c.is_blank.ensures c.if-is_blank.true) in
+    sym (ap (begun_after c.args.begun.now) blank)
 
 pub returns-in_err-push_item-clause-text : goal.returns-in_err-push_item-clause-text
 returns-in_err-push_item-clause-text g c =
