@@ -10,14 +10,19 @@ use std::time::{Clock, Duration, Instant};
 /// How long one connection may take in all, in seconds.
 pub const CONNECTION_SECONDS: u64 = 10;
 
+// How much longer than that a read may wait, in nanoseconds, so that the socket isn't told anew before each.
+const SPARE_NANOSECONDS: u64 = 10_000_000;
+
 /// A connection from a socket, which tells nothing of its bytes. All its reads and writes together have
-/// [`CONNECTION_SECONDS`]; each that comes or ends later is a fault.
+/// [`CONNECTION_SECONDS`], and the last read a hundredth of a second more; each that comes or ends later is a fault.
 #[derive(Drop)]
 pub struct TcpConn<R: Net + Clock + Copy + Drop> {
     stream: R::Stream,
     clock: R,
     // None where the clock couldn't be read as the connection came: each call is a fault then.
     deadline: Option<Instant>,
+    // How long the socket lets a read wait, where it was told.
+    read_wait: Option<Duration>,
     read_faults: u64,
     write_faults: u64,
 }
@@ -34,6 +39,7 @@ impl<R: Net + Clock + Copy + Drop> TcpConn<R> {
             stream,
             clock,
             deadline,
+            read_wait: None,
             read_faults: 0,
             write_faults: 0,
         }
@@ -70,8 +76,19 @@ impl<R: Net + Clock + Copy + Drop> TcpConn<R> {
             × (self.new.write_faults ≡ self.old.write_faults) }
     {
         let left = self.time_left()?;
-        self.stream.set_read_timeout(Some(left))?;
+        if !self.waits_about(left) {
+            self.stream.set_read_timeout(Some(left))?;
+            self.read_wait = Some(left);
+        }
         self.stream.read(into)
+    }
+
+    // Whether the socket lets a read wait so long, or so little longer that it needn't be told.
+    fn waits_about(&self, left: Duration) -> bool {
+        match self.read_wait {
+            Some(wait) => wait <= left.saturating_add(Duration::from_nanos(SPARE_NANOSECONDS)),
+            None => false,
+        }
     }
 
     fn write_in_time(&mut self, piece: &[u8]) -> io::Result<usize>
