@@ -5,11 +5,16 @@ import subprocess
 import sys
 import tempfile
 
-SECONDS, CLOCK, RESIDENT = 5, 30, 20 * 1024
+SECONDS, CLOCK, RESIDENT, RESIDENT_WITH_REGISTER = 5, 30, 20 * 1024, 64 * 1024
 # the tree of a hostile document takes up to some 600 bytes for each of its own
 SMALL, RESIDENT_OF_A_BYTE = 16_384, 5 / 8
 BATCH = 16
-Call = collections.namedtuple("Call", "words site input journal expected")
+# A call: its words, in which the name of a file stands for its path, and what the files SITE, JOURNAL, OTHER and TARGET hold before it: bytes,
+# None for no file, or of the last three "left" for that of the call before and "moved" for the TARGET of the call before as JOURNAL. `look` is
+# handed the paths of JOURNAL and TARGET behind the call, where no later one goes on with them.
+Call = collections.namedtuple("Call", "words site input journal expected other target look", defaults=(None, None, None))
+FILES = ("SITE", "JOURNAL", "OTHER", "TARGET")
+
 
 class Unexpected(Exception):
     """What the program did otherwise."""
@@ -35,35 +40,52 @@ class Desk:
     """The files of one call, in memory where there is a folder for it."""
 
     def __init__(self, room, number):
-        self.site, self.journal = f"{room}/site-{number}", f"{room}/journal-{number}"
+        self.own = {name: f"{room}/{name.lower()}-{number}" for name in FILES}
         self.streams = [os.open(f"{room}/{name}-{number}", os.O_RDWR | os.O_CREAT) for name in ("input", "text", "errors")]
-        self.written = None
+        self.written, self.paths = None, dict(self.own)
 
-    def lay(self, program, call, journal):
-        """Writes the files of a call; `journal` is the one that the call before left."""
+    def lay(self, program, call, before):
+        """Writes the files of a call; `before` has the paths that the call before used."""
         if call.site != self.written:
-            with open(self.site, "wb") as out:
+            with open(self.own["SITE"], "wb") as out:
                 out.write(call.site)
             self.written = call.site
-        if call.journal != "left":
-            journal = self.journal
-            if os.path.exists(journal):
-                os.unlink(journal)
-            if call.journal is not None:
-                with open(journal, "wb") as out:
-                    out.write(call.journal)
+        self.paths = dict(self.own)
+        for name, held in (("JOURNAL", call.journal), ("OTHER", call.other), ("TARGET", call.target)):
+            if held in ("left", "moved"):
+                self.paths[name] = before["TARGET" if held == "moved" else name]
+            else:
+                put(self.own[name], held)
         for stream, data in zip(self.streams, (call.input, b"", b"")):
             os.ftruncate(stream, 0)
             os.pwrite(stream, data, 0)
             os.lseek(stream, 0, os.SEEK_SET)
-        given = {"SITE": self.site, "JOURNAL": journal, b"SITE": self.site, b"JOURNAL": journal}
+        given = self.paths | {name.encode(): path for name, path in self.paths.items()}
         words = [program, *(given.get(word, word) for word in call.words)]
         said = b" ".join(b"x" + os.fsencode(word).hex().encode() for word in words)
-        return ",".join(map(str, self.streams)).encode() + b" " + said + b"\n", journal
+        return ",".join(map(str, self.streams)).encode() + b" " + said + b"\n"
 
     def read(self, number):
         stream = self.streams[number]
         return os.pread(stream, os.fstat(stream).st_size, 0)
+
+
+def put(path, held):
+    """Makes a file hold these bytes, or removes it; what a database left beside it goes too."""
+    for each in (path, path + "-journal"):
+        if os.path.exists(each):
+            os.unlink(each)
+    if held is not None:
+        with open(path, "wb") as out:
+            out.write(held)
+
+
+def held_in(path):
+    """The bytes of a file, None where there is none."""
+    if not os.path.exists(path):
+        return None
+    with open(path, "rb") as file:
+        return file.read()
 
 
 class Caller:
@@ -89,10 +111,10 @@ class Caller:
     def begin(self, calls):
         """Begins a batch of at most BATCH calls; of two batches that are under way the files differ."""
         self.desks = self.desks[BATCH:] + self.desks[:BATCH]
-        journal, lines = None, []
+        paths, lines = None, []
         for desk, call in zip(self.desks, calls):
-            line, journal = desk.lay(self.program, call, journal)
-            lines.append(line)
+            lines.append(desk.lay(self.program, call, paths))
+            paths = desk.paths
         self.child.stdin.write(b"".join(lines))
         self.child.stdin.flush()
         return list(zip(self.desks, calls))
@@ -107,8 +129,8 @@ class Caller:
             raise Unexpected(f"on standard error: {errors[:200]}")
         if seconds > SECONDS:
             raise Unexpected(f"{seconds:.1f} seconds of processor time")
-        size = len(call.site)
-        if int(resident) > RESIDENT + (RESIDENT_OF_A_BYTE * size if size > SMALL else 0):
+        size, most = len(call.site), RESIDENT_WITH_REGISTER if call.words[:1] in (["import"], [b"import"]) else RESIDENT
+        if int(resident) > most + (RESIDENT_OF_A_BYTE * size if size > SMALL else 0):
             raise Unexpected(f"{int(resident)} kB of resident memory")
         self.resident = max(self.resident, int(resident))
         return os.WEXITSTATUS(status), desk.read(1)

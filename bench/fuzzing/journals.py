@@ -172,7 +172,7 @@ def expect_opening(call, status, text):
 
 
 def journal(draw, seeds):
-    site = draw.choice(seeds[0])
+    site = draw.choice(seeds.sites)
     data = drawn_journal(draw, site)
     for _ in range(draw.choice([0, 0, 1, 1, 2])):
         data = draw.choice([flip, flip, other_byte, cut_off, cut_out, double])(draw, data)

@@ -182,7 +182,7 @@ def drawn_record(draw, site):
 
 
 def record(draw, seeds):
-    sites, records, _ = seeds
+    sites, records = seeds.sites, seeds.records
     if draw.random() < 0.4:
         site = draw.choice(sites)
         data = "".join(f"{line}\n" for line in drawn_record(draw, site)).encode()

@@ -1,18 +1,22 @@
 """The sites, records and site files that stand in the repository."""
+import collections
 import hashlib
 import pathlib
 import tomllib
 
-from .calls import Call
+from .calls import Call, held_in
 
 TOP = pathlib.Path(__file__).resolve().parent.parent.parent
 LARGEST_SEED = 8_192
+# the sites, records of them, site files, tables to import, and registers that imports made
+Seeds = collections.namedtuple("Seeds", "sites records files tables registers")
+
 
 class Site:
     """What a record and a journal may name of a site that is read with Python's own TOML."""
 
-    def __init__(self, path):
-        self.bytes = path.read_bytes()
+    def __init__(self, data):
+        self.bytes = data
         self.digest = hashlib.sha256(self.bytes).digest()
         found = tomllib.loads(self.bytes.decode())
         self.name, self.format, self.panels = found["site"], found["format"], found["panels"]
@@ -43,7 +47,7 @@ def stored(caller):
         if data not in sites:
             files.append(data)
             try:
-                sites[data] = Site(path)
+                sites[data] = Site(data)
             except (tomllib.TOMLDecodeError, UnicodeDecodeError, KeyError, TypeError):
                 sites[data] = None
         near = sorted(folder.glob("record*")) if folder.is_dir() else []
@@ -56,7 +60,26 @@ def stored(caller):
         records.append((sites[(TOP / "examples" / name).read_bytes()], record.read_bytes()))
     accepted = [site for site in sites.values() if site and is_accepted(site, caller)]
     records = [(site, text) for site, text in records if site in accepted]
-    return accepted, records, files
+    tables = stored_tables()
+    return Seeds(accepted, records, files, tables, [made_register(caller, site) for site in accepted[:4]])
+
+
+def stored_tables():
+    """The tables to import that stand in the repository."""
+    paths = [*TOP.glob("cases/**/*.csv"), *TOP.glob("crates/*_trials/data/*.csv")]
+    return sorted({path.read_bytes() for path in paths if path.stat().st_size <= LARGEST_SEED})
+
+
+def made_register(caller, site):
+    """The register of a site in which the first two points were tested in one visit."""
+    rows = "".join(f"7,20000,kim,{name}\n" for name in list(site.points)[:2])
+    made = []
+    call = Call(["import", "SITE", "OTHER", "TARGET"], site.bytes, b"", None, None, f"visit,day,engineer,point\n{rows}".encode(), None,
+                lambda journal, target: made.append(held_in(target)))
+    [(desk, call)] = caller.begin([call])
+    caller.answer(desk, call)
+    call.look(desk.paths["JOURNAL"], desk.paths["TARGET"])
+    return made[0] or b""
 
 
 def is_accepted(site, caller):

@@ -15,15 +15,33 @@ def expect_form(call, status, text):
         raise Unexpected(f"another refusal by the length: {text[:200]}")
 
 
+def refusal_of(data):
+    """The line that refuses a site file, an empty one where it is accepted up to its cycles, None where it isn't known."""
+    found = site_judge.parsed(data)
+    if found is None or deepest(found) >= 79 or has_strange_values(found) or len(data) > 1_048_576:
+        return None
+    judged = site_judge.judged(found)
+    return judged if judged is None else f"refused site {judged}\n".encode() if judged else b""
+
+
+def is_refusal(data, text):
+    """Whether a text is the refusal of a site file, as far as that is known."""
+    wanted = refusal_of(data)
+    is_cycle = text.startswith(b"refused site 11 ")
+    if not REFUSALS.fullmatch(text) or (text == b"refused site 10\n") != (len(data) > 1_048_576):
+        return False
+    return wanted in (None, text) or wanted == b"" and is_cycle and site_judge.has_cycle(site_judge.parsed(data))
+
+
 def expect_site(call, status, text):
     expect_form(call, status, text)
-    found = site_judge.parsed(call.site)
-    if found is None or deepest(found) >= 79 or has_strange_values(found) or len(call.site) > 1_048_576:
+    refusal = refusal_of(call.site)
+    if refusal is None:
         return
-    judged = site_judge.judged(found)
-    if judged:
-        wanted = f"refused site {judged}\n".encode()
-    elif judged is None or text.startswith(b"refused site 11 ") and site_judge.has_cycle(found):
+    found = site_judge.parsed(call.site)
+    if refusal:
+        wanted = refusal
+    elif text.startswith(b"refused site 11 ") and site_judge.has_cycle(found):
         return
     elif call.words[0] == "check":
         counts = [len(found.get(key, [])) for key in ("point", "zone", "output", "marker")]
@@ -115,7 +133,7 @@ def drawn_site(draw):
 
 
 def site(draw, seeds):
-    data = drawn_site(draw) if draw.random() < 0.4 else draw.choice(seeds[2])
+    data = drawn_site(draw) if draw.random() < 0.4 else draw.choice(seeds.files)
     if draw.random() < 0.7:
         data = changed(draw, data)
     word = "matrix" if draw.random() < 0.25 else "check"
