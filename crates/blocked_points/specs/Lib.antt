@@ -1,0 +1,4 @@
+pub mod Blocks
+pub mod Operations
+pub mod BlocksStand
+pub mod Stands

@@ -1,0 +1,5 @@
+pub mod Latest
+pub mod Links
+pub mod Stands
+pub mod Stretches
+pub mod Windows

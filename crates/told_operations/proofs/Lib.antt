@@ -1,0 +1,4 @@
+mod FoundFirst
+mod Grounds
+mod LineByLine
+mod ToldInOrder
