@@ -1,7 +1,7 @@
 -- What the calls of a keeper make of a register, and answer.
-use Rattle.std.proofs.Common.{◌≡◌, inl, inr, ℕ, ◌+◌, ◌<◌, ◌≤◌, drop, get_or, length, List, [], ◌∷◌, map, Some, None, Ok, Err, Option, refl, sym, ap, ◌∙◌, IsTrue, slice_get}
-use Rattle.std.specs.Prelude.{◌==◌, option_map}
-use Rattle.std.specs.List.{filter_map, fold}
+use Rattle.std.proofs.Common.{◌≡◌, inl, inr, ℕ, ◌+◌, ◌<◌, ◌≤◌, drop, get_or, length, List, [], ◌∷◌, map, Some, None, Ok, Err, Option, refl, sym, ap, subst, ◌∙◌, slice_get}
+use Rattle.std.specs.Prelude.{◌==◌, All, option_map}
+use Rattle.std.specs.List.{AllByRecursion, filter_map, fold}
 use Rattle.std.specs.Option.{option_to_list}
 use Rattle.std.proofs.lemmas.Bool.{cases_Bool, eqb-true}
 use Rattle.std.proofs.lemmas.List.{drop_all, drop_more}
@@ -18,8 +18,11 @@ use Rattle.service_keepers.specs.declared.visit.Visit.{Visit}
 use Rattle.register_sqlite.specs.Days.{day_shown, later_or}
 use Rattle.register_sqlite.specs.Stored.{AnswersOf, Changes, IsRegister, KeepsRegister, number_in, tables_in}
 use Rattle.register_sqlite.specs.Texts.{insert_test_text, insert_visit_text, number_params, point_params, select_tests_text, select_visit_text, test_params, visit_params}
-use Rattle.register_sqlite.specs.Values.{IsVisitLabel, IsVisitNumber}
-use Rattle.register_sqlite.proofs.Queried.{last_day_shown, shown_visit, visit_shown}
+use Rattle.register_sqlite.specs.Values.{IsTestRow, IsVisitRow, IsVisitLabel, IsVisitNumber}
+use Rattle.register_sqlite.specs.Asked.{HasNumber}
+use Rattle.register_sqlite.specs.Faults.{IsWantOfMemory, RefusesTest}
+use Rattle.register_sqlite.proofs.Queried.{last_day_shown, shown_visit, tests_numbered, visit_shown}
+use Rattle.register_sqlite.proofs.Wanting.{IsSteadily}
 use Rattle.register_sqlite.proofs.Registered.{test_registered, visit_registered}
 use Rattle.register_sqlite.proofs.States.{execute_fails, query_fails, read}
 use Rattle.register_sqlite.proofs.Understood.{select_tests_plain, select_visit_plain}
@@ -55,46 +58,68 @@ no_visit : (found : Option VisitRow) (rows : List Row) → rows ≡ map shown_vi
 no_visit None rows are none = refl
 no_visit (Some kept) rows are none = absurd (none-some (shown_visit kept) (none ∙ ap (λ xs. slice_get xs 0) are))
 
-module _ (old new : State) (opened : IsTrue new.is_open) (register : IsRegister old) where
-  pub visit_changes : (visit : VisitRow) (count : ℕ) → Executes insert_visit_text (visit_params visit) old new (Ok count) → Changes (PutsVisit visit) old new (Ok tt)
-  visit_changes visit count h = let it = visit_registered old new register count visit h in record { register = it.0; ok = it.1; err = tt }
+visit_fits : (number : ℕ) (visits : List VisitRow) (kept : VisitRow) → AllByRecursion IsVisitRow visits → visit_numbered number visits ≡ Some kept → IsVisitRow kept
+visit_fits number [] kept all found = absurd (none-some kept found)
+visit_fits number (visit ∷ rest) kept all found = elim (cases_Bool (visit.number == number)) [
+  | inl hit ↦ subst IsVisitRow (same_Some visit kept (rw hit at found)) all.0
+  | inr missed ↦ visit_fits number rest kept all.1 (rw missed at found)
+]
 
-  pub test_changes : (test : TestRow) (count : ℕ) → Executes insert_test_text (test_params test) old new (Ok count) → Changes (PutsTest test) old new (Ok tt)
-  test_changes test count h = let it = test_registered old new register count test h in record { register = it.0; ok = it.1; err = tt }
+holds_visit : (found : Option VisitRow) (rows : List Row) (row : Row) → rows ≡ map shown_visit (option_to_list found) → Some row ≡ slice_get rows 0
+    → ((kept : VisitRow) → found ≡ Some kept → IsVisitRow kept) → ((day : ℕ) (engineer : List ℕ) → IsVisitNumber (column row 0) day → ¬ IsVisitLabel (column row 1) engineer) → ⊥
+holds_visit None rows row are first fits none = none-some row (sym (first ∙ ap (λ xs. slice_get xs 0) are))
+holds_visit (Some kept) rows row are first fits none =
+    let is : row ≡ shown_visit kept = same_Some row (shown_visit kept) (first ∙ ap (λ xs. slice_get xs 0) are) in
+    let holds = fits kept refl in
+    none kept.day kept.engineer (ap (λ r. column r 0) is, holds.day) (ap (λ r. column r 1) is, holds.text, holds.short)
 
-  pub put_fails : (step : Tables → Tables → Type 0) (sql : List ℕ) (params : Row) (e : Error) (fault : Trouble) → Executes sql params old new (Err e) → Changes step old new (Err fault)
-  put_fails step sql params e fault h =
-      let stays = execute_fails old new register opened sql params e h in
-      record { register = stays.register; ok = tt; err = ap (λ (d : Database). tables_in d.trees) stays.same }
+module _ (old new : State) (it : IsSteadily old new) (register : IsRegister old) where
+  pub visit_changes : (visit : VisitRow) → IsVisitRow visit → (count : ℕ) → Executes insert_visit_text (visit_params visit) old new (Ok count)
+      → Changes (PutsVisit visit) (λ kept. IsWantOfMemory) old new (Ok tt)
+  visit_changes visit fits count h = let put = visit_registered old new register it.limit count visit fits h in record { register = put.0; ok = put.1; err = tt; refused = tt }
 
-  pub ask_fails : {T : Type 0} (IsSo : T → Tables → Type 0) (sql : List ℕ) (params : Row) (e : Error) (fault : Trouble) → FailsToQuery sql params old new e → AnswersOf IsSo old new (Err fault)
-  ask_fails IsSo sql params e fault h = record { stays = query_fails old new register opened sql params e h; so = tt }
+  pub test_changes : (test : TestRow) → IsTestRow test → (count : ℕ) → Executes insert_test_text (test_params test) old new (Ok count)
+      → Changes (PutsTest test) (λ kept. RefusesTest kept.tests) old new (Ok tt)
+  test_changes test fits count h = let put = test_registered old new register it.limit count test fits h in record { register = put.0; ok = put.1; err = tt; refused = tt }
+
+  pub put_fails : (step : Tables → Tables → Type 0) (Refuses : Tables → Trouble → Type 0) (sql : List ℕ) (params : Row) (e : Error) (fault : Trouble)
+      → Executes sql params old new (Err e) → Refuses (tables_in old.now.trees) fault → Changes step Refuses old new (Err fault)
+  put_fails step Refuses sql params e fault h why =
+      let stays = execute_fails old new register it.opened it.limit sql params e h in
+      record { register = stays.register; ok = tt; err = ap (λ (d : Database). tables_in d.trees) stays.same; refused = why }
+
+  pub ask_fails : {T : Type 0} (IsSo : T → Tables → Type 0) (sql : List ℕ) (params : Row) (e : Error) (fault : Trouble) → FailsToQuery sql params old new e
+      → IsWantOfMemory fault → AnswersOf IsSo old new (Err fault)
+  ask_fails IsSo sql params e fault h want = record { stays = query_fails old new register it.opened it.limit sql params e h; so = tt; refused = want }
 
   module _ (number : ℕ) (rows : List Row) (h : Shown select_visit_text (number_params number) old new rows) where
     abbrev IsVisit : Option Visit → Tables → Type 0
     IsVisit visit kept = option_map visit_row visit ≡ visit_numbered number kept.visits
 
     stay : KeepsRegister old new
-    stay = read old new register opened select_visit_text (number_params number) select_visit_plain rows h
+    stay = read old new register it.opened it.limit select_visit_text (number_params number) select_visit_plain rows h
 
     pub visit_answered : (row : Row) (visit : Visit) → Some row ≡ slice_get rows 0 → visit.number ≡ number → IsVisitNumber (column row 0) visit.day
         → IsVisitLabel (column row 1) visit.engineer.bytes → AnswersOf IsVisit old new (Ok (Some visit))
     visit_answered row visit first same day engineer = record {
       stays = stay;
       so = read_visit _ rows row visit (visit_shown old new register rows number h) first (λ kept found. numbered number _ kept found ∙ sym same) day engineer;
+      refused = tt;
     }
 
     pub none_answered : None ≡ slice_get rows 0 → AnswersOf IsVisit old new (Ok None)
-    none_answered none = record { stays = stay; so = no_visit _ rows (visit_shown old new register rows number h) none }
+    none_answered none = record { stays = stay; so = no_visit _ rows (visit_shown old new register rows number h) none; refused = tt }
 
-    pub row_refused : (fault : Trouble) → AnswersOf IsVisit old new (Err fault)
-    row_refused fault = record { stays = stay; so = tt }
+    -- each row that is shown has what a visit holds
+    pub row_answered : (row : Row) → Some row ≡ slice_get rows 0 → ((day : ℕ) (engineer : List ℕ) → IsVisitNumber (column row 0) day → ¬ IsVisitLabel (column row 1) engineer) → ⊥
+    row_answered row first none =
+        holds_visit _ rows row (visit_shown old new register rows number h) first (λ kept found. visit_fits number _ kept register.of_visits found) none
 
 -- ---- the last day of a point
 
-pub refused_too : {T U : Type 0} (IsThis : T → Tables → Type 0) (IsThat : U → Tables → Type 0) (old new : State) (fault other : Trouble)
-    → AnswersOf IsThis old new (Err fault) → AnswersOf IsThat old new (Err other)
-refused_too IsThis IsThat old new fault other h = record { stays = h.stays; so = tt }
+pub refused_too : {T U : Type 0} (IsThis : T → Tables → Type 0) (IsThat : U → Tables → Type 0) (old new : State) (fault : Trouble)
+    → AnswersOf IsThis old new (Err fault) → AnswersOf IsThat old new (Err fault)
+refused_too IsThis IsThat old new fault h = record { stays = h.stays; so = tt; refused = h.refused }
 
 pub day_answered : (old new : State) (number : ℕ) (row : Row) (found : Option Visit) → IsVisitNumber (column row 0) number
     → AnswersOf (λ (visit : Option Visit) kept. option_map visit_row visit ≡ visit_numbered number kept.visits) old new (Ok found)
@@ -104,6 +129,7 @@ day_answered old new number row found is h =
     record {
       stays = h.stays;
       so = sym (ap (λ n. option_map (λ (v : VisitRow). v.day) (visit_numbered n visits)) (ap number_in is.0) ∙ ap (option_map (λ (v : VisitRow). v.day)) (sym h.so) ∙ row_day found);
+      refused = tt;
     }
   where
     row_day : (found : Option Visit) → option_map (λ (v : VisitRow). v.day) (option_map visit_row found) ≡ option_map (λ (v : Visit). v.day) found
@@ -122,16 +148,19 @@ day_stepped visits items at row last day next low is shown later =
     ap (λ l. fold later_day l (filter_map (day_shown visits) (drop (at + 1) items))) later ∙ last_step visits row (drop (at + 1) items) last day shown
     ∙ ap (λ rows. fold later_day last (filter_map (day_shown visits) rows)) (sym (drop_more items at row low ∙ ap (λ r. r ∷ drop (at + 1) items) (sym is)))
 
-module _ (old mid new : State) (register : IsRegister old) (opened : IsTrue mid.is_open) (point : List ℕ) (rows : List Row)
+module _ (old mid new : State) (register : IsRegister old) (it : IsSteadily old mid) (point : List ℕ) (rows : List Row)
     (h : Shown select_tests_text (point_params point) old mid rows) where
   abbrev IsLast : Option ℕ → Tables → Type 0
   IsLast day kept = day ≡ last_day_of point kept
 
   pub tests_stay : KeepsRegister old mid
-  tests_stay = read old mid register opened select_tests_text (point_params point) select_tests_plain rows h
+  tests_stay = read old mid register it.opened it.limit select_tests_text (point_params point) select_tests_plain rows h
 
-  pub last_refused : (fault : Trouble) → KeepsRegister mid new → AnswersOf IsLast old new (Err fault)
-  last_refused fault stays = record { stays = stays_then old mid new tests_stay stays; so = tt }
+  pub last_refused : (fault : Trouble) → KeepsRegister mid new → IsWantOfMemory fault → AnswersOf IsLast old new (Err fault)
+  last_refused fault stays want = record { stays = stays_then old mid new tests_stay stays; so = tt; refused = want }
+
+  pub rows_numbered : All HasNumber rows
+  rows_numbered = tests_numbered old mid register rows point h
 
   pub last_answered : (items : List Row) (at : ℕ) (last : Option ℕ) → items ≡ rows → length items ≤ at → KeepsRegister mid new
       → fold later_day last (filter_map (day_shown (tables_in mid.now.trees).visits) (drop at items))
@@ -144,4 +173,5 @@ module _ (old mid new : State) (register : IsRegister old) (opened : IsTrue mid.
         stays = stays_then old mid new tests_stay stays;
         so = sym done ∙ all ∙ ap (λ v. fold later_day None (filter_map (day_shown v) items)) visits
             ∙ ap (λ r. fold later_day None (filter_map (day_shown (tables_in old.now.trees).visits) r)) are ∙ last_day_shown old mid register rows point h;
+        refused = tt;
       }

@@ -1,5 +1,5 @@
 -- What the two texts that make the tables make of an empty database.
-use Rattle.std.proofs.Common.{◌≡◌, ℕ, Bool, true, false, cond, [], map, Ok, refl, sym, ap, subst, ◌∙◌}
+use Rattle.std.proofs.Common.{◌≡◌, ℕ, Bool, true, false, cond, [], map, None, Ok, refl, sym, ap, subst, ◌∙◌}
 use Rattle.sqlite_schema.specs.declared.command.Command.TheVariants.{CreateTable}
 use Rattle.sqlite.specs.Change.{created, next_tree}
 use Rattle.sqlite.specs.Does.{Tally, lacks_sequence}
@@ -8,7 +8,9 @@ use Rattle.sqlite.specs.State.{Executes, State}
 use Rattle.sqlite.specs.Tree.{Trees}
 use Rattle.sqlite_catalog.specs.Change.{KeepsRows}
 use Rattle.sqlite.proofs.Callers.{runs_as}
-use Rattle.service_keepers.specs.Tables.{AreDistinct, no_tables}
+use Rattle.std.specs.List.{AllByRecursion}
+use Rattle.service_keepers.specs.Tables.{AreDistinct, Tables, no_tables}
+use Rattle.register_sqlite.specs.Values.{IsTestRow, IsVisitRow}
 use Rattle.register_sqlite.specs.Schema.{no_schema, register_schema, tests_table, visits_table}
 use Rattle.register_sqlite.specs.Stored.{IsRegister, stored_tests, stored_visit, tables_in, test_in, visit_in}
 use Rattle.register_sqlite.specs.Texts.{create_tests_text, create_visits_text}
@@ -25,9 +27,10 @@ pub record HasVisits (s : State) : Type 0 where
   pub empty : s.now.trees 0 ≡ []
   pub settled : s.committed ≡ s.now
   pub autocommit : s.in_transaction ≡ false
+  pub unlimited : s.step_limit ≡ None
 
-pub visits_created : (old new : State) (count : ℕ) → old.now.schema ≡ no_schema → old.in_transaction ≡ false → Executes create_visits_text [] old new (Ok count) → HasVisits new
-visits_created old new count has autocommit h =
+pub visits_created : (old new : State) (count : ℕ) → old.now.schema ≡ no_schema → old.in_transaction ≡ false → new.step_limit ≡ None → Executes create_visits_text [] old new (Ok count) → HasVisits new
+visits_created old new count has autocommit unlimited h =
     let w = runs_as create_visits_text [] old new no_schema has CreateTable visits_command visits_plain count h in
     let all = went w.changed in
     let first = went all.1 in
@@ -42,6 +45,7 @@ visits_created old new count has autocommit h =
       empty = ap (λ (d : Database). d.trees 0) now ∙ subst (λ s. first.0.trees (next_tree s) ≡ []) has made.empty;
       settled = committed_now old new old.in_transaction autocommit w.shown.committed_is;
       autocommit = w.shown.mode ∙ autocommit;
+      unlimited = unlimited;
     }
 
 both_empty : (trees : Trees) → trees 0 ≡ [] → trees 1 ≡ [] → tables_in trees ≡ no_tables
@@ -49,8 +53,9 @@ both_empty trees first second =
     ap (λ rows. record { visits = map visit_in rows; tests = map test_in (trees 1) }) first
     ∙ ap (λ rows. record { visits = []; tests = map test_in rows }) second
 
-pub tests_created : (old new : State) (count : ℕ) → HasVisits old → Executes create_tests_text [] old new (Ok count) → IsRegister new × (tables_in new.now.trees ≡ no_tables)
-tests_created old new count has h =
+pub tests_created : (old new : State) (count : ℕ) → HasVisits old → new.step_limit ≡ old.step_limit → Executes create_tests_text [] old new (Ok count)
+    → IsRegister new × (tables_in new.now.trees ≡ no_tables)
+tests_created old new count has limit h =
     let w = runs_as create_tests_text [] old new visits_schema has.schema CreateTable tests_command tests_plain count h in
     let all = went w.changed in
     let first = went all.1 in
@@ -71,6 +76,9 @@ tests_created old new count has h =
         visits = no_visits ∙ sym (ap (map stored_visit) (ap (λ t. t.visits) none));
         tests = no_tests ∙ sym (ap (stored_tests 1) (ap (λ t. t.tests) none));
         distinct = subst AreDistinct (sym none) (record { visits = refl; tests = refl });
+        of_visits = subst (λ (t : Tables). AllByRecursion IsVisitRow t.visits) (sym none) tt;
+        of_tests = subst (λ (t : Tables). AllByRecursion IsTestRow t.tests) (sym none) tt;
+        unlimited = limit ∙ has.unlimited;
       },
       none,
     )

@@ -1,11 +1,12 @@
 -- What the two texts that read answer over a register.
 use Rattle.std.proofs.Common.{◌≡◌, ◌&&◌, ◌||◌, inl, inr, ℕ, ◌+◌, pos, Bool, true, false, List, [], ◌∷◌, length, map, Some, None, Option, refl, sym, ap, subst, ◌∙◌, arith}
-use Rattle.std.specs.Prelude.{◌==◌, if◌then◌else◌, is_none, filter, flat_map, nat_lt}
+use Rattle.std.specs.Prelude.{◌==◌, All, if◌then◌else◌, is_none, filter, flat_map, nat_lt, slice_index_or}
+use Rattle.std.proofs.lemmas.List.Elements.{All-filter, All-from_recursion, All-map}
 use Rattle.std.specs.List.{filter_map, fold, list_all, list_any}
 use Rattle.std.specs.List.Sorted.{IsPermutation}
 use Rattle.std.specs.Option.{option_to_list}
 use Rattle.std.proofs.lemmas.Bool.{and_parts, cases_Bool}
-use Rattle.std.proofs.lemmas.List.Sorted.{length_permutation, list_any-IsPermutation}
+use Rattle.std.proofs.lemmas.List.Sorted.{All-permutation, length_permutation, list_any-IsPermutation}
 use Rattle.std.proofs.lemmas.Option.{none-some}
 use Rattle.sqlite_value.specs.Order.{Row}
 use Rattle.sqlite_value.specs.declared.value.Value.TheVariants.{Int, Text}
@@ -15,7 +16,9 @@ use Rattle.sqlite.specs.Query.{IsAnswer, Output, output, page}
 use Rattle.sqlite.specs.State.{Shown, State}
 use Rattle.sqlite.proofs.Callers.{one_permutation, reads_as}
 use Rattle.service_keepers.specs.Tables.{TestRow, VisitRow, day_of_test, have_distinct_numbers, last_day_of, last_of_days, later_day, tests_point, visit_numbered}
+use Rattle.register_sqlite.specs.Asked.{HasNumber}
 use Rattle.register_sqlite.specs.Days.{day_shown}
+use Rattle.register_sqlite.specs.Values.{IsTestRow}
 use Rattle.register_sqlite.specs.Schema.{register_schema}
 use Rattle.register_sqlite.specs.Stored.{IsRegister, stored_test, stored_tests, stored_visit, tables_in}
 use Rattle.register_sqlite.specs.Texts.{select_tests_text, select_visit_text}
@@ -125,6 +128,9 @@ matching_tests point place (test ∷ rest) =
       | inr missed ↦ rw (passes, missed) more
     ]
 
+abbrev ShowsNumber : Output → Type 0
+ShowsNumber p = HasNumber p.1
+
 -- whether a day is reached
 abbrev reaches : Option ℕ → ℕ → Bool
 reaches None day = false
@@ -189,3 +195,20 @@ module _ (old new : State) (register : IsRegister old) (rows : List Row) where
       ∙ any_of_map (λ (p : Output). q p.1) test_output (filter (tests_point point) tests)
       ∙ sym (any_of_some (day_of_test visits) at (filter (tests_point point) tests))
       ∙ sym (days_reach (filter_map (day_of_test visits) (filter (tests_point point) tests)) None at))
+
+  -- each of the rows has the number of a visit
+  pub tests_numbered : (point : List ℕ) → Shown select_tests_text (Text point ∷ []) old new rows → All HasNumber rows
+  tests_numbered point h =
+      let params = Text point ∷ [] in
+      let tests = (tables_in old.now.trees).tests in
+      let reads = reads_as select_tests_text params old new register_schema register.schema _ select_tests_command select_tests_plain select_tests_unlisted rows h in
+      let a : IsAnswer tests_query (overlay old.now.trees []) params rows = reads.answer Rattle.sqlite_value.specs.declared.value.Value.TheVariants.Null in
+      let matched = ap (λ all. map (output tests_query) (flat_map (λ (r : Row). if list_all (holds (params ∷ r ∷ [])) tests_query.filter then (params ∷ r ∷ []) ∷ [] else []) all)) register.tests
+      ∙ matching_tests point 1 tests in
+      let kept = a.distinct ∙ ap (map (output tests_query)) a.grouped ∙ matched in
+      let perm = subst (λ k. IsPermutation k a.ordered) kept a.same in
+      let of_test : All IsTestRow (filter (tests_point point) tests) = All-filter (tests_point point) IsTestRow tests (All-from_recursion IsTestRow tests register.of_tests) in
+      let given : All ShowsNumber (map test_output (filter (tests_point point) tests)) =
+      All-map ShowsNumber test_output (filter (tests_point point) tests) (λ k d low. ((slice_index_or (filter (tests_point point) tests) k d).visit, (refl, (of_test k d low).visit))) in
+      let ordered : All ShowsNumber a.ordered = All-permutation ShowsNumber (map test_output (filter (tests_point point) tests)) a.ordered perm given in
+      subst (All HasNumber) (sym a.shown) (All-map HasNumber (λ (p : Output). p.1) a.ordered ordered)

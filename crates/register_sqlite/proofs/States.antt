@@ -1,6 +1,7 @@
 -- What stays of a register whatever a text did that failed or only read.
 use Rattle.std.proofs.Common.{◌≡◌, inl, inr, ℕ, false, List, append-nil, map, Some, None, Err, Option, sym, ap, subst, ◌∙◌, IsTrue}
 use Rattle.std.proofs.lemmas.Bool.{cases_Bool}
+use Rattle.std.specs.List.{AllByRecursion}
 use Rattle.sqlite_value.specs.Order.{Row}
 use Rattle.sqlite_schema.specs.declared.command.Returning.{Returning}
 use Rattle.sqlite.specs.declared.error.Error.{Error}
@@ -11,9 +12,10 @@ use Rattle.sqlite.specs.Listing.{understood}
 use Rattle.sqlite.specs.State.{Executes, ExecutesIn, Fails, FailsToQuery, FailsToShow, IsNotRun, IsRolledBack, IsUnchanged, RunsCommand, Shown, State, shows_rows}
 use Rattle.service_keepers.specs.Tables.{AreDistinct}
 use Rattle.register_sqlite.specs.Schema.{register_schema}
+use Rattle.register_sqlite.specs.Values.{IsTestRow, IsVisitRow}
 use Rattle.register_sqlite.specs.Stored.{IsRegister, KeepsRegister, stored_tests, stored_visit, tables_in}
 
-module _ (old new : State) (register : IsRegister old) (open_now : IsTrue new.is_open) where
+module _ (old new : State) (register : IsRegister old) (open_now : IsTrue new.is_open) (limit : new.step_limit ≡ old.step_limit) where
   stays : IsTrue old.is_open → new.now ≡ old.now → new.committed ≡ old.now → new.in_transaction ≡ false → KeepsRegister old new
   stays was now committed autocommit = record {
     register = record {
@@ -23,6 +25,9 @@ module _ (old new : State) (register : IsRegister old) (open_now : IsTrue new.is
       visits = subst (λ (d : Database). d.trees 0 ≡ map stored_visit (tables_in d.trees).visits) (sym now) register.visits;
       tests = subst (λ (d : Database). d.trees 1 ≡ stored_tests 1 (tables_in d.trees).tests) (sym now) register.tests;
       distinct = subst (λ (d : Database). AreDistinct (tables_in d.trees)) (sym now) register.distinct;
+      of_visits = subst (λ (d : Database). AllByRecursion IsVisitRow (tables_in d.trees).visits) (sym now) register.of_visits;
+      of_tests = subst (λ (d : Database). AllByRecursion IsTestRow (tables_in d.trees).tests) (sym now) register.of_tests;
+      unlimited = limit ∙ register.unlimited;
     };
     same = now;
     was_open = was;

@@ -18,6 +18,7 @@ use Rattle.sqlite.proofs.Callers.{IsPlain, command_of, statement_of}
 use Rattle.sqlite_catalog.specs.Change.{created}
 use Rattle.sqlite_tied.specs.Compute.{everything}
 use Rattle.register_sqlite.proofs.Parts.{do_nothing}
+use Rattle.register_sqlite.proofs.Wanting.{IsWhole}
 use Rattle.register_sqlite.specs.Schema.{no_schema, register_schema, tests_index, tests_table, visits_table}
 use Rattle.register_sqlite.specs.Texts.{create_tests_text, create_visits_text, insert_test_text, insert_visit_text}
 use Rattle.register_sqlite.specs.Texts.{select_tests_text, select_visit_text}
@@ -135,3 +136,29 @@ select_visit_unlisted = refl
 pub select_tests_unlisted : reads_listing register_schema select_tests_text ≡ false
 unfolding understood everything
 select_tests_unlisted = refl
+
+-- ---- each is one statement
+
+pub visits_whole : IsWhole create_visits_text 0 (understood no_schema create_visits_text)
+unfolding understood everything
+visits_whole = (refl, refl, refl)
+
+pub tests_whole : IsWhole create_tests_text 0 (understood visits_schema create_tests_text)
+unfolding understood everything
+tests_whole = (refl, refl, refl)
+
+pub insert_visit_whole : IsWhole insert_visit_text 3 (understood register_schema insert_visit_text)
+unfolding understood everything
+insert_visit_whole = (refl, refl, refl)
+
+pub insert_test_whole : IsWhole insert_test_text 2 (understood register_schema insert_test_text)
+unfolding understood everything
+insert_test_whole = (refl, refl, refl)
+
+pub select_visit_whole : IsWhole select_visit_text 1 (understood register_schema select_visit_text)
+unfolding understood everything
+select_visit_whole = (refl, refl, refl)
+
+pub select_tests_whole : IsWhole select_tests_text 1 (understood register_schema select_tests_text)
+unfolding understood everything
+select_tests_whole = (refl, refl, refl)

@@ -1,6 +1,8 @@
+pub mod Asked
 pub mod Days
 pub mod Faults
 pub mod Kept
+pub mod Opened
 pub mod Schema
 pub mod Stored
 pub mod Texts

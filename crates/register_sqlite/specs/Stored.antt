@@ -1,15 +1,20 @@
 -- The rows in which the database keeps the register, and when it keeps one.
-use Rattle.std.specs.Prelude.{◌≡◌, ℕ, ◌+◌, pos, false, List, [], ◌∷◌, map, IfOk, IsTrue, Result, OnOk, OnErr}
+use Rattle.std.specs.Prelude.{◌≡◌, ℕ, ◌+◌, ◌≤◌, pos, false, List, [], ◌∷◌, map, None, Result}
+use Rattle.std.specs.Prelude.{IfErr, IfOk, IsTrue, OnErr, OnOk}
+use Rattle.std.specs.List.{AllByRecursion}
 use Rattle.sqlite_value.specs.Order.{Row, bytes, column}
 use Rattle.sqlite_value.specs.declared.value.Value.{Value}
 use Rattle.sqlite_value.specs.declared.value.Value.TheVariants.{Null, Int, Text}
+use Rattle.sqlite_trees.specs.View.{doubt}
 use Rattle.sqlite.specs.Tree.{Trees}
 use Rattle.sqlite.specs.Held.{Held, state}
 use Rattle.sqlite.specs.State.{HasCleanDisk, State}
 use Rattle.sqlite.specs.Store.{Ghosts}
 use Rattle.register_sqlite.specs.declared.trouble.Trouble.{Trouble}
 use Rattle.service_keepers.specs.Tables.{AreDistinct, Tables, TestRow, VisitRow, no_tables}
+use Rattle.register_sqlite.specs.Faults.{IsWantOfMemory}
 use Rattle.register_sqlite.specs.Schema.{no_schema, register_schema}
+use Rattle.register_sqlite.specs.Values.{IsTestRow, IsVisitRow}
 
 -- the number that a value is
 abbrev pub number_in : Value → ℕ
@@ -43,7 +48,7 @@ abbrev pub tables_in : Trees → Tables
 tables_in trees = record { visits = map visit_in (trees 0); tests = map test_in (trees 1) }
 
 -- A database has the two tables and nothing else, no row that isn't a visit's or a test's, none twice, and nothing
--- that isn't committed.
+-- that isn't committed, and no query of it is cut short.
 pub record IsRegister (s : State) : Type 0 where
   pub schema : s.now.schema ≡ register_schema
   pub settled : s.committed ≡ s.now
@@ -51,10 +56,13 @@ pub record IsRegister (s : State) : Type 0 where
   pub visits : s.now.trees 0 ≡ map stored_visit (tables_in s.now.trees).visits
   pub tests : s.now.trees 1 ≡ stored_tests 1 (tables_in s.now.trees).tests
   pub distinct : AreDistinct (tables_in s.now.trees)
+  pub of_visits : AllByRecursion IsVisitRow (tables_in s.now.trees).visits
+  pub of_tests : AllByRecursion IsTestRow (tables_in s.now.trees).tests
+  pub unlimited : s.step_limit ≡ None
 
 -- nothing was ever written
 abbrev pub IsNoDatabase : State → Type 0
-IsNoDatabase s = (s.now.schema ≡ no_schema) × (s.in_transaction ≡ false)
+IsNoDatabase s = (s.now.schema ≡ no_schema) × (s.in_transaction ≡ false) × (s.step_limit ≡ None)
 
 -- a register whose tables are empty
 abbrev pub IsEmptyRegister : State → Type 0
@@ -66,21 +74,30 @@ pub record KeepsRegister (old new : State) : Type 0 where
   pub same : new.now ≡ old.now
   pub was_open : IsTrue old.is_open
 
+-- A disk that has handed back what was written had done so before, and a query may take as many steps as before.
+abbrev pub ComesAfter : State → State → Type 0
+ComesAfter old new = (doubt old.is_clean ≤ doubt new.is_clean) × (new.step_limit ≡ old.step_limit)
+
 -- ---- what a call makes of a register and answers
 
--- its tables are changed by a step where the call is answered Ok, and else are as they were
-pub record Changes (step : Tables → Tables → Type 0) (old new : State)
+-- Its tables are changed by a step where the call is answered Ok, and else are as they were, and the call was refused
+-- for one of these causes.
+pub record Changes (step : Tables → Tables → Type 0) (Refuses : Tables → Trouble → Type 0) (old new : State)
     (result : Result (Unit {0}) Trouble) : Type 0 where
   pub register : IsRegister new
   pub ok : OnOk result (step (tables_in old.now.trees) (tables_in new.now.trees))
   pub err : OnErr result (tables_in new.now.trees ≡ tables_in old.now.trees)
+  pub refused : IfErr result (Refuses (tables_in old.now.trees))
 
--- the register stays, and what is answered is so of its tables
+-- The register stays, and what is answered is so of its tables. Only want of memory keeps the call from its answer.
 pub record AnswersOf {T : Type 0} (IsSo : T → Tables → Type 0) (old new : State)
     (result : Result T Trouble) : Type 0 where
   pub stays : KeepsRegister old new
   pub so : IfOk result (λ answer. IsSo answer (tables_in old.now.trees))
+  pub refused : IfErr result IsWantOfMemory
 
 -- a store neither fails nor loses what was written, as memory never does
 abbrev pub IsSteady : {S : Type 0} → Ghosts S → Type 0
-IsSteady {S} store = (held : Held S) → HasCleanDisk (state store held) × IsTrue (state store held).is_open
+IsSteady {S} store =
+    (held : Held S)
+    → HasCleanDisk (state store held) × IsTrue (state store held).is_open × ((state store held).faults ≡ 0)

@@ -3,7 +3,8 @@
 ghost use Rattle.std.specs.Prelude.{◌≡◌, ◌↔◌, ℕ, List, IfSome, option_map};
 ghost use Rattle.service_keepers.specs.declared.visit.Visit.{Visit};
 ghost use Rattle.sqlite.specs.Order.{column};
-ghost use Rattle.register_sqlite.specs.Faults.{CountsFaults, IsWantOfMemory, HandsOn};
+ghost use Rattle.register_sqlite.specs.Faults.{CountsFaults, IsWantOfMemory};
+ghost use Rattle.register_sqlite.specs.Opened.{TellsAnswer};
 ghost use Rattle.register_sqlite.specs.Days.{later_or};
 ghost use Rattle.register_sqlite.specs.Values.{IsVisitLabel, IsVisitNumber};
 
@@ -30,7 +31,7 @@ pub(crate) fn settle<T: Drop>(
     met: &mut Option<Trouble>,
     answer: Result<T, Trouble>,
 ) -> Result<T, KeepFault>
-    ensures told { HandsOn answer result }
+    ensures told { TellsAnswer answer met.new result }
     ensures counted { CountsFaults faults.old faults.new met.new result }
 {
     match answer {

@@ -10,12 +10,13 @@
 //! - *When it fails.* A keeper tells what kept its last call from its answer ([`Trouble`]): the database refused the
 //!   opening or a text, or handed out a value that a visit can't hold. The count of faults rises by one exactly in the
 //!   calls that met one of these, but for want of memory, which is `KeepFault::NoMemory` and no fault: `CountsFaults`
-//!   of specs/Faults.
+//!   of specs/Faults. Over a file what is told is what the library answered to the texts: specs/Asked and Opened.
+//!   Over memory a call fails for want of memory alone, but for a test whose row would have no number: `RefusesTest`.
 //! - *Nothing is overwritten.* A row whose key is there is passed over by the statement itself.
 //!
 //! Begin with [`TableKeeper::in_memory`] and [`TableKeeper::at`]; `IsRegister` of specs/Stored says when a database
-//! is a register. That the database refuses none of the texts is tried and not proved. The last day of a point costs a
-//! look at each row of `tests` and a look-up for each visit that tested it.
+//! is a register. The last day of a point costs a look at each row of `tests` and a look-up for each visit that tested
+//! it.
 #![tactic(auto)]
 
 mod answers;

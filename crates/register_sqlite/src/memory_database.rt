@@ -16,23 +16,28 @@ pub struct MemoryDatabase {
 }
 
 impl MemoryDatabase {
-    ghost use Rattle.std.specs.Prelude.{◌≡◌, IfOk, OnErr, OnOk, option_map};
+    ghost use Rattle.std.specs.Prelude.{◌≡◌, IfErr, IfOk, OnErr, OnOk, option_map};
     ghost use Rattle.service_keepers.specs.Keeping.{PutsTest, PutsVisit};
     ghost use Rattle.service_keepers.specs.Rows.{test_of, visit_row};
     ghost use Rattle.service_keepers.specs.Tables.{last_day_of, no_tables, visit_numbered};
+    ghost use Rattle.register_sqlite.specs.Faults.{IsWantOfMemory, RefusesTest};
 
     /// Opens one whose tables are empty.
     pub(crate) fn open(alloc: Global) -> Result<MemoryDatabase, Trouble>
-        ensures { IfOk result (λ database. database.register ≡ no_tables) }
+        ensures empty { IfOk result (λ database. database.register ≡ no_tables) }
+        ensures memory { IfErr result IsWantOfMemory }
     {
-        let register = MemoryRegister::open(alloc)?;
-        Ok(MemoryDatabase { register })
+        match MemoryRegister::open(alloc) {
+            Ok(register) => Ok(MemoryDatabase { register }),
+            Err(trouble) => Err(trouble),
+        }
     }
 
     pub(crate) fn put_visit(&mut self, visit: &Visit) -> Result<(), Trouble>
         ensures ok { OnOk result
             (PutsVisit (visit_row visit.now) self.old.register self.new.register) }
         ensures err { OnErr result (self.new.register ≡ self.old.register) }
+        ensures memory { IfErr result IsWantOfMemory }
     {
         self.register.put_visit(visit)
     }
@@ -41,6 +46,7 @@ impl MemoryDatabase {
         ensures found { IfOk result (λ visit.
             option_map visit_row visit ≡ visit_numbered number self.old.register.visits) }
         ensures same { self.new.register ≡ self.old.register }
+        ensures memory { IfErr result IsWantOfMemory }
     {
         self.register.find_visit(number)
     }
@@ -49,6 +55,7 @@ impl MemoryDatabase {
         ensures ok { OnOk result
             (PutsTest (test_of visit point.now) self.old.register self.new.register) }
         ensures err { OnErr result (self.new.register ≡ self.old.register) }
+        ensures refused { IfErr result (RefusesTest self.old.register.tests) }
     {
         self.register.put_test(visit, point)
     }
@@ -56,6 +63,7 @@ impl MemoryDatabase {
     pub(crate) fn last_day(&mut self, point: &Label) -> Result<Option<u32>, Trouble>
         ensures day { IfOk result (λ day. day ≡ last_day_of point.now.bytes self.old.register) }
         ensures same { self.new.register ≡ self.old.register }
+        ensures memory { IfErr result IsWantOfMemory }
     {
         self.register.last_day(point)
     }

@@ -26,25 +26,30 @@ impl Model for MemoryRegister {
 }
 
 impl MemoryRegister {
-    ghost use Rattle.std.specs.Prelude.{◌≡◌, IfOk, OnErr, OnOk, option_map};
+    ghost use Rattle.std.specs.Prelude.{◌≡◌, IfErr, IfOk, OnErr, OnOk, option_map};
     ghost use Rattle.service_keepers.specs.Keeping.{PutsTest, PutsVisit};
     ghost use Rattle.service_keepers.specs.Rows.{test_of, visit_row};
     ghost use Rattle.service_keepers.specs.Tables.{AreDistinct, last_day_of, no_tables, visit_numbered};
+    ghost use Rattle.register_sqlite.specs.Faults.{IsWantOfMemory, RefusesTest};
 
     /// Opens one whose tables are empty.
     pub(crate) fn open(alloc: Global) -> Result<MemoryRegister, Trouble>
-        ensures { IfOk result (λ register. register ≡ no_tables) }
+        ensures empty { IfOk result (λ register. register ≡ no_tables) }
+        ensures memory { IfErr result IsWantOfMemory }
     {
         let Ok(mut conn) = Connection::open_in_memory(alloc) else {
             return Err(Trouble::Opening(Error::SqliteFailure(ErrorCode::OutOfMemory)));
         };
-        make_tables(&mut conn)?;
-        Ok(MemoryRegister { conn })
+        match make_tables(&mut conn) {
+            Ok(()) => Ok(MemoryRegister { conn }),
+            Err(trouble) => Err(trouble),
+        }
     }
 
     pub(crate) fn put_visit(&mut self, visit: &Visit) -> Result<(), Trouble>
         ensures ok { OnOk result (PutsVisit (visit_row visit.now) self.old self.new) }
         ensures err { OnErr result (self.new ≡ self.old) }
+        ensures memory { IfErr result IsWantOfMemory }
         ensures distinct { AreDistinct self.new }
     {
         asking::put_visit(&mut self.conn, visit)
@@ -54,6 +59,7 @@ impl MemoryRegister {
         ensures found { IfOk result (λ visit.
             option_map visit_row visit ≡ visit_numbered number self.old.visits) }
         ensures same { self.new ≡ self.old }
+        ensures memory { IfErr result IsWantOfMemory }
     {
         asking::find_visit(&mut self.conn, number)
     }
@@ -61,6 +67,7 @@ impl MemoryRegister {
     pub(crate) fn put_test(&mut self, visit: u32, point: &Label) -> Result<(), Trouble>
         ensures ok { OnOk result (PutsTest (test_of visit point.now) self.old self.new) }
         ensures err { OnErr result (self.new ≡ self.old) }
+        ensures refused { IfErr result (RefusesTest self.old.tests) }
         ensures distinct { AreDistinct self.new }
     {
         asking::put_test(&mut self.conn, visit, point)
@@ -69,6 +76,7 @@ impl MemoryRegister {
     pub(crate) fn last_day(&mut self, point: &Label) -> Result<Option<u32>, Trouble>
         ensures day { IfOk result (λ day. day ≡ last_day_of point.now.bytes self.old) }
         ensures same { self.new ≡ self.old }
+        ensures memory { IfErr result IsWantOfMemory }
     {
         asking::last_day(&mut self.conn, point)
     }

@@ -9,17 +9,20 @@ use Rattle.service_keepers.specs.Rows.{visit_row}
 use Rattle.register_sqlite.proofs.memory_register.MemoryRegister.put_visit.Goals as goal
 
 pub invariant_of-self : goal.invariant_of-self
-invariant_of-self c = (c.put_visit.ensures memory_is_steady c.self.invariant).register
+invariant_of-self c = (c.put_visit.ensures.register memory_is_steady c.self.invariant).register
 
 pub returns-clause-ok : goal.returns-clause-ok
 returns-clause-ok c =
     subst (λ old. OnOk c.put_visit.result (PutsVisit (visit_row c.args.visit.now) old (tables_in (state over_memory c.put_visit.new.conn).now.trees))) c.self.view_is
-    (c.put_visit.ensures memory_is_steady c.self.invariant).ok
+    (c.put_visit.ensures.register memory_is_steady c.self.invariant).ok
 
 pub returns-clause-err : goal.returns-clause-err
 returns-clause-err c =
     subst (λ old. OnErr c.put_visit.result (tables_in (state over_memory c.put_visit.new.conn).now.trees ≡ old)) c.self.view_is
-    (c.put_visit.ensures memory_is_steady c.self.invariant).err
+    (c.put_visit.ensures.register memory_is_steady c.self.invariant).err
 
 pub returns-clause-distinct : goal.returns-clause-distinct
-returns-clause-distinct c = (c.put_visit.ensures memory_is_steady c.self.invariant).register.distinct
+returns-clause-distinct c = (c.put_visit.ensures.register memory_is_steady c.self.invariant).register.distinct
+
+pub returns-clause-memory : goal.returns-clause-memory
+returns-clause-memory c = (c.put_visit.ensures.register memory_is_steady c.self.invariant).refused

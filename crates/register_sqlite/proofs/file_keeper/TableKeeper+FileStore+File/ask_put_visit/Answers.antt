@@ -1,0 +1,17 @@
+use Rattle.service_keepers.specs.Rows.{visit_row}
+use Rattle.sqlite.specs.Files.{file_state, over_files}
+use Rattle.register_sqlite.specs.Asked.{RunsText}
+use Rattle.register_sqlite.specs.Texts.{insert_visit_text, visit_params}
+use Rattle.register_sqlite.proofs.Told.{asks_none, asks_then}
+use Rattle.register_sqlite.proofs.file_keeper.TableKeeper+FileStore+File.ask_put_visit.Goals as goal
+
+pub returns-in-Some-clause-asks : goal.returns-in-Some-clause-asks
+returns-in-Some-clause-asks c =
+    asks_then over_files (λ old new answer. RunsText insert_visit_text (visit_params (visit_row c.args.visit.now)) (file_state old) (file_state new) answer)
+    c.args.self.now.database c.open.new.self.database c.in-Some.conn c.put_visit.new.conn c.put_visit.result c.in-Ok.ensures.opens c.in-Some.is
+    c.put_visit.ensures.follows (λ clean. c.put_visit.ensures.asked clean)
+
+pub returns-in-Err-clause-asks : goal.returns-in-Err-clause-asks
+returns-in-Err-clause-asks c =
+    asks_none over_files (λ old new answer. RunsText insert_visit_text (visit_params (visit_row c.args.visit.now)) (file_state old) (file_state new) answer)
+    c.args.self.now.database c.open.new.self.database c.in-Err.trouble c.in-Err.ensures.opens

@@ -1,0 +1,4 @@
+use Rattle.register_sqlite.proofs.file_keeper.TableKeeperFileStoreFileKeeper.put_visit.Goals as goal
+
+pub returns-clause-asked : goal.returns-clause-asked
+returns-clause-asked c = (c.ask_put_visit-answer.result, c.ask_put_visit-answer.ensures.asks, c.settle.ensures.told)
