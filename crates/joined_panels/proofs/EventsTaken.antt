@@ -1,10 +1,12 @@
 -- Events are taken one after another, and the turns of a tick change no link.
-use Rattle.std.proofs.Common.{◌≡◌, ℕ, ◌+◌, ◌≤◌, ◌<◌, Bool, true, false, List, [], ◌∷◌, ◌++◌, length, take, get_or, refl, sym, ◌∙◌, ap}
+use Rattle.std.proofs.Common.{◌≡◌, ℕ, ◌+◌, ◌≤◌, ◌<◌, Bool, true, false, List, [], ◌∷◌, ◌++◌, length, take, get_or, map, refl, sym, ◌∙◌, ap}
 use Rattle.std.proofs.lemmas.List.{take_more}
 use Rattle.tick_units.specs.declared.seat.Seat.{Seat}
 use Rattle.tick_units.specs.declared.task.Task.{Task}
 use Rattle.tick_units.specs.declared.task.Task.TheVariants.{Keep}
 use Rattle.site_types.specs.declared.event.Event.{Event}
+use Rattle.site_types.specs.declared.event.Event.TheVariants.{Point, Cable, Supply, Link, Confirmed, Op}
+use Rattle.record_lines.specs.Events.{event_view}
 use Rattle.panel_rules.specs.Moments.{Moment, Began, Happened, TickBlock, moments, and_events, and_turns, turn_of}
 use Rattle.panel_rules.specs.States.{is_up, told_link}
 use Rattle.joined_panels.specs.declared.links.Links.{Links}
@@ -50,11 +52,28 @@ turns_leave failed [] before link = refl
 turns_leave failed (seat ∷ seats) before link =
     turns_leave failed seats (turn_of failed seat.panel seat.task ∷ before) link ∙ turn_leaves failed seat.panel seat.task before link
 
+-- an event tells a link the same however its code is held
+told_view : (link : ℕ) (event : Event) (was : Bool) → told_link link (event_view event) was ≡ told_link link event was
+told_view link (Point point state) was = refl
+told_view link (Cable panel line piece state) was = refl
+told_view link (Supply panel kind bad) was = refl
+told_view link (Link other up) was = refl
+told_view link (Confirmed output) was = refl
+told_view link (Op panel code operation) was = refl
+
+events_view : (link : ℕ) (events : List Event) (one other : List Moment) → is_up link one ≡ is_up link other
+    → is_up link (and_events (map event_view events) one) ≡ is_up link (and_events events other)
+events_view link [] one other same = same
+events_view link (event ∷ events) one other same =
+    events_view link events (Happened (event_view event) ∷ one) (Happened event ∷ other)
+    (told_view link event (is_up link one) ∙ ap (told_link link event) same)
+
 -- the links after a tick are those after its events
-pub after_tick : (tick : TickBlock) (ticks : List TickBlock) (old new : Links) (events : List Event) → tick.events ≡ events
+pub after_tick : (tick : TickBlock) (ticks : List TickBlock) (old new : Links) (events : List Event) → tick.events ≡ map event_view events
     → ((before : List Moment) → HasLinks before old → HasLinks (and_events events before) new) → HasLinks (moments ticks) old
     → HasLinks (moments (tick ∷ ticks)) new
 after_tick tick ticks old new events same up has link a b =
     up (Began ∷ moments ticks) has link a b
+    ∙ sym (events_view link events (Began ∷ moments ticks) (Began ∷ moments ticks) refl)
     ∙ ap (λ es. is_up link (and_events es (Began ∷ moments ticks))) (sym same)
     ∙ sym (turns_leave tick.failed tick.order (and_events tick.events (Began ∷ moments ticks)) link)

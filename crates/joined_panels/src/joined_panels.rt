@@ -1,6 +1,7 @@
-ghost use Rattle.std.specs.Prelude.{◌≡◌, ◌+◌, ◌≤◌, ◌↔◌, [], ◌∷◌, List, length, IsTrue};
+ghost use Rattle.std.specs.Prelude.{◌≡◌, ◌+◌, ◌≤◌, ◌↔◌, [], ◌∷◌, List, length, map, IsTrue};
 ghost use Rattle.site_types.specs.declared.site.Site.{Site as SiteOf};
 ghost use Rattle.site_types.specs.Valid.{IsValid};
+ghost use Rattle.record_lines.specs.Events.{event_view};
 ghost use Rattle.panel_rules.specs.Moments.{TickBlock, moments, tick_of};
 ghost use Rattle.panel_rules.specs.Ring.{AreJoined};
 ghost use Rattle.joined_panels.specs.Latest.{later_of_ticks};
@@ -44,8 +45,8 @@ impl JoinedPanels {
     /// Takes the events of the next tick.
     pub fn take_tick(&mut self, now: Tick, events: &[Event])
         ensures { (site : SiteOf) (ticks : List TickBlock) (tick : TickBlock)
-            → StandsFor site ticks self.old → now.0 ≡ length ticks + 1 → tick.events ≡ events.now
-            → StandsFor site (tick ∷ ticks) self.new }
+            → StandsFor site ticks self.old → now.0 ≡ length ticks + 1
+            → tick.events ≡ map event_view events.now → StandsFor site (tick ∷ ticks) self.new }
     {
         self.latest = now;
         if self.links.take_events(events) {

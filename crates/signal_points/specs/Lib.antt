@@ -1,0 +1,6 @@
+pub mod Signalling
+pub mod Laws
+pub mod Reports
+pub mod States
+pub mod Looks
+pub mod Stands
