@@ -1,0 +1,17 @@
+pub mod HeldRounds
+pub mod ZonePlaces
+pub mod TwoHeld
+pub mod PairsHeld
+pub mod MembersFound
+pub mod NoFloors
+pub mod SignalsEnd
+pub mod PairsEnd
+pub mod SignalsMoved
+pub mod RoundsByType
+pub mod LeastTicks
+pub mod TicksOn
+pub mod FloorsTaken
+pub mod PartlyTaken
+pub mod MomentsOn
+pub mod DueLeast
+pub mod Marking

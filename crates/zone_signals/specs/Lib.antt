@@ -1,0 +1,12 @@
+pub mod Kinds
+pub mod Rounds
+pub mod Floors
+pub mod Known
+pub mod Pairs
+pub mod Ended
+pub mod Least
+pub mod Stands
+pub mod Marks
+pub mod Types
+pub mod Telling
+pub mod StandsFor
