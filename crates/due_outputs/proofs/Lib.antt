@@ -1,0 +1,5 @@
+pub mod Asked
+pub mod DueOn
+pub mod Lasting
+pub mod Places
+pub mod TicksTaken

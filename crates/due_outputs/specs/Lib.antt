@@ -1,0 +1,4 @@
+pub mod DueOn
+pub mod Runs
+pub mod Solved
+pub mod Stands

@@ -1,0 +1,3 @@
+pub mod EachPanel
+pub mod Reached
+pub mod ZonesDue
