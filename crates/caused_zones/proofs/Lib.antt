@@ -1,0 +1,16 @@
+pub mod EachAfter
+pub mod JudgedBelow
+pub mod Answered
+pub mod Undone
+pub mod ByZone
+pub mod Near
+pub mod VerifiedMarks
+pub mod Confirming
+pub mod Earlier
+pub mod Askings
+pub mod MarkSteps
+pub mod CauseSteps
+pub mod MarkUndone
+pub mod PartSteps
+pub mod Taken
+pub mod SignalRuns

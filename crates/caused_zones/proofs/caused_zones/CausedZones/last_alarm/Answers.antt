@@ -1,0 +1,4 @@
+use Rattle.caused_zones.proofs.caused_zones.CausedZones.last_alarm.Goals as goal
+
+pub returns : goal.returns
+returns c site kept operations ticks stands less = c.last_alarm.ensures site kept operations c.args.self.now.taken ticks stands.parts less stands.now

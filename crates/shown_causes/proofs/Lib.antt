@@ -1,0 +1,4 @@
+pub mod FaultSteps
+pub mod HeardCauses
+pub mod HeardMasks
+pub mod OnOutputs
