@@ -1,0 +1,23 @@
+mod RuleBreaches
+mod RowsBelow
+mod LowerOnes
+mod FirstBreaches
+mod ReadSteps
+mod NumbersTaken
+mod TicksJudged
+mod Marking
+mod Hiding
+mod TicksUntil
+mod EightFlags
+mod ZoneRules
+mod OutputRules
+mod RulesMet
+mod TickBreaches
+mod Uncausing
+mod Darkness
+mod Bases
+pub mod DoneOrder
+mod Orders
+mod Scanned
+mod TickByTick
+mod Verdicts

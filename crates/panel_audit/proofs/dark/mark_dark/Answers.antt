@@ -1,0 +1,20 @@
+use Rattle.std.proofs.Common.{◌∙◌, ◌<◌, sym, subst, length}
+use Rattle.std.proofs.lemmas.List.{length-set}
+use Rattle.panel_audit.specs.Scans.{TellsDark}
+use Rattle.panel_audit.proofs.Marking.{written_all, written_more}
+use Rattle.panel_audit.proofs.dark.mark_dark.Goals as goal
+
+pub loop-place-preserved : goal.loop-place-preserved
+loop-place-preserved c =
+    let before = c.loop-place.invariant in
+    let marks = c.loop-place.marks in
+    let place = c.loop-place.place in (
+      length-set marks place c.is_dark.result ∙ before.0,
+      written_more (TellsDark c.args.site.now c.args.dues.now c.args.excused.now c.args.faces.now) marks place c.is_dark.result
+          (subst (λ n. place < n) (sym before.0) c.loop-place-test.true) c.is_dark.ensures before.1,
+    )
+
+pub returns-clause-marks : goal.returns-clause-marks
+returns-clause-marks c =
+    written_all (TellsDark c.args.site.now c.args.dues.now c.args.excused.now c.args.faces.now) c.loop-place.marks c.loop-place.place
+    (length c.args.marks.now) c.loop-place.invariant.0 c.loop-place-test.false c.loop-place.invariant.1

@@ -1,0 +1,13 @@
+pub mod Lowest
+pub mod Firsts
+pub mod ShownSteps
+pub mod Numbers
+pub mod Rows
+pub mod Judging
+pub mod Places
+pub mod Broken
+pub mod Scans
+pub mod Breaking
+pub mod Scanning
+pub mod Ticks
+pub mod Texts
