@@ -5,9 +5,10 @@ use Rattle.program_status.specs.declared.status.Status.TheVariants as exit
 use Rattle.register_import.specs.declared.imported.Imported.{Imported}
 use Rattle.register_import.specs.declared.refusal.ImportRefusal.{ImportRefusal}
 use Rattle.register_import.specs.declared.refusal.ImportRefusal.TheVariants as why
-use Rattle.import_command.specs.Lines.{file_line, imported_line, row_line}
+use Rattle.named_files.specs.Missing.{file_status, file_text}
+use Rattle.import_command.specs.Lines.{imported_line, row_line}
 use Rattle.import_command.specs.declared.import_stop.ImportStop.{ImportStop}
-use Rattle.import_command.specs.declared.import_stop.ImportStop.TheVariants.{NoFile, ReadFault, NoMemory, Refused}
+use Rattle.import_command.specs.declared.import_stop.ImportStop.TheVariants.{Missing, Refused}
 
 abbrev pub rows_status : ImportRefusal → Status
 rows_status (why.Row row number) = exit.BadRow
@@ -22,15 +23,11 @@ rows_line why.NoMemory = []
 
 abbrev pub import_status : Result Imported ImportStop → Status
 import_status (Ok imported) = exit.Done
-import_status (Err NoFile) = exit.BadFile
-import_status (Err ReadFault) = exit.ReadFault
-import_status (Err NoMemory) = exit.NoMemory
+import_status (Err (Missing stop)) = file_status stop
 import_status (Err (Refused refusal)) = rows_status refusal
 
 -- what is told of the file of a name
 abbrev pub import_text : List ℕ → Result Imported ImportStop → List ℕ
 import_text name (Ok imported) = imported_line imported
-import_text name (Err NoFile) = file_line name
-import_text name (Err ReadFault) = codes "fault read\n"
-import_text name (Err NoMemory) = []
+import_text name (Err (Missing stop)) = file_text name stop
 import_text name (Err (Refused refusal)) = rows_line refusal

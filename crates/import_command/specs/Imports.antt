@@ -1,8 +1,8 @@
 -- What comes of a file that is imported, by the bytes under its name, and what the register keeps then.
-use Rattle.std.specs.Prelude.{◌≡◌, ◌<◌, ◌≤◌, ℕ, List, length, Option, Some, None, Result, Ok, Err, IfSome, ⊤}
+use Rattle.std.specs.Prelude.{◌≡◌, ℕ, List, Option, Result, Ok, Err, IfSome}
 use Rattle.panel_edges.specs.Faults.{Rose}
-use Rattle.panel_edges.specs.Limits.{most_file_bytes}
 use Rattle.panel_edges.specs.Shelves.{file_of}
+use Rattle.named_files.specs.Fetched.{HasNoBytes, IsWhole}
 use Rattle.program_status.specs.declared.outcome.Outcome.{Outcome}
 use Rattle.register_import.specs.Answers.{AnswersFile}
 use Rattle.register_import.specs.declared.imported.Imported.{Imported}
@@ -14,43 +14,23 @@ use Rattle.site_commands.specs.declared.stop.Stop.{Stop}
 use Rattle.site_types.specs.declared.site.Site.{Site}
 use Rattle.import_command.specs.Endings.{import_status, import_text}
 use Rattle.import_command.specs.declared.import_stop.ImportStop.{ImportStop}
-use Rattle.import_command.specs.declared.import_stop.ImportStop.TheVariants.{NoFile, ReadFault, NoMemory, Refused}
+use Rattle.import_command.specs.declared.import_stop.ImportStop.TheVariants.{Missing, Refused}
 
--- there is no file, or one that is too long
-abbrev pub IsNoFile : Option (List ℕ) → Type 0
-IsNoFile None = ⊤
-IsNoFile (Some bytes) = most_file_bytes < length bytes
-
--- these bytes stand under the name, and no more than a file may have
-pub record IsWhole (file : Option (List ℕ)) (bytes : List ℕ) : Type 0 where
-  pub is : file ≡ Some bytes
-  pub within : length bytes ≤ most_file_bytes
-
--- why there are no bytes at hand; a fault of the shelf comes only where its count rose, and want of memory is free
-abbrev pub HasNoBytes : Type 0 → Option (List ℕ) → ImportStop → Type 0
-HasNoBytes rose file NoFile = IsNoFile file
-HasNoBytes rose file ReadFault = rose
-HasNoBytes rose file NoMemory = ⊤
-HasNoBytes rose file (Refused refusal) = ⊥
-
--- no row was looked at
-abbrev pub IsBeforeRows : ImportStop → Type 0
-IsBeforeRows NoFile = ⊤
-IsBeforeRows ReadFault = ⊤
-IsBeforeRows NoMemory = ⊤
-IsBeforeRows (Refused refusal) = ⊥
+-- what comes of rows that are at hand: they are answered as an import answers them
+abbrev pub TakesRows : Site → List ℕ → Option Tables → Option Tables → Result Imported ImportStop → Type 0
+TakesRows site bytes old new (Ok imported) = AnswersFile site bytes (Ok imported) old new
+TakesRows site bytes old new (Err (Missing stop)) = ⊥
+TakesRows site bytes old new (Err (Refused refusal)) = AnswersFile site bytes (Err refusal) old new
 
 -- What comes of the file under a name, and what the register keeps before and after, where that is told: the rows are
 -- answered as an import answers them; without bytes at hand the register stays as it is.
 abbrev pub TakesFile : Type 0 → Site → Option (List ℕ) → Option Tables → Option Tables → Result Imported ImportStop
     → Type 0
 TakesFile rose site file old new (Ok imported) =
-    (bytes : List ℕ) × IsWhole file bytes × AnswersFile site bytes (Ok imported) old new
-TakesFile rose site file old new (Err NoFile) = HasNoBytes rose file NoFile × (new ≡ old)
-TakesFile rose site file old new (Err ReadFault) = HasNoBytes rose file ReadFault × (new ≡ old)
-TakesFile rose site file old new (Err NoMemory) = new ≡ old
+    (bytes : List ℕ) × IsWhole file bytes × TakesRows site bytes old new (Ok imported)
+TakesFile rose site file old new (Err (Missing stop)) = HasNoBytes rose file stop × (new ≡ old)
 TakesFile rose site file old new (Err (Refused refusal)) =
-    (bytes : List ℕ) × IsWhole file bytes × AnswersFile site bytes (Err refusal) old new
+    (bytes : List ℕ) × IsWhole file bytes × TakesRows site bytes old new (Err (Refused refusal))
 
 -- the tables of a register before a call and after it, where its keeper tells them
 pub record KeptTables : Type 0 where

@@ -1,6 +1,5 @@
 -- The lines that tell what came of an import.
 use Rattle.std.specs.Prelude.{ℕ, List, ◌++◌, codes, decimal}
-use Rattle.site_commands.specs.Refusals.{named_text}
 use Rattle.register_import.specs.declared.imported.Imported.{Imported}
 
 -- how many visits and tests the file has
@@ -11,7 +10,3 @@ imported_line imported = codes "imported visits " ++ decimal imported.visits
 -- the row that is refused, and why
 abbrev pub row_line : ℕ → ℕ → List ℕ
 row_line row why = codes "refused row " ++ decimal row ++ codes " " ++ decimal why ++ codes "\n"
-
--- the word of a file that is absent or too long
-abbrev pub file_line : List ℕ → List ℕ
-file_line name = named_text (codes "refused file ") name (codes "\n")

@@ -1,8 +1,9 @@
 //! Importing a file into the register of a site.
 
 ghost use Rattle.std.specs.Prelude.{◌≡◌, ◌≢◌, ◌≤◌, Err, IfSome};
-ghost use Rattle.import_command.specs.Imports.{AnswersImport, TakesFile, kept_tables};
-ghost use Rattle.import_command.specs.declared.import_stop.ImportStop.TheVariants.{ReadFault, Refused};
+ghost use Rattle.import_command.specs.Imports.{AnswersImport, TakesFile, TakesRows, kept_tables};
+ghost use Rattle.import_command.specs.declared.import_stop.ImportStop.TheVariants.{Missing, Refused};
+ghost use Rattle.named_files.specs.declared.file_stop.FileStop.TheVariants.{ReadFault};
 ghost use Rattle.panel_edges.specs.Faults.{Rose};
 ghost use Rattle.panel_edges.specs.Shelves.{file_of};
 ghost use Rattle.program_status.specs.Statuses.{BlamesKeeper, BlamesReads, BlamesWrites, IsSilentWithoutMemory};
@@ -12,8 +13,8 @@ ghost use Rattle.site_commands.specs.Files.{files_of};
 ghost use Rattle.site_types.specs.Valid.{IsValid};
 
 use crate::ending::tell;
-use crate::fetching::fetch_file;
 use crate::import_stop::ImportStop;
+use named_files::fetch_named;
 use panel_edges::{Shelf, Sink};
 use program_status::{Outcome, Status};
 use register_import::{Imported, import_csv};
@@ -63,13 +64,33 @@ fn take_file<F: Shelf, R: Keeper>(
     ensures takes { IfSome (F.files shelf.old) (λ held. TakesFile
         (Rose (F.faults shelf.old) (F.faults shelf.new)) site.now (file_of name.now held)
         (R.tables keeper.old) (R.tables keeper.new) result) }
-    ensures read { result ≡ Err ReadFault → Rose (F.faults shelf.old) (F.faults shelf.new) }
+    ensures read { result ≡ Err (Missing ReadFault)
+        → Rose (F.faults shelf.old) (F.faults shelf.new) }
     ensures keeper { result ≡ Err (Refused KeeperFault)
         → Rose (R.faults keeper.old) (R.faults keeper.new) }
     ensures later { F.faults shelf.old ≤ F.faults shelf.new }
 {
-    let bytes = fetch_file(alloc, name, shelf)?;
-    match import_csv(alloc, site, keeper, bytes.as_slice()) {
+    match fetch_named(alloc, name, shelf) {
+        Ok(bytes) => take_rows(alloc, site, bytes.as_slice(), keeper),
+        Err(stop) => Err(ImportStop::Missing(stop)),
+    }
+}
+
+// Puts these rows into the register.
+fn take_rows<R: Keeper>(
+    alloc: Global,
+    site: &Site,
+    bytes: &[u8],
+    keeper: &mut R,
+) -> Result<Imported, ImportStop>
+    requires { IsValid site.now }
+    ensures takes { TakesRows site.now bytes.now (R.tables keeper.old) (R.tables keeper.new)
+        result }
+    ensures keeper { result ≡ Err (Refused KeeperFault)
+        → Rose (R.faults keeper.old) (R.faults keeper.new) }
+    ensures read { result ≢ Err (Missing ReadFault) }
+{
+    match import_csv(alloc, site, keeper, bytes) {
         Ok(imported) => Ok(imported),
         Err(refusal) => Err(ImportStop::Refused(refusal)),
     }

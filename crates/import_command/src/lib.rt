@@ -10,7 +10,6 @@
 
 mod command;
 mod ending;
-mod fetching;
 mod import_stop;
 mod lines;
 

@@ -18,5 +18,5 @@ mod stop;
 pub use commands::{tell_counts, tell_matrix};
 pub use loaded::Loaded;
 pub use loading::{load, read_file};
-pub use site_lines::{stop_with, stop_with_old};
+pub use site_lines::{stop_with, stop_with_old, write_named};
 pub use stop::Stop;

@@ -182,9 +182,9 @@ fn write_cycle<K: Sink>(word: &str, cycle: &[u8], out: &mut K) -> Result<(), Fai
     write_all(out, cycle)
 }
 
-// A line with a key or a name of any length in it.
+/// A line with a key or a name of any length in it.
 #[tactic(auto, using(panel_edges::proofs::Growing::grows_more, panel_edges::proofs::Growing::front_more, panel_edges::proofs::Growing::front_longer))]
-fn write_named<K: Sink>(word: &str, name: &str, detail: &str, out: &mut K) -> Result<(), Failed>
+pub fn write_named<K: Sink>(word: &str, name: &str, detail: &str, out: &mut K) -> Result<(), Failed>
     ensures ok { OnOk result
         (Grows (K.written out.old) (K.written out.new) (named_text word.now name.now detail.now)) }
     ensures err { OnErr result

@@ -1,0 +1,2 @@
+-- a fault of the shelf that came earlier
+pub mod Sinces
