@@ -1,0 +1,2 @@
+-- what an audit answers, from what its parts answer
+pub mod Answering
