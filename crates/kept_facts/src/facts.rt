@@ -1,0 +1,27 @@
+ghost use Rattle.std.specs.Prelude.{◌≡◌};
+ghost use Rattle.kept_facts.specs.KeptFacts.{HasPanels, TellsKeptFacts};
+
+use cause_effect::Facts;
+use kept_words::KeptWords;
+use site_types::mask_from_8;
+
+/// The facts that the words tell which a panel of a ring of so many keeps.
+pub fn facts_kept(words: &KeptWords, panels: u8) -> Facts
+    requires { HasPanels words.now panels }
+    ensures { TellsKeptFacts words.now result }
+{
+    let mut zones = [0; 8];
+    let mut manual = [0; 8];
+    let mut faulty = [false; 8];
+    for source in 1..panels + 1 {
+        let word = words.word(source);
+        zones[source as usize - 1] = word.released;
+        manual[source as usize - 1] = word.manual;
+        faulty[source as usize - 1] = word.fault;
+    }
+    Facts {
+        zones,
+        manual,
+        faults: mask_from_8(&faulty),
+    }
+}

@@ -1,0 +1,4 @@
+pub mod Arrivals
+pub mod Newest
+pub mod Stands
+pub mod Kept

@@ -1,0 +1,3 @@
+-- the lines behind the first, and the first
+pub mod OwnLines
+pub mod FirstLine

@@ -1,0 +1,3 @@
+pub mod OwnEvents
+pub mod OwnBlocks
+pub mod Inputs

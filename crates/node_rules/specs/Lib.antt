@@ -1,0 +1,9 @@
+pub mod Handed
+pub mod HandedStays
+pub mod Shown
+pub mod Histories
+pub mod Nodes
+pub mod RingHistories
+pub mod NodeLaws
+pub mod RingLaws
+pub mod QuietPanels
