@@ -1,6 +1,6 @@
 //! A yardstick: a plain Rust program, without contracts, of the job that `panel serve` does: the same words, the same answers byte for
 //! byte, one connection at a time with one request each. It is written to be fast, over the standard library alone, and knows the whole
-//! panel, which `bench/plain.rs` doesn't; its register stays in memory. `run SITE JOURNAL` reads a record, so that `.ci/cases` can compare
+//! panel, which `bench/plain` doesn't; its register stays in memory. `run SITE JOURNAL` reads a record, so that `.ci/cases` can compare
 //! its panel. Of a site file it reads what a valid one has, and refuses another as `refused site 1`.
 #[path = "plain_server/face.rs"]
 mod face;

@@ -11,7 +11,7 @@ COMMANDS = [b"check", b"matrix", b"run", b"drill", b"serve", b"node", b"import",
 
 # how many words a command has, and its statuses
 SHAPES = {b"check": (2, {0, 3, 6}), b"matrix": (2, {0, 3, 6}), b"run": (3, {0, 3, 4, 5, 6, 8}), b"import": (4, {0, 3, 6, 13, 14, 15}),
-          b"move": (5, {0, 3, 5, 6, 8})}
+          b"move": (5, {0, 3, 5, 6, 8}), b"audit": (4, {0, 3, 4, 6, 12, 13})}
 
 
 def is_text(word):
@@ -44,7 +44,7 @@ def words(draw, seeds):
     count = draw.choice([0, 1, 2, 2, 3, 3, 3, 4, 4, 5, 5, 6])
     them = [draw.choice(COMMANDS) for _ in range(count)]
     if them and draw.random() < 0.7:
-        them[0] = draw.choice([b"check", b"matrix", b"run", b"drill", b"import", b"move"])
+        them[0] = draw.choice([b"check", b"matrix", b"run", b"drill", b"import", b"move", b"audit"])
     if them[:1] == [b"serve"]:
         # one with a port and a count would serve
         them[3:4] = [b"0"] * (count > 3)
