@@ -56,7 +56,7 @@ use Rattle.run_text.specs.Failures.{as_recorded}
 use Rattle.run_text.proofs.FailuresCounted.{are_the_same}
 use Rattle.run_text.proofs.TickTimes.{tick_moments}
 use Rattle.audit_rules.specs.CanCause.{CanBeOn, CanBeTrue, CanTellFault}
-use Rattle.audit_rules.specs.Hearing.{network_start}
+use Rattle.audit_rules.specs.Hearing.{MayBeHeard, network_start}
 use Rattle.audit_rules.specs.Shown.{text_tells_fault}
 use Rattle.audit_laws.specs.AccountsTold.{TellsAccount}
 use Rattle.audit_laws.specs.AlikeZones.{Account}
@@ -315,30 +315,36 @@ module _ (site : Site) (kept : Retained) (ticks : List TickBlock) (valid : IsVal
     faulty = turn_facts.faulty;
   }
 
+  owns : (zone : ℕ) → nat_lt zone (length site.zones) ≡ true → IsPanel site.panels (panel_of_zone site zone)
+  owns zone within = zone_panel site valid zone (lt_from zone (length site.zones) within)
+
+  -- what the panel heard of the zone's own panel may be heard
+  heard_of : (zone : ℕ) → nat_lt zone (length site.zones) ≡ true
+      → MayBeHeard site told panel (panel_of_zone site zone) (heard site.panels panel (panel_of_zone site zone) effect)
+  heard_of zone within = heard_at_effect site said.kept said.done told panel (panel_of_zone site zone) after own_panel (owns zone within)
+
   can_be_true : CanBeTrue site text said.kept said.done told panel site_facts
   can_be_true = record {
     released =
         λ zone t. (let g = parts (nat_lt zone (length site.zones)) _ t in
-        let z = zone_panel site valid zone (lt_from zone (length site.zones) g.0) in
         record {
           stamp = heard site.panels panel (panel_of_zone site zone) effect;
-          heard = heard_at_effect site said.kept said.done told panel (panel_of_zone site zone) after own_panel z;
+          heard = heard_of zone g.0;
           cause =
               out_alarm site said.kept said.done told zone (heard site.panels panel (panel_of_zone site zone) effect)
               (subst (IsCausedOut site said.kept said.done told zone) (kept_stamp site.panels panel (panel_of_zone site zone) effect)
-              (released_caused site said.kept said.done told (word_of (panel_of_zone site zone)) zone after.run (word_past (panel_of_zone site zone)) z
-              g.1));
+              (released_caused site said.kept said.done told (word_of (panel_of_zone site zone)) zone after.run (word_past (panel_of_zone site zone))
+              (owns zone g.0) g.1));
         });
     by_hand =
         λ zone t. (let g = parts (nat_lt zone (length site.zones)) _ t in
-        let z = zone_panel site valid zone (lt_from zone (length site.zones) g.0) in
         record {
           stamp = heard site.panels panel (panel_of_zone site zone) effect;
-          heard = heard_at_effect site said.kept said.done told panel (panel_of_zone site zone) after own_panel z;
+          heard = heard_of zone g.0;
           cause =
               subst (IsCausedByHand site said.kept said.done told zone) (kept_stamp site.panels panel (panel_of_zone site zone) effect)
-              (hand_caused site said.kept said.done told (word_of (panel_of_zone site zone)) zone after.run (word_past (panel_of_zone site zone)) z
-              g.1);
+              (hand_caused site said.kept said.done told (word_of (panel_of_zone site zone)) zone after.run (word_past (panel_of_zone site zone))
+              (owns zone g.0) g.1);
         });
     faults = λ source t. tells_of source t;
   }

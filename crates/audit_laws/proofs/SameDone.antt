@@ -2,6 +2,7 @@
 use Rattle.std.proofs.Common.{◌≡◌, ◌⊎◌, ℕ, zero, suc, ◌≤◌, ◌<◌, ◌&&◌, Bool, true, false, List, [], ◌∷◌, Some, slice_get, if◌then◌else◌, inl, inr}
 use Rattle.std.proofs.Common.{refl, sym, ◌∙◌, ap, subst, arith}
 use Rattle.std.specs.Prelude.{max, nat_lt}
+use Rattle.std.proofs.lemmas.Bool.{cases_order}
 use Rattle.site_types.specs.declared.retained.Retained.{Retained}
 use Rattle.site_types.specs.declared.site.Site.{Site}
 use Rattle.site_types.specs.Done.{Done, Setting, at_opening, in_force, is_on, latest_before, value_set}
@@ -128,16 +129,6 @@ module _ (setting : Setting) (x : ℕ) where
             chosen true t = cc
             chosen false t = passed (λ also l. (let past = h.1 in absurd (omega (arith, past, l)))) ih
 
-  order : (m n : ℕ) → (m < n) ⊎ ((m ≡ n) ⊎ (n < m))
-  order zero zero = inr (inl refl)
-  order zero (suc n) = inl (omega arith)
-  order (suc m) zero = inr (inr (omega arith))
-  order (suc m) (suc n) =
-      elim (order m n) [
-        | inl h ↦ inl (omega (arith, h))
-        | inr h ↦ elim h [ inl e ↦ inr (inl (ap suc e)) | inr g ↦ inr (inr (omega (arith, g))) ]
-      ]
-
   some_same : (d e : Done) → Some d ≡ Some e → d ≡ e
   some_same d e h = cc
 
@@ -145,10 +136,10 @@ module _ (setting : Setting) (x : ℕ) where
   one_of_tick : (all : List Done) → FallApart setting all → (i j : ℕ) (d e : Done) → slice_get all i ≡ Some d → slice_get all j ≡ Some e
       → is_on setting d ≡ true → is_on setting e ≡ true → d.tick ≡ e.tick → d ≡ e
   one_of_tick all apart i j d e is is' on on' same =
-      elim (order i j) [
-        | inl h ↦ (let l = apart i j d e is is' on on' h in absurd (omega (arith, l, same)))
+      elim (cases_order i j) [
+        | inl places ↦ some_same d e (sym is ∙ ap (λ k. slice_get all k) places ∙ is')
         | inr h ↦ elim h [
-          | inl places ↦ some_same d e (sym is ∙ ap (λ k. slice_get all k) places ∙ is')
+          | inl g ↦ (let l = apart i j d e is is' on on' g in absurd (omega (arith, l, same)))
           | inr g ↦ (let l = apart j i e d is' is on' on g in absurd (omega (arith, l, same)))
         ]
       ]

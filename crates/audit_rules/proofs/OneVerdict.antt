@@ -2,6 +2,7 @@
 use Rattle.std.proofs.Common.{◌≡◌, ◌≢◌, ◌⊎◌, ◌≤◌, ◌<◌, ◌+◌, ◌-◌, ◌++◌, ℕ, zero, suc, Bool, true, false, List, [], ◌∷◌, length, Some, None, inl, inr, refl, sym, ◌∙◌, ap, subst}
 use Rattle.std.proofs.Common.{append_assoc, arith}
 use Rattle.std.specs.Prelude.{◌==◌, if◌then◌else◌}
+use Rattle.std.proofs.lemmas.Bool.{cases_order}
 use Rattle.site_types.specs.declared.site.Site.{Site}
 use Rattle.site_types.specs.Valid.{IsValid}
 use Rattle.record_lines.specs.declared.over.Over.{Over}
@@ -62,21 +63,11 @@ not_earlier site text one other a b l =
     ]
 
 same_line : (site : Site) (text : List ℕ) (one other : ℕ) → IsBadLine site text one → IsBadLine site text other → one ≡ other
-same_line site text one other a b = by (order one other)
+same_line site text one other a b = by (cases_order one other)
   where
-    order : (m n : ℕ) → (m < n) ⊎ ((m ≡ n) ⊎ (n < m))
-    order zero zero = inr (inl refl)
-    order zero (suc n) = inl (omega arith)
-    order (suc m) zero = inr (inr (omega arith))
-    order (suc m) (suc n) =
-        elim (order m n) [
-          | inl h ↦ inl (omega (arith, h))
-          | inr h ↦ elim h [ inl e ↦ inr (inl (ap suc e)) | inr g ↦ inr (inr (omega (arith, g))) ]
-        ]
-
-    by : (one < other) ⊎ ((one ≡ other) ⊎ (other < one)) → one ≡ other
-    by (inl h) = absurd (not_earlier site text one other a b h)
-    by (inr (inl e)) = e
+    by : (one ≡ other) ⊎ ((one < other) ⊎ (other < one)) → one ≡ other
+    by (inl e) = e
+    by (inr (inl h)) = absurd (not_earlier site text one other a b h)
     by (inr (inr h)) = absurd (not_earlier site text other one b a h)
 
 -- a text that is read has no bad line

@@ -253,20 +253,18 @@ module _ (unnamed : Unnamed) where
         late = own_due refl (omega (arith, last));
       }
 
-  is_unshown : IsBreach (site_one unnamed) (ticks_of_one 40) silent_text unshown
-  is_unshown =
+  is_hidden : BreaksIndication (site_one unnamed) (ticks_of_one 40) silent_text unshown
+  is_hidden =
       record {
-        begins = omega arith;
-        ends = omega arith;
-        breaks =
-            record {
-              place = 0;
-              plan = zone_of_one unnamed 1;
-              names = record { panel = (omega arith, omega arith); plan_is = refl; owner = refl; number = refl };
-              due = subst (λ m. IsDue (site_one unnamed) silent_kept silent_done m 0 1) (sym first_ticks) due_at_last;
-              hidden = refl;
-            };
+        place = 0;
+        plan = zone_of_one unnamed 1;
+        names = record { panel = (omega arith, omega arith); plan_is = refl; owner = refl; number = refl };
+        due = subst (λ m. IsDue (site_one unnamed) silent_kept silent_done m 0 1) (sym first_ticks) due_at_last;
+        hidden = refl;
       }
+
+  is_unshown : IsBreach (site_one unnamed) (ticks_of_one 40) silent_text unshown
+  is_unshown = record { begins = omega arith; ends = omega arith; breaks = is_hidden }
 
   -- what else is broken stands no lower
   later_unshown : (other : Breach) → (rule : AuditRule) → other.rule ≡ rule → BreaksRule (site_one unnamed) (ticks_of_one 40) silent_text rule other
@@ -346,20 +344,18 @@ module _ (unnamed : Unnamed) where
   not_shown (own same cause) = no_cause _ cause
   not_shown (told other heard) = other refl
 
-  is_uncaused : IsBreach (site_one unnamed) (ticks_of_one 12) early_text uncaused
-  is_uncaused =
+  is_early : BreaksZone (site_one unnamed) (ticks_of_one 12) early_text uncaused
+  is_early =
       record {
-        begins = omega arith;
-        ends = omega arith;
-        breaks =
-            record {
-              place = 0;
-              plan = zone_of_one unnamed 1;
-              names = record { panel = (omega arith, omega arith); plan_is = refl; owner = refl; number = refl };
-              shown = refl;
-              uncaused = not_shown;
-            };
+        place = 0;
+        plan = zone_of_one unnamed 1;
+        names = record { panel = (omega arith, omega arith); plan_is = refl; owner = refl; number = refl };
+        shown = refl;
+        uncaused = not_shown;
       }
+
+  is_uncaused : IsBreach (site_one unnamed) (ticks_of_one 12) early_text uncaused
+  is_uncaused = record { begins = omega arith; ends = omega arith; breaks = is_early }
 
   later_uncaused : (other : Breach) → other.tick ≤ 12 → (rule : AuditRule) → other.rule ≡ rule
       → BreaksRule (site_one unnamed) (ticks_of_one 12) early_text rule other → StandsHigher other uncaused

@@ -11,10 +11,10 @@ use face_text::Timeline;
 use panel_core::Store;
 use plain_history::Moment;
 use plain_panel::timeline;
-use site_types::{Event, Retained, Site};
-use std::alloc::{AllocError, Global};
-use tick_units::{Order, Seat, Task};
-use trial_records::{Block, answers_of};
+use site_types::{Retained, Site};
+use std::alloc::Global;
+use tick_units::Order;
+use trial_records::{Block, answers_of, push_tick};
 
 /// What a record told, tick by tick, and what befell by then.
 #[derive(Drop)]
@@ -62,33 +62,6 @@ fn order_in(alloc: Global, panels: u8, block: &Block, reversed: bool) -> Result<
     match &block.order {
         Some(order) => tested_order(alloc, panels, order),
         None => order_of(alloc, panels, reversed),
-    }
-}
-
-// The moments of a tick.
-fn push_tick(
-    moments: &mut Vec<Moment>,
-    events: &[Event],
-    order: &Order,
-    failed: bool,
-) -> Result<(), AllocError> {
-    moments.push(Moment::Began)?;
-    for event in events {
-        moments.push(Moment::Happened(*event))?;
-    }
-    for place in 0..order.len() {
-        moments.push(turn_of(order.seat(place), failed))?;
-    }
-    Ok(())
-}
-
-fn turn_of(seat: Seat, failed: bool) -> Moment {
-    match seat.task {
-        Task::Keep => Moment::Kept { failed },
-        task => Moment::Turned {
-            panel: seat.panel,
-            task,
-        },
     }
 }
 

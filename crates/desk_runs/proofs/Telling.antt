@@ -172,12 +172,22 @@ module _ (site : Site) (kept : Retained) (ticks : List TickBlock) (rest left : L
             (sym (ap (block_of site) more.1 ∙ block_more site h.read.tail (Order order))) told;
       }
 
--- the same of what was read for a site that is this one
-pub feeds_here : (there site : Site) (before left : List ℕ) (reader new_reader : LineReader) (fed : Fed) → there ≡ site
-    → ((xs : List ℕ) → StandsFor there xs reader → Feeds there xs left fed new_reader) → StandsFor site before reader
-    → Feeds site before left fed new_reader
-feeds_here there site before left reader new_reader fed same feeds stands =
-    subst (λ s. Feeds s before left fed new_reader) same (feeds before (subst (λ s. StandsFor s before reader) (sym same) stands))
+-- what a reader answered, and that this is of the site
+pub record FedHere (site : Site) (before left : List ℕ) (fed : Fed) (new_reader : LineReader) : Type 0 where
+  pub feeds : Feeds site before left fed new_reader
+  pub belongs : StepBelongs site fed.step
+
+-- so it is where the site that it was read for is this one
+pub fed_here : {site there : Site} {kept : Retained} {ticks : List TickBlock} {rest left : List ℕ} {reader new_reader : LineReader} {run : Run} {fed : Fed}
+    (h : SoFar site kept ticks rest left reader run) → there ≡ site
+    → ((xs : List ℕ) → StandsFor there xs reader → Feeds there xs left fed new_reader) → StepBelongs there fed.step
+    → FedHere site (first_line site ++ h.read.front) left fed new_reader
+fed_here {site = site} {left = left} {reader = reader} {new_reader = new_reader} {fed = fed} h same feeds belongs =
+    let before = first_line site ++ h.read.front in
+    record {
+      feeds = subst (λ s. Feeds s before left fed new_reader) same (feeds before (subst (λ s. StandsFor s before reader) (sym same) h.read.reads));
+      belongs = subst (λ s. StepBelongs s fed.step) same belongs;
+    }
 
 pub none_left : (left : List ℕ) → (length left == 0) ≡ true → left ≡ []
 none_left [] e = refl

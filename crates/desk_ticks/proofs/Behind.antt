@@ -231,6 +231,20 @@ module _ (site : Site) (all left : List ℕ) (reader new_reader : LineReader) (n
   pub told_so : Told fed.step
   told_so = told
 
+  -- some of the rest was used, and no more
+  pub used_fits : fed.used ≤ length left
+  used_fits = uses_fit site before left fed.used fed.step told.1
+
+  pub used_some : 0 < fed.used
+  used_some = uses_some site before left fed.used fed.step some told.1
+
+  -- a block ends here, or the next line may be read
+  pub stops_here : (refusal : BlockRefusal) → stop_by fed.step number ≡ Some refusal → refusal_behind site all ≡ Some refusal
+  stops_here refusal e = stops fed.step refusal told e
+
+  pub goes_here : stop_by fed.step number ≡ None → IsRead site all (drop fed.used left) new_reader (number + 1)
+  goes_here e = goes fed.step told e
+
   -- an event or an order more was read
   pub goes_event : (event : EventOf) → LineStep (Event event) ≡ fed.step
       → (read : IsRead site all (drop fed.used left) new_reader (number + 1)) × (read.tail ≡ h.tail ++ line_view (Event event) ∷ [])

@@ -14,16 +14,16 @@ mod telling;
 use anyhow::Result;
 use kind::{KINDS, Kind};
 use plain_drill::compare;
+use std::alloc::Global;
 use std::process::ExitCode;
 use telling::{say_file, say_line};
 use trial_cases::{Case, answer_cases};
 
 fn main(rt: HostRuntime) -> Result<ExitCode> {
-    answer_cases(&rt, &KINDS, |kind, case| answer(&rt, kind, case))
+    answer_cases(&rt, &KINDS, |kind, case| answer(rt.alloc(), kind, case))
 }
 
-fn answer(rt: &HostRuntime, kind: Kind, case: &Case) -> Result<String> {
-    let alloc = rt.alloc();
+fn answer(alloc: Global, kind: Kind, case: &Case) -> Result<String> {
     match kind {
         Kind::File => say_file(alloc),
         Kind::Line => say_line(alloc, case),

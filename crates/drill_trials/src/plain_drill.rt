@@ -11,8 +11,9 @@ use plain_history::Moment;
 use plain_panel::timeline;
 use site_types::Retained;
 use std::alloc::{AllocError, Global};
-use tick_units::{Order, Seat, Task};
+use tick_units::Order;
 use trial_cases::{Case, Lines};
+use trial_records::push_tick;
 
 /// The line of a drill, and whether the plain program counts the same.
 pub(crate) fn compare(alloc: Global, case: &Case) -> Result<String> {
@@ -65,29 +66,15 @@ fn moments_of(alloc: Global, panels: u8, length: Length) -> Result<Vec<Moment>>
         } else {
             &canonical
         };
-        push_tick(&mut moments, &drawn, order)?;
+        push_drawn(&mut moments, &drawn, order)?;
     }
     Ok(moments)
 }
 
-// The moments of a tick.
-fn push_tick(moments: &mut Vec<Moment>, drawn: &Drawn, order: &Order) -> Result<(), AllocError> {
-    moments.push(Moment::Began)?;
-    if let Some(event) = drawn.event {
-        moments.push(Moment::Happened(event))?;
-    }
-    for place in 0..order.len() {
-        moments.push(turn_of(order.seat(place)))?;
-    }
-    Ok(())
-}
-
-fn turn_of(seat: Seat) -> Moment {
-    match seat.task {
-        Task::Keep => Moment::Kept { failed: false },
-        task => Moment::Turned {
-            panel: seat.panel,
-            task,
-        },
+// Puts the moments of a tick behind those before it.
+fn push_drawn(moments: &mut Vec<Moment>, drawn: &Drawn, order: &Order) -> Result<(), AllocError> {
+    match drawn.event {
+        Some(event) => push_tick(moments, &[event], order, false),
+        None => push_tick(moments, &[], order, false),
     }
 }

@@ -6,21 +6,15 @@ ghost use Rattle.dropped_settings.specs.Dropped.{test_lines, zone_lines};
 ghost use Rattle.site_types.specs.Limits.{most_panels};
 ghost use Rattle.site_types.specs.Valid.{IsValid};
 
-use crate::lines::{push_counter, push_delays, push_named};
+use crate::lines::{Pushed, push_counter, push_delays, push_named};
 use crate::telling::{
     are_dropped_delays, is_dropped_counter, is_dropped_output, is_dropped_point, is_dropped_test,
     is_dropped_zone,
 };
 use site_types::{Retained, Site};
-use tick_units::NoMemory;
 
 /// Puts the lines of the disabled points that the new site hasn't behind a text.
-pub fn push_points(
-    text: &mut Vec<u8>,
-    old: &Site,
-    new: &Site,
-    kept: &Retained,
-) -> Result<(), NoMemory>
+pub fn push_points(text: &mut Vec<u8>, old: &Site, new: &Site, kept: &Retained) -> Pushed
     requires old_valid { IsValid old.now }
     requires new_valid { IsValid new.now }
     ensures { IfOk result (λ _. text.new.items ≡ text.old.items
@@ -34,12 +28,7 @@ pub fn push_points(
 }
 
 /// Puts the lines of the disabled zones that the new site hasn't behind a text.
-pub fn push_zones(
-    text: &mut Vec<u8>,
-    old: &Site,
-    new: &Site,
-    kept: &Retained,
-) -> Result<(), NoMemory>
+pub fn push_zones(text: &mut Vec<u8>, old: &Site, new: &Site, kept: &Retained) -> Pushed
     requires old_valid { IsValid old.now }
     requires new_valid { IsValid new.now }
     ensures { IfOk result (λ _. text.new.items ≡ text.old.items
@@ -53,12 +42,7 @@ pub fn push_zones(
 }
 
 /// Puts the lines of the disabled outputs that the new site hasn't behind a text.
-pub fn push_outputs(
-    text: &mut Vec<u8>,
-    old: &Site,
-    new: &Site,
-    kept: &Retained,
-) -> Result<(), NoMemory>
+pub fn push_outputs(text: &mut Vec<u8>, old: &Site, new: &Site, kept: &Retained) -> Pushed
     requires old_valid { IsValid old.now }
     requires new_valid { IsValid new.now }
     ensures { IfOk result (λ _. text.new.items ≡ text.old.items
@@ -72,12 +56,7 @@ pub fn push_outputs(
 }
 
 /// Puts the lines of the zones in test that the new site hasn't behind a text.
-pub fn push_tests(
-    text: &mut Vec<u8>,
-    old: &Site,
-    new: &Site,
-    kept: &Retained,
-) -> Result<(), NoMemory>
+pub fn push_tests(text: &mut Vec<u8>, old: &Site, new: &Site, kept: &Retained) -> Pushed
     requires old_valid { IsValid old.now }
     requires new_valid { IsValid new.now }
     ensures { IfOk result (λ _. text.new.items ≡ text.old.items
@@ -91,12 +70,7 @@ pub fn push_tests(
 }
 
 /// Puts the lines of the delays that are off at panels that the new site hasn't behind a text.
-pub fn push_delays_off(
-    text: &mut Vec<u8>,
-    old: &Site,
-    new: &Site,
-    kept: &Retained,
-) -> Result<(), NoMemory>
+pub fn push_delays_off(text: &mut Vec<u8>, old: &Site, new: &Site, kept: &Retained) -> Pushed
     requires { old.now.panels ≤ most_panels }
     ensures { IfOk result (λ _. text.new.items ≡ text.old.items
         ++ delays_lines new.now kept.now (panels_of old.now)) }
@@ -110,12 +84,7 @@ pub fn push_delays_off(
 }
 
 /// Puts the lines of the counters above 0 of panels that the new site hasn't behind a text.
-pub fn push_counters(
-    text: &mut Vec<u8>,
-    old: &Site,
-    new: &Site,
-    kept: &Retained,
-) -> Result<(), NoMemory>
+pub fn push_counters(text: &mut Vec<u8>, old: &Site, new: &Site, kept: &Retained) -> Pushed
     requires { old.now.panels ≤ most_panels }
     ensures { IfOk result (λ _. text.new.items ≡ text.old.items
         ++ counter_lines new.now kept.now (panels_of old.now)) }

@@ -9,13 +9,11 @@ use itoa::Buffer;
 use site_types::Retained;
 use tick_units::NoMemory;
 
+/// What comes of putting lines behind a text.
+pub type Pushed = Result<(), NoMemory>;
+
 /// The line of a thing.
-pub fn push_named(
-    text: &mut Vec<u8>,
-    is_dropped: bool,
-    word: &str,
-    name: &str,
-) -> Result<(), NoMemory>
+pub fn push_named(text: &mut Vec<u8>, is_dropped: bool, word: &str, name: &str) -> Pushed
     ensures { IfOk result (λ _. text.new.items ≡ text.old.items
         ++ (if is_dropped then named_line word.now name.now else [])) }
 {
@@ -30,7 +28,7 @@ pub fn push_named(
 }
 
 /// The line of a panel's delays.
-pub fn push_delays(text: &mut Vec<u8>, is_dropped: bool, panel: u8) -> Result<(), NoMemory>
+pub fn push_delays(text: &mut Vec<u8>, is_dropped: bool, panel: u8) -> Pushed
     ensures { IfOk result (λ _. text.new.items ≡ text.old.items
         ++ (if is_dropped then delays_text panel else [])) }
 {
@@ -41,12 +39,7 @@ pub fn push_delays(text: &mut Vec<u8>, is_dropped: bool, panel: u8) -> Result<()
 }
 
 /// The line of a panel's counter.
-pub fn push_counter(
-    text: &mut Vec<u8>,
-    is_dropped: bool,
-    panel: u8,
-    kept: &Retained,
-) -> Result<(), NoMemory>
+pub fn push_counter(text: &mut Vec<u8>, is_dropped: bool, panel: u8, kept: &Retained) -> Pushed
     requires { IsPanelNumber panel }
     ensures { IfOk result (λ _. text.new.items ≡ text.old.items
         ++ (if is_dropped then counter_text kept.now panel else [])) }

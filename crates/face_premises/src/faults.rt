@@ -17,34 +17,14 @@ pub(crate) fn note_faults(alloc: Global, run: &Run, tally: &mut Tally) -> Result
     for before in 0..run.site.panels {
         let panel = before.saturating_add(1);
         let waits = run.site.waits;
-        note_supply(alloc, run, panel, SupplyKind::Mains, 0, waits.mains, tally)?;
-        note_supply(
-            alloc,
-            run,
-            panel,
-            SupplyKind::Standby,
-            1,
-            waits.standby,
-            tally,
-        )?;
-        note_supply(
-            alloc,
-            run,
-            panel,
-            SupplyKind::Voltage,
-            2,
-            waits.voltage,
-            tally,
-        )?;
-        note_supply(
-            alloc,
-            run,
-            panel,
-            SupplyKind::Charger,
-            3,
-            waits.charger,
-            tally,
-        )?;
+        for (kind, bit, wait) in [
+            (SupplyKind::Mains, 0, waits.mains),
+            (SupplyKind::Standby, 1, waits.standby),
+            (SupplyKind::Voltage, 2, waits.voltage),
+            (SupplyKind::Charger, 3, waits.charger),
+        ] {
+            note_supply(alloc, run, panel, kind, bit, wait, tally)?;
+        }
     }
     note_pieces(alloc, run, tally)?;
     note_links(alloc, run, tally)

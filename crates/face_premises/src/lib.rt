@@ -14,6 +14,7 @@ mod pairs;
 mod run;
 mod settings;
 mod signals;
+mod sought;
 mod tally;
 mod tracks;
 mod wanted;

@@ -1,6 +1,7 @@
 //! Since when two points of a zone, or one of it and one of its partner, signal together.
 
 use crate::run::Run;
+use crate::sought::Sought;
 use crate::tracks::{NEVER, held_from};
 use crate::wanted::Wanted;
 use anyhow::Result;
@@ -22,20 +23,17 @@ pub(crate) fn settled_by_two(
     alloc: Global,
     run: &Run,
     signals: &[Vec<bool>],
-    place: usize,
-    zone: &Zone,
-    floor: u64,
-    now: u64,
-    wanted: Wanted,
+    sought: &Sought,
 ) -> Result<u64> {
-    if wanted == Wanted::ByHand || !may_pair(zone.rule, wanted) {
+    let (place, zone) = (sought.place, sought.zone);
+    if sought.wanted == Wanted::ByHand || !may_pair(zone.rule, sought.wanted) {
         return Ok(NEVER);
     }
     let mut held: Vec<Held> = Vec::new(alloc);
     let round = run.site.profile().round();
     for (plan, own) in run.site.points.as_slice().iter().zip(signals) {
         let is_near = plan.zone as usize == place || zone.partner == Some(plan.zone);
-        let first = held_from(own, floor, now, round);
+        let first = held_from(own, sought.floor, sought.now, round);
         if is_near && first < NEVER {
             held.push(Held {
                 zone: plan.zone,

@@ -2,11 +2,12 @@
 
 use crate::pairs::settled_by_two;
 use crate::run::Run;
+use crate::sought::Sought;
 use crate::tracks::{NEVER, held_at, held_from, track};
 use crate::wanted::Wanted;
 use anyhow::Result;
 use plain_history::floor_before;
-use site_types::{Event, PieceState, Point, PointState, Rule, Zone};
+use site_types::{Event, PieceState, Point, PointState, Rule};
 use std::alloc::Global;
 use tick_units::Tick;
 
@@ -54,8 +55,15 @@ pub(crate) fn settled_table(
         let mut ticks = Vec::new(alloc);
         for now in 0..=run.last {
             let floor = floor_before(run.site, place, Tick(now), &run.done).0;
-            let alone = settled_by_one(run, signals, place, zone, floor, now, wanted);
-            let both = settled_by_two(alloc, run, signals, place, zone, floor, now, wanted)?;
+            let sought = Sought {
+                place,
+                zone,
+                floor,
+                now,
+                wanted,
+            };
+            let alone = settled_by_one(run, signals, &sought);
+            let both = settled_by_two(alloc, run, signals, &sought)?;
             ticks.push(alone.min(both))?;
         }
         table.push(ticks)?;
@@ -64,20 +72,12 @@ pub(crate) fn settled_table(
 }
 
 // The least tick since which one point of the zone alone signals.
-fn settled_by_one(
-    run: &Run,
-    signals: &[Vec<bool>],
-    place: usize,
-    zone: &Zone,
-    floor: u64,
-    now: u64,
-    wanted: Wanted,
-) -> u64 {
+fn settled_by_one(run: &Run, signals: &[Vec<bool>], sought: &Sought) -> u64 {
     let mut settled = NEVER;
     for (point, plan) in run.site.points.as_slice().iter().enumerate() {
-        if plan.zone as usize == place {
+        if plan.zone as usize == sought.place {
             let from = match signals.get(point) {
-                Some(own) => settled_by_point(run, own, plan, zone.rule, floor, now, wanted),
+                Some(own) => settled_by_point(run, own, plan, sought),
                 None => NEVER,
             };
             settled = settled.min(from);
@@ -86,21 +86,14 @@ fn settled_by_one(
     settled
 }
 
-fn settled_by_point(
-    run: &Run,
-    own: &[bool],
-    plan: &Point,
-    rule: Rule,
-    floor: u64,
-    now: u64,
-    wanted: Wanted,
-) -> u64 {
+fn settled_by_point(run: &Run, own: &[bool], plan: &Point, sought: &Sought) -> u64 {
+    let (floor, now) = (sought.floor, sought.now);
     let held = held_from(own, floor, now, run.site.profile().round());
-    match rule {
+    match sought.zone.rule {
         _ if plan.manual => held,
-        _ if wanted == Wanted::ByHand => NEVER,
+        _ if sought.wanted == Wanted::ByHand => NEVER,
         Rule::Plain => held,
-        Rule::C if wanted == Wanted::Shown => held,
+        Rule::C if sought.wanted == Wanted::Shown => held,
         Rule::A { verify, .. } => settled_by_itself(run, own, verify as u64, floor, now),
         _ => NEVER,
     }

@@ -22,6 +22,7 @@ use std::alloc::Global;
 
 /// Makes in `target` a journal for the new site with what the journal on `disk` keeps of the old one, and tells what
 /// was dropped and the numbers set. `target` is made after all memory was taken.
+#[tactic(auto, using(crate::proofs::Sparing::spares_alone))]
 pub fn move_journal<F: Shelf, K: Sink, D: Disk>(
     alloc: Global,
     old_name: &str,
@@ -54,6 +55,7 @@ pub fn move_journal<F: Shelf, K: Sink, D: Disk>(
 }
 
 // Looks for the new site and moves what is kept of the old one.
+#[tactic(auto, using(crate::proofs::Sparing::spares_alone))]
 fn move_from<F: Shelf, K: Sink, D: Disk>(
     alloc: Global,
     old: &Loaded,
@@ -88,6 +90,7 @@ fn move_from<F: Shelf, K: Sink, D: Disk>(
 }
 
 // Opens the journal for the old site and moves what it keeps.
+#[tactic(auto, using(crate::proofs::Sparing::spares_alone))]
 fn move_between<K: Sink, D: Disk>(
     alloc: Global,
     old: &Loaded,
@@ -121,6 +124,7 @@ fn move_between<K: Sink, D: Disk>(
 }
 
 // Makes the new journal with what the new site takes of what was kept, and tells the rest.
+#[tactic(auto, using(crate::proofs::Sparing::spares_alone))]
 fn move_kept<K: Sink, D: Disk>(
     alloc: Global,
     old: &Loaded,

@@ -2,6 +2,8 @@
 use Rattle.std.proofs.Common.{◌≡◌, ◌∙◌, ◌≤◌, ℕ, Bool, true, false, List, ◌∷◌, length, Ok, Err, refl, sym, ap, subst, arith}
 use Rattle.panel_desk.specs.Acting.{HasReplied, IsAtHand}
 use Rattle.panel_desk.specs.Replies.{AnswersBlock, TakesBlock, other_tick, refused_line}
+use Rattle.panel_desk.specs.Serving.{MayServe}
+use Rattle.service_register.specs.Points.{PointRow}
 use Rattle.panel_desk.specs.declared.reply.Reply.{Reply}
 use Rattle.panel_desk.specs.declared.reply.Reply.TheVariants.{Tick}
 use Rattle.desk_runs.specs.Running.{MayRunWith, RanBlock}
@@ -20,6 +22,11 @@ use Rattle.site_types.specs.declared.site.Site.{Site}
 -- a run stands for one site alone
 pub same_site : (site other : Site) (kept kept' : Retained) (p p' : Progress) (run : Run) → Stands site kept p run → Stands other kept' p' run → site ≡ other
 same_site site other kept kept' p p' run h g = sym h.system.same ∙ g.system.same
+
+-- so a desk that may serve has as many panels as that site
+pub panels_of_site : {panels : ℕ} {points : List PointRow} {site : Site} {kept : Retained} {p : Progress} {run : Run} → MayServe panels points run
+    → Stands site kept p run → panels ≡ site.panels
+panels_of_site may stands = may.panels_are ∙ ap (λ (s : Site). s.panels) (same_site _ _ _ _ _ _ _ may.stands stands)
 
 -- a reply was made, and no tick was run
 pub without_tick : (Does : List TickBlock → Type 0) (site : Site) (kept : Retained) (ticks : List TickBlock) (disks : Disks) (reply : Reply) (run : Run)

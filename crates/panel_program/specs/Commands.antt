@@ -6,11 +6,12 @@ use Rattle.site_types.specs.declared.site.Site.{Site}
 use Rattle.drill_site.specs.Files.{drill_file}
 use Rattle.journal_move.specs.Disks.{Disks, disks_of}
 use Rattle.journal_move.specs.Moves.{AnswersMove}
+use Rattle.audit_command.specs.Audits.{AnswersAudit}
 use Rattle.import_command.specs.Imports.{AnswersImport, KeptTables}
 use Rattle.panel_drill.specs.Drills.{drill_line}
 use Rattle.panel_program.specs.declared.command.Command.{Command}
 use Rattle.panel_program.specs.declared.command.Command.TheVariants.{Usage, Check, Run, Matrix, Drill, Move}
-use Rattle.panel_program.specs.declared.command.Command.TheVariants.{Import, Serve}
+use Rattle.panel_program.specs.declared.command.Command.TheVariants.{Audit, Import, Serve}
 use Rattle.program_status.specs.declared.outcome.Outcome.{Outcome}
 use Rattle.program_status.specs.declared.status.Status.TheVariants as exit
 use Rattle.site_commands.specs.declared.stop.Stop.{Stop}
@@ -39,10 +40,15 @@ abbrev pub new_site_word : List (List ℕ) → List ℕ
 new_site_word (word ∷ old ∷ new ∷ rest) = new
 new_site_word _ = []
 
--- the word that names the file whose rows are imported
+-- the word that names the file whose rows are imported, or the record of an audit
 abbrev pub file_word : List (List ℕ) → List ℕ
 file_word (word ∷ site ∷ file ∷ rest) = file
 file_word _ = []
+
+-- the word that names the text that is audited
+abbrev pub text_word : List (List ℕ) → List ℕ
+text_word (word ∷ site ∷ lines ∷ text ∷ rest) = text
+text_word _ = []
 
 -- one text was written, after so many ticks
 pub record TellsAfter (ticks : ℕ) (text : List ℕ) (old new : Option (List ℕ)) (outcome : Outcome) : Type 0 where
@@ -60,19 +66,30 @@ abbrev pub AnswersRun : List ℕ → Files → JournalDisk → Streams → Outco
 AnswersRun name files disk streams outcome =
     AnswersOver files name (λ digest. Runs digest disk streams outcome)
 
+-- the line of a drill: that of its site and seed after its ticks
+abbrev pub IsDrillLine : ℕ → ℕ → List ℕ → Type 0
+IsDrillLine seed ticks line = (site : Site) × IsAtHand drill_file site × (line ≡ drill_line site seed ticks)
+
 -- a drill tells the line of its site and seed after its ticks, or memory ran out
 abbrev pub Drills : ℕ → ℕ → Option (List ℕ) → Option (List ℕ) → Outcome → Type 0
 Drills seed ticks old new outcome =
     RanNothing old new outcome
     ⊎ ((site : Site) × IsAtHand drill_file site × TellsAfter ticks (drill_line site seed ticks) old new outcome)
 
--- the sites that the words of a call name: the one, or the old one and the new one
-pub record SiteNames : Type 0 where
+-- what the words of a call name: the one site, or the old one and the new one, and the record and text of an audit
+pub record CallNames : Type 0 where
   pub site : List ℕ
   pub new_site : List ℕ
+  pub lines : List ℕ
+  pub text : List ℕ
 
-abbrev pub names_of : List (List ℕ) → SiteNames
-names_of words = record { site = site_word words; new_site = new_site_word words }
+abbrev pub names_of : List (List ℕ) → CallNames
+names_of words = record {
+  site = site_word words;
+  new_site = new_site_word words;
+  lines = file_word words;
+  text = text_word words;
+}
 
 -- the disk of the journal, and both disks of a move
 pub record CallDisks : Type 1 where
@@ -88,10 +105,11 @@ module _ {D : Type 0} where
         both = disks_of seen honest images old new target_old target_new;
       }
 
--- what a command answers: on its words alone, or by the files where the shelf tells them; a run by the bytes of the
--- record, where the input tells them, and by what the journal's disk holds; a move by what its two disks hold; an
--- import and serving, which see a register, as `AnswersIfImport` and `AnswersIfServing` say
-abbrev pub AnswersCommand : Command → SiteNames → Files → CallDisks → Streams → Outcome → Type 0
+-- what a command answers: on its words alone, or by the files where the shelf tells them, an audit by all three that
+-- it names; a run by the bytes of the record, where the input tells them, and by what the journal's disk holds; a move
+-- by what its two disks hold; an import and serving, which see a register, as `AnswersIfImport` and
+-- `AnswersIfServing` say
+abbrev pub AnswersCommand : Command → CallNames → Files → CallDisks → Streams → Outcome → Type 0
 AnswersCommand Usage names files disks streams outcome = Tells exit.Usage usage_line streams.old streams.new outcome
 AnswersCommand Check names files disks streams outcome =
     AnswersOver files names.site (λ digest. Checks streams.old streams.new outcome)
@@ -102,6 +120,8 @@ AnswersCommand (Drill seed ticks) names files disks streams outcome =
     Drills seed ticks streams.old streams.new outcome
 AnswersCommand Move names files disks streams outcome =
     AnswersMove names.site names.new_site files disks.both streams.old streams.new outcome
+AnswersCommand Audit names files disks streams outcome =
+    AnswersAudit files names.site names.lines names.text streams.old streams.new outcome
 AnswersCommand Import names files disks streams outcome = ⊤
 AnswersCommand (Serve port count) names files disks streams outcome = ⊤
 

@@ -12,6 +12,7 @@ use Rattle.record_lines.specs.declared.over.Over.TheVariants.{Ended as OverEnded
 use Rattle.record_lines.specs.Lines.{Reading, reading_of}
 use Rattle.panel_program.specs.declared.run_end.RunEnd.{RunEnd}
 use Rattle.panel_program.specs.declared.run_end.RunEnd.TheVariants.{Ended, Refused, TooManyBytes, ReadFault}
+use Rattle.refused_lines.specs.Refusals.{refusal_text}
 use Rattle.program_status.specs.declared.status.Status.{Status}
 use Rattle.program_status.specs.declared.status.Status.TheVariants as exit
 
@@ -59,26 +60,9 @@ status_of (Refused refusal) = status_by refusal.why
 status_of TooManyBytes = exit.Limit
 status_of ReadFault = exit.ReadFault
 
--- a refused line: its number, that of the refusal and what is told besides
-abbrev pub refused_text : ℕ → List ℕ → List ℕ
-refused_text line detail = codes "refused line " ++ decimal line ++ detail ++ codes "\n"
-
-abbrev pub why_text : ℕ → Why → List ℕ
-why_text line BadWord = refused_text line (codes " 1")
-why_text line BadNumber = refused_text line (codes " 2")
-why_text line NoSuch = refused_text line (codes " 3")
-why_text line (BadTick expected found) =
-    refused_text line (codes " 4 expected " ++ decimal expected ++ codes " found " ++ decimal found)
-why_text line (BadOrder place) = refused_text line (codes " 5 " ++ decimal place)
-why_text line LineTooLong = refused_text line (codes " 6")
-why_text line NotAscii = refused_text line (codes " 7")
-why_text line BeforeFirstTick = refused_text line (codes " 8")
-why_text line Truncated = refused_text line (codes " 9")
-why_text line TickLimit = codes "limit ticks\n"
-
 -- the last line of a run, after so many ticks
 abbrev pub last_line : ℕ → RunEnd → List ℕ
 last_line ticks Ended = codes "end " ++ decimal ticks ++ codes "\n"
-last_line ticks (Refused refusal) = why_text refusal.line refusal.why
+last_line ticks (Refused refusal) = refusal_text refusal
 last_line ticks TooManyBytes = codes "limit bytes\n"
 last_line ticks ReadFault = codes "fault read\n"

@@ -1,5 +1,5 @@
 -- What a run over the bytes of a record comes to.
-use Rattle.std.specs.Prelude.{◌≡◌, ◌⊎◌, ◌+◌, ◌-◌, ◌^◌, ◌<◌, ◌≤◌, ℕ, List, [], ◌∷◌, ◌++◌, length, Option, Some, IfSome}
+use Rattle.std.specs.Prelude.{◌≡◌, ◌⊎◌, ◌≤◌, ℕ, List, [], ◌∷◌, ◌++◌, length, Option, Some, IfSome}
 use Rattle.std.specs.Prelude.{Result, Ok, Err}
 use Rattle.panel_edges.specs.Contents.{Grows, GrowsByFront}
 use Rattle.panel_edges.specs.Faults.{Rose}

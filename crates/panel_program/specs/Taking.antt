@@ -1,5 +1,5 @@
 -- How a run takes the lines of a record, and the bytes that hold them.
-use Rattle.std.specs.Prelude.{◌≡◌, ◌+◌, ◌-◌, ◌*◌, ◌≤◌, ℕ, Bool, false, List, ◌++◌, length}
+use Rattle.std.specs.Prelude.{◌≡◌, ◌*◌, ◌≤◌, ℕ, Bool, false, List, ◌++◌, length}
 use Rattle.std.specs.Prelude.{take}
 use Rattle.std.specs.Prelude.{Option, Some, None, Result, Ok, Err}
 use Rattle.site_types.specs.declared.retained.Retained.{Retained}
@@ -16,7 +16,7 @@ use Rattle.record_lines.specs.Lines.{ends_with, reading_of}
 use Rattle.record_lines.specs.Stands.{StandsFor as ReadsFor}
 use Rattle.panel_edges.specs.Limits.{most_record_bytes}
 use Rattle.panel_edges.specs.declared.failed.Failed.{Failed}
-use Rattle.panel_rules.specs.Moments.{TickBlock, moments}
+use Rattle.panel_rules.specs.Moments.{TickBlock}
 use Rattle.site_run.specs.declared.run.Run.{Run}
 use Rattle.site_run.specs.Stands.{AreFew, HasRun, IsNext, Stands}
 use Rattle.site_run.specs.Stands.{Writes, WritesPart}

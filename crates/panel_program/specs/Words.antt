@@ -5,7 +5,7 @@ use Rattle.site_types.specs.Numbers.{number_of}
 use Rattle.panel_drill.specs.Running.{most_ticks}
 use Rattle.panel_program.specs.declared.command.Command.{Command}
 use Rattle.panel_program.specs.declared.command.Command.TheVariants.{Usage, Check, Run, Matrix, Drill, Move}
-use Rattle.panel_program.specs.declared.command.Command.TheVariants.{Import, Serve}
+use Rattle.panel_program.specs.declared.command.Command.TheVariants.{Audit, Import, Serve}
 
 -- the greatest port, and the most connections that may be served
 abbrev pub most_port : ℕ
@@ -36,8 +36,8 @@ serving_by (Some port) (Some count) = if is_serving port count then Serve port c
 serving_by _ _ = Usage
 
 -- `check SITE`, `matrix SITE`, `run SITE JOURNAL`, `drill SEED TICKS`, whose two numbers are decimal without sign or
--- leading zero, `import SITE FILE REGISTER`, `move OLD NEW JOURNAL TARGET` and `serve SITE JOURNAL PORT COUNT`, whose
--- last two are such numbers too; all other words are a question for usage
+-- leading zero, `import SITE FILE REGISTER`, `audit SITE RECORD TEXT`, `move OLD NEW JOURNAL TARGET` and
+-- `serve SITE JOURNAL PORT COUNT`, whose last two are such numbers too; all other words are a question for usage
 abbrev pub command_of : List (List ℕ) → Command
 command_of (word ∷ site ∷ []) =
     if bytes_eq word (codes "check") then Check else
@@ -45,7 +45,9 @@ command_of (word ∷ site ∷ []) =
 command_of (word ∷ second ∷ third ∷ []) =
     if bytes_eq word (codes "run") then Run else
     (if bytes_eq word (codes "drill") then drill_by (number_of second) (number_of third) else Usage)
-command_of (word ∷ site ∷ file ∷ register ∷ []) = if bytes_eq word (codes "import") then Import else Usage
+command_of (word ∷ site ∷ third ∷ fourth ∷ []) =
+    if bytes_eq word (codes "import") then Import else
+    (if bytes_eq word (codes "audit") then Audit else Usage)
 command_of (word ∷ second ∷ third ∷ fourth ∷ fifth ∷ []) =
     if bytes_eq word (codes "move") then Move else
     (if bytes_eq word (codes "serve") then serving_by (number_of fourth) (number_of fifth) else Usage)

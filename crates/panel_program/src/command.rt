@@ -23,6 +23,8 @@ pub enum Command {
     Drill { seed: u64, ticks: u64 },
     /// A move from the site that the second word names to the one that the third names.
     Move,
+    /// An audit of the text that the fourth word names, by the record that the third one names.
+    Audit,
     /// An import of the file that the third word names.
     Import,
     /// Serving behind a door at a port, so many connections.
@@ -53,9 +55,11 @@ pub fn command_of(words: &[String]) -> Command
                 Command::Usage
             }
         }
-        [word, _site, _file, _register] => {
+        [word, _site, _third, _fourth] => {
             if word.as_str() == "import" {
                 Command::Import
+            } else if word.as_str() == "audit" {
+                Command::Audit
             } else {
                 Command::Usage
             }

@@ -1,12 +1,12 @@
 //! The last line of a run.
 
-ghost use Rattle.std.specs.Prelude.{◌≡◌, ◌+◌, ◌≤◌, ◌++◌, codes, decimal, length};
-ghost use Rattle.panel_program.specs.Endings.{last_line as last_text, refused_text, why_text};
+ghost use Rattle.std.specs.Prelude.{◌≡◌, ◌≤◌, ◌++◌, codes, decimal, length};
+ghost use Rattle.panel_program.specs.Endings.{last_line as last_text};
 
 use crate::run_end::RunEnd;
 use arrayvec::ArrayString;
 use itoa::Buffer;
-use record_lines::Why;
+use refused_lines::refusal_line;
 
 /// The last line of a run with this end, after so many ticks.
 pub fn last_line(end: RunEnd, ticks: u64) -> ArrayString<128>
@@ -14,7 +14,7 @@ pub fn last_line(end: RunEnd, ticks: u64) -> ArrayString<128>
 {
     match end {
         RunEnd::Ended => end_line(ticks),
-        RunEnd::Refused(refusal) => why_line(refusal.line, refusal.why),
+        RunEnd::Refused(refusal) => refusal_line(refusal),
         RunEnd::TooManyBytes => fixed_line("limit bytes\n"),
         RunEnd::ReadFault => fixed_line("fault read\n"),
     }
@@ -31,23 +31,6 @@ fn end_line(ticks: u64) -> ArrayString<128>
     line
 }
 
-fn why_line(line: u64, why: Why) -> ArrayString<128>
-    ensures { result.bytes ≡ why_text line why }
-{
-    match why {
-        Why::BadWord => refused_line(line, " 1"),
-        Why::BadNumber => refused_line(line, " 2"),
-        Why::NoSuch => refused_line(line, " 3"),
-        Why::BadTick { expected, found } => bad_tick_line(line, expected, found),
-        Why::BadOrder { place } => bad_order_line(line, place),
-        Why::LineTooLong => refused_line(line, " 6"),
-        Why::NotAscii => refused_line(line, " 7"),
-        Why::BeforeFirstTick => refused_line(line, " 8"),
-        Why::Truncated => refused_line(line, " 9"),
-        Why::TickLimit => fixed_line("limit ticks\n"),
-    }
-}
-
 fn fixed_line(text: &str) -> ArrayString<128>
     requires { length text.now ≤ 16 }
     ensures { result.bytes ≡ text.now }
@@ -55,58 +38,4 @@ fn fixed_line(text: &str) -> ArrayString<128>
     let mut line = ArrayString::new();
     line.push_str(text);
     line
-}
-
-// A refused line, with what is told of it.
-fn refused_line(number: u64, detail: &str) -> ArrayString<128>
-    requires { length detail.now ≤ 80 }
-    ensures { result.bytes ≡ refused_text number detail.now }
-{
-    let mut digits = Buffer::new();
-    let mut line = ArrayString::new();
-    line.push_str("refused line ");
-    line.push_str(digits.format(number));
-    line.push_str(detail);
-    line.push_str("\n");
-    line
-}
-
-fn bad_tick_line(line: u64, expected: u64, found: u64) -> ArrayString<128>
-    ensures { result.bytes ≡ refused_text line (codes " 4 expected " ++ decimal expected
-        ++ codes " found " ++ decimal found) }
-{
-    let detail = tick_detail(expected, found);
-    refused_line(line, detail.as_str())
-}
-
-fn tick_detail(expected: u64, found: u64) -> ArrayString<80>
-    ensures text { result.bytes ≡ codes " 4 expected " ++ decimal expected ++ codes " found "
-        ++ decimal found }
-    ensures short { length result.bytes ≤ 80 }
-{
-    let mut digits = Buffer::new();
-    let mut detail = ArrayString::new();
-    detail.push_str(" 4 expected ");
-    detail.push_str(digits.format(expected));
-    detail.push_str(" found ");
-    detail.push_str(digits.format(found));
-    detail
-}
-
-fn bad_order_line(line: u64, place: usize) -> ArrayString<128>
-    ensures { result.bytes ≡ refused_text line (codes " 5 " ++ decimal place) }
-{
-    let detail = order_detail(place);
-    refused_line(line, detail.as_str())
-}
-
-fn order_detail(place: usize) -> ArrayString<80>
-    ensures text { result.bytes ≡ codes " 5 " ++ decimal place }
-    ensures short { length result.bytes ≤ 80 }
-{
-    let mut digits = Buffer::new();
-    let mut detail = ArrayString::new();
-    detail.push_str(" 5 ");
-    detail.push_str(digits.format(place));
-    detail
 }

@@ -18,6 +18,7 @@ use crate::command::{Command, command_of};
 use crate::drilling::run_drill;
 use crate::reading::run_site;
 use crate::usage::USAGE;
+use audit_command::audit_files;
 use desk_doors::Door;
 use import_command::import_file;
 use journal_move::move_journal;
@@ -29,8 +30,9 @@ use site_commands::{load, stop_with, tell_counts, tell_matrix};
 use std::alloc::Global;
 
 /// Does what the words ask for. All that is said goes to `out`, refusals too. A run keeps its journal on `disk`; a move
-/// opens that of the old site there and makes that of the new one on `target`. An import puts its rows into the
-/// register of `keeper`. Serving answers the connections that `door` gives over that register.
+/// opens that of the old site there and makes that of the new one on `target`. An audit judges one file by another. An
+/// import puts its rows into the register of `keeper`. Serving answers the connections that `door` gives over that
+/// register.
 ///
 /// The status of the outcome is the number of a [`Status`]. Where memory ran out nothing was written.
 pub fn panel<F: Shelf, S: Source, K: Sink, D: Disk, G: Door, R: Keeper>(
@@ -95,6 +97,17 @@ pub fn panel<F: Shelf, S: Source, K: Sink, D: Disk, G: Door, R: Keeper>(
             disk,
             target,
         ),
+        Command::Audit => {
+            let (site, record, text) = (&words[1], &words[2], &words[3]);
+            audit_files(
+                alloc,
+                site.as_str(),
+                record.as_str(),
+                text.as_str(),
+                shelf,
+                out,
+            )
+        }
         Command::Import => {
             let (site, file) = (&words[1], &words[2]);
             import_file(alloc, site.as_str(), file.as_str(), shelf, out, keeper)

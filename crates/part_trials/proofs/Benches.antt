@@ -136,15 +136,8 @@ may_take site panel decide answers findings stamp point at h =
 pub can_take : (site : Site) (panel : ℕ) (decide : Decide) (answers : LaneState Answer) (findings : LaneState Finding) (stamp point at : ℕ)
     → IsReady site panel decide answers findings stamp point at → CanTake decide (taken_by answers)
 can_take site panel decide answers findings stamp point at h =
-    record {
-      site = site;
-      kept = h.kept;
-      panel = panel;
-      done = h.done;
-      taken = h.taken;
-      stands = h.stands;
-      may = may_take site panel decide answers findings stamp point at h;
-    }
+    let may = may_take site panel decide answers findings stamp point at h in
+    record { site = site; kept = h.kept; panel = panel; done = h.done; taken = h.taken; stands = h.stands; may = may }
 
 -- after a turn
 pub turned : (site : Site) (panel : ℕ) (decide after : Decide) (answers answers' : LaneState Answer) (findings findings' : LaneState Finding)
@@ -207,15 +200,8 @@ pub can_apply : (site : Site) (panel : ℕ) (decide : Decide) (answers : LaneSta
     ℕ) (operation : Operation) (tick : ℕ) → IsReady site panel decide answers findings stamp point at
     → MayDo site panel answers stamp at operation tick → CanApply decide operation tick
 can_apply site panel decide answers findings stamp point at operation tick h may =
-    record {
-      site = site;
-      kept = h.kept;
-      panel = panel;
-      done = h.done;
-      taken = h.taken;
-      stands = h.stands;
-      may = may_apply site panel decide answers findings stamp point at operation tick h may;
-    }
+    let may_now = may_apply site panel decide answers findings stamp point at operation tick h may in
+    record { site = site; kept = h.kept; panel = panel; done = h.done; taken = h.taken; stands = h.stands; may = may_now }
 
 -- after an operation
 pub applied : (site : Site) (panel : ℕ) (decide after : Decide) (answers : LaneState Answer) (findings : LaneState Finding) (stamp point at :

@@ -26,16 +26,12 @@ impl PollStep {
         match event_of(site, words)? {
             Event::Point { point, state } => Ok(PollStep::Point { point, state }),
             Event::Cable {
-                panel,
+                panel: 1,
                 line,
                 piece,
                 state,
-            } => {
-                if panel != 1 {
-                    bail!("a cable of another panel: {words}");
-                }
-                Ok(PollStep::Cable { line, piece, state })
-            }
+            } => Ok(PollStep::Cable { line, piece, state }),
+            Event::Cable { .. } => bail!("a cable of another panel: {words}"),
             Event::Op { operation, .. } => bail!("{operation:?} befalls no point"),
             _ => bail!("nothing that befalls a point or a cable: {words}"),
         }

@@ -5,20 +5,12 @@ use crate::outside::Outside;
 use crate::trickle_sink::TrickleSink;
 use crate::trickle_source::TrickleSource;
 use anyhow::{Result, bail};
+use called_panel::{Forms, disk_of, sink_of};
 use desk_doors::MemoryDoor;
-use panel_edges::{MOST_DISK_BYTES, MemoryDisk, MemoryShelf, MemorySink, MemorySource, ShelfFile};
-use panel_program::panel;
+use panel_edges::{MemoryDisk, MemoryShelf, MemorySource, ShelfFile};
 use program_status::Outcome;
 use service_keepers::{MemoryKeeper, MemoryTables};
 use std::alloc::Global;
-
-/// How much text a sink has room for.
-const MOST_TEXT: usize = 20_000;
-
-/// How many calls and written bytes the log of a disk has room for.
-const MOST_CALLS: usize = 1_000;
-
-const MOST_WRITTEN: usize = 125_000;
 
 /// What came of a call, and how many calls it made of the outside.
 #[derive(Drop)]
@@ -61,43 +53,46 @@ pub(crate) fn call_over(
     outside: Outside,
     tables: MemoryTables,
 ) -> Result<Called> {
-    let mut shelf = shelf_of(alloc, given, outside.fetch)?;
-    let mut input = TrickleSource {
-        source: source_of(alloc, given, outside.read)?,
-        most: outside.piece.max(1),
+    let mut forms = Forms {
+        shelf: shelf_of(alloc, given, outside.fetch)?,
+        input: TrickleSource {
+            source: source_of(alloc, given, outside.read)?,
+            most: outside.piece.max(1),
+        },
+        out: TrickleSink {
+            sink: sink_of(alloc, outside.write)?,
+            most: outside.take.max(1),
+        },
+        disk: disk_of(alloc, given.journal, numbers_of(alloc, outside.disk)?)?,
+        target: disk_of(alloc, given.target, numbers_of(alloc, outside.target)?)?,
+        door: door_of(alloc, outside.door)?,
+        keeper: MemoryKeeper {
+            tables,
+            fails: vec![in alloc; outside.keeper]?,
+            calls: 0,
+            faults: 0,
+        },
     };
-    let mut out = TrickleSink {
-        sink: sink_of(alloc, outside.write)?,
-        most: outside.take.max(1),
-    };
-    let mut disk = disk_of(alloc, given.journal, outside.disk)?;
-    let mut target = disk_of(alloc, given.target, outside.target)?;
-    let mut door = door_of(alloc, outside.door)?;
-    let mut keeper = MemoryKeeper {
-        tables,
-        fails: vec![in alloc; outside.keeper]?,
-        calls: 0,
-        faults: 0,
-    };
-    let outcome = panel(
-        alloc,
-        given.words,
-        &mut shelf,
-        &mut input,
-        &mut out,
-        &mut disk,
-        &mut target,
-        &mut door,
-        &mut keeper,
+    let outcome = forms.call(alloc, given.words);
+    let (fetches, reads, writes) = (
+        forms.shelf.calls,
+        forms.input.source.calls,
+        forms.out.sink.calls,
     );
-    let TrickleSource { source, .. } = input;
+    let Forms {
+        out,
+        disk,
+        target,
+        keeper,
+        ..
+    } = forms;
     let TrickleSink { sink, .. } = out;
     Ok(Called {
         outcome,
-        fetches: shelf.calls,
-        reads: source.calls,
-        writes: sink.calls,
         text: String::from_utf8(sink.bytes)?,
+        fetches,
+        reads,
+        writes,
         disk,
         target,
         keeper,
@@ -106,8 +101,9 @@ pub(crate) fn call_over(
 
 fn shelf_of(alloc: Global, given: Given, failing: u64) -> Result<MemoryShelf> {
     let mut files = Vec::new(alloc);
-    for (place, site) in [(1, given.site), (2, given.third)] {
-        if let (Some(name), Some(bytes)) = (given.words.get(place), site) {
+    let files_named = [(1, given.site), (2, given.third), (3, given.fourth)];
+    for (place, file) in files_named {
+        if let (Some(name), Some(bytes)) = (given.words.get(place), file) {
             files.push(ShelfFile {
                 name: name.clone()?,
                 bytes: Vec::from_slice(alloc, bytes)?,
@@ -128,26 +124,13 @@ fn source_of(alloc: Global, given: Given, failing: u64) -> Result<MemorySource> 
     }
 }
 
-fn sink_of(alloc: Global, failing: u64) -> Result<MemorySink> {
-    match MemorySink::new(alloc, MOST_TEXT, vec![in alloc; failing]?) {
-        Ok(sink) => Ok(sink),
-        Err(_) => bail!("no memory"),
-    }
-}
-
-fn disk_of(alloc: Global, journal: &[u8], failing: (u64, u64)) -> Result<MemoryDisk> {
-    if journal.len() > MOST_DISK_BYTES {
-        bail!("a journal that is too long");
-    }
-    let mut fails = Vec::new(alloc);
+// The numbers from the first to the last.
+fn numbers_of(alloc: Global, failing: (u64, u64)) -> Result<Vec<u64>> {
+    let mut numbers = Vec::new(alloc);
     for number in failing.0..=failing.1 {
-        fails.push(number)?;
+        numbers.push(number)?;
     }
-    let journal = Vec::from_slice(alloc, journal)?;
-    match MemoryDisk::new(alloc, journal, MOST_CALLS, MOST_WRITTEN, fails) {
-        Ok(disk) => Ok(disk),
-        Err(_) => bail!("no memory"),
-    }
+    Ok(numbers)
 }
 
 // A door that gives no connection.

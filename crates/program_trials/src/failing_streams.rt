@@ -1,6 +1,6 @@
 //! Reads and writes that fail, each in turn.
 
-use crate::called::call;
+use crate::called::{Called, call};
 use crate::groups::Groups;
 use crate::outside::Outside;
 use crate::telling::told_if;
@@ -20,12 +20,7 @@ pub(crate) fn try_reads(alloc: Global, trial: &Trial) -> Result<String> {
         };
         let called = call(alloc, trial.given(), outside)?;
         let told = if before == whole.reads {
-            told_if(
-                alloc,
-                &called,
-                whole.is_told_by(&called),
-                ": the whole text",
-            )?
+            told_whole(alloc, &called, &whole)?
         } else {
             let read = (before as usize).saturating_mul(trial.outside.piece);
             let holds = tells_fault(alloc, trial, read, called.text.as_str())?;
@@ -67,12 +62,7 @@ pub(crate) fn try_writes(alloc: Global, trial: &Trial) -> Result<String> {
         };
         let called = call(alloc, trial.given(), outside)?;
         let told = if before == whole.writes {
-            told_if(
-                alloc,
-                &called,
-                whole.is_told_by(&called),
-                ": the whole text",
-            )?
+            told_whole(alloc, &called, &whole)?
         } else {
             let length = called.text.len();
             let is_front = whole.text.as_str().starts_with(called.text.as_str());
@@ -83,4 +73,9 @@ pub(crate) fn try_writes(alloc: Global, trial: &Trial) -> Result<String> {
         groups.put(before + 1, told);
     }
     groups.done()
+}
+
+// How a call ended whose text has to be the whole one.
+fn told_whole(alloc: Global, called: &Called, whole: &Called) -> Result<String> {
+    told_if(alloc, called, whole.is_told_by(called), ": the whole text")
 }

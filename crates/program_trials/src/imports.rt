@@ -1,8 +1,9 @@
 //! Imports into a register in memory: what they tell, and what the register keeps then.
 
 use crate::called::{Called, call, call_over};
+use crate::edge::Edge;
 use crate::groups::Groups;
-use crate::outside::{Outside, SOUND};
+use crate::outside::SOUND;
 use crate::telling::{say_ending, told};
 use crate::trial::Trial;
 use anyhow::{Result, bail};
@@ -38,13 +39,17 @@ pub(crate) fn try_failures(alloc: Global, trial: &Trial) -> Result<String> {
     let whole = call(alloc, trial.given(), trial.outside)?;
     let mut lines = Lines::new(alloc);
     let edges = [
-        ("    fetches\n", whole.fetches),
-        ("    calls of the keeper\n", whole.keeper.calls),
-        ("    writes\n", whole.writes),
+        ("    fetches\n", Edge::Shelf, whole.fetches),
+        (
+            "    calls of the keeper\n",
+            Edge::Keeper,
+            whole.keeper.calls,
+        ),
+        ("    writes\n", Edge::Output, whole.writes),
     ];
-    for (edge, (title, calls)) in edges.iter().enumerate() {
+    for (title, edge, calls) in edges {
         lines.say(title);
-        lines.say(failures_of(alloc, trial, &whole, edge, *calls)?.as_str());
+        lines.say(failures_of(alloc, trial, &whole, edge, calls)?.as_str());
     }
     lines.done()
 }
@@ -53,12 +58,12 @@ fn failures_of(
     alloc: Global,
     trial: &Trial,
     whole: &Called,
-    edge: usize,
+    edge: Edge,
     calls: u64,
 ) -> Result<String> {
     let mut groups = Groups::new(alloc);
     for done in 0..calls.min(100_000) {
-        let called = call(alloc, trial.given(), failing(trial.outside, edge, done + 1))?;
+        let called = call(alloc, trial.given(), trial.outside.failing(edge, done + 1))?;
         let words = told(alloc, &called)?;
         let again = call_over(alloc, trial.given(), trial.outside, called.into_tables())?;
         if !again.is_told_by(whole) || !keeps_same(&again, whole) {
@@ -73,22 +78,4 @@ fn failures_of(
 fn keeps_same(one: &Called, other: &Called) -> bool {
     one.keeper.tables.visits.as_slice() == other.keeper.tables.visits.as_slice()
         && one.keeper.tables.tests.as_slice() == other.keeper.tables.tests.as_slice()
-}
-
-// The outside where one more call fails: of the shelf, of the keeper or of the output.
-fn failing(outside: Outside, edge: usize, number: u64) -> Outside {
-    match edge {
-        0 => Outside {
-            fetch: number,
-            ..outside
-        },
-        1 => Outside {
-            keeper: number,
-            ..outside
-        },
-        _ => Outside {
-            write: number,
-            ..outside
-        },
-    }
 }

@@ -6,6 +6,7 @@
 #![tactic(auto)]
 
 mod called;
+mod edge;
 mod failing_disks;
 mod failing_streams;
 mod given;

@@ -1,11 +1,12 @@
 //! Moves to a changed site: what they tell, and what is left of the two journals.
 
 use crate::called::{Called, call};
+use crate::edge::Edge;
 use crate::given::Given;
 use crate::groups::Groups;
 use crate::images::WAYS;
-use crate::outside::{Outside, SOUND};
-use crate::stops::{has_text, opening_of};
+use crate::outside::SOUND;
+use crate::stops::{any_of, opening_of, put_new};
 use crate::telling::{say_called, told};
 use crate::trial::Trial;
 use anyhow::{Result, bail};
@@ -113,16 +114,9 @@ fn all_left(
         let Ok(image) = disk.cut(alloc, calls, left.as_slice()) else {
             bail!("no memory");
         };
-        let told = opened(alloc, given, is_new, image.as_slice())?;
-        if !has_text(all.as_slice(), told.as_str()) {
-            all.push(told)?;
-        }
+        put_new(&mut all, opened(alloc, given, is_new, image.as_slice())?)?;
     }
-    let mut lines = Lines::new(alloc);
-    for told in &all {
-        lines.item(" or ", told.as_str());
-    }
-    lines.done()
+    any_of(alloc, &all)
 }
 
 /// What a move tells where one call of the outside fails: each fetch, each call of either disk, each write. The old
@@ -131,24 +125,32 @@ pub(crate) fn try_failures(alloc: Global, trial: &Trial) -> Result<String> {
     let whole = call(alloc, trial.given(), trial.outside)?;
     let mut lines = Lines::new(alloc);
     let edges = [
-        ("    fetches\n", whole.fetches),
-        ("    calls of the old journal\n", whole.disk.calls),
-        ("    calls of the new journal\n", whole.target.calls),
-        ("    writes\n", whole.writes),
+        ("    fetches\n", Edge::Shelf, whole.fetches),
+        (
+            "    calls of the old journal\n",
+            Edge::Disk,
+            whole.disk.calls,
+        ),
+        (
+            "    calls of the new journal\n",
+            Edge::Target,
+            whole.target.calls,
+        ),
+        ("    writes\n", Edge::Output, whole.writes),
     ];
-    for (edge, (title, calls)) in edges.iter().enumerate() {
+    for (title, edge, calls) in edges {
         lines.say(title);
-        lines.say(failures_of(alloc, trial, edge, *calls)?.as_str());
+        lines.say(failures_of(alloc, trial, edge, calls)?.as_str());
     }
     lines.done()
 }
 
-fn failures_of(alloc: Global, trial: &Trial, edge: usize, calls: u64) -> Result<String> {
+fn failures_of(alloc: Global, trial: &Trial, edge: Edge, calls: u64) -> Result<String> {
     let given = trial.given();
     let before = opened(alloc, given, false, given.journal)?;
     let mut groups = Groups::new(alloc);
     for done in 0..calls.saturating_add(1).min(100_000) {
-        let called: Called = call(alloc, given, failing(trial.outside, edge, done + 1))?;
+        let called: Called = call(alloc, given, trial.outside.failing(edge, done + 1))?;
         let after = opened(alloc, given, false, called.disk.bytes.as_slice())?;
         if after.as_str() != before.as_str() {
             bail!("a call fails: the old journal lost something");
@@ -156,26 +158,4 @@ fn failures_of(alloc: Global, trial: &Trial, edge: usize, calls: u64) -> Result<
         groups.put(done + 1, told(alloc, &called)?);
     }
     groups.done()
-}
-
-// The outside where one more call fails: of the shelf, of either disk or of the output.
-fn failing(outside: Outside, edge: usize, number: u64) -> Outside {
-    match edge {
-        0 => Outside {
-            fetch: number,
-            ..outside
-        },
-        1 => Outside {
-            disk: (number, number),
-            ..outside
-        },
-        2 => Outside {
-            target: (number, number),
-            ..outside
-        },
-        _ => Outside {
-            write: number,
-            ..outside
-        },
-    }
 }

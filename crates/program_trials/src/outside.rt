@@ -1,3 +1,5 @@
+use crate::edge::Edge;
+
 /// How the outside takes the calls that are made of it. A call that fails is given by its number, from 1; 0 is none.
 #[derive(Clone, Copy)]
 pub(crate) struct Outside {
@@ -16,6 +18,21 @@ pub(crate) struct Outside {
     pub(crate) door: u64,
     /// The call of the register's keeper that fails.
     pub(crate) keeper: u64,
+}
+
+impl Outside {
+    /// This outside, of which one more call fails.
+    pub(crate) fn failing(self, edge: Edge, number: u64) -> Outside {
+        let mut outside = self;
+        match edge {
+            Edge::Shelf => outside.fetch = number,
+            Edge::Disk => outside.disk = (number, number),
+            Edge::Target => outside.target = (number, number),
+            Edge::Keeper => outside.keeper = number,
+            Edge::Output => outside.write = number,
+        }
+        outside
+    }
 }
 
 /// One that never fails, gives what is asked for and takes what is given.

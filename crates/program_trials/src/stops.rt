@@ -28,25 +28,29 @@ fn all_left(alloc: Global, trial: &Trial, called: &Called, calls: usize) -> Resu
     let mut all: Vec<String> = Vec::new(alloc);
     for way in WAYS {
         let again = reopened(alloc, trial.given(), &called.disk, calls, way)?;
-        let told = opening_of(alloc, &again)?;
-        if !has_text(all.as_slice(), told.as_str()) {
-            all.push(told)?;
-        }
+        put_new(&mut all, opening_of(alloc, &again)?)?;
     }
-    let mut lines = Lines::new(alloc);
-    for told in &all {
-        lines.item(" or ", told.as_str());
-    }
-    lines.done()
+    any_of(alloc, &all)
 }
 
-pub(crate) fn has_text(all: &[String], text: &str) -> bool {
-    for one in all {
-        if one.as_str() == text {
-            return true;
+/// Puts a text behind the others, unless it is one of them.
+pub(crate) fn put_new(all: &mut Vec<String>, text: String) -> Result<()> {
+    for one in all.as_slice() {
+        if one.as_str() == text.as_str() {
+            return Ok(());
         }
     }
-    false
+    all.push(text)?;
+    Ok(())
+}
+
+/// The texts of which any may be told.
+pub(crate) fn any_of(alloc: Global, all: &[String]) -> Result<String> {
+    let mut lines = Lines::new(alloc);
+    for text in all {
+        lines.item(" or ", text.as_str());
+    }
+    lines.done()
 }
 
 /// What a run without a tick told between its first line and its last, or all that it told where it ended otherwise.

@@ -14,6 +14,7 @@ pub(crate) struct Trial<'a> {
     words: Vec<String>,
     site: Option<Vec<u8>>,
     third: Option<Vec<u8>>,
+    fourth: Option<Vec<u8>>,
     record: Vec<u8>,
     journal: Vec<u8>,
     target: Vec<u8>,
@@ -98,6 +99,7 @@ impl<'a> Trial<'a> {
             words,
             site,
             third: None,
+            fourth: None,
             record: Vec::from_slice(alloc, b"end\n")?,
             journal: Vec::from_slice(alloc, journal)?,
             target: Vec::new(alloc),
@@ -106,13 +108,15 @@ impl<'a> Trial<'a> {
         })
     }
 
-    // A call over no journal. The file that the second word names is on the shelf, where there is one, and for a move
-    // or an import that of the third.
+    // A call over no journal. The file that the second word names is on the shelf, where there is one, for a move, an
+    // import or an audit that of the third, and for an audit that of the fourth.
     fn read(rt: &HostRuntime, words: &str, record: &str, options: &'a str) -> Result<Trial<'a>> {
         let mut all = Vec::new(rt.alloc());
         let mut site = None;
         let mut third = None;
-        let has_third = words.starts_with("move ") || words.starts_with("import ");
+        let mut fourth = None;
+        let is_audit = words.starts_with("audit ");
+        let has_third = is_audit || words.starts_with("move ") || words.starts_with("import ");
         for word in words.split(' ') {
             if word.is_empty() {
                 continue;
@@ -123,12 +127,16 @@ impl<'a> Trial<'a> {
             if all.len() == 2 && has_third {
                 third = fs::read(rt, word).ok();
             }
+            if all.len() == 3 && is_audit {
+                fourth = fs::read(rt, word).ok();
+            }
             all.push(String::from_str(rt.alloc(), word)?)?;
         }
         Ok(Trial {
             words: all,
             site,
             third,
+            fourth,
             record: record_of(rt, record)?,
             journal: Vec::new(rt.alloc()),
             target: Vec::new(rt.alloc()),
@@ -142,6 +150,7 @@ impl<'a> Trial<'a> {
             words: self.words.as_slice(),
             site: bytes_of(&self.site),
             third: bytes_of(&self.third),
+            fourth: bytes_of(&self.fourth),
             record: self.record.as_slice(),
             journal: self.journal.as_slice(),
             target: self.target.as_slice(),

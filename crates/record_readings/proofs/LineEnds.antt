@@ -160,29 +160,41 @@ take_one n [] h = absurd (omega (arith, h))
 take_one zero (x ∷ xs) h = (x, refl)
 take_one (suc n) (x ∷ xs) h = let rest = take_one n xs (omega (arith, h)) in (rest.0, ap (λ ys. x ∷ ys) rest.1)
 
+-- the bytes of an answer are those of its place, which end no line, and one more
+record LastByte (piece : List ℕ) (used place : ℕ) : Type 0 where
+  byte : ℕ
+  taken : take used piece ≡ take place piece ++ byte ∷ []
+  none : ends (take place piece) ≡ 0
+
+last_byte : (site : Site) (before piece : List ℕ) (used place : ℕ) → (reading_of site before).ending ≡ None → IsFirst site before piece used place
+    → LastByte piece used place
+last_byte site before piece used place going first =
+    let parts = take_one place piece first.within in
+    let last = first.last in
+    let count_is : used ≡ suc place = omega (arith, last) in
+    let old = read_all site before going in
+    let still = read_all site (before ++ take place piece) first.going in
+    let same = ap (λ (ls : List Line). length ls) first.same in
+    let sum = ends_append before (take place piece) in
+    record { byte = parts.0; taken = ap (λ n. take n piece) count_is ∙ parts.1; none = omega (arith, old, still, same, sum) }
+
 -- the bytes that brought a line more
 pub one_line : (site : Site) (before piece : List ℕ) (used place : ℕ) (line : Line) → (reading_of site before).ending ≡ None
     → IsFirst site before piece used place
     → (reading_of site (before ++ take used piece)).lines ≡ (reading_of site before).lines ++ line ∷ [] → EndsOneLine (take used piece)
 one_line site before piece used place line going first more =
-    let parts = take_one place piece first.within in
-    let last = first.last in
-    let count_is : used ≡ suc place = omega (arith, last) in
-    let taken = ap (λ n. take n piece) count_is ∙ parts.1 in
+    let last = last_byte site before piece used place going first in
     let text = take place piece in
+    let none = last.none in
     let old = read_all site before going in
-    let still = read_all site (before ++ text) first.going in
-    let same = ap (λ (ls : List Line). length ls) first.same in
-    let sum = ends_append before text in
-    let none : ends text ≡ 0 = omega (arith, old, still, same, sum) in
     let few = read_few site (before ++ take used piece) in
     let count = ap (λ (ls : List Line). length ls) more ∙ length-append (reading_of site before).lines (line ∷ []) in
     let all = ends_append before (take used piece) in
-    let split = ap ends taken ∙ ends_append text (parts.0 ∷ []) in
-    let some : 1 ≤ ends (parts.0 ∷ []) = omega (arith, old, few, count, all, split, none) in
+    let split = ap ends last.taken ∙ ends_append text (last.byte ∷ []) in
+    let some : 1 ≤ ends (last.byte ∷ []) = omega (arith, old, few, count, all, split, none) in
     record {
       text = text;
-      is = taken ∙ ap (λ b. text ++ b ∷ []) (ends_line parts.0 some);
+      is = last.taken ∙ ap (λ b. text ++ b ∷ []) (ends_line last.byte some);
       within = none_ends text none;
     }
 
@@ -235,17 +247,13 @@ pub refused_line : (site : Site) (before piece : List ℕ) (used place : ℕ) (r
     → IsFirst site before piece used place → (reading_of site (before ++ take used piece)).ending ≡ Some (Refused refusal)
     → (refusal.why ≡ LineTooLong → ⊥) → (refusal.why ≡ NotAscii → ⊥) → EndsOneLine (take used piece)
 refused_line site before piece used place refusal going first ended long ascii =
-    let parts = take_one place piece first.within in
-    let last = first.last in
-    let count_is : used ≡ suc place = omega (arith, last) in
-    let taken = ap (λ n. take n piece) count_is ∙ parts.1 in
+    let last = last_byte site before piece used place going first in
     let text = take place piece in
-    let old = read_all site before going in
-    let still = read_all site (before ++ text) first.going in
-    let same = ap (λ (ls : List Line). length ls) first.same in
-    let sum = ends_append before text in
-    let none : ends text ≡ 0 = omega (arith, old, still, same, sum) in
-    record { text = text; is = taken ∙ ap (λ b. text ++ b ∷ []) (by parts.0 (parts.0 == 10) refl taken); within = none_ends text none }
+    record {
+      text = text;
+      is = last.taken ∙ ap (λ b. text ++ b ∷ []) (by last.byte (last.byte == 10) refl last.taken);
+      within = none_ends text last.none;
+    }
   where
     by : (b : ℕ) (end : Bool) → (b == 10) ≡ end → take used piece ≡ take place piece ++ b ∷ [] → b ≡ 10
     by b true is taken = eqb-true b 10 is

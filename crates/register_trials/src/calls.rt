@@ -95,65 +95,55 @@ fn say_step<R: Keeper>(
     lines.say("    ");
     lines.say(step);
     lines.say(": ");
-    answer_step(rt, site, register, keeper, step, lines)?;
+    lines.say(answer_of(rt, site, register, keeper, step)?.as_str());
     lines.say("\n");
     Ok(())
 }
 
-/// Makes the call that a step spells, be it an import of a file, and says what it answers.
-pub(crate) fn answer_step<R: Keeper>(
+/// What the call that a step spells answers. A step `import` imports the file of a name, a step `rows` the rows behind
+/// it.
+pub(crate) fn answer_of<R: Keeper>(
     rt: &HostRuntime,
     site: &Site,
     register: &Register,
     keeper: &mut R,
     step: &str,
-    lines: &mut Lines,
-) -> Result<()>
+) -> Result<String>
     requires { IsValid site.now }
 {
-    match step.strip_prefix("import ") {
-        Some(name) => {
-            let bytes = fs::read(rt, name).context(format_args!("reading {name}"))?;
-            say_import(rt.alloc(), site, keeper, &bytes, lines);
-            Ok(())
-        }
-        None => make_call(rt.alloc(), site, register, keeper, step, lines),
-    }
-}
-
-/// Makes the call that a step spells, and says what it answers. A step `rows` imports the rows behind it.
-pub(crate) fn make_call<R: Keeper>(
-    alloc: Global,
-    site: &Site,
-    register: &Register,
-    keeper: &mut R,
-    step: &str,
-    lines: &mut Lines,
-) -> Result<()>
-    requires { IsValid site.now }
-{
+    let alloc = rt.alloc();
+    let mut lines = Lines::new(alloc);
     let mut words = Words::of(step);
     match words.next() {
+        "import" => {
+            let name = words.next();
+            let bytes = fs::read(rt, name).context(format_args!("reading {name}"))?;
+            say_import(alloc, site, keeper, &bytes, &mut lines);
+        }
         "rows" => {
             let file = file_of(alloc, step)?;
-            say_import(alloc, site, keeper, file.as_bytes(), lines);
+            say_import(alloc, site, keeper, file.as_bytes(), &mut lines);
         }
-        "visit" => say_done(lines, register.visit(alloc, keeper, &visit_of(&mut words)?)),
+        "visit" => {
+            let visit = visit_of(&mut words)?;
+            say_done(&mut lines, register.visit(alloc, keeper, &visit));
+        }
         "tested" => {
             let visit = words.next().parse::<u32>()?;
-            say_done(lines, register.tested(alloc, keeper, visit, words.next()));
+            let done = register.tested(alloc, keeper, visit, words.next());
+            say_done(&mut lines, done);
         }
         "untested" => match register.untested_since(alloc, keeper, words.next().parse::<u32>()?) {
-            Ok(places) => say_points(lines, site, &places),
-            Err(refusal) => say_refusal(lines, refusal),
+            Ok(places) => say_points(&mut lines, site, &places),
+            Err(refusal) => say_refusal(&mut lines, refusal),
         },
         "export" => match export_since(alloc, register, keeper, words.next().parse::<u32>()?) {
-            Ok(table) => say_table(lines, &table),
-            Err(refusal) => say_refusal(lines, refusal),
+            Ok(table) => say_table(&mut lines, &table),
+            Err(refusal) => say_refusal(&mut lines, refusal),
         },
         _ => bail!("no such call: {step}"),
     }
-    Ok(())
+    lines.done()
 }
 
 // Imports the rows of a file, and says how much it has or why it is refused.

@@ -2,7 +2,7 @@
 
 ghost use Rattle.site_types.specs.Valid.{IsValid};
 
-use crate::calls::make_call;
+use crate::calls::answer_of;
 use anyhow::{Result, bail};
 use rand_pcg::Pcg32;
 use register_sqlite::TableKeeper;
@@ -24,16 +24,17 @@ const MAY_FAIL: u64 = 240;
 
 /// Whether each history is answered alike over a keeper that fails, one that doesn't and one over a database, and
 /// leaves the same rows over the first two.
-pub(crate) fn try_calls(alloc: Global, site: &Site, line: &str) -> Result<String>
+pub(crate) fn try_calls(rt: &HostRuntime, site: &Site, line: &str) -> Result<String>
     requires { IsValid site.now }
 {
+    let alloc = rt.alloc();
     let sample = Sample::read(line)?;
     let Ok(register) = Register::new(alloc, site) else {
         bail!("no memory");
     };
     let mut faults: u64 = 0;
     for seed in sample.seeds() {
-        match faults_of(alloc, site, &register, seed)? {
+        match faults_of(rt, site, &register, seed)? {
             Some(more) => faults = faults.saturating_add(more),
             None => return otherwise(alloc, "sound keeper", seed),
         }
@@ -47,9 +48,10 @@ pub(crate) fn try_calls(alloc: Global, site: &Site, line: &str) -> Result<String
 }
 
 // How many calls of the keeper failed in a drawn history, if what is answered and kept is as over the sound one.
-fn faults_of(alloc: Global, site: &Site, register: &Register, seed: u64) -> Result<Option<u64>>
+fn faults_of(rt: &HostRuntime, site: &Site, register: &Register, seed: u64) -> Result<Option<u64>>
     requires { IsValid site.now }
 {
+    let alloc = rt.alloc();
     let mut draws = Pcg32::new(seed, STREAM);
     let (Ok(mut sound), Ok(mut keeper)) = (
         SoundMemoryKeeper::new(alloc),
@@ -60,13 +62,10 @@ fn faults_of(alloc: Global, site: &Site, register: &Register, seed: u64) -> Resu
     let mut tables = TableKeeper::in_memory(alloc);
     for _call in 0..CALLS {
         let step = drawn_step(alloc, &mut draws)?;
-        let mut wanted = Lines::new(alloc);
-        make_call(alloc, site, register, &mut sound, &step, &mut wanted)?;
-        let wanted = wanted.done()?;
-        let mut told = Lines::new(alloc);
-        make_call(alloc, site, register, &mut tables, &step, &mut told)?;
-        if told.done()?.as_str() != wanted.as_str()
-            || !agrees(alloc, site, register, &mut keeper, &step, &wanted)?
+        let wanted = answer_of(rt, site, register, &mut sound, &step)?;
+        let told = answer_of(rt, site, register, &mut tables, &step)?;
+        if told.as_str() != wanted.as_str()
+            || !agrees(rt, site, register, &mut keeper, &step, &wanted)?
         {
             return Ok(None);
         }
@@ -80,7 +79,7 @@ fn faults_of(alloc: Global, site: &Site, register: &Register, seed: u64) -> Resu
 
 // Whether a call answers this, made again while its keeper fails.
 fn agrees(
-    alloc: Global,
+    rt: &HostRuntime,
     site: &Site,
     register: &Register,
     keeper: &mut MemoryKeeper,
@@ -91,10 +90,9 @@ fn agrees(
 {
     for _try in 0..MAY_FAIL {
         let before = keeper.faults;
-        let mut told = Lines::new(alloc);
-        make_call(alloc, site, register, keeper, step, &mut told)?;
+        let told = answer_of(rt, site, register, keeper, step)?;
         if keeper.faults == before {
-            return Ok(told.done()?.as_str() == wanted);
+            return Ok(told.as_str() == wanted);
         }
     }
     Ok(false)

@@ -2,7 +2,7 @@
 
 ghost use Rattle.site_types.specs.Valid.{IsValid};
 
-use crate::calls::answer_step;
+use crate::calls::answer_of;
 use anyhow::{Result, bail};
 use service_keepers::MemoryKeeper;
 use service_register::Register;
@@ -22,7 +22,7 @@ pub(crate) fn fail_each(rt: &HostRuntime, site: &Site, line: &str) -> Result<Str
     let mut sound = keeper_failing(alloc, &[])?;
     let mut wanted = Lines::new(alloc);
     for step in line.split(", ") {
-        answer_step(rt, site, &register, &mut sound, step, &mut wanted)?;
+        wanted.say(answer_of(rt, site, &register, &mut sound, step)?.as_str());
     }
     let wanted = wanted.done()?;
     for earlier in 0..sound.calls {
@@ -30,7 +30,7 @@ pub(crate) fn fail_each(rt: &HostRuntime, site: &Site, line: &str) -> Result<Str
         let mut keeper = keeper_failing(alloc, &[number])?;
         let mut told = Lines::new(alloc);
         for step in line.split(", ") {
-            answer_twice(rt, site, &register, &mut keeper, step, &mut told)?;
+            told.say(answer_twice(rt, site, &register, &mut keeper, step)?.as_str());
         }
         let is_same = told.done()?.as_str() == wanted.as_str()
             && keeper.tables.visits == sound.tables.visits
@@ -55,27 +55,23 @@ fn keeper_failing(alloc: Global, numbers: &[u64]) -> Result<MemoryKeeper> {
     Ok(keeper)
 }
 
-// Makes a call, and once more where its keeper failed, and says the last answer.
+// What a call answers, made once more where its keeper failed.
 fn answer_twice(
     rt: &HostRuntime,
     site: &Site,
     register: &Register,
     keeper: &mut MemoryKeeper,
     step: &str,
-    lines: &mut Lines,
-) -> Result<()>
+) -> Result<String>
     requires { IsValid site.now }
 {
     let before = keeper.faults;
-    let mut first = Lines::new(rt.alloc());
-    answer_step(rt, site, register, keeper, step, &mut first)?;
-    let first = first.done()?;
+    let first = answer_of(rt, site, register, keeper, step)?;
     if keeper.faults == before {
-        lines.say(&first);
-        return Ok(());
+        return Ok(first);
     }
     if first.as_str() != "keeper fault" {
         bail!("{step}: {first}");
     }
-    answer_step(rt, site, register, keeper, step, lines)
+    answer_of(rt, site, register, keeper, step)
 }

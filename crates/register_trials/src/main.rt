@@ -22,13 +22,12 @@ fn main(rt: HostRuntime) -> Result<ExitCode> {
 }
 
 fn answer(rt: &HostRuntime, kind: Kind, case: &Case) -> Result<String> {
-    let alloc = rt.alloc();
     let site = site_at(rt, case.subject)?;
     match kind {
         Kind::Calls => make_calls(rt, &site, case.rest),
         Kind::OverFile => make_file_calls(rt, &site, case.rest),
         Kind::OverMemory => make_table_calls(rt, &site, case.rest),
         Kind::EachFailure => fail_each(rt, &site, case.rest),
-        Kind::DrawnCalls => try_calls(alloc, &site, case.rest),
+        Kind::DrawnCalls => try_calls(rt, &site, case.rest),
     }
 }

@@ -3,23 +3,15 @@ ghost use Rattle.std.specs.Prelude.{◌≡◌, false, IfOk};
 use crate::outside::Outside;
 use crate::trial::Trial;
 use anyhow::{Result, bail};
+use called_panel::{Forms, disk_of, sink_of};
 use desk_doors::{MemoryConn, MemoryDoor};
-use panel_edges::{MOST_DISK_BYTES, MemoryDisk, MemoryShelf, MemorySink, MemorySource, ShelfFile};
-use panel_program::panel;
+use panel_edges::{MemoryDisk, MemoryShelf, MemorySink, MemorySource, ShelfFile};
 use program_status::Outcome;
 use service_keepers::{MemoryKeeper, MemoryTables};
 use std::alloc::Global;
 
-/// How much text a sink has room for.
-const MOST_TEXT: usize = 20_000;
-
 /// How much a connection may be answered.
 const MOST_ANSWER: usize = 4_000;
-
-/// How many calls and written bytes the log of a disk has room for.
-const MOST_CALLS: usize = 1_000;
-
-const MOST_WRITTEN: usize = 125_000;
 
 /// What came of a call.
 #[derive(Drop)]
@@ -73,28 +65,30 @@ fn call(
     record: &[u8],
     outside: Outside,
 ) -> Result<Called> {
-    let (Ok(mut input), Ok(mut out), Ok(mut keeper)) = (
+    let (Ok(input), Ok(keeper)) = (
         MemorySource::new(alloc, Vec::from_slice(alloc, record)?, Vec::new(alloc)),
-        MemorySink::new(alloc, MOST_TEXT, vec![in alloc; outside.telling]?),
         MemoryKeeper::new(alloc, vec![in alloc; outside.keeper]?),
     ) else {
         bail!("no memory");
     };
-    let mut shelf = shelf_of(alloc, trial)?;
-    let mut disk = disk_of(alloc, trial.journal.as_slice(), outside.disk)?;
-    let mut target = disk_of(alloc, b"", 0)?;
-    let mut door = door_of(alloc, trial.requests.as_slice(), outside)?;
-    let outcome = panel(
-        alloc,
-        words,
-        &mut shelf,
-        &mut input,
-        &mut out,
-        &mut disk,
-        &mut target,
-        &mut door,
-        &mut keeper,
-    );
+    let journal = trial.journal.as_slice();
+    let mut forms = Forms {
+        shelf: shelf_of(alloc, trial)?,
+        input,
+        out: sink_of(alloc, outside.telling)?,
+        disk: disk_of(alloc, journal, vec![in alloc; outside.disk]?)?,
+        target: disk_of(alloc, b"", Vec::new(alloc))?,
+        door: door_of(alloc, trial.requests.as_slice(), outside)?,
+        keeper,
+    };
+    let outcome = forms.call(alloc, words);
+    let Forms {
+        out,
+        disk,
+        door,
+        keeper,
+        ..
+    } = forms;
     let MemoryDoor { conns, given, .. } = door;
     let MemorySink { bytes: text, .. } = out;
     let MemoryDisk { bytes: journal, .. } = disk;
@@ -119,18 +113,6 @@ fn shelf_of(alloc: Global, trial: &Trial) -> Result<MemoryShelf> {
     }
     match MemoryShelf::new(alloc, files, Vec::new(alloc)) {
         Ok(shelf) => Ok(shelf),
-        Err(_) => bail!("no memory"),
-    }
-}
-
-fn disk_of(alloc: Global, journal: &[u8], failing: u64) -> Result<MemoryDisk> {
-    if journal.len() > MOST_DISK_BYTES {
-        bail!("a journal that is too long");
-    }
-    let journal = Vec::from_slice(alloc, journal)?;
-    let fails = vec![in alloc; failing]?;
-    match MemoryDisk::new(alloc, journal, MOST_CALLS, MOST_WRITTEN, fails) {
-        Ok(disk) => Ok(disk),
         Err(_) => bail!("no memory"),
     }
 }

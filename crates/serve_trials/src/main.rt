@@ -29,14 +29,16 @@ fn main(rt: HostRuntime) -> Result<ExitCode> {
 
 // What comes of the calls of a case.
 fn answer(rt: &HostRuntime, kind: Kind, case: &Case) -> Result<String> {
-    let alloc = rt.alloc();
     match kind {
-        Kind::Serve => {
-            let trial = Trial::of_case(rt, case)?;
-            let called = serve(alloc, &trial, trial.outside)?;
-            telling::told(alloc, &called)
-        }
-        Kind::Failing(edge) => failing::try_failing(alloc, &Trial::of_case(rt, case)?, edge),
+        Kind::Serve => try_serving(rt, case),
+        Kind::Failing(edge) => failing::try_failing(rt.alloc(), &Trial::of_case(rt, case)?, edge),
         Kind::Day => days::try_day(rt, case),
     }
+}
+
+// What comes of serving the requests of a case.
+fn try_serving(rt: &HostRuntime, case: &Case) -> Result<String> {
+    let trial = Trial::of_case(rt, case)?;
+    let called = serve(rt.alloc(), &trial, trial.outside)?;
+    telling::told(rt.alloc(), &called)
 }

@@ -1,5 +1,8 @@
 -- The lines of what changed, panel by panel.
-use Rattle.std.proofs.Common.{◌≡◌, ◌∙◌, ◌+◌, ◌++◌, ℕ, zero, suc, List, [], ◌∷◌, take, drop, Some, slice_get, refl, sym, ap, arith, append_assoc, append-nil}
+use Rattle.std.proofs.Common.{◌≡◌, ◌<◌, ◌≤◌, ◌∙◌, ◌+◌, ◌++◌, ℕ, zero, suc, List, [], ◌∷◌, map, take, drop, length, get_or, Some, slice_get, refl, sym, ap, arith, append_assoc, append-nil}
+use Rattle.std.specs.List.{range_with_len}
+use Rattle.std.proofs.lemmas.List.{take_all}
+use Rattle.std.proofs.lemmas.Option.{slice_get-get_or}
 use Rattle.site_types.specs.declared.site.Site.{Site}
 use Rattle.face_text.specs.declared.face.Face.{Face}
 use Rattle.face_text.specs.Changes.{changes_text}
@@ -24,10 +27,23 @@ faces_next site (x ∷ before) (y ∷ after) (suc k) old new b a =
 plus_one : (k : ℕ) → k + 1 ≡ suc k
 plus_one k = omega arith
 
-pub faces_more : (site : Site) (before after : List Face) (k : ℕ) (old new : Face) → slice_get before k ≡ Some old → slice_get after k ≡ Some new
+faces_more : (site : Site) (before after : List Face) (k : ℕ) (old new : Face) → slice_get before k ≡ Some old → slice_get after k ≡ Some new
     → faces_text site (take (k + 1) before) (take (k + 1) after) ≡ faces_text site (take k before) (take k after) ++ changes_text site old new
 faces_more site before after k old new b a =
     ap (λ n. faces_text site (take n before) (take n after)) (plus_one k) ∙ faces_next site before after k old new b a
+
+pub faces_on : (site : Site) (before after : List Face) (k : ℕ) (face : Face) → length before ≡ length after → k < length after
+    → faces_text site (take (k + 1) before) (take (k + 1) after)
+    ≡ faces_text site (take k before) (take k after) ++ changes_text site (get_or before k face) (get_or after k face)
+faces_on site before after k face same less =
+    faces_more site before after k _ _ (slice_get-get_or before k face (omega (arith, less, same))) (slice_get-get_or after k face (omega (arith, less)))
+
+-- a list in which the faces of all panels were put is those faces
+pub all_put : {most : ℕ} (faces : List Face) (of : ℕ → Face) (k panels : ℕ) → length faces ≡ most → k ≤ most → most ≡ panels → most ≤ k
+    → take k faces ≡ map of (range_with_len 1 k) → faces ≡ map of (range_with_len 1 panels)
+all_put faces of k panels long within room over put =
+    sym (take_all k faces (omega (arith, over, long, within))) ∙ put
+    ∙ ap (λ n. map of (range_with_len 1 n)) (omega (arith, over, within, room))
 
 none_left : (site : Site) (faces : List Face) → faces_text site faces [] ≡ []
 none_left site [] = refl

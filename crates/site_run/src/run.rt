@@ -234,7 +234,8 @@ impl Run {
         ensures same { result ≡ false → self.new.next.items ≡ self.new.shown.items }
         ensures disk { KeepsOn D.honest D.images D.faults disk.old disk.new self.old self.new }
     {
-        let store = self.turn_all(disk);
+        // the counter of steps is let go
+        let store = self.turn_all::<Brand, D>(disk, Blank::new(1));
         self.store_failures = with_failure(self.store_failures, store);
         self.is_open = false;
         self.ticks += 1;
@@ -244,21 +245,7 @@ impl Run {
     }
 
     // Each seat has its turn, in the order that was given, else in the canonical one.
-    fn turn_all<D: Disk>(&mut self, disk: &mut D) -> Store
-        requires may { MayClose self.old }
-        requires stands { StandsOn D.honest D.images disk.old self.old.journal }
-        ensures turns { TurnsAll self.old result self.new }
-        ensures leaves { LeavesInTick
-            (disks_of D.honest D.images D.moment D.left_since disk.old disk.new)
-            self.old result self.new }
-        ensures disk { TurnsOn D.honest D.images D.faults disk.old disk.new self.old.journal
-            self.new.journal result }
-    {
-        self.turn_counted::<Brand, D>(disk, Blank::new(1))
-    }
-
-    // The same, with a counter of steps that is let go.
-    fn turn_counted<L: Ledger, D: Disk>(&mut self, disk: &mut D, blank: Blank) -> Store
+    fn turn_all<L: Ledger, D: Disk>(&mut self, disk: &mut D, blank: Blank) -> Store
         requires may { MayClose self.old }
         requires stands { StandsOn D.honest D.images disk.old self.old.journal }
         requires name { blank.name ≡ L.name }

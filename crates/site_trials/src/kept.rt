@@ -100,45 +100,38 @@ fn is_panel(panel: u8) -> bool
 
 /// A change in words.
 pub fn say_change(lines: &mut Lines, change: &Change) {
+    lines.count("panel ", panel_of(change) as u64);
     match *change {
         Change::Point {
-            panel,
             line,
             address,
             off,
+            ..
         } => {
-            lines.count("panel ", panel as u64);
             lines.count(" loop ", line as u64);
             lines.count(" address ", address as u64);
             lines.say(off_word(off));
         }
-        Change::Zone { panel, number, off } => say_number(
-            lines,
-            panel,
-            " zone ",
-            number,
-            off_word(off),
-        ),
-        Change::Output { panel, number, off } => say_number(
-            lines,
-            panel,
-            " output ",
-            number,
-            off_word(off),
-        ),
-        Change::Test { panel, number, on } => say_number(
-            lines,
-            panel,
-            " zone ",
-            number,
-            test_word(on),
-        ),
-        Change::Delays { panel, off } => {
-            lines.count("panel ", panel as u64);
+        Change::Zone { number, off, .. } => say_number(lines, " zone ", number, off_word(off)),
+        Change::Output { number, off, .. } => say_number(lines, " output ", number, off_word(off)),
+        Change::Test { number, on, .. } => say_number(lines, " zone ", number, test_word(on)),
+        Change::Delays { off, .. } => {
             lines.say(if off { " delays off" } else { " delays on" });
         }
-        Change::Count { panel, entries } => say_counter(lines, panel, entries as u64),
-        Change::Clear { panel } => say_counter(lines, panel, 0),
+        Change::Count { entries, .. } => lines.count(" counter ", entries as u64),
+        Change::Clear { .. } => lines.count(" counter ", 0),
+    }
+}
+
+fn panel_of(change: &Change) -> u8 {
+    match *change {
+        Change::Point { panel, .. }
+        | Change::Zone { panel, .. }
+        | Change::Output { panel, .. }
+        | Change::Test { panel, .. }
+        | Change::Delays { panel, .. }
+        | Change::Count { panel, .. }
+        | Change::Clear { panel } => panel,
     }
 }
 
@@ -150,16 +143,10 @@ fn test_word(on: bool) -> &'static str {
     if on { " in test" } else { " out of test" }
 }
 
-// What is so of what has a number on a panel.
-fn say_number(lines: &mut Lines, panel: u8, kind: &str, number: u8, word: &str) {
-    lines.count("panel ", panel as u64);
+// What is so of what has a number on its panel.
+fn say_number(lines: &mut Lines, kind: &str, number: u8, word: &str) {
     lines.count(kind, number as u64);
     lines.say(word);
-}
-
-fn say_counter(lines: &mut Lines, panel: u8, entries: u64) {
-    lines.count("panel ", panel as u64);
-    lines.count(" counter ", entries);
 }
 
 /// The changes that make what is retained out of nothing, one a line.
@@ -195,7 +182,8 @@ pub fn tell_state(alloc: Global, state: &Retained) -> Result<String> {
         }
         let counter = state.counters[place];
         if counter > 0 {
-            say_counter(&mut lines, panel, counter as u64);
+            lines.count("panel ", panel as u64);
+            lines.count(" counter ", counter as u64);
             lines.say("\n");
         }
     }
@@ -218,7 +206,8 @@ fn say_points(lines: &mut Lines, panel: u8, points: &PointSet) {
 fn say_numbers(lines: &mut Lines, panel: u8, kind: &str, mask: u32, word: &str) {
     for number in 1..=32 {
         if has_bit_32(mask, number - 1) {
-            say_number(lines, panel, kind, number, word);
+            lines.count("panel ", panel as u64);
+            say_number(lines, kind, number, word);
         }
     }
 }

@@ -2,7 +2,7 @@
 use Rattle.std.proofs.Common.{◌≡◌, ◌≢◌, ◌≤◌, ◌<◌, inl, inr, ◌==◌, ◌||◌, ◌+◌, ℕ, zero, suc, Bool, true, false, List, [], ◌∷◌, refl, sym, ap, subst, ◌∙◌, arith}
 use Rattle.std.specs.Prelude.{slice_get, length}
 use Rattle.std.specs.List.{list_any, IsDistinct}
-use Rattle.std.proofs.lemmas.Bool.Decides.{eqb_tells}
+use Rattle.std.proofs.lemmas.Bool.{ne_eqb}
 use Rattle.tick_units.specs.Orders.{canonical_seats}
 use Rattle.site_types.specs.declared.marker.Marker.{Marker}
 use Rattle.site_types.specs.declared.site.Site.{Site}
@@ -49,16 +49,6 @@ none_of site before after none = record {
 }
 
 -- ---- two markers
-
-number_apart : (m n : ℕ) → m ≢ n → (m == n) ≡ false
-number_apart m n apart = elim (eqb_tells m n) [
-  | inl same ↦ absurd (apart same.1)
-  | inr other ↦ other.0
-]
-
-last_of_or : (b : Bool) → (b || false) ≡ true → b ≡ true
-last_of_or true h = refl
-last_of_or false h = h
 
 changed_within : (markers : List Marker) (m : ℕ) (p : Term → Bool) → list_any p (terms_of (slice_get markers m)) ≡ true → m < length markers
 changed_within [] m p h = cc
@@ -108,7 +98,7 @@ module _ (site : Site) (hall lab : ℕ) (two : AreTwo site hall lab) (before aft
     where
       far : (m : ℕ) → 2 ≤ m → ((m == 0) || ((m == 1) || false)) ≡ true → ⊥
       far m much h = let e : ((m == 0) || ((m == 1) || false)) ≡ false =
-          rw (number_apart m 0 (λ e. omega (arith, much, e)), number_apart m 1 (λ e. omega (arith, much, e))) refl in cc (e, h)
+          rw (ne_eqb m 0 (λ e. omega (arith, much, e)), ne_eqb m 1 (λ e. omega (arith, much, e))) refl in cc (e, h)
 
   both : differ (before.released hall) (after.released hall) ≡ true → IsNumberOf (DependsOnChangedFact site before after) 2
   unfolding IsDistinct

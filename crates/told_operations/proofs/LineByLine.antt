@@ -17,6 +17,7 @@ use Rattle.record_lines.specs.declared.line.Line.{Line}
 use Rattle.record_lines.specs.declared.line.Line.TheVariants.{Tick as TickLine, Event as EventLine, Order as OrderLine, End}
 use Rattle.panel_rules.specs.Moments.{Moment, Began, Happened, TickBlock, and_events, and_turns, moments, tick_of, turn_of}
 use Rattle.panel_rules.specs.Operations.{Request, and_request, requests}
+use Rattle.run_text.proofs.TickTimes.{tick_moments}
 use Rattle.audit_rules.specs.RecordTicks.{and_line, tick_begun, ticks_of_record, with_event_in, with_order_in}
 use Rattle.told_operations.specs.declared.asked_operation.AskedOperation.{AskedOperation}
 use Rattle.told_operations.specs.Asked.{asked_by_event, asked_in_lines, asked_of}
@@ -35,15 +36,6 @@ turns_ask site failed [] before = refl
 turns_ask site failed (seat ∷ seats) before =
     turns_ask site failed seats (turn_of failed seat.panel seat.task ∷ before) ∙ turn_asks site failed seat.panel seat.task before
 
-turn_tick : (failed : Bool) (panel : ℕ) (task : Task) (before : List Moment) → tick_of (turn_of failed panel task ∷ before) ≡ tick_of before
-turn_tick failed panel Keep before = refl
-turn_tick failed panel task before = refl
-
-turns_tick : (failed : Bool) (seats : List Seat) (before : List Moment) → tick_of (and_turns failed seats before) ≡ tick_of before
-turns_tick failed [] before = refl
-turns_tick failed (seat ∷ seats) before =
-    turns_tick failed seats (turn_of failed seat.panel seat.task ∷ before) ∙ turn_tick failed seat.panel seat.task before
-
 events_tick : (events : List Event) (before : List Moment) → tick_of (and_events events before) ≡ tick_of before
 events_tick [] before = refl
 events_tick (event ∷ events) before = events_tick events (Happened event ∷ before)
@@ -52,14 +44,6 @@ one_more : (events : List Event) (event : Event) (before : List Moment)
     → and_events (events ++ event ∷ []) before ≡ Happened event ∷ and_events events before
 one_more [] event before = refl
 one_more (other ∷ events) event before = one_more events event (Happened other ∷ before)
-
-ticks_counted : (ticks : List TickBlock) → tick_of (moments ticks) ≡ length ticks
-ticks_counted [] = refl
-ticks_counted (tick ∷ ticks) =
-    let e = ticks_counted ticks in
-    let turned = turns_tick tick.failed tick.order (and_events tick.events (Began ∷ moments ticks)) in
-    let told = events_tick tick.events (Began ∷ moments ticks) in
-    omega (arith, e, turned, told)
 
 -- ---- ticks
 
@@ -94,7 +78,7 @@ event_more site event (tick ∷ ticks) =
     let start = Began ∷ moments ticks in
     let told = and_events tick.events start in
     let more = turns_ask site tick.failed tick.order (and_events (tick.events ++ event ∷ []) start) ∙ ap (requests site) (one_more tick.events event start) in
-    let counted = ticks_counted ticks in
+    let counted = tick_moments ticks in
     let now = events_tick tick.events start in
     ap (map asked_of) more ∙ and_asked site (length ticks) event (requests site told) (tick_of told) (omega (arith, counted, now))
     ∙ ap (λ before. map asked_of before ++ asked_by_event site (suc (length ticks)) event) (sym (turns_ask site tick.failed tick.order told))

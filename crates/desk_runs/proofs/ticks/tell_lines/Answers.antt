@@ -1,8 +1,7 @@
 use Rattle.std.proofs.Common.{◌≡◌, ◌∙◌, ◌++◌, refl, sym, subst, arith}
-use Rattle.desk_runs.proofs.Telling.{SoFar, all_told, feeds_here, fits, may_tell_fed, none_left, nothing_told, told_more, uses}
+use Rattle.desk_runs.proofs.Telling.{SoFar, all_told, fed_here, fits, may_tell_fed, none_left, nothing_told, told_more, uses}
 use Rattle.desk_ticks.specs.Blocks.{first_line, tick_one}
 use Rattle.desk_ticks.proofs.Behind.{some_left}
-use Rattle.record_lines.specs.Belongs.{StepBelongs}
 use Rattle.record_lines.specs.Lines.{accepted, at_start, reading_of}
 use Rattle.record_lines.specs.Stands.{StandsFor}
 use Rattle.site_types.specs.Valid.{IsValid}
@@ -37,13 +36,11 @@ tell_step-requires c =
     let left = c.loop-left.left.now in
     let fed = c.feed-fed in
     let h = c.loop-left.invariant.told r.site r.kept r.ticks r.with in
-    let same = c.site-in-loop-left.ensures r.site r.kept _ h.stands in
-    let some = some_left left (sym c.is_empty.ensures ∙ c.loop-left-test.true) in
-    let feeds = feeds_here _ r.site (first_line r.site ++ h.read.front) left c.loop-left.reader fed.new.self fed.result same fed.ensures.feeds h.read.reads in
+    let here = fed_here h (c.site-in-loop-left.ensures r.site r.kept _ h.stands) fed.ensures.feeds fed.ensures.belongs in
     record {
       may =
-          may_tell_fed r.site r.kept r.ticks c.args.rest.now left c.loop-left.reader fed.new.self fed.result c.args.run.now c.loop-left.run r.with h some feeds
-          (subst (λ s. StepBelongs s fed.result.step) same fed.ensures.belongs);
+          may_tell_fed r.site r.kept r.ticks c.args.rest.now left c.loop-left.reader fed.new.self fed.result c.args.run.now c.loop-left.run r.with h
+          (some_left left (sym c.is_empty.ensures ∙ c.loop-left-test.true)) here.feeds here.belongs;
     }
 
 pub split_at-requires : goal.split_at-requires
@@ -52,11 +49,9 @@ split_at-requires c =
     let left = c.loop-left.left.now in
     let fed = c.feed-fed in
     let h = c.loop-left.invariant.told r.site r.kept r.ticks r.with in
-    let same = c.site-in-loop-left.ensures r.site r.kept _ h.stands in
-    let some = some_left left (sym c.is_empty.ensures ∙ c.loop-left-test.true) in
-    let feeds = feeds_here _ r.site (first_line r.site ++ h.read.front) left c.loop-left.reader fed.new.self fed.result same fed.ensures.feeds h.read.reads in
-    fits r.site r.kept r.ticks c.args.rest.now left c.loop-left.reader fed.new.self fed.result c.args.run.now c.loop-left.run r.with h some feeds
-    (subst (λ s. StepBelongs s fed.result.step) same fed.ensures.belongs)
+    let here = fed_here h (c.site-in-loop-left.ensures r.site r.kept _ h.stands) fed.ensures.feeds fed.ensures.belongs in
+    fits r.site r.kept r.ticks c.args.rest.now left c.loop-left.reader fed.new.self fed.result c.args.run.now c.loop-left.run r.with h
+    (some_left left (sym c.is_empty.ensures ∙ c.loop-left-test.true)) here.feeds here.belongs
 
 pub loop-left-smaller : goal.loop-left-smaller
 loop-left-smaller c =
@@ -64,14 +59,12 @@ loop-left-smaller c =
     let left = c.loop-left.left.now in
     let fed = c.feed-fed in
     let h = c.loop-left.invariant.told r.site r.kept r.ticks r.with in
-    let same = c.site-in-loop-left.ensures r.site r.kept _ h.stands in
+    let here = fed_here h (c.site-in-loop-left.ensures r.site r.kept _ h.stands) fed.ensures.feeds fed.ensures.belongs in
     let some = some_left left (sym c.is_empty.ensures ∙ c.loop-left-test.true) in
-    let feeds = feeds_here _ r.site (first_line r.site ++ h.read.front) left c.loop-left.reader fed.new.self fed.result same fed.ensures.feeds h.read.reads in
-    let belongs = subst (λ s. StepBelongs s fed.result.step) same fed.ensures.belongs in
     let fit =
-    fits r.site r.kept r.ticks c.args.rest.now left c.loop-left.reader fed.new.self fed.result c.args.run.now c.loop-left.run r.with h some feeds belongs in
+    fits r.site r.kept r.ticks c.args.rest.now left c.loop-left.reader fed.new.self fed.result c.args.run.now c.loop-left.run r.with h some here.feeds here.belongs in
     let more =
-    uses r.site r.kept r.ticks c.args.rest.now left c.loop-left.reader fed.new.self fed.result c.args.run.now c.loop-left.run r.with h some feeds belongs in
+    uses r.site r.kept r.ticks c.args.rest.now left c.loop-left.reader fed.new.self fed.result c.args.run.now c.loop-left.run r.with h some here.feeds here.belongs in
     let back = c.split_at.ensures.back_len in
     omega (arith, more, fit, back)
 
@@ -84,12 +77,10 @@ loop-left-preserved c =
     record {
       told = λ site kept ticks may.
           let h = inv.told site kept ticks may in
-          let same = c.site-in-loop-left.ensures site kept _ h.stands in
-          let feeds = feeds_here _ site (first_line site ++ h.read.front) left c.loop-left.reader fed.new.self fed.result same fed.ensures.feeds h.read.reads in
-          let belongs = subst (λ s. StepBelongs s fed.result.step) same fed.ensures.belongs in
+          let here = fed_here h (c.site-in-loop-left.ensures site kept _ h.stands) fed.ensures.feeds fed.ensures.belongs in
           subst (λ xs. SoFar site kept ticks c.args.rest.now xs fed.new.self c.tell_step.new.run) (sym c.split_at.ensures.back)
-          (told_more site kept ticks c.args.rest.now left c.loop-left.reader fed.new.self fed.result c.args.run.now c.loop-left.run may h some feeds belongs
-          fed.result.step refl belongs c.tell_step.new.run c.tell_step.ensures.tells);
+          (told_more site kept ticks c.args.rest.now left c.loop-left.reader fed.new.self fed.result c.args.run.now c.loop-left.run may h some here.feeds here.belongs
+          fed.result.step refl here.belongs c.tell_step.new.run c.tell_step.ensures.tells);
       journal = c.tell_step.ensures.journal ∙ inv.journal;
       failures = c.tell_step.ensures.failures ∙ inv.failures;
     }

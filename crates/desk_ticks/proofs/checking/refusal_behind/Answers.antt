@@ -1,6 +1,6 @@
 use Rattle.std.proofs.Common.{◌∙◌, ◌+◌, ◌++◌, sym, subst, arith}
 use Rattle.desk_ticks.specs.Blocks.{first_line}
-use Rattle.desk_ticks.proofs.Behind.{IsRead, goes, none_read, some_left, stops, told_so, uses_fit, uses_some}
+use Rattle.desk_ticks.proofs.Behind.{IsRead, goes_here, none_read, some_left, stops_here, used_fits, used_some}
 use Rattle.desk_ticks.proofs.checking.refusal_behind.Goals as goal
 
 pub loop-left-init : goal.loop-left-init
@@ -15,10 +15,9 @@ returns-in-Some c =
     let h = c.loop-left.invariant in
     let some = some_left left (sym c.is_empty.ensures ∙ c.loop-left-test.true) in
     let feeds = c.feed-fed.ensures.feeds (first_line site ++ h.front) h.reads in
-    let told = told_so site c.args.rest.now left c.loop-left.reader c.feed-fed.new.self c.loop-left.number c.feed-fed.result h some feeds in
     sym
-    (stops site c.args.rest.now left c.loop-left.reader c.feed-fed.new.self c.loop-left.number c.feed-fed.result h some feeds c.feed-fed.result.step
-    c.in-Some.refusal told (sym c.stop_at.ensures ∙ c.in-Some.is))
+    (stops_here site c.args.rest.now left c.loop-left.reader c.feed-fed.new.self c.loop-left.number c.feed-fed.result h some feeds c.in-Some.refusal
+    (sym c.stop_at.ensures ∙ c.in-Some.is))
 
 pub split_at-requires : goal.split_at-requires
 split_at-requires c =
@@ -27,8 +26,7 @@ split_at-requires c =
     let h = c.loop-left.invariant in
     let some = some_left left (sym c.is_empty.ensures ∙ c.loop-left-test.true) in
     let feeds = c.feed-fed.ensures.feeds (first_line site ++ h.front) h.reads in
-    let told = told_so site c.args.rest.now left c.loop-left.reader c.feed-fed.new.self c.loop-left.number c.feed-fed.result h some feeds in
-    uses_fit site (first_line site ++ h.front) left c.feed-fed.result.used c.feed-fed.result.step told.1
+    used_fits site c.args.rest.now left c.loop-left.reader c.feed-fed.new.self c.loop-left.number c.feed-fed.result h some feeds
 
 pub loop-left-smaller : goal.loop-left-smaller
 loop-left-smaller c =
@@ -37,9 +35,8 @@ loop-left-smaller c =
     let h = c.loop-left.invariant in
     let some = some_left left (sym c.is_empty.ensures ∙ c.loop-left-test.true) in
     let feeds = c.feed-fed.ensures.feeds (first_line site ++ h.front) h.reads in
-    let told = told_so site c.args.rest.now left c.loop-left.reader c.feed-fed.new.self c.loop-left.number c.feed-fed.result h some feeds in
-    let more = uses_some site (first_line site ++ h.front) left c.feed-fed.result.used c.feed-fed.result.step some told.1 in
-    let fits = uses_fit site (first_line site ++ h.front) left c.feed-fed.result.used c.feed-fed.result.step told.1 in
+    let fits = used_fits site c.args.rest.now left c.loop-left.reader c.feed-fed.new.self c.loop-left.number c.feed-fed.result h some feeds in
+    let more = used_some site c.args.rest.now left c.loop-left.reader c.feed-fed.new.self c.loop-left.number c.feed-fed.result h some feeds in
     let back = c.split_at.ensures.back_len in
     omega (arith, more, fits, back)
 
@@ -50,7 +47,6 @@ loop-left-preserved c =
     let h = c.loop-left.invariant in
     let some = some_left left (sym c.is_empty.ensures ∙ c.loop-left-test.true) in
     let feeds = c.feed-fed.ensures.feeds (first_line site ++ h.front) h.reads in
-    let told = told_so site c.args.rest.now left c.loop-left.reader c.feed-fed.new.self c.loop-left.number c.feed-fed.result h some feeds in
     subst (λ xs. IsRead site c.args.rest.now xs c.feed-fed.new.self (c.loop-left.number + 1)) (sym c.split_at.ensures.back)
-    (goes site c.args.rest.now left c.loop-left.reader c.feed-fed.new.self c.loop-left.number c.feed-fed.result h some feeds c.feed-fed.result.step told
+    (goes_here site c.args.rest.now left c.loop-left.reader c.feed-fed.new.self c.loop-left.number c.feed-fed.result h some feeds
     (sym c.stop_at.ensures ∙ c.in-None.is))

@@ -5,7 +5,6 @@ use Rattle.retained_journal.specs.Outcomes.{IsKeptIn}
 use Rattle.site_types.specs.Changes.{AreCounters}
 use Rattle.site_types.specs.declared.retained.Retained.{Retained}
 use Rattle.journal_move.specs.Moves.{file_of_site, is_wide_for}
-use Rattle.journal_move.proofs.Sparing.{spares_alone}
 use Rattle.journal_move.proofs.Targets.{opens_so}
 use Rattle.journal_move.proofs.moving.move_between.Goals as goal
 
@@ -41,8 +40,3 @@ returns-in-Err-clause-moves g c =
         failures = c.stop_at_journal.ensures.ticks.1;
       };
     })
-
-pub returns-in-Err-clause-spares : goal.returns-in-Err-clause-spares
-returns-in-Err-clause-spares g c =
-    spares_alone g.D.Disk.seen g.D.Disk.honest g.D.Disk.images g.D.Disk.moment g.D.Disk.left_since c.args.target.now
-    (g.met.D.Disk.only_now c.args.target.now)

@@ -1,7 +1,6 @@
 use Rattle.std.proofs.Common.{refl}
 use Rattle.journal_move.specs.Disks.{disks_of}
 use Rattle.journal_move.proofs.Answering.{new_moves, new_stops}
-use Rattle.journal_move.proofs.Sparing.{spares_alone}
 use Rattle.journal_move.proofs.moving.move_from.Goals as goal
 
 pub returns-in-Ok-clause-answers : goal.returns-in-Ok-clause-answers
@@ -22,11 +21,3 @@ returns-in-Err-clause-answers g c =
       target_alone = refl;
       tells = record { says = c.stop_with.ensures.says; ticks = c.stop_with.ensures.ticks.0; failures = c.stop_with.ensures.ticks.1 };
     })
-
-pub returns-in-Err-clause-journal : goal.returns-in-Err-clause-journal
-returns-in-Err-clause-journal g c =
-    spares_alone g.D.Disk.seen g.D.Disk.honest g.D.Disk.images g.D.Disk.moment g.D.Disk.left_since c.args.disk.now (g.met.D.Disk.only_now c.args.disk.now)
-
-pub returns-in-Err-clause-spares : goal.returns-in-Err-clause-spares
-returns-in-Err-clause-spares g c =
-    spares_alone g.D.Disk.seen g.D.Disk.honest g.D.Disk.images g.D.Disk.moment g.D.Disk.left_since c.args.target.now (g.met.D.Disk.only_now c.args.target.now)

@@ -7,7 +7,6 @@ use Rattle.retained_journal.specs.Slots.{FitPoints, HasNarrowPoints}
 use Rattle.site_types.specs.Changes.{AreCounters}
 use Rattle.site_types.specs.declared.retained.Retained.{Retained}
 use Rattle.journal_move.proofs.CarriedStates.{carried_keeps}
-use Rattle.journal_move.proofs.Sparing.{spares_alone}
 use Rattle.journal_move.proofs.Targets.{was_empty}
 use Rattle.journal_move.proofs.moving.move_kept.Goals as goal
 
@@ -38,11 +37,6 @@ returns-in_default-clause-ends g c =
         same = refl;
       };
     })
-
-pub returns-in_default-clause-spares : goal.returns-in_default-clause-spares
-returns-in_default-clause-spares g c =
-    spares_alone g.D.Disk.seen g.D.Disk.honest g.D.Disk.images g.D.Disk.moment g.D.Disk.left_since c.args.target.now
-    (g.met.D.Disk.only_now c.args.target.now)
 
 pub returns-in-Ok-create-clause-ends : goal.returns-in-Ok-create-clause-ends
 returns-in-Ok-create-clause-ends g c =

@@ -1,8 +1,8 @@
 use Rattle.std.proofs.Common.{◌≡◌, ◌∙◌, ap, sym, subst, List, ℕ}
 use Rattle.std.specs.Prelude.{map, string_bytes}
-use Rattle.panel_program.specs.declared.command.Command.TheVariants.{Usage, Check, Run, Matrix, Drill, Move, Import, Serve}
+use Rattle.panel_program.specs.declared.command.Command.TheVariants.{Usage, Check, Run, Matrix, Drill, Move, Audit, Import, Serve}
 use Rattle.journal_move.specs.Disks.{disks_of}
-use Rattle.panel_program.specs.Commands.{AnswersCommand, SiteNames, call_disks, file_word, names_of, new_site_word, site_word}
+use Rattle.panel_program.specs.Commands.{AnswersCommand, CallNames, call_disks, file_word, names_of, new_site_word, site_word, text_word}
 use Rattle.panel_program.specs.Usage.{usage_line}
 use Rattle.panel_program.specs.Runs.{streams_of}
 use Rattle.site_commands.specs.Files.{files_of}
@@ -11,10 +11,11 @@ use Rattle.desk_register.specs.Replies.{sides_of}
 use Rattle.serve_command.specs.Doors.{door_sides}
 use Rattle.serve_command.specs.Serving.{AnswersServe}
 use Rattle.site_run.specs.PowerCuts.{disk_of}
+use Rattle.audit_command.specs.Audits.{AnswersAudit}
 use Rattle.import_command.specs.Imports.{AnswersImport, kept_tables}
 use Rattle.journal_move.specs.Moves.{AnswersMove}
 use Rattle.journal_move.proofs.Sparing.{spares_alone}
-use Rattle.panel_program.proofs.Naming.{file_word_is, new_site_word_is, site_word_is}
+use Rattle.panel_program.proofs.Naming.{file_word_is, lines_word_is, new_site_word_is, site_word_is, text_word_is}
 use Rattle.panel_program.proofs.program.panel.Goals as goal
 
 check_is : Check ≡ Usage → ⊥
@@ -29,6 +30,9 @@ matrix_is e = cc
 move_is : Move ≡ Usage → ⊥
 move_is e = cc
 
+audit_is : Audit ≡ Usage → ⊥
+audit_is e = cc
+
 import_is : Import ≡ Usage → ⊥
 import_is e = cc
 
@@ -39,8 +43,8 @@ count_is : (port count other_port other : ℕ) → Serve port count ≡ Serve ot
 count_is port count other_port other e = cc
 
 -- the names of a call whose site has this one
-abbrev named : List ℕ → List (List ℕ) → SiteNames
-named text words = record { site = text; new_site = new_site_word words }
+abbrev named : List ℕ → List (List ℕ) → CallNames
+named site words = record { site = site; new_site = new_site_word words; lines = file_word words; text = text_word words }
 
 pub returns-in-Usage-clause-answers : goal.returns-in-Usage-clause-answers
 unfolding usage_line
@@ -145,6 +149,32 @@ returns-in-Move-clause-answers g c =
     (subst (λ text. AnswersMove c.as_str-in-Move.result.now text files both streams.old streams.new c.move_journal.result) new
     c.move_journal.ensures.answers))
 
+pub returns-in-Audit-clause-answers : goal.returns-in-Audit-clause-answers
+returns-in-Audit-clause-answers g c =
+    let words = map string_bytes c.args.words.now in
+    let shelf = c.args.shelf.now in
+    let files = files_of g.F.Shelf.files g.F.Shelf.faults shelf c.audit_files.new.shelf in
+    let streams =
+    streams_of g.S.Stream.left g.S.Stream.read_faults g.K.Stream.written c.args.input.now c.args.input.now c.args.out.now c.audit_files.new.out in
+    let disks =
+    call_disks g.D.Disk.seen g.D.Disk.honest g.D.Disk.images g.D.Disk.moment g.D.Disk.left_since c.args.disk.now c.args.disk.now c.args.target.now c.args.target.now in
+    let is : command_of words ≡ Audit = sym c.command_of.ensures.command ∙ c.in-Audit.is in
+    let site : c.as_str-in-Audit.result.now ≡ site_word words =
+    c.as_str-in-Audit.ensures.value ∙ ap string_bytes c.index-words-1-in-Audit.is ∙ sym
+    (site_word_is c.args.words.now c.index-words-1-in-Audit.result (λ e. audit_is (sym is ∙ e)))
+    in
+    let lines : c.as_str-in-Audit-2.result.now ≡ file_word words =
+    c.as_str-in-Audit-2.ensures.value ∙ ap string_bytes c.index-words-2-in-Audit.is ∙ sym (lines_word_is c.args.words.now c.index-words-2-in-Audit.result is)
+    in
+    let text : c.as_str-in-Audit-3.result.now ≡ text_word words =
+    c.as_str-in-Audit-3.ensures.value ∙ ap string_bytes c.index-words-3.is ∙ sym (text_word_is c.args.words.now c.index-words-3.result is)
+    in
+    subst (λ command. AnswersCommand command (names_of words) files disks streams c.audit_files.result) (sym is)
+    (subst (λ name. AnswersAudit files name (file_word words) (text_word words) streams.old streams.new c.audit_files.result) site
+    (subst (λ name. AnswersAudit files c.as_str-in-Audit.result.now name (text_word words) streams.old streams.new c.audit_files.result) lines
+    (subst (λ name. AnswersAudit files c.as_str-in-Audit.result.now c.as_str-in-Audit-2.result.now name streams.old streams.new c.audit_files.result) text
+    c.audit_files.ensures.answers)))
+
 pub returns-in-Import-clause-answers : goal.returns-in-Import-clause-answers
 returns-in-Import-clause-answers g c =
     let words = map string_bytes c.args.words.now in
@@ -195,6 +225,10 @@ pub returns-in-Drill-clause-disk_spared : goal.returns-in-Drill-clause-disk_spar
 returns-in-Drill-clause-disk_spared g c nothing =
     spares_alone g.D.Disk.seen g.D.Disk.honest g.D.Disk.images g.D.Disk.moment g.D.Disk.left_since c.args.disk.now (g.met.D.Disk.only_now c.args.disk.now)
 
+pub returns-in-Audit-clause-disk_spared : goal.returns-in-Audit-clause-disk_spared
+returns-in-Audit-clause-disk_spared g c nothing =
+    spares_alone g.D.Disk.seen g.D.Disk.honest g.D.Disk.images g.D.Disk.moment g.D.Disk.left_since c.args.disk.now (g.met.D.Disk.only_now c.args.disk.now)
+
 pub returns-in-Import-clause-disk_spared : goal.returns-in-Import-clause-disk_spared
 returns-in-Import-clause-disk_spared g c nothing =
     spares_alone g.D.Disk.seen g.D.Disk.honest g.D.Disk.images g.D.Disk.moment g.D.Disk.left_since c.args.disk.now (g.met.D.Disk.only_now c.args.disk.now)
@@ -220,6 +254,10 @@ returns-in-Matrix-clause-target_spared g c =
 
 pub returns-in-Drill-clause-target_spared : goal.returns-in-Drill-clause-target_spared
 returns-in-Drill-clause-target_spared g c =
+    spares_alone g.D.Disk.seen g.D.Disk.honest g.D.Disk.images g.D.Disk.moment g.D.Disk.left_since c.args.target.now (g.met.D.Disk.only_now c.args.target.now)
+
+pub returns-in-Audit-clause-target_spared : goal.returns-in-Audit-clause-target_spared
+returns-in-Audit-clause-target_spared g c =
     spares_alone g.D.Disk.seen g.D.Disk.honest g.D.Disk.images g.D.Disk.moment g.D.Disk.left_since c.args.target.now (g.met.D.Disk.only_now c.args.target.now)
 
 pub returns-in-Import-clause-target_spared : goal.returns-in-Import-clause-target_spared

@@ -84,9 +84,8 @@ pub returns-in_err-end-clause-reads : goal.returns-in_err-end-clause-reads
 returns-in_err-end-clause-reads g c site kept h =
     let left = g.S.Stream.left c.loop-read.input in
     let whole = disks_of g.D.Disk.honest g.D.Disk.images g.D.Disk.moment g.D.Disk.left_since c.args.disk.now c.take_piece.new.disk in
-    let first = disks_of g.D.Disk.honest g.D.Disk.images g.D.Disk.moment g.D.Disk.left_since c.args.disk.now c.loop-read.disk in
     let old = outside_before whole (g.K.Stream.written c.args.out.now) c.args.run.now in
-    let mid = outside_after first (g.K.Stream.written c.loop-read.out) c.loop-read.run in
+    let mid = outside_after (disks_of g.D.Disk.honest g.D.Disk.images g.D.Disk.moment g.D.Disk.left_since c.args.disk.now c.loop-read.disk) (g.K.Stream.written c.loop-read.out) c.loop-read.run in
     let new = outside_after whole (g.K.Stream.written c.take_piece.new.out) c.take_piece.new.run in
     let left' = g.S.Stream.left c.read_piece.new.input in
     let piece = take c.in-Ok.count c.read_piece.new.buffer in
@@ -107,11 +106,9 @@ pub returns-in-Some-clause-reads : goal.returns-in-Some-clause-reads
 returns-in-Some-clause-reads g c site kept h =
     let left = g.S.Stream.left c.loop-read.input in
     let whole = disks_of g.D.Disk.honest g.D.Disk.images g.D.Disk.moment g.D.Disk.left_since c.args.disk.now c.take_piece.new.disk in
-    let first = disks_of g.D.Disk.honest g.D.Disk.images g.D.Disk.moment g.D.Disk.left_since c.args.disk.now c.loop-read.disk in
     let old = outside_before whole (g.K.Stream.written c.args.out.now) c.args.run.now in
-    let mid = outside_after first (g.K.Stream.written c.loop-read.out) c.loop-read.run in
+    let mid = outside_after (disks_of g.D.Disk.honest g.D.Disk.images g.D.Disk.moment g.D.Disk.left_since c.args.disk.now c.loop-read.disk) (g.K.Stream.written c.loop-read.out) c.loop-read.run in
     let new = outside_after whole (g.K.Stream.written c.take_piece.new.out) c.take_piece.new.run in
-    let left' = g.S.Stream.left c.read_piece.new.input in
     let piece = take c.in-Ok.count c.read_piece.new.buffer in
     let fits = piece_fits c.loop-read.read c.min-most.result c.in-Ok.count piece c.loop-read-test.true c.min-most.ensures c.in-Ok.ensures.bound
     c.in-Ok.ensures.count in
@@ -121,8 +118,8 @@ returns-in-Some-clause-reads g c site kept h =
     let ended =
     subst (λ (o : Option RunEnd). TakesPiece site kept s.now s.consumed piece mid new c.take_piece.new.reader c.take_piece.new.run (Ok o)) c.in-Some.is
     (c.in_ok-end.ensures.takes site kept s.consumed s.now s.is_at within) in
-    piece_ends site kept bytes left old mid c.loop-read.reader c.loop-read.run c.loop-read.read s piece left' new c.take_piece.new.run c.in-Some.end
-    c.in-Ok.ensures.bytes
+    piece_ends site kept bytes left old mid c.loop-read.reader c.loop-read.run c.loop-read.read s piece (g.S.Stream.left c.read_piece.new.input) new c.take_piece.new.run
+    c.in-Some.end c.in-Ok.ensures.bytes
     (piece_short c.loop-read.read c.min-most.result c.in-Ok.count piece c.min-most.ensures c.in-Ok.ensures.bound c.in-Ok.ensures.count) fits ended)
     (c.loop-read.invariant.so_far site kept h)
 
@@ -138,11 +135,9 @@ returns-in-Some-clause-disk g c =
 
 pub loop-read-preserved : goal.loop-read-preserved
 loop-read-preserved g c =
-    let left = g.S.Stream.left c.loop-read.input in
     let whole = disks_of g.D.Disk.honest g.D.Disk.images g.D.Disk.moment g.D.Disk.left_since c.args.disk.now c.take_piece.new.disk in
-    let first = disks_of g.D.Disk.honest g.D.Disk.images g.D.Disk.moment g.D.Disk.left_since c.args.disk.now c.loop-read.disk in
     let old = outside_before whole (g.K.Stream.written c.args.out.now) c.args.run.now in
-    let mid = outside_after first (g.K.Stream.written c.loop-read.out) c.loop-read.run in
+    let mid = outside_after (disks_of g.D.Disk.honest g.D.Disk.images g.D.Disk.moment g.D.Disk.left_since c.args.disk.now c.loop-read.disk) (g.K.Stream.written c.loop-read.out) c.loop-read.run in
     let new = outside_after whole (g.K.Stream.written c.take_piece.new.out) c.take_piece.new.run in
     let piece = take c.in-Ok.count c.read_piece.new.buffer in
     let lt = c.loop-read-test.true in
@@ -169,6 +164,7 @@ loop-read-preserved g c =
           keeps_more g.D.Disk.honest g.D.Disk.images g.D.Disk.faults c.args.disk.now c.loop-read.disk c.take_piece.new.disk c.args.run.now
           c.loop-read.run c.take_piece.new.run c.loop-read.invariant.disk c.in_ok-end.ensures.disk;
       so_far = λ site kept h.
+          let left = g.S.Stream.left c.loop-read.input in
           some_weaker (g.S.Stream.left c.args.input.now)
           (λ bytes (s : SoFar site kept bytes left old mid c.loop-read.reader c.loop-read.run c.loop-read.read).
           let within = piece_within site kept bytes left old mid c.loop-read.reader c.loop-read.run c.loop-read.read s piece fits in

@@ -29,19 +29,19 @@ returns-in_err-end-clause-takes g c site kept before p h within =
     let disks = disks_of g.D.Disk.honest g.D.Disk.images g.D.Disk.moment g.D.Disk.left_since c.args.disk.now c.take_step.new.disk in
     let old = outside_before disks (g.K.Stream.written c.args.out.now) c.args.run.now in
     let new = outside_after disks (g.K.Stream.written c.take_step.new.out) c.take_step.new.run in
-    let next = fed_next site _ kept before c.args.piece.now p c.feed-fed.result old new c.args.reader.now c.feed-fed.new.self c.args.run.now
-    c.take_step.new.run c.take_step.result h within (c.site.ensures site kept p h.stands) c.feed-fed.ensures.feeds c.feed-fed.ensures.belongs
-    (c.take_step.ensures.takes site kept p h.stands) in
     let q = err_from_is_err_and c.from_residual.result c.from_residual.ensures.1 in
     subst (TakesNext site kept p before c.args.piece.now old new c.feed-fed.new.self c.take_step.new.run) (sym q.1)
-    (subst (NextBy site kept p before c.args.piece.now c.feed-fed.result.used old new c.feed-fed.new.self c.take_step.new.run) c.in_err-end.was next)
+    (subst (NextBy site kept p before c.args.piece.now c.feed-fed.result.used old new c.feed-fed.new.self c.take_step.new.run) c.in_err-end.was
+    (fed_next site _ kept before c.args.piece.now p c.feed-fed.result old new c.args.reader.now c.feed-fed.new.self c.args.run.now
+    c.take_step.new.run c.take_step.result h within (c.site.ensures site kept p h.stands) c.feed-fed.ensures.feeds c.feed-fed.ensures.belongs
+    (c.take_step.ensures.takes site kept p h.stands)))
 
 pub returns-clause-takes : goal.returns-clause-takes
 returns-clause-takes g c site kept before p h within =
     let disks = disks_of g.D.Disk.honest g.D.Disk.images g.D.Disk.moment g.D.Disk.left_since c.args.disk.now c.take_step.new.disk in
     let old = outside_before disks (g.K.Stream.written c.args.out.now) c.args.run.now in
     let new = outside_after disks (g.K.Stream.written c.take_step.new.out) c.take_step.new.run in
-    let next = fed_next site _ kept before c.args.piece.now p c.feed-fed.result old new c.args.reader.now c.feed-fed.new.self c.args.run.now
+    subst (NextBy site kept p before c.args.piece.now c.feed-fed.result.used old new c.feed-fed.new.self c.take_step.new.run) c.in_ok-end.was
+    (fed_next site _ kept before c.args.piece.now p c.feed-fed.result old new c.args.reader.now c.feed-fed.new.self c.args.run.now
     c.take_step.new.run c.take_step.result h within (c.site.ensures site kept p h.stands) c.feed-fed.ensures.feeds c.feed-fed.ensures.belongs
-    (c.take_step.ensures.takes site kept p h.stands) in
-    subst (NextBy site kept p before c.args.piece.now c.feed-fed.result.used old new c.feed-fed.new.self c.take_step.new.run) c.in_ok-end.was next
+    (c.take_step.ensures.takes site kept p h.stands))

@@ -26,9 +26,8 @@ pub returns-in_err-taken-clause-takes : goal.returns-in_err-taken-clause-takes
 returns-in_err-taken-clause-takes g c site kept before p h within =
     let q = err_from_is_err_and c.from_residual.result c.from_residual.ensures.1 in
     let whole = disks_of g.D.Disk.honest g.D.Disk.images g.D.Disk.moment g.D.Disk.left_since c.args.disk.now c.take_next.new.disk in
-    let first = disks_of g.D.Disk.honest g.D.Disk.images g.D.Disk.moment g.D.Disk.left_since c.args.disk.now c.loop-rest.disk in
     let old = outside_before whole (g.K.Stream.written c.args.out.now) c.args.run.now in
-    let mid = outside_after first (g.K.Stream.written c.loop-rest.out) c.loop-rest.run in
+    let mid = outside_after (disks_of g.D.Disk.honest g.D.Disk.images g.D.Disk.moment g.D.Disk.left_since c.args.disk.now c.loop-rest.disk) (g.K.Stream.written c.loop-rest.out) c.loop-rest.run in
     let new = outside_after whole (g.K.Stream.written c.take_next.new.out) c.take_next.new.run in
     let rest = c.loop-rest.rest.now in
     let t = c.loop-rest.invariant.so_far site kept before p h within in
@@ -45,13 +44,12 @@ returns-in_err-taken-clause-disk g c =
 pub returns-in-Some-clause-takes : goal.returns-in-Some-clause-takes
 returns-in-Some-clause-takes g c site kept before p h within =
     let whole = disks_of g.D.Disk.honest g.D.Disk.images g.D.Disk.moment g.D.Disk.left_since c.args.disk.now c.take_next.new.disk in
-    let first = disks_of g.D.Disk.honest g.D.Disk.images g.D.Disk.moment g.D.Disk.left_since c.args.disk.now c.loop-rest.disk in
     let old = outside_before whole (g.K.Stream.written c.args.out.now) c.args.run.now in
-    let mid = outside_after first (g.K.Stream.written c.loop-rest.out) c.loop-rest.run in
+    let mid = outside_after (disks_of g.D.Disk.honest g.D.Disk.images g.D.Disk.moment g.D.Disk.left_since c.args.disk.now c.loop-rest.disk) (g.K.Stream.written c.loop-rest.out) c.loop-rest.run in
     let new = outside_after whole (g.K.Stream.written c.take_next.new.out) c.take_next.new.run in
+    let t = c.loop-rest.invariant.so_far site kept before p h within in
     let rest = c.loop-rest.rest.now in
     let used = c.in_ok-taken.taken.used in
-    let t = c.loop-rest.invariant.so_far site kept before p h within in
     let within_rest = rest_within site kept p before c.args.piece.now rest old mid new c.loop-rest.reader c.loop-rest.run t within in
     taking_ends site kept p before c.args.piece.now rest old mid new c.loop-rest.reader c.loop-rest.run t used c.in-Some.end c.take_next.new.run
     (subst (GoesOn site kept t.now ((before ++ t.front) ++ take used rest) mid new c.take_next.new.reader c.take_next.new.run) c.in-Some.is
@@ -65,9 +63,8 @@ returns-in-Some-clause-disk g c =
 pub loop-rest-preserved : goal.loop-rest-preserved
 loop-rest-preserved g c =
     let whole = disks_of g.D.Disk.honest g.D.Disk.images g.D.Disk.moment g.D.Disk.left_since c.args.disk.now c.take_next.new.disk in
-    let first = disks_of g.D.Disk.honest g.D.Disk.images g.D.Disk.moment g.D.Disk.left_since c.args.disk.now c.loop-rest.disk in
     let old = outside_before whole (g.K.Stream.written c.args.out.now) c.args.run.now in
-    let mid = outside_after first (g.K.Stream.written c.loop-rest.out) c.loop-rest.run in
+    let mid = outside_after (disks_of g.D.Disk.honest g.D.Disk.images g.D.Disk.moment g.D.Disk.left_since c.args.disk.now c.loop-rest.disk) (g.K.Stream.written c.loop-rest.out) c.loop-rest.run in
     let new = outside_after whole (g.K.Stream.written c.take_next.new.out) c.take_next.new.run in
     let rest = c.loop-rest.rest.now in
     let used = c.in_ok-taken.taken.used in

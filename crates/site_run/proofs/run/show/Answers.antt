@@ -1,8 +1,9 @@
-use Rattle.std.proofs.Common.{◌≡◌, ◌∙◌, ◌+◌, ◌++◌, [], ◌∷◌, map, length-set, ap, sym, arith}
+use Rattle.std.proofs.Common.{◌∙◌, ◌+◌, ◌++◌, [], ◌∷◌, map, length-set, ap, sym, arith}
 use Rattle.std.specs.List.{range_with_len}
-use Rattle.std.proofs.lemmas.List.{take_all, take_more_set}
+use Rattle.std.proofs.lemmas.List.{take_more_set}
 use Rattle.std.proofs.lemmas.List.FromFn.{map-range_with_len_more}
 use Rattle.panel_rules.specs.Timeline.{face_of}
+use Rattle.site_run.proofs.Faces.{all_put}
 use Rattle.site_run.proofs.run.show.Goals as goal
 
 pub loop-place-preserved : goal.loop-place-preserved
@@ -25,13 +26,6 @@ loop-place-preserved c =
 
 pub returns-clause-shows : goal.returns-clause-shows
 returns-clause-shows c site kept before stands run room =
-    let k = c.loop-place.place in
     let inv = c.loop-place.invariant in
-    let over = c.loop-place-test.false in
-    let within = inv.within in
-    let long = inv.room in
-    let end = c.len-place-end.ensures in
-    let is : k ≡ site.panels = omega (arith, over, within, end, room) in
-    sym (take_all k c.loop-place.faces.items (omega (arith, long, over, within, end)))
-    ∙ inv.shown site kept before stands run
-    ∙ ap (λ n. map (λ panel. face_of site kept panel before) (range_with_len 1 n)) is
+    all_put c.loop-place.faces.items (λ panel. face_of site kept panel before) c.loop-place.place site.panels inv.room inv.within room
+    (omega (arith, c.loop-place-test.false, c.len-place-end.ensures)) (inv.shown site kept before stands run)

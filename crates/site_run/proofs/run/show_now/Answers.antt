@@ -5,6 +5,7 @@ use Rattle.std.proofs.lemmas.List.FromFn.{get_or-map-range_with_len, map-range_w
 use Rattle.face_text.specs.declared.face.Face.{Face}
 use Rattle.panel_rules.specs.Timeline.{face_of}
 use Rattle.panel_core.specs.Marks.{before_tick}
+use Rattle.site_run.proofs.Faces.{all_put}
 use Rattle.site_run.proofs.run.show_now.Goals as goal
 
 -- neither holds where not one of them does
@@ -47,16 +48,9 @@ loop-place-preserved c =
 
 pub returns-clause-shows : goal.returns-clause-shows
 returns-clause-shows c site kept before stands run marked room last =
-    let k = c.loop-place.place in
     let inv = c.loop-place.invariant in
-    let over = c.loop-place-test.false in
-    let within = inv.within in
-    let long = inv.room in
-    let end = c.len-place-end.ensures in
-    let is : k ≡ site.panels = omega (arith, over, within, end, room) in
-    sym (take_all k c.loop-place.faces.items (omega (arith, long, over, within, end)))
-    ∙ inv.shown site kept before stands run marked room last
-    ∙ ap (λ n. map (λ panel. face_of site kept panel before) (range_with_len 1 n)) is
+    all_put c.loop-place.faces.items (λ panel. face_of site kept panel before) c.loop-place.place site.panels inv.room inv.within room
+    (omega (arith, c.loop-place-test.false, c.len-place-end.ensures)) (inv.shown site kept before stands run marked room last)
 
 pub returns-clause-same : goal.returns-clause-same
 returns-clause-same c unchanged =

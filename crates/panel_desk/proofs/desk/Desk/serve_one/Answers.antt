@@ -1,16 +1,15 @@
-use Rattle.std.proofs.Common.{◌≡◌, ◌∙◌, ◌≤◌, length, refl, sym, subst, ap}
+use Rattle.std.proofs.Common.{◌≡◌, ◌∙◌, ◌≤◌, length, refl, sym, subst}
 use Rattle.desk_register.specs.Replies.{sides_of}
 use Rattle.desk_requests.specs.Rooms.{read_into}
 use Rattle.desk_requests.specs.declared.taken.Taken.TheVariants.{Asked, Ended, ReadFault, Refused}
 use Rattle.desk_ticks.specs.Blocks.{most_block_bytes}
 use Rattle.panel_desk.proofs.Asked.{body_short, body_within, is_of_site}
 use Rattle.panel_desk.proofs.Connections.{broken, ended, read_here, refused_head, replied}
-use Rattle.panel_desk.proofs.Replied.{replied_as, same_site}
+use Rattle.panel_desk.proofs.Replied.{panels_of_site, replied_as}
 use Rattle.panel_desk.specs.Acting.{SendsReply}
 use Rattle.panel_desk.specs.Replies.{Replies, refused_reply}
 use Rattle.panel_desk.specs.Serving.{SentBy, conn_sides}
 use Rattle.site_run.specs.Outside.{disks_of}
-use Rattle.site_types.specs.declared.site.Site.{Site}
 use Rattle.desk_requests.specs.Taking.{HasWhole, body_of}
 use Rattle.panel_desk.proofs.desk.Desk.serve_one.Goals as goal
 
@@ -32,35 +31,27 @@ reply_to-reply-requires-clause-may g c =
 
 pub returns-in-Ended-clause-serves : goal.returns-in-Ended-clause-serves
 returns-in-Ended-clause-serves g c site kept ticks stands room =
-    let r = c.requires.may in
-    let same = same_site r.site site r.kept kept _ _ c.args.run.now r.stands stands in
-    let panels = r.panels_are ∙ ap (λ (s : Site). s.panels) same in
+    let panels = panels_of_site c.requires.may stands in
     let read = c.read_request in
     let bytes = read_into read.new.room in
-    let disks = disks_of g.D.Disk.honest g.D.Disk.images g.D.Disk.moment g.D.Disk.left_since c.args.disk.now c.args.disk.now in
     let conn = conn_sides g.C.Stream.left g.C.Stream.written c.args.conn.now read.new.conn in
     let sides = sides_of g.R.Keeper.tables g.R.Keeper.faults c.args.keeper.now c.args.keeper.now in
-    ended site kept ticks conn sides disks c.args.run.now bytes refl stands
+    ended site kept ticks conn sides (disks_of g.D.Disk.honest g.D.Disk.images g.D.Disk.moment g.D.Disk.left_since c.args.disk.now c.args.disk.now) c.args.run.now bytes refl stands
     (read_here c.args.self.now.panels site.panels conn.left conn.rest conn.rest bytes Ended panels refl c.in-Ended.ensures.takes) refl read.ensures.written
 
 pub returns-in-ReadFault-clause-serves : goal.returns-in-ReadFault-clause-serves
 returns-in-ReadFault-clause-serves g c site kept ticks stands room =
-    let r = c.requires.may in
-    let same = same_site r.site site r.kept kept _ _ c.args.run.now r.stands stands in
-    let panels = r.panels_are ∙ ap (λ (s : Site). s.panels) same in
+    let panels = panels_of_site c.requires.may stands in
     let read = c.read_request in
     let bytes = read_into read.new.room in
-    let disks = disks_of g.D.Disk.honest g.D.Disk.images g.D.Disk.moment g.D.Disk.left_since c.args.disk.now c.args.disk.now in
     let conn = conn_sides g.C.Stream.left g.C.Stream.written c.args.conn.now read.new.conn in
     let sides = sides_of g.R.Keeper.tables g.R.Keeper.faults c.args.keeper.now c.args.keeper.now in
-    broken site kept ticks conn sides disks c.args.run.now bytes refl stands
+    broken site kept ticks conn sides (disks_of g.D.Disk.honest g.D.Disk.images g.D.Disk.moment g.D.Disk.left_since c.args.disk.now c.args.disk.now) c.args.run.now bytes refl stands
     (read_here c.args.self.now.panels site.panels conn.left conn.rest conn.rest bytes ReadFault panels refl c.in-ReadFault.ensures.takes) refl read.ensures.written
 
 pub returns-in-Refused-clause-serves : goal.returns-in-Refused-clause-serves
 returns-in-Refused-clause-serves g c site kept ticks stands room =
-    let r = c.requires.may in
-    let same = same_site r.site site r.kept kept _ _ c.args.run.now r.stands stands in
-    let panels = r.panels_are ∙ ap (λ (s : Site). s.panels) same in
+    let panels = panels_of_site c.requires.may stands in
     let read = c.read_request in
     let sent = c.send in
     let bytes = read_into read.new.room in
@@ -77,9 +68,7 @@ returns-in-Refused-clause-serves g c site kept ticks stands room =
 
 pub returns-in-Asked-clause-serves : goal.returns-in-Asked-clause-serves
 returns-in-Asked-clause-serves g c site kept ticks stands room =
-    let r = c.requires.may in
-    let same = same_site r.site site r.kept kept _ _ c.args.run.now r.stands stands in
-    let panels = r.panels_are ∙ ap (λ (s : Site). s.panels) same in
+    let panels = panels_of_site c.requires.may stands in
     let read = c.read_request in
     let sent = c.send-in-Asked in
     let request = c.in-Asked.request in
