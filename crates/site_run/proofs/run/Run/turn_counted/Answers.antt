@@ -1,8 +1,0 @@
-use Rattle.site_run.proofs.Stood.{may_turn}
-use Rattle.site_run.proofs.run.Run.turn_counted.Goals as goal
-
-pub turns-requires-clause-may : goal.turns-requires-clause-may
-turns-requires-clause-may g c = rw c.in-Some.is at (may_turn c.args.self.now c.requires.may)
-
-pub turns-requires-in-None-clause-may : goal.turns-requires-in-None-clause-may
-turns-requires-in-None-clause-may g c = rw c.in-None.is at (may_turn c.args.self.now c.requires.may)
