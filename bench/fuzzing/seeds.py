@@ -50,7 +50,7 @@ def stored(caller):
                 sites[data] = Site(data)
             except (tomllib.TOMLDecodeError, UnicodeDecodeError, KeyError, TypeError):
                 sites[data] = None
-        near = sorted(folder.glob("record*")) if folder.is_dir() else []
+        near = [file for file in sorted(folder.glob("record*")) if file.is_file()] if folder.is_dir() else []
         for record in near:
             text = record.read_bytes()
             if sites[data] and len(text) <= LARGEST_SEED and text:
