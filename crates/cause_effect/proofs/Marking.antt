@@ -59,6 +59,22 @@ pub below_none : (test : ℕ → Bool) → any_below 0 test ≡ false
 unfolding any_below
 below_none test = refl
 
+none_below : (n : ℕ) (test : ℕ → Bool) → ((k : ℕ) → test k ≡ false) → any_below n test ≡ false
+unfolding any_below
+none_below zero test h = refl
+none_below (suc n) test h = rw (none_below n test h) (h n)
+
+-- no bit of a mask differs from itself
+none_differs : (bit among : Bool) → (differ bit bit && among) ≡ false
+none_differs true among = refl
+none_differs false among = refl
+
+pub same_word : (lists : List (List ℕ)) (first before after m : ℕ) → before ≡ after → uses_word lists first before after m ≡ false
+same_word lists first before after m e =
+    subst (λ word. uses_word lists first before word m ≡ false) e
+    (none_below 32 (uses_bit lists first before before m)
+    (λ bit. none_differs (has_bit before bit) (is_among m (users_at lists (first + bit)))))
+
 pub below_next : (n : ℕ) (test : ℕ → Bool) → any_below (n + 1) test ≡ (any_below n test || test n)
 unfolding any_below
 below_next n test = ap (λ k. any_below k test) (next n)

@@ -76,6 +76,9 @@ impl Users {
             → is_marked marks.new m
             ≡ (is_marked marks.old m || uses_word self.now.lists first before after m) }
     {
+        if before == after {
+            return;
+        }
         for bit in 0..32 {
             if has_bit_32(before, bit) != has_bit_32(after, bit) {
                 self.mark(first + bit as usize, marks);

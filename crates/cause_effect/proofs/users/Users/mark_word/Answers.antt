@@ -3,10 +3,14 @@ use Rattle.site_types.specs.Bits.{any_below, has_bit}
 use Rattle.cause_effect.specs.Changes.{differ}
 use Rattle.cause_effect.specs.Cycles.{is_among}
 use Rattle.cause_effect.specs.Users.{is_marked, uses_bit, users_at}
-use Rattle.cause_effect.proofs.Marking.{below_none, bit_more}
+use Rattle.cause_effect.proofs.Marking.{below_none, bit_more, same_word}
 use Rattle.cause_effect.proofs.Using.{differ_is, or_none}
 use Rattle.cause_effect.proofs.users.Users.mark_word.Goals as goal
 use Rattle.cause_effect.proofs.users.Users.mark_word.Goals.{then-has_bit_32, else-has_bit_32}
+
+pub returns-then-before-after : goal.returns-then-before-after
+returns-then-before-after c m small =
+    or_none (is_marked c.args.marks.now m) _ (same_word c.args.self.now.lists c.args.first c.args.before c.args.after m c.if-before-after.true)
 
 pub loop-bit-init : goal.loop-bit-init
 loop-bit-init c m small =
