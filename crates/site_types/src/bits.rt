@@ -35,7 +35,11 @@ pub fn with_bit_8(mask: u8, bit: u8, on: bool) -> u8
     ensures this { has_bit result bit ≡ on }
     ensures others { (k : ℕ) → k < 8 → k ≢ bit → has_bit result k ≡ has_bit mask k }
 {
-    with_bit_128(mask as u128, bit, on) as u8
+    if on {
+        mask | (1 << bit)
+    } else {
+        mask & !(1 << bit)
+    }
 }
 
 /// The mask with a bit set or cleared.
@@ -45,7 +49,11 @@ pub fn with_bit_32(mask: u32, bit: u8, on: bool) -> u32
     ensures this { has_bit result bit ≡ on }
     ensures others { (k : ℕ) → k < 32 → k ≢ bit → has_bit result k ≡ has_bit mask k }
 {
-    with_bit_128(mask as u128, bit, on) as u32
+    if on {
+        mask | (1 << bit)
+    } else {
+        mask & !(1 << bit)
+    }
 }
 
 /// The mask with a bit set or cleared.
@@ -67,7 +75,7 @@ pub fn mask_from_8(flags: &[bool]) -> u8
     requires { length flags.now ≤ 8 }
     ensures { result ≡ mask_of (length flags.now) (λ k. slice_index_or flags.now k false) }
 {
-    mask_from_128(flags) as u8
+    mask_from_32(flags) as u8
 }
 
 /// The mask whose bits are these flags, the first flag being bit 0.
@@ -75,7 +83,13 @@ pub fn mask_from_32(flags: &[bool]) -> u32
     requires { length flags.now ≤ 32 }
     ensures { result ≡ mask_of (length flags.now) (λ k. slice_index_or flags.now k false) }
 {
-    mask_from_128(flags) as u32
+    let mut mask = 0;
+    for (k, flag) in flags.iter().enumerate() {
+        if *flag {
+            mask += 1 << k;
+        }
+    }
+    mask
 }
 
 /// The mask whose bits are these flags, the first flag being bit 0.

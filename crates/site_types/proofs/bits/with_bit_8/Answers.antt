@@ -1,17 +1,16 @@
-use Rattle.std.proofs.Common.{◌∙◌, ◌<◌, ◌^◌, sym, subst, arith}
-use Rattle.std.specs.Int.{w8, w128}
-use Rattle.site_types.proofs.Masks.{with_bit-wider}
+use Rattle.std.proofs.Common.{◌∙◌, sym, true, false}
+use Rattle.std.specs.Int.{w8}
+use Rattle.site_types.proofs.Masks.{with_bit-same, with_bit-other}
 use Rattle.site_types.proofs.bits.with_bit_8.Goals as goal
 
-pub overflow_cast-result : goal.overflow_cast-result
-overflow_cast-result c =
-    record {
-      fits =
-          subst (λ m. m < 2 ^ 8) (sym c.with_bit_128.ensures.value)
-          (with_bit-wider w8 w128 c.args.mask c.args.bit c.args.on (omega arith) c.ranges.mask.fits c.requires).0;
-    }
+pub returns-then-on-clause-this : goal.returns-then-on-clause-this
+returns-then-on-clause-this c = with_bit-same w8 c.args.mask c.args.bit true c.requires ∙ sym c.if-on.true
 
-pub returns-clause-value : goal.returns-clause-value
-returns-clause-value c =
-    c.with_bit_128.ensures.value
-    ∙ (with_bit-wider w8 w128 c.args.mask c.args.bit c.args.on (omega arith) c.ranges.mask.fits c.requires).1
+pub returns-then-on-clause-others : goal.returns-then-on-clause-others
+returns-then-on-clause-others c k small apart = with_bit-other w8 c.args.mask c.args.bit true c.requires k small apart
+
+pub returns-else-on-clause-this : goal.returns-else-on-clause-this
+returns-else-on-clause-this c = with_bit-same w8 c.args.mask c.args.bit false c.requires ∙ sym c.if-on.false
+
+pub returns-else-on-clause-others : goal.returns-else-on-clause-others
+returns-else-on-clause-others c k small apart = with_bit-other w8 c.args.mask c.args.bit false c.requires k small apart
