@@ -71,10 +71,34 @@ impl FacePair<'_> {
         ensures reads { K.read_faults out.new ≡ K.read_faults out.old }
     {
         for place in 0..last_number(group) {
-            let line = self.thing_change(group, place + 1);
-            held.push(line.as_str().as_bytes(), out)?;
+            self.push_number(group, place + 1, held, out)?;
         }
         Ok(())
+    }
+
+    // The line of a thing, where it changed.
+    fn push_number<K: Sink>(
+        &self,
+        group: Group,
+        number: u8,
+        held: &mut Held,
+        out: &mut K,
+    ) -> Result<(), Failed>
+        requires group { HasPlace group }
+        requires number { (1 ≤ number) × (number ≤ last_of group) }
+        ensures text { Puts held.old held.new (K.written out.old) (K.written out.new)
+            (change_of self.now.site.now self.now.before.now self.now.after.now
+            (Thing group number)) result }
+        ensures cause { HasCause (K.write_faults out.old) (K.write_faults out.new) result }
+        ensures left { K.left out.new ≡ K.left out.old }
+        ensures reads { K.read_faults out.new ≡ K.read_faults out.old }
+    {
+        let on = shows(self.after, group, number);
+        if shows(self.before, group, number) == on {
+            return Ok(());
+        }
+        let line = thing_line(self.site, self.after.panel, group, number, on);
+        held.push(line.as_str().as_bytes(), out)
     }
 
     /// Puts the lines of delays, buzzer and counter behind what is held.
@@ -89,22 +113,6 @@ impl FacePair<'_> {
         held.push(self.delays_change().as_str().as_bytes(), out)?;
         held.push(self.buzzer_change().as_str().as_bytes(), out)?;
         held.push(self.counter_change().as_str().as_bytes(), out)
-    }
-
-    // The line of a thing, where it changed; else nothing.
-    fn thing_change(&self, group: Group, number: u8) -> ArrayString<64>
-        requires group { HasPlace group }
-        requires number { (1 ≤ number) × (number ≤ last_of group) }
-        ensures text { result.bytes
-            ≡ change_of self.now.site.now self.now.before.now self.now.after.now
-            (Thing group number) }
-        ensures short { length result.bytes ≤ 64 }
-    {
-        let on = shows(self.after, group, number);
-        if shows(self.before, group, number) == on {
-            return ArrayString::new();
-        }
-        thing_line(self.site, self.after.panel, group, number, on)
     }
 
     fn delays_change(&self) -> ArrayString<64>
