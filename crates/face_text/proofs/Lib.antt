@@ -7,6 +7,7 @@ pub mod Listing
 pub mod NamedThings
 pub mod ListItems
 pub mod EqualFaces
+pub mod SameBits
 pub mod SameFaces
 pub mod SameSlots
 -- the line of an entry: its fields, its end, the entry that it spells

@@ -107,7 +107,7 @@ changes_are site before after =
     sym (flat_map-append f (flat_map (slots_of site after.panel) page) (Delays ∷ Sounding ∷ Count ∷ [])
     ∙ ap (λ xs. xs ++ flat_map f (Delays ∷ Sounding ∷ Count ∷ [])) (flat_twice f (slots_of site after.panel) page))
 
-same_value : (x y : ℕ) (line : List ℕ) → x ≡ y → (if x == y then [] else line) ≡ []
+pub same_value : (x y : ℕ) (line : List ℕ) → x ≡ y → (if x == y then [] else line) ≡ []
 same_value x y line e = elim (eqb_tells x y) [
   | inl h ↦ rw h.0 refl
   | inr h ↦ absurd (h.1 e)

@@ -10,6 +10,7 @@ use crate::face::Face;
 use crate::group::Group;
 use crate::held::Held;
 use crate::masks::{is_same, last_number, shows};
+use crate::next_change::next_change;
 use crate::page::page;
 use arrayvec::ArrayString;
 use panel_edges::{Failed, Sink};
@@ -70,8 +71,15 @@ impl FacePair<'_> {
         ensures left { K.left out.new ≡ K.left out.old }
         ensures reads { K.read_faults out.new ≡ K.read_faults out.old }
     {
+        let mut next = 1;
         for place in 0..last_number(group) {
-            self.push_number(group, place + 1, held, out)?;
+            let number = place + 1;
+            if next <= number {
+                next = next_change(self.before, self.after, group, number);
+            }
+            if next <= number {
+                self.push_number(group, number, held, out)?;
+            }
         }
         Ok(())
     }

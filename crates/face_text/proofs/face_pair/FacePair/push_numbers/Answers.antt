@@ -1,8 +1,10 @@
-use Rattle.std.proofs.Common.{◌∙◌, ◌<◌, arith, subst}
-use Rattle.face_text.specs.Slots.{last_of}
-use Rattle.face_text.proofs.Holding.{moves_next, puts_broken}
-use Rattle.face_text.proofs.Listing.{number_front, number_next}
+use Rattle.std.proofs.Common.{◌≡◌, ◌∙◌, ◌<◌, ◌+◌, ℕ, [], arith, ap, subst, sym}
+use Rattle.face_text.specs.Changes.{change_of}
+use Rattle.face_text.specs.Slots.{Thing, last_of, number_of_truth, shows}
+use Rattle.face_text.proofs.Holding.{moves_as, moves_next, moves_none, puts_broken}
+use Rattle.face_text.proofs.Listing.{number_front, number_next, same_value}
 use Rattle.face_text.proofs.face_pair.FacePair.push_numbers.Goals as goal
+use Rattle.face_text.proofs.face_pair.FacePair.push_numbers.Goals.{then-next-number, else-next-number, then-next-number-2+in_ok-push_number, else-next-number-2}
 
 pub returns-in_err-push_number-clause-text : goal.returns-in_err-push_number-clause-text
 returns-in_err-push_number-clause-text g c =
@@ -15,13 +17,35 @@ returns-in_err-push_number-clause-text g c =
 pub loop-place-preserved : goal.loop-place-preserved
 loop-place-preserved g c =
     let pair = c.args.self.now in
+    let number = c.loop-place.place + 1 in
     let before = c.loop-place.invariant in
-    let call = c.push_number.ensures in
+    let same : (n : ℕ) → c.loop-place.place < n → n < c.if-next-number.next → shows pair.before.now c.args.group n ≡ shows pair.after.now c.args.group n =
+    λ n past less. elim c.if-next-number.branch [
+      | then-next-number w ↦ w.next_change-next.ensures n (omega (arith, past)) (subst (λ k. n < k) w.next-is less)
+      | else-next-number w ↦ before.same n past (subst (λ k. n < k) w.next-is less)
+    ] in
     record {
-      text = moves_next c.args.held.now c.loop-place.held c.push_number.new.held _ _ _ _ _ _
-          (number_next pair.site.now pair.before.now pair.after.now c.args.group c.loop-place.place) before.text
-          c.in_ok-push_number.ensures.text.ok;
-      counted = omega (arith, before.counted, call.cause.later);
-      left = call.left ∙ before.left;
-      reads = call.reads ∙ before.reads;
+      text = elim c.if-next-number-2.branch [
+        | then-next-number-2+in_ok-push_number w ↦ rw (w.held-is, w.out-is) (moves_next c.args.held.now c.loop-place.held w.push_number.new.held _ _ _ _ _ _
+            (number_next pair.site.now pair.before.now pair.after.now c.args.group c.loop-place.place) before.text
+            w.in_ok-push_number.ensures.text.ok)
+        | else-next-number-2 w ↦ (let none : change_of pair.site.now pair.before.now pair.after.now (Thing c.args.group number) ≡ [] =
+            same_value _ _ _ (ap number_of_truth (same number (omega arith) (omega (arith, w.if-next-number-2.false)))) in
+            rw (w.held-is, w.out-is) (moves_next c.args.held.now c.loop-place.held c.loop-place.held _ _ _ _ _ _
+            (number_next pair.site.now pair.before.now pair.after.now c.args.group c.loop-place.place) before.text
+            (moves_as c.loop-place.held c.loop-place.held _ _ _ _ (sym none) (moves_none c.loop-place.held _))))
+      ];
+      same = λ n past less. same n (omega (arith, past)) less;
+      counted = elim c.if-next-number-2.branch [
+        | then-next-number-2+in_ok-push_number w ↦ rw w.out-is (omega (arith, before.counted, w.push_number.ensures.cause.later))
+        | else-next-number-2 w ↦ rw w.out-is before.counted
+      ];
+      left = elim c.if-next-number-2.branch [
+        | then-next-number-2+in_ok-push_number w ↦ rw w.out-is (w.push_number.ensures.left ∙ before.left)
+        | else-next-number-2 w ↦ rw w.out-is before.left
+      ];
+      reads = elim c.if-next-number-2.branch [
+        | then-next-number-2+in_ok-push_number w ↦ rw w.out-is (w.push_number.ensures.reads ∙ before.reads)
+        | else-next-number-2 w ↦ rw w.out-is before.reads
+      ];
     }
