@@ -15,4 +15,5 @@ mod done_operation;
 mod kept_settings;
 
 pub use blocked_points::{BlockedPoints, count_before};
+pub use blocked_settings::set_flag;
 pub use done_operation::DoneOperation;
