@@ -49,6 +49,7 @@ use Rattle.panel_laws.specs.FaceLaws.{HasEnded}
 use Rattle.panel_laws.proofs.DriveTurns.{made_true}
 use Rattle.panel_laws.proofs.DueOn.{same_past, up_to_is_past, zone_panel}
 use Rattle.panel_laws.proofs.EffectWords.{effect_past, link_late}
+use Rattle.panel_laws.proofs.HeardWords.{latest_then}
 use Rattle.panel_laws.proofs.LaterDone.{turn_in_time}
 use Rattle.panel_laws.proofs.Monotony.{output_grows}
 use Rattle.panel_laws.proofs.Steps.{up_to_tick}
@@ -66,7 +67,6 @@ use Rattle.audit_laws.specs.ZonesJudged.{account_of_run, account_of_text}
 use Rattle.audit_laws.proofs.AccountsTold.{on_is}
 use Rattle.audit_laws.proofs.AlikeFaults.{faults_stand}
 use Rattle.audit_laws.proofs.FacesTold.{face_told}
-use Rattle.audit_laws.proofs.LatestWords.{latest_then}
 use Rattle.audit_laws.proofs.MomentsTold.{made_same, records_told}
 use Rattle.audit_laws.proofs.Released.{out_alarm}
 use Rattle.audit_laws.proofs.ZonesJudged.{ended_at}
@@ -359,7 +359,7 @@ module _ (site : Site) (kept : Retained) (ticks : List TickBlock) (valid : IsVal
         (record {
           released = λ zone l t. both _ _ (lt_to zone (length site.zones) l) t;
           by_hand = λ zone l t. both _ _ (lt_to zone (length site.zones) l) t;
-          faulty = λ source t. t;
+          faulty = λ source own t. t;
         }) place asked;
   }
     where

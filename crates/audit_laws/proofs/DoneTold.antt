@@ -36,19 +36,6 @@ use Rattle.audit_laws.proofs.ZonesJudged.{ended_at}
 
 -- ---- what is found
 
-pub record IsGot {X : Type 0} (test : X → Bool) (xs : List X) (x : X) : Type 0 where
-  place : ℕ
-  is : slice_get xs place ≡ Some x
-  passes : test x ≡ true
-
-pub find_got : {X : Type 0} (test : X → Bool) (xs : List X) (x : X) → find test xs ≡ Some x → IsGot test xs x
-find_got test [] x h = cc
-find_got {X = X} test (y ∷ xs) x h = go (test y) refl h (find_got test xs x)
-  where
-    go : (b : Bool) → test y ≡ b → (if b then Some y else find test xs) ≡ Some x → (find test xs ≡ Some x → IsGot test xs x) → IsGot test (y ∷ xs) x
-    go true e h ih = let same : x ≡ y = cc in record { place = 0; is = h; passes = ap test same ∙ e }
-    go false e h ih = let g = ih h in record { place = suc g.place; is = g.is; passes = g.passes }
-
 -- the only one that passes is found
 find_only : {X : Type 0} (test : X → Bool) (xs : List X) (place : ℕ) (x : X) → slice_get xs place ≡ Some x → test x ≡ true
     → ((k : ℕ) (y : X) → slice_get xs k ≡ Some y → test y ≡ true → y ≡ x) → find test xs ≡ Some x

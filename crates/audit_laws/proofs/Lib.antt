@@ -13,7 +13,6 @@ pub mod ZonesTold
 pub mod Levels
 pub mod AnswersJudged
 pub mod AccountsTold
-pub mod LatestWords
 pub mod Released
 pub mod CausesJudged
 pub mod RunsPass

@@ -1,2 +1,3 @@
 pub mod InForce
+pub mod Counted
 pub mod Steps

@@ -1,10 +1,8 @@
 -- What a tick and an operation make of what is kept.
-use Rattle.std.proofs.Common.{◌≡◌, ℕ, zero, suc, ◌+◌, ◌≤◌, ◌<◌, Bool, false, List, [], ◌∷◌, ◌++◌, take, length, get_or, Some, slice_get, inl, inr, refl, sym, ◌∙◌, ap, subst, arith, length-append}
+use Rattle.std.proofs.Common.{◌≡◌, ℕ, ◌+◌, ◌≤◌, ◌<◌, Bool, false, List, [], ◌∷◌, ◌++◌, take, length, get_or, Some, slice_get, inl, inr, refl, ◌∙◌, subst, arith, length-append}
 use Rattle.std.proofs.Math.ListN.{get_or-append}
 use Rattle.std.proofs.Math.Seq.{get_or-append_seam}
 use Rattle.std.proofs.lemmas.Bool.{cases_lt}
-use Rattle.std.proofs.lemmas.List.{take_more}
-use Rattle.std.proofs.lemmas.Option.{get_or_from_slice_get, slice_get_within}
 use Rattle.site_types.specs.declared.retained.Retained.{Retained}
 use Rattle.site_types.specs.declared.site.Site.{Site}
 use Rattle.blocked_points.specs.declared.blocked_points.BlockedPoints.{BlockedPoints}
@@ -12,9 +10,9 @@ use Rattle.blocked_points.specs.declared.blocked_settings.BlockedSettings.{Block
 use Rattle.blocked_points.specs.declared.done_operation.DoneOperation.{DoneOperation}
 use Rattle.blocked_points.specs.Blocks.{AreBlockFlags}
 use Rattle.blocked_points.specs.BlocksStand.{BlocksStand}
-use Rattle.blocked_points.specs.Operations.{done_newest_first, as_done}
+use Rattle.blocked_points.specs.Operations.{done_newest_first}
 use Rattle.blocked_points.specs.Stands.{StandsFor}
-use Rattle.blocked_points.proofs.InForce.{and_done-append}
+use Rattle.blocked_points.proofs.Counted.{earlier_on, later_on}
 
 pub flags_none : (value : ℕ → Bool) → AreBlockFlags 0 value []
 flags_none value = record { size = refl; each = λ place less. absurd (omega (arith, less)) }
@@ -36,31 +34,6 @@ flags_more n value flags flag is are = record {
       ];
 }
 
--- an operation at a place of the list
-pub earlier_at : (operations : List DoneOperation) (place now : ℕ) (d other : DoneOperation) → (get_or operations place other).tick.0 < now
-    → slice_get operations place ≡ Some d → d.tick.0 < now
-earlier_at operations place now d other less at =
-    subst (λ (o : DoneOperation). o.tick.0 < now) (get_or_from_slice_get operations place d other at) less
-
-pub later_at : (operations : List DoneOperation) (place now : ℕ) (d other : DoneOperation) → now ≤ (get_or operations place other).tick.0
-    → slice_get operations place ≡ Some d → now ≤ d.tick.0
-later_at operations place now d other more at =
-    subst (λ (o : DoneOperation). now ≤ o.tick.0) (get_or_from_slice_get operations place d other at) more
-
--- one more operation is taken
-pub taken_more : (site : Site) (kept : Retained) (operations : List DoneOperation) (place : ℕ) (other : DoneOperation) (settings : BlockedSettings)
-    → place < length operations → BlocksStand site kept (as_done (get_or operations place other) ∷ done_newest_first (take place operations)) settings
-    → BlocksStand site kept (done_newest_first (take (place + 1) operations)) settings
-taken_more site kept operations place other settings less stands =
-    let more : done_newest_first (take (place + 1) operations) ≡ as_done (get_or operations place other) ∷ done_newest_first (take place operations) =
-    ap done_newest_first (take_more operations place other less) ∙ and_done-append (take place operations) (get_or operations place other) [] in
-    subst (λ done. BlocksStand site kept done settings) (sym more) stands
-
-some_at : (operations : List DoneOperation) (place : ℕ) → place < length operations → (d : DoneOperation) × (slice_get operations place ≡ Some d)
-some_at [] place less = absurd (omega (arith, less))
-some_at (d ∷ rest) zero less = (d, refl)
-some_at (d ∷ rest) (suc place) less = some_at rest place (omega (arith, less))
-
 -- the tick goes on
 pub goes_on : (site : Site) (kept : Retained) (operations : List DoneOperation) (tick now end : ℕ) (old : BlockedPoints) (settings : BlockedSettings)
     → StandsFor site kept operations tick old → tick ≤ now → old.in_force ≤ end → end ≤ length operations
@@ -71,17 +44,8 @@ pub goes_on : (site : Site) (kept : Retained) (operations : List DoneOperation) 
 goes_on site kept operations tick now end old settings stands up from within earlier later blocks = record {
   in_order = stands.in_order;
   within = within;
-  earlier = λ place d less at.
-      elim (cases_lt place old.in_force) [
-        | inl before ↦ (let l = stands.earlier place d before at in omega (arith, l, up))
-        | inr after ↦ earlier place d after less at
-      ];
-  later = λ place d more at.
-      let inside = slice_get_within operations place d at in
-      let first = some_at operations end (omega (arith, more, inside)) in
-      let low = later first.0 first.1 in
-      let order = stands.in_order end place first.0 d more first.1 at in
-      omega (arith, low, order);
+  earlier = earlier_on operations old.in_force end tick now up stands.earlier earlier;
+  later = later_on operations end now stands.in_order later;
   settings = blocks;
 }
 

@@ -58,8 +58,8 @@ impl BlockedPoints {
     }
 }
 
-// The place of the first operation from a place on that wasn't done before a tick, or how many there are.
-fn count_before(done: &[DoneOperation], from: usize, now: Tick) -> usize
+/// The place of the first operation from a place on that wasn't done before a tick, or how many there are.
+pub fn count_before(done: &[DoneOperation], from: usize, now: Tick) -> usize
     ensures within { result ≤ length done.now }
     ensures earlier { (place : ℕ) (d : DoneOperationOf) → from ≤ place → place < result
         → slice_get done.now place ≡ Some d → d.tick.0 < now.0 }

@@ -103,8 +103,8 @@ fn flag(flags: &[bool], place: usize) -> bool
     }
 }
 
-// What the site hasn't isn't set.
-fn set_flag(flags: &mut [bool], place: usize, value: bool)
+/// Sets the flag at a place; what the site hasn't isn't set.
+pub fn set_flag(flags: &mut [bool], place: usize, value: bool)
     ensures { flags.new ≡ slice_set flags.old place value }
 {
     if place < flags.len() {

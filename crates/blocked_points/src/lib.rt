@@ -14,5 +14,6 @@ mod blocked_settings;
 mod done_operation;
 mod kept_settings;
 
-pub use blocked_points::BlockedPoints;
+pub use blocked_points::{BlockedPoints, count_before};
+pub use blocked_settings::set_flag;
 pub use done_operation::DoneOperation;

@@ -1,6 +1,6 @@
 -- One more tick changes nothing of which zones were given a cause in the ticks before it.
 use Rattle.std.proofs.Common.{◌≡◌, ℕ, suc, ◌+◌, ◌<◌, ◌==◌, ◌&&◌, ◌||◌, not, Bool, true, false, List, [], ◌∷◌, ◌++◌, Option, Some, None, slice_get, inl, inr, refl, ◌∙◌, ap}
-use Rattle.std.proofs.Common.{subst, arith}
+use Rattle.std.proofs.Common.{append-nil, append_assoc, arith, subst, sym}
 use Rattle.std.specs.Prelude.{nat_le, nat_lt}
 use Rattle.std.specs.List.{list_all, list_any}
 use Rattle.std.proofs.lemmas.Bool.{eqb-true, ne_eqb}
@@ -30,22 +30,14 @@ pub record ComeBehind (front whole : List Answer) (tick : ℕ) : Type 0 where
   pub is : whole ≡ front ++ more
   pub stamps : (k : ℕ) (a : Answer) → slice_get more k ≡ Some a → a.stamp.0 ≡ tick
 
-append_none : (xs : List Answer) → xs ≡ xs ++ []
-append_none [] = refl
-append_none (x ∷ xs) = ap (λ ys. x ∷ ys) (append_none xs)
-
-append_on : (xs ys zs : List Answer) → (xs ++ ys) ++ zs ≡ xs ++ (ys ++ zs)
-append_on [] ys zs = refl
-append_on (x ∷ xs) ys zs = ap (λ ws. x ∷ ws) (append_on xs ys zs)
-
 nothing_more : (front : List Answer) (tick : ℕ) → ComeBehind front front tick
-nothing_more front tick = record { more = []; is = append_none front; stamps = λ k a h. absurd cc }
+nothing_more front tick = record { more = []; is = sym (append-nil front); stamps = λ k a h. absurd cc }
 
 more_behind : (front whole more : List Answer) (tick : ℕ) → ComeBehind front whole tick
     → ((k : ℕ) (a : Answer) → slice_get more k ≡ Some a → a.stamp.0 ≡ tick) → ComeBehind front (whole ++ more) tick
 more_behind front whole more tick come stamps = record {
   more = come.more ++ more;
-  is = ap (λ xs. xs ++ more) come.is ∙ append_on front come.more more;
+  is = ap (λ xs. xs ++ more) come.is ∙ append_assoc front come.more more;
   stamps = λ k a h. elim (get_either come.more more k a h) [ inl g ↦ come.stamps k a g | inr g ↦ stamps g.place a g.is ];
 }
 

@@ -117,6 +117,32 @@ module _ (site : Site) (kept : Retained) (operations : List DoneOperation) (take
             (subst (λ s. was_undone (undoes_at site q) s before ≡ false) (sym stamp) ((known.stand q).last_lasts one));
       }
 
+  -- an answer that is near to one that was given now, and lasts where no floor came since, is one of a mark
+  near_marked : (zone within k : ℕ) (a o : Answer) → a.stamp.0 ≡ now → slice_get xs k ≡ Some o → is_near site kept done within zone a o ≡ true
+      → (is_of site zone o.point ≡ true → nat_lt (floor_before site zone now done) o.stamp.0 ≡ true
+      → was_undone (undoes_at site o.point) o.stamp.0 before ≡ false) → some_near_to site marks now within a.point zone ≡ true
+  near_marked zone within k a o at is near lasts =
+      let p = parts _ _ near in
+      let s = parts _ _ p.0 in
+      let t = parts _ _ s.0 in
+      let u = parts _ _ t.0 in
+      let v = parts _ _ u.0 in
+      let f = parts _ _ t.1 in
+      let close = le_from a.stamp.0 (o.stamp.0 + within) p.1 in
+      to_mark zone within a.point k o is v.0 v.1 (not_false _ u.1) s.1 (omega (arith, close, at))
+      (lasts v.0 (subst (λ x. nat_lt (floor_before site zone x done) o.stamp.0 ≡ true) at f.0))
+
+  marked_near : (zone within : ℕ) (a : Answer) → a.stamp.0 ≡ now → (n : NearAnswer zone within a.point)
+      → nat_lt (floor_before site zone now done) n.other.stamp.0 ≡ true → is_near site kept done within zone a n.other ≡ true
+  marked_near zone within a at n floor =
+      let o = n.other in
+      let near = n.near in
+      let by = n.by in
+      both _ _ (both _ _ (both _ _ (both _ _ (both _ _ n.of n.counts) n.apart)
+      (both _ _ (subst (λ x. nat_lt (floor_before site zone x done) o.stamp.0 ≡ true) (sym at) floor)
+      (le_to o.stamp.0 a.stamp.0 (omega (arith, by, at))))) n.detects)
+      (le_to a.stamp.0 (o.stamp.0 + within) (omega (arith, near, at)))
+
   -- type A
   pub near_is : (verify within zone : ℕ) (a : Answer) → a.stamp.0 ≡ now → panel_of_zone site zone ≡ panel
       → rule_of (slice_get site.zones zone) ≡ Some (A verify within)
@@ -126,30 +152,15 @@ module _ (site : Site) (kept : Retained) (operations : List DoneOperation) (take
       (λ h.
       let g = at_any (is_near site kept done within zone a) xs h in
       let o = g.item in
-      let p = parts _ _ g.passes in
-      let s = parts _ _ p.0 in
-      let t = parts _ _ s.0 in
-      let u = parts _ _ t.0 in
-      let v = parts _ _ u.0 in
-      let f = parts _ _ t.1 in
-      let close = le_from a.stamp.0 (o.stamp.0 + within) p.1 in
-      let floor : nat_lt (floor_before site zone now done) o.stamp.0 ≡ true =
-      subst (λ x. nat_lt (floor_before site zone x done) o.stamp.0 ≡ true) at f.0 in
-      to_mark zone within a.point g.place o g.is v.0 v.1 (not_false _ u.1) s.1 (omega (arith, close, at))
-      (undone_at site zone o.point o.stamp.0 before v.0 ∙ undone_A site zone verify within o.stamp.0 before rule
+      near_marked zone within g.place a o at g.is g.passes
+      (λ of floor. undone_at site zone o.point o.stamp.0 before of ∙ undone_A site zone verify within o.stamp.0 before rule
       ∙ none_undid (moves_floor site zone) o.stamp.0 now operations taken known.are_taken floor))
       (λ h.
       let n = from_mark zone within a.point own h in
       let o = n.other in
-      let near = n.near in
-      let by = n.by in
       let floor = last_before (moves_floor site zone) o.stamp.0 now operations taken known.are_taken
       (sym (undone_A site zone verify within o.stamp.0 before rule) ∙ sym (undone_at site zone o.point o.stamp.0 before n.of) ∙ n.lasts) n.begins in
-      any_at (is_near site kept done within zone a) xs n.place o n.is
-      (both _ _ (both _ _ (both _ _ (both _ _ (both _ _ n.of n.counts) n.apart)
-      (both _ _ (subst (λ x. nat_lt (floor_before site zone x done) o.stamp.0 ≡ true) (sym at) floor)
-      (le_to o.stamp.0 a.stamp.0 (omega (arith, by, at))))) n.detects)
-      (le_to a.stamp.0 (o.stamp.0 + within) (omega (arith, near, at)))))
+      any_at (is_near site kept done within zone a) xs n.place o n.is (marked_near zone within a at n floor))
 
   -- type B
   pub uncancelled_is : (own_within within zone : ℕ) (a : Answer) → a.stamp.0 ≡ now → panel_of_zone site zone ≡ panel
@@ -160,37 +171,22 @@ module _ (site : Site) (kept : Retained) (operations : List DoneOperation) (take
       (λ h.
       let g = at_any (is_uncancelled site kept done within zone a) xs h in
       let o = g.item in
-      let whole = parts _ _ g.passes in
-      let p = parts _ _ whole.0 in
-      let s = parts _ _ p.0 in
-      let t = parts _ _ s.0 in
-      let u = parts _ _ t.0 in
-      let v = parts _ _ u.0 in
-      let f = parts _ _ t.1 in
-      let close = le_from a.stamp.0 (o.stamp.0 + within) p.1 in
-      let floor : nat_lt (floor_before site zone now done) o.stamp.0 ≡ true =
-      subst (λ x. nat_lt (floor_before site zone x done) o.stamp.0 ≡ true) at f.0 in
+      let whole = parts (is_near site kept done within zone a o) _ g.passes in
       let cancelled : nat_lt (cancelled_before zone now done) o.stamp.0 ≡ true =
       subst (λ x. nat_lt (cancelled_before zone x done) o.stamp.0 ≡ true) at whole.1 in
-      to_mark zone within a.point g.place o g.is v.0 v.1 (not_false _ u.1) s.1 (omega (arith, close, at))
-      (undone_at site zone o.point o.stamp.0 before v.0 ∙ undone_B site zone own_within o.stamp.0 before rule
+      near_marked zone within g.place a o at g.is whole.0
+      (λ of floor. undone_at site zone o.point o.stamp.0 before of ∙ undone_B site zone own_within o.stamp.0 before rule
       ∙ neither _ _ (none_undid (moves_floor site zone) o.stamp.0 now operations taken known.are_taken floor)
       (none_undid (cancels zone) o.stamp.0 now operations taken known.are_taken cancelled)))
       (λ h.
       let n = from_mark zone within a.point own h in
       let o = n.other in
-      let near = n.near in
-      let by = n.by in
       let none = of_neither _ _
       (sym (undone_B site zone own_within o.stamp.0 before rule) ∙ sym (undone_at site zone o.point o.stamp.0 before n.of) ∙ n.lasts) in
       let floor = last_before (moves_floor site zone) o.stamp.0 now operations taken known.are_taken none.0 n.begins in
       let cancelled = last_before (cancels zone) o.stamp.0 now operations taken known.are_taken none.1 n.begins in
       any_at (is_uncancelled site kept done within zone a) xs n.place o n.is
-      (both _ _ (both _ _ (both _ _ (both _ _ (both _ _ (both _ _ n.of n.counts) n.apart)
-      (both _ _ (subst (λ x. nat_lt (floor_before site zone x done) o.stamp.0 ≡ true) (sym at) floor)
-      (le_to o.stamp.0 a.stamp.0 (omega (arith, by, at))))) n.detects)
-      (le_to a.stamp.0 (o.stamp.0 + within) (omega (arith, near, at))))
-      (subst (λ x. nat_lt (cancelled_before zone x done) o.stamp.0 ≡ true) (sym at) cancelled)))
+      (both _ _ (marked_near zone within a at n floor) (subst (λ x. nat_lt (cancelled_before zone x done) o.stamp.0 ≡ true) (sym at) cancelled)))
     where
       neither : (x y : Bool) → x ≡ false → y ≡ false → (x || y) ≡ false
       neither false y p q = q

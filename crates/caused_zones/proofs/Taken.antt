@@ -3,8 +3,7 @@ use Rattle.std.proofs.Common.{◌≡◌, ℕ, zero, suc, ◌+◌, ◌≤◌, ◌
 use Rattle.std.proofs.Common.{ap, subst, arith}
 use Rattle.std.specs.Prelude.{nat_lt}
 use Rattle.std.proofs.lemmas.Bool.{cases_lt, ne_eqb}
-use Rattle.std.proofs.lemmas.List.{take_more}
-use Rattle.std.proofs.lemmas.Option.{slice_get-get_or, slice_get_within}
+use Rattle.std.proofs.lemmas.Option.{slice_get-get_or}
 use Rattle.site_types.specs.declared.retained.Retained.{Retained}
 use Rattle.site_types.specs.declared.site.Site.{Site}
 use Rattle.site_types.specs.Profile.{round_of}
@@ -14,7 +13,7 @@ use Rattle.panel_rules.specs.Records.{AreOrdered}
 use Rattle.run_text.proofs.TickTimes.{tick_moments}
 use Rattle.blocked_points.specs.declared.done_operation.DoneOperation.{DoneOperation}
 use Rattle.blocked_points.specs.Operations.{AreDoneInOrder, as_done, done_newest_first}
-use Rattle.blocked_points.proofs.InForce.{and_done-append}
+use Rattle.blocked_points.proofs.Counted.{earlier_on, later_on, one_more_done}
 use Rattle.point_runs.specs.declared.point_run.PointRun.{PointRun}
 use Rattle.caused_zones.specs.declared.cause.Cause.{Cause}
 use Rattle.caused_zones.specs.declared.caused_parts.CausedParts.{CausedParts}
@@ -36,11 +35,6 @@ none_taken operations in_order = record {
   later = λ place d l at. omega arith;
 }
 
-some_at : (operations : List DoneOperation) (place : ℕ) → place < length operations → (d : DoneOperation) × (slice_get operations place ≡ Some d)
-some_at [] place less = absurd (omega (arith, less))
-some_at (d ∷ rest) zero less = (d, refl)
-some_at (d ∷ rest) (suc place) less = some_at rest place (omega (arith, less))
-
 -- a tick later
 pub taken_on : (operations : List DoneOperation) (tick now taken end : ℕ) → AreTakenBefore operations tick taken → tick ≤ now → end ≤ length operations
     → ((place : ℕ) (d : DoneOperation) → taken ≤ place → place < end → slice_get operations place ≡ Some d → d.tick.0 < now)
@@ -48,17 +42,8 @@ pub taken_on : (operations : List DoneOperation) (tick now taken end : ℕ) → 
 taken_on operations tick now taken end are up within earlier later = record {
   in_order = are.in_order;
   within = within;
-  earlier = λ place d less at.
-      elim (cases_lt place taken) [
-        | inl before ↦ (let l = are.earlier place d before at in omega (arith, l, up))
-        | inr after ↦ earlier place d after less at
-      ];
-  later = λ place d more at.
-      let inside = slice_get_within operations place d at in
-      let first = some_at operations end (omega (arith, more, inside)) in
-      let low = later first.0 first.1 in
-      let order = are.in_order end place first.0 d more first.1 at in
-      omega (arith, low, order);
+  earlier = earlier_on operations taken end tick now up are.earlier earlier;
+  later = later_on operations end now are.in_order later;
 }
 
 -- one more operation
@@ -68,9 +53,7 @@ pub parts_more : (site : Site) (kept : Retained) (operations : List DoneOperatio
     (moments ticks) parts
     → PartsAfter site kept operations (place + 1) ticks parts
 parts_more site kept operations place ticks other parts less stand =
-    let more : done_newest_first (take (place + 1) operations) ≡ as_done (get_or operations place other) ∷ done_newest_first (take place operations) =
-    ap done_newest_first (take_more operations place other less) ∙ and_done-append (take place operations) (get_or operations place other) [] in
-    subst (λ ds. PartsStand site kept (done_newest_first operations) ds (moments ticks) parts) (sym more) stand
+    subst (λ ds. PartsStand site kept (done_newest_first operations) ds (moments ticks) parts) (sym (one_more_done operations place other less)) stand
 
 pub tick_at : (operations : List DoneOperation) (from end place : ℕ) (ticks : List TickBlock) (other : DoneOperation) → from ≤ place → place < end
     → place < length operations

@@ -1,14 +1,11 @@
-ghost use Rattle.std.specs.Prelude.{◌≡◌, ◌<◌, ◌≤◌, ◌+◌, [], ◌∷◌, List, ℕ, Some, length, slice_get, IfOk};
+ghost use Rattle.std.specs.Prelude.{◌≤◌, [], List, IfOk};
 ghost use Rattle.site_types.specs.declared.retained.Retained.{Retained as RetainedOf};
-ghost use Rattle.site_types.specs.declared.site.Site.{Site as SiteOf};
 ghost use Rattle.site_types.specs.Valid.{IsValid};
-ghost use Rattle.panel_rules.specs.Moments.{TickBlock};
-ghost use Rattle.panel_rules.specs.Records.{AreOrdered};
 ghost use Rattle.blocked_points.specs.declared.done_operation.DoneOperation.{DoneOperation as DoneOf};
 ghost use Rattle.blocked_points.specs.Operations.{AreDoneInOrder};
 
 use crate::caused_parts::CausedParts;
-use blocked_points::DoneOperation;
+use blocked_points::{DoneOperation, count_before};
 use point_runs::PointRun;
 use site_types::Site;
 use std::alloc::Global;
@@ -68,20 +65,4 @@ impl CausedZones {
     {
         self.parts.last_call(zone, self.latest.0)
     }
-}
-
-// The place of the first operation from a place on that wasn't done before a tick, or how many there are.
-fn count_before(done: &[DoneOperation], from: usize, now: Tick) -> usize
-    ensures within { result ≤ length done.now }
-    ensures earlier { (place : ℕ) (d : DoneOf) → from ≤ place → place < result
-        → slice_get done.now place ≡ Some d → d.tick.0 < now.0 }
-    ensures later { (d : DoneOf) → slice_get done.now result ≡ Some d → now.0 ≤ d.tick.0 }
-    ensures from { from ≤ length done.now → from ≤ result }
-{
-    for place in from..done.len() {
-        if done[place].tick.0 >= now.0 {
-            return place;
-        }
-    }
-    done.len()
 }

@@ -1,5 +1,5 @@
 -- The first line of a block.
-use Rattle.std.proofs.Common.{◌≡◌, ◌∙◌, ◌++◌, ℕ, List, [], ◌∷◌, take, drop, take-append-drop, Option, Ok, Err}
+use Rattle.std.proofs.Common.{◌≡◌, ◌∙◌, ◌++◌, ◌≤◌, ℕ, List, [], ◌∷◌, length, take, drop, take-append-drop, Option, Ok, Err}
 use Rattle.std.proofs.Common.{refl, sym, ap, subst}
 use Rattle.site_types.specs.declared.site.Site.{Site}
 use Rattle.record_lines.specs.Judged.{line_view}
@@ -22,7 +22,7 @@ use Rattle.record_readings.proofs.LineEnds.{one_line, refused_line}
 use Rattle.desk_ticks.specs.declared.block_refusal.BlockRefusal.{BlockRefusal}
 use Rattle.desk_ticks.specs.Blocks.{behind_line, begun_tick, named_of, refusal_behind, verdict_by, verdict_of}
 use Rattle.desk_ticks.specs.Stops.{named_by, named_why}
-use Rattle.desk_ticks.proofs.Behind.{whole_taken}
+use Rattle.desk_ticks.proofs.Behind.{uses_fit, whole_taken}
 use Rattle.desk_ticks.proofs.Lines.{behind_first}
 
 -- a refused tick out of turn is no refusal of bytes
@@ -83,13 +83,25 @@ module _ (site : Site) (block : List ℕ) (fed : Fed) (reader : LineReader) (fee
       let other = no_bytes refusal.why tick e in
       behind_by (refused_line site [] block fed.used t.1.0 refusal refl t.1.1 t.0.1 other.0 other.1)
 
+  -- so much of the block was used
+  pub first_fits : fed.used ≤ length block
+  first_fits = uses_fit site [] block fed.used fed.step told.1
+
+  -- what the answer to the first line names, the block does
+  pub first_named : named_of (reading_of site block) ≡ named_by fed.step
+  first_named = named_told fed.step told
+
+  -- where it names a tick, the lines behind it are what isn't used of the block
+  pub first_behind : (tick : ℕ) → named_by fed.step ≡ Ok tick → behind_line block ≡ drop fed.used block
+  first_behind tick e = behind_told fed.step tick told e
+
   -- the first line is refused
   pub refused_first : (number : ℕ) → named_by fed.step ≡ Err number → verdict_of site block ≡ Err (record { line = 1; number = number })
-  refused_first number e = ap (λ named. verdict_by named (refusal_behind site (behind_line block))) (named_told fed.step told ∙ e)
+  refused_first number e = ap (λ named. verdict_by named (refusal_behind site (behind_line block))) (first_named ∙ e)
 
   -- it names a tick, and the lines behind it decide
   pub named_first : (tick : ℕ) (behind : Option BlockRefusal) → named_by fed.step ≡ Ok tick → behind ≡ refusal_behind site (drop fed.used block)
       → verdict_of site block ≡ verdict_by (Ok tick) behind
   named_first tick behind e is =
-      ap (λ named. verdict_by named (refusal_behind site (behind_line block))) (named_told fed.step told ∙ e)
-      ∙ ap (λ xs. verdict_by (Ok tick) (refusal_behind site xs)) (behind_told fed.step tick told e) ∙ ap (verdict_by (Ok tick)) (sym is)
+      ap (λ named. verdict_by named (refusal_behind site (behind_line block))) (first_named ∙ e)
+      ∙ ap (λ xs. verdict_by (Ok tick) (refusal_behind site xs)) (first_behind tick e) ∙ ap (verdict_by (Ok tick)) (sym is)

@@ -8,7 +8,7 @@ ghost use Rattle.record_lines.specs.Stands.{StandsFor};
 ghost use Rattle.site_types.specs.Valid.{IsValid};
 
 use crate::block_refusal::BlockRefusal;
-use crate::stops::{named, stop_at};
+use crate::stops::{named_tick, stop_at};
 use arrayvec::ArrayVec;
 use record_lines::{Line, LineReader, print_line};
 use site_types::Site;
@@ -25,7 +25,7 @@ pub fn tick_of_block(site: &Site, block: &[u8]) -> Result<u64, BlockRefusal>
     ensures { result ≡ verdict_of site.now block.now }
 {
     let fed = LineReader::new().feed(site, block);
-    match named(&fed.step) {
+    match named_tick(&fed.step) {
         Err(number) => Err(BlockRefusal { line: 1, number }),
         Ok(tick) => match refusal_behind(site, block.split_at(fed.used).1) {
             Some(refusal) => Err(refusal),

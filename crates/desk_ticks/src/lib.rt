@@ -13,3 +13,4 @@ mod stops;
 
 pub use block_refusal::BlockRefusal;
 pub use checking::{MOST_BLOCK_BYTES, behind_first_line, reader_behind_tick, tick_of_block};
+pub use stops::named_tick;

@@ -8,7 +8,7 @@ use crate::numbers::{number_behind, refusal_number};
 use record_lines::{Line, Step, Why};
 
 /// The tick that the first line names, or the number of its refusal.
-pub fn named(step: &Step) -> Result<u64, u8>
+pub fn named_tick(step: &Step) -> Result<u64, u8>
     ensures { result ≡ named_by step.now }
 {
     match step {

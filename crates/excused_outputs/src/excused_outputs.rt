@@ -1,10 +1,10 @@
-ghost use Rattle.std.specs.Prelude.{◌≡◌, ◌≤◌, ◌<◌, ℕ, List, Some, length, slice_get, take};
+ghost use Rattle.std.specs.Prelude.{◌≡◌, ◌≤◌, ℕ, List, length, take};
 ghost use Rattle.site_types.specs.declared.retained.Retained.{Retained as RetainedOf};
 ghost use Rattle.site_types.specs.declared.site.Site.{Site as SiteOf};
 ghost use Rattle.blocked_points.specs.declared.done_operation.DoneOperation.{DoneOperation as DoneOperationOf};
 
 use crate::output_settings::OutputSettings;
-use blocked_points::DoneOperation;
+use blocked_points::{DoneOperation, count_before};
 use site_types::{Output, OutputKind, Retained, Site};
 use std::alloc::Global;
 use tick_units::{NoMemory, Tick};
@@ -64,22 +64,6 @@ fn is_sounder(output: &Output) -> bool
         OutputKind::Protection => false,
         OutputKind::Relay => false,
     }
-}
-
-// The place of the first operation from a place on that wasn't done before a tick, or how many there are.
-fn count_before(done: &[DoneOperation], from: usize, now: Tick) -> usize
-    ensures within { result ≤ length done.now }
-    ensures earlier { (place : ℕ) (d : DoneOperationOf) → from ≤ place → place < result
-        → slice_get done.now place ≡ Some d → d.tick.0 < now.0 }
-    ensures later { (d : DoneOperationOf) → slice_get done.now result ≡ Some d → now.0 ≤ d.tick.0 }
-    ensures from { from ≤ length done.now → from ≤ result }
-{
-    for place in from..done.len() {
-        if done[place].tick.0 >= now.0 {
-            return place;
-        }
-    }
-    done.len()
 }
 
 ghost use Rattle.blocked_points.specs.Operations.{done_newest_first as all_done_of};

@@ -1,9 +1,9 @@
 //! Which outputs are disabled, and which panels are silenced.
 
-ghost use Rattle.std.specs.Prelude.{◌≡◌, false, slice_index_or, slice_set};
+ghost use Rattle.std.specs.Prelude.{◌≡◌, false, slice_index_or};
 
 use crate::kept_outputs::kept_outputs;
-use blocked_points::DoneOperation;
+use blocked_points::{DoneOperation, set_flag};
 use site_types::{Item, Operation, Retained, Site};
 use std::alloc::Global;
 use tick_units::NoMemory;
@@ -83,14 +83,5 @@ impl OutputSettings {
         ensures { result ≡ slice_index_or self.now.silenced panel false }
     {
         self.silenced[panel as usize]
-    }
-}
-
-// What the site hasn't isn't set.
-fn set_flag(flags: &mut [bool], place: usize, value: bool)
-    ensures { flags.new ≡ slice_set flags.old place value }
-{
-    if place < flags.len() {
-        flags[place] = value;
     }
 }

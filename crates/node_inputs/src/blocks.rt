@@ -2,13 +2,12 @@
 
 ghost use Rattle.std.specs.Prelude.{◌≡◌, ◌≤◌, length};
 ghost use Rattle.desk_ticks.specs.Blocks.{most_block_bytes};
-ghost use Rattle.desk_ticks.specs.Stops.{named_by};
 ghost use Rattle.node_inputs.specs.OwnBlocks.{own_number_of, own_refusal_behind as own_refusal_of, own_stop_by};
 ghost use Rattle.node_inputs.specs.OwnBlocks.{own_verdict_of};
 ghost use Rattle.site_types.specs.Valid.{IsValid};
 
 use crate::own::is_own_event;
-use desk_ticks::{BlockRefusal, reader_behind_tick};
+use desk_ticks::{BlockRefusal, named_tick, reader_behind_tick};
 use record_lines::{Line, LineReader, Step, Why};
 use site_types::Site;
 
@@ -20,7 +19,7 @@ pub fn own_tick_of_block(site: &Site, panel: u8, block: &[u8]) -> Result<u64, Bl
     ensures { result ≡ own_verdict_of site.now panel block.now }
 {
     let fed = LineReader::new().feed(site, block);
-    match named(&fed.step) {
+    match named_tick(&fed.step) {
         Err(number) => Err(BlockRefusal { line: 1, number }),
         Ok(tick) => match own_refusal_behind(site, panel, block.split_at(fed.used).1) {
             Some(refusal) => Err(refusal),
@@ -49,29 +48,6 @@ fn own_refusal_behind(site: &Site, panel: u8, rest: &[u8]) -> Option<BlockRefusa
         }
     }
     None
-}
-
-// The tick that the first line names, or the number of its refusal.
-fn named(step: &Step) -> Result<u64, u8>
-    ensures { result ≡ named_by step.now }
-{
-    match step {
-        Step::Line(Line::Tick(tick)) => Ok(tick.0),
-        Step::Line(Line::Event(_)) | Step::Line(Line::Order(_)) | Step::Line(Line::End) => Err(1),
-        Step::Refused(refusal) => match refusal.why {
-            Why::BadTick { found, .. } => Ok(found),
-            Why::BadWord => Err(1),
-            Why::BadNumber => Err(2),
-            Why::NoSuch => Err(3),
-            Why::BadOrder { .. } => Err(5),
-            Why::LineTooLong => Err(6),
-            Why::NotAscii => Err(7),
-            Why::BeforeFirstTick => Err(8),
-            Why::Truncated => Err(9),
-            Why::TickLimit => Err(10),
-        },
-        Step::Need => Err(1),
-    }
 }
 
 // The refusal of a block at the line of this number, where the answer to the bytes that are left of it is one.

@@ -138,17 +138,7 @@ overridden panel first tick now v d calls early is h = go (d.panel == panel)
         ap (λ b. (nat_le first tick && b) || is_any_in first now (overrides_of calls)) (lt_true tick now early)
         ∙ ap (λ b. b || is_any_in first now (overrides_of calls)) (and_yes (nat_le first tick) ∙ ap (nat_le first) (sym is))
         ∙ ap (λ b. nat_le first d.tick || b) h
-    one Mute = h
-    one Silence = h
-    one Resound = h
-    one Reset = h
-    one (Cancel zone) = h
-    one (Disable item) = h
-    one (Enable item) = h
-    one (Test zone) = h
-    one (Untest zone) = h
-    one (Delays active) = h
-    one Clear = h
+    one other = h
 
     go : (b : Bool) → is_any_in first now (overrides_of (if b then and_delaying tick d.operation calls else calls))
         ≡ ((b && is_override d.operation && nat_le first d.tick) || v)

@@ -7,8 +7,7 @@ use Rattle.std.proofs.lemmas.Bool.Decides.{leb_tells}
 use Rattle.tick_units.specs.declared.task.Task.TheVariants.{Poll, Decide, Supply, Desk, Hold, Link, Effect, Drive}
 use Rattle.tick_units.specs.declared.task.Task.TheVariants.{Keep}
 use Rattle.site_types.specs.declared.operation.Operation.{Operation}
-use Rattle.site_types.specs.declared.operation.Operation.TheVariants.{Mute, Override, Silence, Resound, Reset, Cancel}
-use Rattle.site_types.specs.declared.operation.Operation.TheVariants.{Disable, Enable, Test, Untest, Delays, Clear}
+use Rattle.site_types.specs.declared.operation.Operation.TheVariants.{Silence, Resound}
 use Rattle.site_types.specs.declared.site.Site.{Site}
 use Rattle.site_types.specs.Done.{Done, silence_before, silence_then}
 use Rattle.site_types.specs.Valid.{IsValid}
@@ -133,16 +132,7 @@ module _ (site : Site) (valid : IsValid site) (facts : ℕ → List Moment → F
             set = h.set;
           }
       one Resound = record { holds = refl; set = h.set }
-      one Mute = h
-      one Override = h
-      one Reset = h
-      one (Cancel zone) = h
-      one (Disable item) = h
-      one (Enable item) = h
-      one (Test zone) = h
-      one (Untest zone) = h
-      one (Delays active) = h
-      one Clear = h
+      one other = h
 
       go : (b : Bool) → Agree (Began ∷ before) (masks_at before) (if b then and_silencing d.operation calls else calls)
           (if b then silence_then d.operation d.tick latest else latest)

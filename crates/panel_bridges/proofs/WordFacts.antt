@@ -55,20 +55,21 @@ no_zone (Some z) = refl
 no_zones : (site : Site) (panel : ℕ) → 0 ≡ zones_where site panel (λ z. false)
 no_zones site panel = zones_from_bits site panel (λ z. false) 0 (omega arith) (λ k small. has_bit-zero k ∙ no_zone (numbered site panel (k + 1)))
 
+-- what a word says
 module _ (site : Site) (kept : Retained) (done : List Done) where
-  released_in : (source : ℕ) (word : List Moment)
+  pub released_in : (source : ℕ) (word : List Moment)
       → (word_made site kept done (tells_fault site kept done) source word).released
       ≡ zones_where site source (λ zone. is_released site kept done (held_answers site source word) zone (tick_of word))
   released_in source [] = no_zones site source
   released_in source (moment ∷ before) = refl
 
-  hand_in : (source : ℕ) (word : List Moment)
+  pub hand_in : (source : ℕ) (word : List Moment)
       → (word_made site kept done (tells_fault site kept done) source word).manual
       ≡ zones_where site source (λ zone. is_by_hand site kept done (held_answers site source word) zone (tick_of word))
   hand_in source [] = no_zones site source
   hand_in source (moment ∷ before) = refl
 
-  fault_in : (source : ℕ) (word : List Moment)
+  pub fault_in : (source : ℕ) (word : List Moment)
       → (word_made site kept done (tells_fault site kept done) source word).fault ≡ tells_fault site kept done source word
   unfolding tells_to
   fault_in source [] = refl

@@ -18,10 +18,11 @@ use Rattle.coincidence_rules.specs.Places.{numbered, on_zone, zones_where}
 use Rattle.coincidence_rules.proofs.ZoneMasks.{of_numbered, zones_from_bits}
 use Rattle.panel_rules.specs.Kept.{kept_at}
 use Rattle.panel_rules.specs.Moments.{Moment, tick_of}
-use Rattle.panel_rules.specs.Run.{facts_of, tells_fault, tells_to}
-use Rattle.panel_rules.specs.Words.{kept_word_of, word_made}
+use Rattle.panel_rules.specs.Run.{facts_of, tells_fault}
+use Rattle.panel_rules.specs.Words.{kept_word_of}
 use Rattle.panel_rules.specs.Zones.{held_answers, holds_by_hand, holds_released, panel_of, panel_of_zone}
 use Rattle.panel_rules.proofs.Joined.{kept_stamp}
+use Rattle.panel_bridges.proofs.WordFacts.{fault_in, hand_in, released_in}
 use Rattle.output_calls.specs.SilenceCalls.{zone_masks}
 use Rattle.panel_effects.specs.Masks.{panel_mask}
 
@@ -70,62 +71,37 @@ zones_elsewhere site valid panel test beyond =
         let same = there.panel_is in
         absurd (omega (arith, lies.1, same, beyond))
 
-no_zone_yet : (site : Site) (panel : ℕ) → 0 ≡ zones_where site panel (λ zone. false)
-no_zone_yet site panel =
-    zones_from_bits site panel (λ zone. false) 0 (omega arith) (λ k small. has_bit-zero k ∙ none (numbered site panel (k + 1)))
-  where
-    none : (o : Option ℕ) → false ≡ on_zone (λ zone. false) o
-    none None = refl
-    none (Some zone) = refl
-
 -- ---- what a word says
 
-module _ (site : Site) (kept : Retained) (done : List Done) where
-  released_in : (source : ℕ) (word : List Moment) → (word_made site kept done (tells_fault site kept done) source word).released
-      ≡ zones_where site source (λ zone. is_released site kept done (held_answers site source word) zone (tick_of word))
-  released_in source [] = no_zone_yet site source
-  released_in source (moment ∷ before) = refl
+module _ (site : Site) (kept : Retained) (done : List Done) (panel : ℕ) (before : List Moment) where
+  -- the mask of released zones in the word that is kept of a panel
+  pub released_heard : (source : ℕ) → (kept_word_of site kept done (tells_fault site kept done) panel source before).released
+      ≡ zones_where site source (facts_of site kept done panel before).released
+  released_heard source =
+      released_in site kept done source (kept_at site.panels panel source before)
+      ∙ zones_alike site source
+      (λ zone. is_released site kept done (held_answers site source (kept_at site.panels panel source before)) zone
+      (tick_of (kept_at site.panels panel source before))) (facts_of site kept done panel before).released
+      (λ zone plan at same.
+      ap (is_released site kept done (held_answers site source (kept_at site.panels panel source before)) zone)
+      (sym (kept_stamp site.panels panel source before))
+      ∙ ap (λ p. holds_released site kept done p (kept_at site.panels panel p before) zone) (sym (ap panel_of at ∙ same)))
 
-  hand_in : (source : ℕ) (word : List Moment) → (word_made site kept done (tells_fault site kept done) source word).manual
-      ≡ zones_where site source (λ zone. is_by_hand site kept done (held_answers site source word) zone (tick_of word))
-  hand_in source [] = no_zone_yet site source
-  hand_in source (moment ∷ before) = refl
+  pub hand_heard : (source : ℕ) → (kept_word_of site kept done (tells_fault site kept done) panel source before).manual
+      ≡ zones_where site source (facts_of site kept done panel before).by_hand
+  hand_heard source =
+      hand_in site kept done source (kept_at site.panels panel source before)
+      ∙ zones_alike site source
+      (λ zone. is_by_hand site kept done (held_answers site source (kept_at site.panels panel source before)) zone
+      (tick_of (kept_at site.panels panel source before))) (facts_of site kept done panel before).by_hand
+      (λ zone plan at same.
+      ap (is_by_hand site kept done (held_answers site source (kept_at site.panels panel source before)) zone)
+      (sym (kept_stamp site.panels panel source before))
+      ∙ ap (λ p. holds_by_hand site kept done p (kept_at site.panels panel p before) zone) (sym (ap panel_of at ∙ same)))
 
-  fault_in : (source : ℕ) (word : List Moment)
-      → (word_made site kept done (tells_fault site kept done) source word).fault ≡ tells_fault site kept done source word
-  unfolding tells_to
-  fault_in source [] = refl
-  fault_in source (moment ∷ before) = refl
-
-  module _ (panel : ℕ) (before : List Moment) where
-    -- the mask of released zones in the word that is kept of a panel
-    pub released_heard : (source : ℕ) → (kept_word_of site kept done (tells_fault site kept done) panel source before).released
-        ≡ zones_where site source (facts_of site kept done panel before).released
-    released_heard source =
-        released_in source (kept_at site.panels panel source before)
-        ∙ zones_alike site source
-        (λ zone. is_released site kept done (held_answers site source (kept_at site.panels panel source before)) zone
-        (tick_of (kept_at site.panels panel source before))) (facts_of site kept done panel before).released
-        (λ zone plan at same.
-        ap (is_released site kept done (held_answers site source (kept_at site.panels panel source before)) zone)
-        (sym (kept_stamp site.panels panel source before))
-        ∙ ap (λ p. holds_released site kept done p (kept_at site.panels panel p before) zone) (sym (ap panel_of at ∙ same)))
-
-    pub hand_heard : (source : ℕ) → (kept_word_of site kept done (tells_fault site kept done) panel source before).manual
-        ≡ zones_where site source (facts_of site kept done panel before).by_hand
-    hand_heard source =
-        hand_in source (kept_at site.panels panel source before)
-        ∙ zones_alike site source
-        (λ zone. is_by_hand site kept done (held_answers site source (kept_at site.panels panel source before)) zone
-        (tick_of (kept_at site.panels panel source before))) (facts_of site kept done panel before).by_hand
-        (λ zone plan at same.
-        ap (is_by_hand site kept done (held_answers site source (kept_at site.panels panel source before)) zone)
-        (sym (kept_stamp site.panels panel source before))
-        ∙ ap (λ p. holds_by_hand site kept done p (kept_at site.panels panel p before) zone) (sym (ap panel_of at ∙ same)))
-
-    pub fault_heard : (source : ℕ) → (kept_word_of site kept done (tells_fault site kept done) panel source before).fault
-        ≡ (facts_of site kept done panel before).faulty source
-    fault_heard source = fault_in source (kept_at site.panels panel source before)
+  pub fault_heard : (source : ℕ) → (kept_word_of site kept done (tells_fault site kept done) panel source before).fault
+      ≡ (facts_of site kept done panel before).faulty source
+  fault_heard source = fault_in site kept done source (kept_at site.panels panel source before)
 
 -- ---- masks by panel
 

@@ -128,7 +128,7 @@ module _ (site : Site) (kept : Retained) (done : List Done) (output : ℕ) (vali
     by_hand =
         λ zone l t. hand_in_facts site kept done m valid run ended (panel_of_output site output) p zone (zone_panel site valid zone l)
         (due.by_hand zone t);
-    faulty = λ source t. absurd (let e = due.faults source in let x = sym e ∙ t in cc);
+    faulty = λ source own t. absurd (let e = due.faults source in let x = sym e ∙ t in cc);
   }
 
   hand_grows : (m : List Moment) → IsRun site.panels m → HaveAllTurned site.panels m → (facts : Facts)
@@ -142,7 +142,7 @@ module _ (site : Site) (kept : Retained) (done : List Done) (output : ℕ) (vali
     by_hand =
         λ zone l t. hand_in_facts site kept done m valid run ended (panel_of_output site output) p zone (zone_panel site valid zone l)
         (due.by_hand zone t);
-    faulty = λ source t. absurd (let e = due.faults source in let x = sym e ∙ t in cc);
+    faulty = λ source own t. absurd (let e = due.faults source in let x = sym e ∙ t in cc);
   }
 
   -- what is due by hand is due

@@ -67,7 +67,8 @@ made_on panels source before m (later (Turned panel Hold) b h) run l =
 made_on panels source before m (later (Turned panel task) b h) run l = made_on panels source before b h run.0 l
 made_on panels source before m (later (Kept failed) b h) run l = made_on panels source before b h run.0 l
 
-latest_then : (panels source : ℕ) (m word : List Moment) → IsMade source word → IsPast word m → IsRun panels m
+-- a word is the latest one up to its own tick
+pub latest_then : (panels source : ℕ) (m word : List Moment) → IsMade source word → IsPast word m → IsRun panels m
     → made_at source (up_to (tick_of word) m) ≡ word
 latest_then panels source m word (nothing e) past run =
     let z = up_to_by (tick_of word) m in

@@ -172,7 +172,7 @@ module _ (site : Site) (kept : Retained) (done : List Done) (m : List Moment) (o
     by_hand = λ zone l t. (let g = parts (panel_of_zone site zone == panel_of_output site output) _ t in
         subst (λ q. holds_by_hand site kept done q (kept_at site.panels (panel_of_output site output) q (before_effect site kept done m
         (panel_of_output site output))) zone ≡ true) (sym (eq_is (panel_of_zone site zone) (panel_of_output site output) g.0)) g.1);
-    faulty = λ source t. absurd cc;
+    faulty = λ source own t. absurd cc;
   }
 
   asked_by_word :
@@ -265,7 +265,7 @@ on_output_caused site kept done m output valid run on = record {
         released = λ zone l t. both _ _ (lt_to zone (length site.zones) l) t;
         by_hand =
             λ zone l t. both _ _ (lt_to zone (length site.zones) l) t;
-        faulty = λ source t. t;
+        faulty = λ source own t. t;
       }) output asked;
 }
   where

@@ -148,7 +148,7 @@ face_self a =
     (both _ _ (number_self a.zones_off) (both _ _ (number_self a.outputs_off) (both _ _ (number_self a.test)
     (both _ _ (truth_self a.delays_off) (both _ _ (buzzer_self a.buzzer) (number_self a.counter))))))))))))
 
-faces_self : (faces : List Face) → same_faces faces faces ≡ true
+pub faces_self : (faces : List Face) → same_faces faces faces ≡ true
 faces_self [] = refl
 faces_self (face ∷ faces) = both (same_face face face) (same_faces faces faces) (face_self face) (faces_self faces)
 

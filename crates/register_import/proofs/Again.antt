@@ -11,11 +11,12 @@ use Rattle.std.proofs.lemmas.Slice.Eq.{bytes_eq-Decides}
 use Rattle.service_keepers.specs.Keeping.{AddsTest, AddsVisit}
 use Rattle.service_keepers.specs.MemoryRows.{with_visit}
 use Rattle.service_keepers.specs.Tables.{Tables, TestRow, VisitRow, has_test, no_tables, visit_numbered}
+use Rattle.service_keepers.proofs.TestsKept.{test_kept}
 use Rattle.site_types.specs.declared.site.Site.{Site}
 use Rattle.register_import.specs.Judged.{and_then, differs, file_judged, has_other, is_same_visit, judged_by, row_judged, rows_judged, tables_of_rows, with_row}
 use Rattle.register_import.specs.Puts.{PutsRow, PutsRows}
 use Rattle.register_import.specs.Rows.{ImportedTest, bad_form, four, is_header, other_visit, row_spelled, test_of_row}
-use Rattle.register_import.proofs.Found.{of_number, or_assoc, or_none, puts_with, same_tests, same_visits, still_kept, test_kept, visit_found}
+use Rattle.register_import.proofs.Found.{of_number, or_assoc, or_none, puts_with, same_tests, same_visits, still_kept, visit_found}
 
 -- ---- what a row finds
 

@@ -3,9 +3,7 @@ use Rattle.std.proofs.Common.{◌≡◌, ◌||◌, ◌==◌, ℕ, Bool, true, fa
 use Rattle.std.specs.Prelude.{MatchBool, MatchOption, if◌then◌else◌, is_some}
 use Rattle.std.specs.List.{find}
 use Rattle.std.specs.Option.{option_or}
-use Rattle.std.specs.Str.{bytes_eq}
-use Rattle.std.proofs.lemmas.Bool.{and_from, eqb-true}
-use Rattle.std.proofs.lemmas.Cmp.{nat_eq_equiv, nat_list_eq_equiv}
+use Rattle.std.proofs.lemmas.Bool.{eqb-true}
 use Rattle.std.proofs.lemmas.List.{append-nil}
 use Rattle.std.proofs.lemmas.List.Folds.{find-append, list_any-append}
 use Rattle.service_keepers.specs.Keeping.{AddsTest, AddsVisit, Gains, PutsTest, PutsVisit}
@@ -105,32 +103,10 @@ same_tests_by visit old new (Some kept) same = ap (λ (t : Tables). t.tests) sam
 pub same_tests : (visit : VisitRow) (old new : Tables) → PutsVisit visit old new → new.tests ≡ old.tests
 same_tests visit old new puts = same_tests_by visit old new (visit_numbered visit.number old.visits) puts
 
-or_true : (b : Bool) → (b || true) ≡ true
-or_true true = refl
-or_true false = refl
-
 still_true : (a b c : Bool) → (a || c) ≡ true → (a || (b || c)) ≡ true
 still_true true b c is = refl
 still_true false true c is = refl
 still_true false false c is = is
-
-same_test : (test : TestRow) → is_same_test test test ≡ true
-same_test test =
-    and_from (test.visit == test.visit) (bytes_eq test.point test.point) (nat_eq_equiv.refl test.visit) (nat_list_eq_equiv.refl test.point)
-
-gained_is_kept : (test : TestRow) (old new : List TestRow) → Gains test old new → has_test test new ≡ true
-gained_is_kept test old new gains =
-    ap (has_test test) gains.after ∙ list_any-append (is_same_test test) gains.front (test ∷ gains.back)
-    ∙ ap (λ b. has_test test gains.front || (b || has_test test gains.back)) (same_test test) ∙ or_true (has_test test gains.front)
-
-kept_by : (test : TestRow) (old new : Tables) (kept : Bool) → has_test test old.tests ≡ kept → MatchBool kept (new ≡ old) (AddsTest test old new)
-    → has_test test new.tests ≡ true
-kept_by test old new true is same = ap (λ (t : Tables). has_test test t.tests) same ∙ is
-kept_by test old new false is adds = gained_is_kept test old.tests new.tests adds.tests
-
--- a test that was put is kept
-pub test_kept : (test : TestRow) (old new : Tables) → PutsTest test old new → has_test test new.tests ≡ true
-test_kept test old new puts = kept_by test old new (has_test test old.tests) refl puts
 
 still_kept_in : (other test : TestRow) (old new : List TestRow) → Gains test old new → has_test other old ≡ true → has_test other new ≡ true
 still_kept_in other test old new gains is =

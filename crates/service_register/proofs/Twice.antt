@@ -1,15 +1,14 @@
 -- A visit and a test that are put twice are put once.
-use Rattle.std.proofs.Common.{◌≡◌, ◌||◌, ◌==◌, ℕ, Bool, true, false, List, ◌∷◌, Option, Some, None, refl, sym, ap, ◌∙◌}
+use Rattle.std.proofs.Common.{◌≡◌, ◌==◌, ℕ, Bool, true, false, List, ◌∷◌, Option, Some, None, refl, sym, ap, ◌∙◌}
 use Rattle.std.specs.Prelude.{Result, Ok, Err, MatchBool, MatchOption}
 use Rattle.std.specs.List.{find}
 use Rattle.std.specs.Option.{option_or}
-use Rattle.std.specs.Str.{bytes_eq}
-use Rattle.std.proofs.lemmas.Bool.{and_from}
-use Rattle.std.proofs.lemmas.Cmp.{nat_eq_equiv, nat_list_eq_equiv}
-use Rattle.std.proofs.lemmas.List.Folds.{find-append, list_any-append}
+use Rattle.std.proofs.lemmas.Cmp.{nat_eq_equiv}
+use Rattle.std.proofs.lemmas.List.Folds.{find-append}
 use Rattle.std.proofs.lemmas.Option.{same_Some}
 use Rattle.service_keepers.specs.Keeping.{AddsTest, AddsVisit, Gains}
-use Rattle.service_keepers.specs.Tables.{Tables, TestRow, VisitRow, has_test, is_same_test, visit_numbered}
+use Rattle.service_keepers.specs.Tables.{Tables, TestRow, VisitRow, has_test, visit_numbered}
+use Rattle.service_keepers.proofs.TestsKept.{test_kept}
 use Rattle.service_register.specs.Answers.{TestAnswered, VisitAnswered}
 use Rattle.service_register.specs.Laws.{IsOkOrFault}
 use Rattle.service_register.specs.declared.refusal.RegisterRefusal.{RegisterRefusal}
@@ -72,24 +71,6 @@ visit_answer visit (Err NoMemory) a b c first second = tt
 
 -- ---- tests
 
-or_true : (b : Bool) → (b || true) ≡ true
-or_true true = refl
-or_true false = refl
-
-same_test : (test : TestRow) → is_same_test test test ≡ true
-same_test test =
-    and_from (test.visit == test.visit) (bytes_eq test.point test.point) (nat_eq_equiv.refl test.visit) (nat_list_eq_equiv.refl test.point)
-
-gained_is_kept : (test : TestRow) (old new : List TestRow) → Gains test old new → has_test test new ≡ true
-gained_is_kept test old new gains =
-    ap (has_test test) gains.after ∙ list_any-append (is_same_test test) gains.front (test ∷ gains.back)
-    ∙ ap (λ b. has_test test gains.front || (b || has_test test gains.back)) (same_test test) ∙ or_true (has_test test gains.front)
-
-kept_by : (test : TestRow) (a b : Tables) (kept : Bool) → has_test test a.tests ≡ kept → MatchBool kept (b ≡ a) (AddsTest test a b)
-    → has_test test b.tests ≡ true
-kept_by test a b true is same = ap (λ (t : Tables). has_test test t.tests) same ∙ is
-kept_by test a b false is adds = gained_is_kept test a.tests b.tests adds.tests
-
 unchanged_by : (test : TestRow) (b c : Tables) (kept : Bool) → kept ≡ true → MatchBool kept (c ≡ b) (AddsTest test b c) → c ≡ b
 unchanged_by test b c true is same = same
 unchanged_by test b c false is adds = absurd (cc)
@@ -97,7 +78,7 @@ unchanged_by test b c false is adds = absurd (cc)
 pub test_twice : (test : TestRow) (again : Result (Unit {0}) RegisterRefusal) (a b c : Tables)
     → TestAnswered test (Ok tt) a b → TestAnswered test again b c → c ≡ b
 test_twice test (Ok done) a b c first second =
-    unchanged_by test b c (has_test test b.tests) (kept_by test a b (has_test test a.tests) refl first.puts) second.puts
+    unchanged_by test b c (has_test test b.tests) (test_kept test a b first.puts) second.puts
 test_twice test (Err (Differs other)) a b c first second = absurd second
 test_twice test (Err NoSuchPoint) a b c first second = second
 test_twice test (Err NoSuchVisit) a b c first second = second.1

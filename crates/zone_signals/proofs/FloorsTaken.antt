@@ -1,15 +1,12 @@
 -- What is kept of operations is what those before a tick leave.
-use Rattle.std.proofs.Common.{◌≡◌, inl, inr, ℕ, zero, suc, ◌+◌, ◌≤◌, ◌<◌, max, Bool, List}
-use Rattle.std.proofs.Common.{[], ◌∷◌, take, length, get_or, Some, slice_get, refl, sym, ◌∙◌, ap, subst, arith, if◌then◌else◌}
-use Rattle.std.proofs.lemmas.Bool.{cases_lt}
-use Rattle.std.proofs.lemmas.List.{take_more}
-use Rattle.std.proofs.lemmas.Option.{get_or_from_slice_get, slice_get_within}
+use Rattle.std.proofs.Common.{◌≡◌, ℕ, zero, suc, ◌≤◌, ◌<◌, max, Bool, List}
+use Rattle.std.proofs.Common.{[], ◌∷◌, take, length, Some, slice_get, refl, sym, ◌∙◌, ap, subst, arith, if◌then◌else◌}
 use Rattle.site_types.specs.declared.site.Site.{Site}
 use Rattle.site_types.specs.Done.{Done, cancels, latest_before, moves_floor}
 use Rattle.site_types.proofs.Done.{latest-then, latest-yet}
 use Rattle.blocked_points.specs.declared.done_operation.DoneOperation.{DoneOperation}
 use Rattle.blocked_points.specs.Operations.{and_later_done, as_done, done_newest_first}
-use Rattle.blocked_points.proofs.InForce.{and_done-append}
+use Rattle.blocked_points.proofs.Counted.{earlier_on, later_on}
 use Rattle.zone_signals.specs.declared.floors.Floors.{Floors}
 use Rattle.zone_signals.specs.declared.zone_floor.ZoneFloor.{ZoneFloor}
 use Rattle.zone_signals.specs.Floors.{AreFloors, FloorsStand, RowsStand, latest_in}
@@ -51,23 +48,7 @@ floors_known site operations tick floors stands = record {
       };
 }
 
--- ---- one more operation
-
--- one more operation is taken
-pub operation_taken : (site : Site) (operations : List DoneOperation) (place : ℕ) (other : DoneOperation) (rows : List ZoneFloor)
-    → place < length operations → RowsStand site (as_done (get_or operations place other) ∷ done_newest_first (take place operations)) rows
-    → RowsStand site (done_newest_first (take (place + 1) operations)) rows
-operation_taken site operations place other rows less stands =
-    let more : done_newest_first (take (place + 1) operations) ≡ as_done (get_or operations place other) ∷ done_newest_first (take place operations) =
-    ap done_newest_first (take_more operations place other less) ∙ and_done-append (take place operations) (get_or operations place other) [] in
-    subst (λ done. RowsStand site done rows) (sym more) stands
-
 -- ---- the tick goes on
-
-some_at : (operations : List DoneOperation) (place : ℕ) → place < length operations → (d : DoneOperation) × (slice_get operations place ≡ Some d)
-some_at [] place less = absurd (omega (arith, less))
-some_at (d ∷ rest) zero less = (d, refl)
-some_at (d ∷ rest) (suc place) less = some_at rest place (omega (arith, less))
 
 pub floors_go_on : (site : Site) (operations : List DoneOperation) (tick now end : ℕ) (old new : Floors) → new.taken ≡ end
     → FloorsStand site operations tick old → tick ≤ now → old.taken ≤ end → end ≤ length operations
@@ -77,26 +58,9 @@ pub floors_go_on : (site : Site) (operations : List DoneOperation) (tick now end
 floors_go_on site operations tick now end old new is stands up from within earlier later rows = record {
   in_order = stands.in_order;
   within = omega (arith, is, within);
-  earlier = λ place d less at.
-      elim (cases_lt place old.taken) [
-        | inl before ↦ (let l = stands.earlier place d before at in omega (arith, l, up))
-        | inr after ↦ earlier place d after (omega (arith, less, is)) at
-      ];
-  later = λ place d more at.
-      let inside = slice_get_within operations place d at in
-      let first = some_at operations end (omega (arith, more, inside, is)) in
-      let low = later first.0 first.1 in
-      let order = stands.in_order end place first.0 d (omega (arith, more, is)) first.1 at in
-      omega (arith, low, order);
+  earlier = subst (λ n. (place : ℕ) (d : DoneOperation) → place < n → slice_get operations place ≡ Some d → d.tick.0 < now) (sym is)
+      (earlier_on operations old.taken end tick now up stands.earlier earlier);
+  later = subst (λ n. (place : ℕ) (d : DoneOperation) → n ≤ place → slice_get operations place ≡ Some d → now ≤ d.tick.0) (sym is)
+      (later_on operations end now stands.in_order later);
   known = subst (λ n. RowsStand site (done_newest_first (take n operations)) new.rows.items) (sym is) rows;
 }
-
-pub earlier_at : (operations : List DoneOperation) (place now : ℕ) (d other : DoneOperation) → (get_or operations place other).tick.0 < now
-    → slice_get operations place ≡ Some d → d.tick.0 < now
-earlier_at operations place now d other less at =
-    subst (λ (o : DoneOperation). o.tick.0 < now) (get_or_from_slice_get operations place d other at) less
-
-pub later_at : (operations : List DoneOperation) (place now : ℕ) (d other : DoneOperation) → now ≤ (get_or operations place other).tick.0
-    → slice_get operations place ≡ Some d → now ≤ d.tick.0
-later_at operations place now d other more at =
-    subst (λ (o : DoneOperation). now ≤ o.tick.0) (get_or_from_slice_get operations place d other at) more

@@ -1,5 +1,5 @@
 -- The signals that end just now, by the points that are held.
-use Rattle.std.proofs.Common.{◌≡◌, ◌⊎◌, ℕ, ◌+◌, ◌-◌, ◌≤◌, ◌<◌, max, List, Some, None, slice_get, refl, sym, ◌∙◌, subst, arith}
+use Rattle.std.proofs.Common.{◌≡◌, ◌≢◌, ◌⊎◌, ℕ, true, ◌+◌, ◌-◌, ◌≤◌, ◌<◌, max, List, Some, None, slice_get, refl, sym, ◌∙◌, subst, arith}
 use Rattle.site_types.specs.declared.retained.Retained.{Retained}
 use Rattle.site_types.specs.declared.rule.Rule.TheVariants.{Plain, A, C}
 use Rattle.site_types.specs.declared.site.Site.{Site}
@@ -7,10 +7,12 @@ use Rattle.site_types.specs.Done.{Done, floor_before}
 use Rattle.site_types.specs.Profile.{round_of}
 use Rattle.coincidence_rules.specs.Places.{rule_of}
 use Rattle.panel_rules.specs.Moments.{Moment}
-use Rattle.panel_rules.specs.Due.{CallPointSignals, DetectorSignals, DetectorsSignal, IsHeld, PointSignals}
+use Rattle.panel_rules.specs.Due.{CallPointSignals, DetectorSignals, DetectorsSignal, IsHeld, PointSignals, TwoHeld}
 use Rattle.panel_rules.proofs.Bools.{both, parts}
+use Rattle.zone_signals.specs.declared.kind.Kind.{Kind}
 use Rattle.zone_signals.specs.declared.kind.Kind.TheVariants.{Any, Detector, CallPoint}
-use Rattle.zone_signals.specs.Rounds.{HasDetectorThrough, HasHeldAfter, HasTwoHeldAfter}
+use Rattle.zone_signals.specs.Kinds.{fits_kind}
+use Rattle.zone_signals.specs.Rounds.{HasDetectorThrough, HasHeldAfter, HasTwoHeldAfter, HeldAfter}
 use Rattle.zone_signals.proofs.NoFloors.{floor_clear, floor_past}
 
 module _ (site : Site) (kept : Retained) (done : List Done) (moments : List Moment) (zone now start : ℕ) (some : 1 ≤ round_of site.format) (is : start
@@ -18,6 +20,29 @@ module _ (site : Site) (kept : Retained) (done : List Done) (moments : List Mome
   -- a round that begins then, and has ended, is one that ends now
   pub begun_then : (first : ℕ) → 1 ≤ start → start - 1 < first → first + round_of site.format ≤ now → first ≡ now - round_of site.format
   begun_then first one late ended = omega (arith, is, one, late, ended)
+
+  -- two points are held, the second one for the round that ends now
+  pub held_both : (kind : Kind) (after one other first second : ℕ) → 1 ≤ start → one ≢ other
+      → HeldAfter site kept done moments kind after now one first → HeldAfter site kept done moments kind (start - 1) now other second
+      → TwoHeld site kept done moments one other first (now - round_of site.format)
+  held_both kind after one other first second begun differ early late =
+      let since = early.since in
+      let ended = early.ended in
+      record {
+        begins = omega (arith, since);
+        follows = omega (arith, ended);
+        differ = differ;
+        first_held = early.held;
+        second_held = subst (IsHeld site kept done moments other) (begun_then second begun late.since late.ended) late.held;
+      }
+
+  -- where two are, so is the second one
+  pub held_now : (kind : Kind) (one other first : ℕ) → TwoHeld site kept done moments one other first (now - round_of site.format)
+      → fits_kind kind site other ≡ true → HeldAfter site kept done moments kind (start - 1) now other (now - round_of site.format)
+  held_now kind one other first two fits =
+      let begins = two.begins in
+      let follows = two.follows in
+      record { fits = fits; since = omega (arith, is, begins, follows); held = two.second_held; ended = omega (arith, begins, follows) }
 
   module _ (below : floor_before site zone now done < start) where
     pub call_of : HasHeldAfter site kept done moments CallPoint None zone (start - 1) now
@@ -85,22 +110,14 @@ module _ (site : Site) (kept : Retained) (done : List Done) (moments : List Mome
       → HasTwoHeldAfter site kept done moments Detector zone after (start - 1) now
       → DetectorsSignal site kept done moments zone now (now - round_of site.format)
   detectors_of verify within after one bar rule two =
-      let then' = begun_then two.second one two.two.since two.two.ended in
       let since = two.one.since in
-      let ended = two.one.ended in
       record {
         first_point = two.first_point;
         second_point = two.second_point;
         first = two.first;
         verify = verify;
         within = within;
-        held = record {
-          begins = omega (arith, since);
-          follows = omega (arith, ended);
-          differ = two.differ;
-          first_held = two.one.held;
-          second_held = subst (IsHeld site kept done moments two.second_point) then' two.two.held;
-        };
+        held = held_both Detector after two.first_point two.second_point two.first two.second one two.differ two.one two.two;
         rule = rule;
         near = omega (arith, since, bar, one, is);
         first_of_zone = two.first_of_zone;
@@ -134,12 +151,7 @@ module _ (site : Site) (kept : Retained) (done : List Done) (moments : List Mome
           held = signal.held.first_held;
           ended = omega (arith, begins, follows);
         };
-        two = record {
-          fits = signal.second_detects;
-          since = omega (arith, is, begins, follows);
-          held = signal.held.second_held;
-          ended = omega (arith, begins, follows);
-        };
+        two = held_now Detector signal.first_point signal.second_point signal.first signal.held signal.second_detects;
       }
 
 -- one detector for its time and two rounds

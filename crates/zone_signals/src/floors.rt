@@ -1,11 +1,11 @@
-ghost use Rattle.std.specs.Prelude.{◌≡◌, ◌≤◌, ◌<◌, ℕ, List, Some, length, slice_get, take};
+ghost use Rattle.std.specs.Prelude.{◌≡◌, ◌≤◌, ℕ, List, length, slice_get, take};
 ghost use Rattle.blocked_points.specs.declared.done_operation.DoneOperation.{DoneOperation as DoneOperationOf};
 
 use crate::zone_floor::ZoneFloor;
-use blocked_points::DoneOperation;
+use blocked_points::{DoneOperation, count_before};
 use site_types::{Item, Operation, Site};
 use std::alloc::Global;
-use tick_units::NoMemory;
+use tick_units::{NoMemory, Tick};
 
 /// When the signals of zones were last undone, by the operations that were done before a tick.
 #[derive(Drop)]
@@ -35,7 +35,7 @@ impl Floors {
         ensures { (tick : ℕ) → tick ≤ now → FloorsStand site.now done.now tick self.old
             → FloorsStand site.now done.now now self.new }
     {
-        let end = count_before(done, self.taken, now);
+        let end = count_before(done, self.taken, Tick(now));
         take_each(&mut self.rows, site, done, self.taken, end);
         self.taken = end;
     }
@@ -48,22 +48,6 @@ impl Floors {
     {
         &self.rows
     }
-}
-
-// The place of the first operation from a place on that wasn't done before a tick, or how many there are.
-fn count_before(done: &[DoneOperation], from: usize, now: u64) -> usize
-    ensures within { result ≤ length done.now }
-    ensures earlier { (place : ℕ) (d : DoneOperationOf) → from ≤ place → place < result
-        → slice_get done.now place ≡ Some d → d.tick.0 < now }
-    ensures later { (d : DoneOperationOf) → slice_get done.now result ≡ Some d → now ≤ d.tick.0 }
-    ensures from { from ≤ length done.now → from ≤ result }
-{
-    for place in from..done.len() {
-        if done[place].tick.0 >= now {
-            return place;
-        }
-    }
-    done.len()
 }
 
 ghost use Rattle.std.specs.Prelude.{◌∷◌};

@@ -17,6 +17,7 @@
 
 mod floors;
 mod kind;
+mod known;
 mod marks;
 mod members;
 mod pairs;

@@ -3,12 +3,10 @@ ghost use Rattle.zone_signals.specs.Ended.{EndedAlone, EndedCalls, EndedRounds, 
 ghost use Rattle.zone_signals.specs.Least.{earlier_of_ticks};
 ghost use Rattle.zone_signals.specs.Telling.{KeepsLeast};
 
-use crate::members::Members;
-use crate::signals::{call_ends, round_start};
+use crate::known::Known;
+use crate::signals::{behind_start, call_ends, round_start};
 use crate::zone_ends::{alone_ends, release_ends, round_ends};
-use crate::zone_floor::ZoneFloor;
-use point_runs::PointRun;
-use site_types::{Site, Zone};
+use site_types::Zone;
 
 /// From which tick on a zone has a signal that has ended and that no floor undid, by the kind of the signal.
 #[derive(Clone, Copy)]
@@ -50,45 +48,28 @@ impl ZoneSettled {
     }
 
     /// What it is a tick later, where no floor came.
-    pub fn after_tick(
-        &self,
-        site: &Site,
-        members: &[Members],
-        runs: &[PointRun],
-        rows: &[ZoneFloor],
-        zone: usize,
-        plan: &Zone,
-        now: u64,
-    ) -> ZoneSettled
-        ensures { slice_get site.now.zones zone ≡ Some plan.now
-            → KeepsZone site.now members.now runs.now rows.now zone now self.now result }
+    pub fn after_tick(&self, known: &Known, zone: usize, plan: &Zone) -> ZoneSettled
+        ensures { slice_get known.now.site.now.zones zone ≡ Some plan.now
+            → KeepsZone known.now zone self.now result }
     {
         ZoneSettled {
-            by_hand: call_since(self.by_hand, site, members, runs, rows, zone, now),
-            round: round_since(self.round, site, members, runs, rows, zone, plan, now),
-            alone: alone_since(self.alone, site, members, runs, rows, zone, plan, now),
-            second: second_since(self.second, site, members, runs, rows, zone, plan, now),
+            by_hand: call_since(self.by_hand, known, zone),
+            round: round_since(self.round, known, zone, plan),
+            alone: alone_since(self.alone, known, zone, plan),
+            second: second_since(self.second, known, zone, plan),
         }
     }
 }
 
-fn call_since(
-    old: Option<u64>,
-    site: &Site,
-    members: &[Members],
-    runs: &[PointRun],
-    rows: &[ZoneFloor],
-    zone: usize,
-    now: u64,
-) -> Option<u64>
-    ensures { zone < length site.now.zones
-        → KeepsLeast EndedCalls site.now members.now runs.now rows.now zone now old result }
+fn call_since(old: Option<u64>, known: &Known, zone: usize) -> Option<u64>
+    ensures { zone < length known.now.site.now.zones
+        → KeepsLeast EndedCalls known.now zone old result }
 {
     match old {
         Some(_) => old,
         None => {
-            if call_ends(site, members, runs, rows, zone, now) {
-                Some(round_start(site, now))
+            if call_ends(known, zone) {
+                Some(round_start(known.site, known.tick))
             } else {
                 None
             }
@@ -96,24 +77,15 @@ fn call_since(
     }
 }
 
-fn round_since(
-    old: Option<u64>,
-    site: &Site,
-    members: &[Members],
-    runs: &[PointRun],
-    rows: &[ZoneFloor],
-    zone: usize,
-    plan: &Zone,
-    now: u64,
-) -> Option<u64>
-    ensures { slice_get site.now.zones zone ≡ Some plan.now
-        → KeepsLeast EndedRounds site.now members.now runs.now rows.now zone now old result }
+fn round_since(old: Option<u64>, known: &Known, zone: usize, plan: &Zone) -> Option<u64>
+    ensures { slice_get known.now.site.now.zones zone ≡ Some plan.now
+        → KeepsLeast EndedRounds known.now zone old result }
 {
     match old {
         Some(_) => old,
         None => {
-            if round_ends(site, members, runs, rows, zone, plan, now) {
-                Some(round_start(site, now))
+            if round_ends(known, zone, plan) {
+                Some(round_start(known.site, known.tick))
             } else {
                 None
             }
@@ -121,24 +93,15 @@ fn round_since(
     }
 }
 
-fn alone_since(
-    old: Option<u64>,
-    site: &Site,
-    members: &[Members],
-    runs: &[PointRun],
-    rows: &[ZoneFloor],
-    zone: usize,
-    plan: &Zone,
-    now: u64,
-) -> Option<u64>
-    ensures { slice_get site.now.zones zone ≡ Some plan.now
-        → KeepsLeast EndedAlone site.now members.now runs.now rows.now zone now old result }
+fn alone_since(old: Option<u64>, known: &Known, zone: usize, plan: &Zone) -> Option<u64>
+    ensures { slice_get known.now.site.now.zones zone ≡ Some plan.now
+        → KeepsLeast EndedAlone known.now zone old result }
 {
     match old {
         Some(_) => old,
         None => {
-            if alone_ends(site, members, runs, rows, zone, plan, now) {
-                Some(round_start(site, now).saturating_add(1))
+            if alone_ends(known, zone, plan) {
+                Some(behind_start(known.site, known.tick))
             } else {
                 None
             }
@@ -146,24 +109,15 @@ fn alone_since(
     }
 }
 
-fn second_since(
-    old: Option<u64>,
-    site: &Site,
-    members: &[Members],
-    runs: &[PointRun],
-    rows: &[ZoneFloor],
-    zone: usize,
-    plan: &Zone,
-    now: u64,
-) -> Option<u64>
-    ensures { slice_get site.now.zones zone ≡ Some plan.now
-        → KeepsLeast EndedSeconds site.now members.now runs.now rows.now zone now old result }
+fn second_since(old: Option<u64>, known: &Known, zone: usize, plan: &Zone) -> Option<u64>
+    ensures { slice_get known.now.site.now.zones zone ≡ Some plan.now
+        → KeepsLeast EndedSeconds known.now zone old result }
 {
     match old {
         Some(_) => old,
         None => {
-            if release_ends(site, members, runs, rows, zone, plan, now) {
-                Some(round_start(site, now))
+            if release_ends(known, zone, plan) {
+                Some(round_start(known.site, known.tick))
             } else {
                 None
             }

@@ -2,11 +2,11 @@ ghost use Rattle.std.specs.Prelude.{◌≡◌, ◌<◌, [], List, Some, length, 
 ghost use Rattle.zone_signals.specs.Telling.{TakesZone, TakesZones};
 
 use crate::floors::Floors;
+use crate::known::Known;
 use crate::marks::{has_mark, mark_zones};
 use crate::members::{Members, all_members};
 use crate::signals::round_start;
 use crate::undone::floor_of;
-use crate::zone_floor::ZoneFloor;
 use crate::zone_settled::ZoneSettled;
 use blocked_points::DoneOperation;
 use point_runs::PointRun;
@@ -59,15 +59,14 @@ impl ZoneSignals {
     {
         self.floors.tick(site, done, now.0);
         mark_zones(&mut self.marks, site, runs, round_start(site, now.0));
-        take_rounds(
-            &mut self.settled,
+        let known = Known {
             site,
-            &self.members,
+            members: &self.members,
             runs,
-            self.floors.rows(),
-            &self.marks,
-            now.0,
-        );
+            rows: self.floors.rows(),
+            tick: now.0,
+        };
+        take_rounds(&mut self.settled, &known, &self.marks);
     }
 
     /// From which tick on a zone has a signal: of those that may be due the least.
@@ -112,47 +111,29 @@ impl ZoneSignals {
 }
 
 // Takes the rounds that have ended before a tick.
-fn take_rounds(
-    settled: &mut [ZoneSettled],
-    site: &Site,
-    members: &[Members],
-    runs: &[PointRun],
-    rows: &[ZoneFloor],
-    marks: &[bool],
-    now: u64,
-)
-    ensures { TakesZones site.now members.now runs.now rows.now marks.now now
-        settled.old settled.new }
+fn take_rounds(settled: &mut [ZoneSettled], known: &Known, marks: &[bool])
+    ensures { TakesZones known.now marks.now settled.old settled.new }
 {
     for zone in 0..settled.len() {
-        settled[zone] = zone_later(settled[zone], site, members, runs, rows, marks, zone, now);
+        settled[zone] = zone_later(settled[zone], known, marks, zone);
     }
 }
 
-fn zone_later(
-    settled: ZoneSettled,
-    site: &Site,
-    members: &[Members],
-    runs: &[PointRun],
-    rows: &[ZoneFloor],
-    marks: &[bool],
-    zone: usize,
-    now: u64,
-) -> ZoneSettled
-    ensures { zone < length site.now.zones
-        → TakesZone site.now members.now runs.now rows.now marks.now zone now settled result }
+fn zone_later(settled: ZoneSettled, known: &Known, marks: &[bool], zone: usize) -> ZoneSettled
+    ensures { zone < length known.now.site.now.zones
+        → TakesZone known.now marks.now zone settled result }
 {
-    match site.zones.get(zone) {
+    match known.site.zones.get(zone) {
         None => settled,
         Some(plan) => {
-            let floor = floor_of(rows, zone);
-            if floor >= now.saturating_sub(1) {
+            let floor = floor_of(known.rows, zone);
+            if floor >= known.tick.saturating_sub(1) {
                 return ZoneSettled::NONE;
             }
             if !has_mark(marks, zone, plan.partner) {
                 return settled;
             }
-            settled.after_tick(site, members, runs, rows, zone, plan, now)
+            settled.after_tick(known, zone, plan)
         }
     }
 }

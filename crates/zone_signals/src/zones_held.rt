@@ -1,78 +1,61 @@
 //! Points of the zone at a place that are held for a round.
 
-ghost use Rattle.std.specs.Prelude.{◌≡◌, ◌↔◌, ◌≤◌, ◌<◌, List, None, true};
-ghost use Rattle.site_types.specs.declared.retained.Retained.{Retained as RetainedOf};
+ghost use Rattle.std.specs.Prelude.{◌≤◌, ◌<◌, None};
 ghost use Rattle.site_types.specs.declared.site.Site.{Site as SiteOf};
-ghost use Rattle.site_types.specs.Done.{Done};
 ghost use Rattle.site_types.specs.Valid.{IsValid};
-ghost use Rattle.panel_rules.specs.Moments.{Moment};
-ghost use Rattle.zone_signals.specs.Known.{ArePointsKnown};
 ghost use Rattle.zone_signals.specs.Rounds.{HasDetectorThrough, HasHeldAfter, HasTwoHeldAfter};
 ghost use Rattle.zone_signals.specs.Telling.{TellsOfPoints};
 
 use crate::kind::Kind;
+use crate::known::Known;
 use crate::members::Members;
 use crate::zone_rounds::{has_detector_since, has_held_after, has_two_held_after};
-use point_runs::PointRun;
-use site_types::Site;
 
 /// Whether one is held for a round that begins after a tick.
-pub fn one_held(
-    site: &Site,
-    members: &[Members],
-    runs: &[PointRun],
-    zone: usize,
-    kind: Kind,
-    after: u64,
-    now: u64,
-) -> bool
-    ensures { (kept : RetainedOf) (done : List Done) (moments : List Moment)
-        → ArePointsKnown site.now kept done moments now members.now runs.now
-        → (result ≡ true) ↔ HasHeldAfter site.now kept done moments kind None zone after now }
+pub fn one_held(known: &Known, zone: usize, kind: Kind, after: u64) -> bool
+    ensures { TellsOfPoints (λ kept done moments. HasHeldAfter known.now.site.now kept done moments
+        kind None zone after known.now.tick) known.now result }
 {
-    has_held_after(site, places_of(members, zone), runs, kind, None, after, now)
+    has_held_after(
+        known.site,
+        places_of(known.members, zone),
+        known.runs,
+        kind,
+        None,
+        after,
+        known.tick,
+    )
 }
 
 /// Whether two are, the round of the second one after a later tick.
-pub fn two_held(
-    site: &Site,
-    members: &[Members],
-    runs: &[PointRun],
-    zone: usize,
-    kind: Kind,
-    after: u64,
-    later: u64,
-    now: u64,
-) -> bool
-    ensures { (kept : RetainedOf) (done : List Done) (moments : List Moment)
-        → ArePointsKnown site.now kept done moments now members.now runs.now
-        → (result ≡ true) ↔ HasTwoHeldAfter site.now kept done moments kind zone after later now }
+pub fn two_held(known: &Known, zone: usize, kind: Kind, after: u64, later: u64) -> bool
+    ensures { TellsOfPoints (λ kept done moments. HasTwoHeldAfter known.now.site.now kept done
+        moments kind zone after later known.now.tick) known.now result }
 {
     has_two_held_after(
-        site,
-        places_of(members, zone),
-        runs,
+        known.site,
+        places_of(known.members, zone),
+        known.runs,
         kind,
         after,
         later,
-        now,
+        known.tick,
     )
 }
 
 /// Whether a detector signals at each tick from one on until now.
-pub fn one_lasts(
-    site: &Site,
-    members: &[Members],
-    runs: &[PointRun],
-    zone: usize,
-    first: u64,
-    now: u64,
-) -> bool
-    ensures { 1 ≤ first → first < now
-        → TellsOfPoints (λ kept done moments. HasDetectorThrough site.now kept done moments zone
-        first now) site.now members.now runs.now now result }
+pub fn one_lasts(known: &Known, zone: usize, first: u64) -> bool
+    ensures { 1 ≤ first → first < known.now.tick
+        → TellsOfPoints (λ kept done moments. HasDetectorThrough known.now.site.now kept done
+        moments zone first known.now.tick) known.now result }
 {
-    has_detector_since(site, places_of(members, zone), runs, first, now)
+    has_detector_since(
+        known.site,
+        places_of(known.members, zone),
+        known.runs,
+        first,
+        known.tick,
+    )
 }
 
 ghost use Rattle.zone_signals.specs.Kinds.{AreAllMembers, AreMembers};

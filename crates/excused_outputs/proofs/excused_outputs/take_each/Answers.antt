@@ -1,12 +1,12 @@
-use Rattle.std.proofs.Common.{arith, ◌≡◌, subst, take}
-use Rattle.excused_outputs.specs.Behind.{SettingsStand}
+use Rattle.std.proofs.Common.{arith, ◌≡◌, subst, sym, take}
 use Rattle.blocked_points.specs.Operations.{done_newest_first}
-use Rattle.excused_outputs.proofs.Steps.{taken_more}
+use Rattle.blocked_points.proofs.Counted.{one_more_done}
+use Rattle.excused_outputs.specs.Behind.{SettingsStand}
 use Rattle.excused_outputs.proofs.excused_outputs.take_each.Goals as goal
 
 pub loop-place-preserved : goal.loop-place-preserved
 loop-place-preserved c site kept stands =
-    taken_more site kept c.args.done.now c.loop-place.place _ c.take.new.self (omega arith)
+    subst (λ done. SettingsStand site kept done c.take.new.self) (sym (one_more_done c.args.done.now c.loop-place.place _ (omega arith)))
     (c.take.ensures site kept _ (c.loop-place.invariant site kept stands))
 
 pub returns : goal.returns

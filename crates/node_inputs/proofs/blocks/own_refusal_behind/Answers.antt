@@ -1,6 +1,6 @@
 use Rattle.std.proofs.Common.{◌∙◌, ◌+◌, ◌++◌, sym, subst, arith}
 use Rattle.desk_ticks.specs.Blocks.{first_line}
-use Rattle.desk_ticks.proofs.Behind.{some_left, told_so, uses_fit, uses_some}
+use Rattle.desk_ticks.proofs.Behind.{some_left, used_fits, used_some}
 use Rattle.node_inputs.proofs.OwnLines.{IsOwnRead, none_left, nothing_own, own_all_read, own_goes, own_stops}
 use Rattle.node_inputs.proofs.blocks.own_refusal_behind.Goals as goal
 
@@ -27,8 +27,7 @@ split_at-requires c =
     let h = c.loop-left.invariant in
     let some = some_left left (sym c.is_empty.ensures ∙ c.loop-left-test.true) in
     let feeds = c.feed-fed.ensures.feeds (first_line site ++ h.read.front) h.read.reads in
-    let told = told_so site c.args.rest.now left c.loop-left.reader c.feed-fed.new.self c.loop-left.number c.feed-fed.result h.read some feeds in
-    uses_fit site (first_line site ++ h.read.front) left c.feed-fed.result.used c.feed-fed.result.step told.1
+    used_fits site c.args.rest.now left c.loop-left.reader c.feed-fed.new.self c.loop-left.number c.feed-fed.result h.read some feeds
 
 pub loop-left-smaller : goal.loop-left-smaller
 loop-left-smaller c =
@@ -37,9 +36,8 @@ loop-left-smaller c =
     let h = c.loop-left.invariant in
     let some = some_left left (sym c.is_empty.ensures ∙ c.loop-left-test.true) in
     let feeds = c.feed-fed.ensures.feeds (first_line site ++ h.read.front) h.read.reads in
-    let told = told_so site c.args.rest.now left c.loop-left.reader c.feed-fed.new.self c.loop-left.number c.feed-fed.result h.read some feeds in
-    let more = uses_some site (first_line site ++ h.read.front) left c.feed-fed.result.used c.feed-fed.result.step some told.1 in
-    let fits = uses_fit site (first_line site ++ h.read.front) left c.feed-fed.result.used c.feed-fed.result.step told.1 in
+    let fits = used_fits site c.args.rest.now left c.loop-left.reader c.feed-fed.new.self c.loop-left.number c.feed-fed.result h.read some feeds in
+    let more = used_some site c.args.rest.now left c.loop-left.reader c.feed-fed.new.self c.loop-left.number c.feed-fed.result h.read some feeds in
     let back = c.split_at.ensures.back_len in
     omega (arith, more, fits, back)
 

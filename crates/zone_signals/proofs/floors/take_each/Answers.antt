@@ -1,12 +1,12 @@
-use Rattle.std.proofs.Common.{arith, ◌≡◌, subst, take}
+use Rattle.std.proofs.Common.{arith, ◌≡◌, subst, sym, take}
 use Rattle.blocked_points.specs.Operations.{done_newest_first}
+use Rattle.blocked_points.proofs.Counted.{one_more_done}
 use Rattle.zone_signals.specs.Floors.{RowsStand}
-use Rattle.zone_signals.proofs.FloorsTaken.{operation_taken}
 use Rattle.zone_signals.proofs.floors.take_each.Goals as goal
 
 pub loop-place-preserved : goal.loop-place-preserved
 loop-place-preserved c stand =
-    operation_taken c.args.site.now c.args.done.now c.loop-place.place _ c.take_operation.new.rows (omega arith)
+    subst (λ done. RowsStand c.args.site.now done c.take_operation.new.rows) (sym (one_more_done c.args.done.now c.loop-place.place _ (omega arith)))
     (c.take_operation.ensures _ (c.loop-place.invariant stand))
 
 pub returns : goal.returns

@@ -12,11 +12,11 @@ returns-else-each_held c kept done moments known = (
         | inl each ↦
             absurd
             (differ c.each_held.result ((c.each_held.ensures kept done moments known).1
-            (subst (λ z. HasOneOfEach c.args.site.now kept done moments c.args.kind c.args.zone z c.args.both c.args.later c.args.now)
+            (subst (λ z. HasOneOfEach c.args.known.now.site.now kept done moments c.args.kind c.args.zone z c.args.both c.args.later c.args.known.now.tick)
             (same_Some across.other c.in-Some.other (sym across.is ∙ c.in-Some.is)) each)) c.if-each_held.false)
         | inr each ↦
             (c.each_held-else-each_held.ensures kept done moments known).1
-            (subst (λ z. HasOneOfEach c.args.site.now kept done moments c.args.kind z c.args.zone c.args.both c.args.later c.args.now)
+            (subst (λ z. HasOneOfEach c.args.known.now.site.now kept done moments c.args.kind z c.args.zone c.args.both c.args.later c.args.known.now.tick)
             (same_Some across.other c.in-Some.other (sym across.is ∙ c.in-Some.is)) each)
       ],
 )

@@ -7,19 +7,19 @@ pub returns-then-floor-start : goal.returns-then-floor-start
 returns-then-floor-start c within kept done moments known rows = (
   λ never. absurd (cc),
   λ signal. absurd
-      (let low = call_below c.args.site.now kept done moments c.args.zone c.args.now c.round_start-start.result known.told.some c.round_start-start.ensures signal in
-      let is = c.floor_of-floor.ensures c.args.site.now done c.args.now rows within in
+      (let low = call_below c.args.known.now.site.now kept done moments c.args.zone c.args.known.now.tick c.round_start-start.result known.told.some c.round_start-start.ensures signal in
+      let is = c.floor_of-floor.ensures c.args.known.now.site.now done c.args.known.now.tick rows within in
       let past = c.if-floor-start.true in
       omega (arith, low, is, past)),
 )
 
 pub returns : goal.returns
 returns c within kept done moments known rows =
-    let is = c.floor_of-floor.ensures c.args.site.now done c.args.now rows within in
+    let is = c.floor_of-floor.ensures c.args.known.now.site.now done c.args.known.now.tick rows within in
     let past = c.if-floor-start.false in
-    let below : floor_before c.args.site.now c.args.zone c.args.now done < c.round_start-start.result = omega (arith, is, past) in (
-      λ held. call_of c.args.site.now kept done moments c.args.zone c.args.now c.round_start-start.result known.told.some c.round_start-start.ensures below
+    let below : floor_before c.args.known.now.site.now c.args.zone c.args.known.now.tick done < c.round_start-start.result = omega (arith, is, past) in (
+      λ held. call_of c.args.known.now.site.now kept done moments c.args.zone c.args.known.now.tick c.round_start-start.result known.told.some c.round_start-start.ensures below
           ((c.one_held.ensures kept done moments known).0 held),
       λ signal. (c.one_held.ensures kept done moments known).1
-          (of_call c.args.site.now kept done moments c.args.zone c.args.now c.round_start-start.result known.told.some c.round_start-start.ensures signal),
+          (of_call c.args.known.now.site.now kept done moments c.args.zone c.args.known.now.tick c.round_start-start.result known.told.some c.round_start-start.ensures signal),
     )

@@ -5,8 +5,8 @@ use Rattle.zone_signals.proofs.signals.pair_ends.Goals as goal
 
 pub returns : goal.returns
 returns c type kept done moments known rows =
-    let site = c.args.site.now in
-    let now = c.args.now in
+    let site = c.args.known.now.site.now in
+    let now = c.args.known.now.tick in
     let one : 1 ≤ c.round_start-start.result = (let past = c.if-start-eq0.false in omega (arith, past)) in
     let own_undone = c.undone.ensures site done now rows type.inside in
     let early = c.too_early-early.ensures in

@@ -6,8 +6,8 @@ use Rattle.zone_signals.proofs.signals.second_ends.Goals as goal
 
 pub returns : goal.returns
 returns c type kept done moments known rows =
-    let site = c.args.site.now in
-    let now = c.args.now in
+    let site = c.args.known.now.site.now in
+    let now = c.args.known.now.tick in
     let one : 1 ≤ c.round_start-start.result = (let past = c.if-start-eq0.false in omega (arith, past)) in
     let own = c.floor_of-own.ensures site done now rows type.inside in
     let most = c.max-both.ensures in

@@ -7,7 +7,7 @@ pub returns-in-C : goal.returns-in-C
 returns-in-C c at =
     c.second_ends.ensures
     (record {
-      inside = slice_get_within c.args.site.now.zones c.args.zone c.args.plan.now at;
+      inside = slice_get_within c.args.known.now.site.now.zones c.args.zone c.args.plan.now at;
       is_partner = ap partner_of at;
       rule = ap rule_of at ∙ ap Some c.in-C.is;
     })

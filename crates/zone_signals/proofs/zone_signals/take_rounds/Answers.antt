@@ -10,8 +10,8 @@ loop-zone-preserved c kept done moments known floors marked stand =
     let kept_length = c.loop-zone.auto.settled in
     let test = c.loop-zone-test.true in
     let inside : c.loop-zone.zone < length c.loop-zone.settled = omega (arith, kept_length, test) in
-    one_taken (ZoneStands c.args.site.now kept done moments (c.args.now - 1)) (ZoneStands c.args.site.now kept done moments c.args.now)
-    (length c.args.site.now.zones) c.loop-zone.zone c.loop-zone.settled _ c.zone_later.result inside
+    one_taken (ZoneStands c.args.known.now.site.now kept done moments (c.args.known.now.tick - 1)) (ZoneStands c.args.known.now.site.now kept done moments c.args.known.now.tick)
+    (length c.args.known.now.site.now.zones) c.loop-zone.zone c.loop-zone.settled _ c.zone_later.result inside
     (c.zone_later.ensures (omega (arith, many, inside)) kept done moments known floors marked) partly
 
 pub returns : goal.returns
@@ -19,6 +19,6 @@ returns c kept done moments known floors marked stand =
     let partly = c.loop-zone.invariant kept done moments known floors marked stand in
     record {
       whole = partly.many;
-      each = all_taken (ZoneStands c.args.site.now kept done moments (c.args.now - 1)) (ZoneStands c.args.site.now kept done moments c.args.now)
-          (length c.args.site.now.zones) c.loop-zone.zone c.loop-zone.settled (omega arith) partly;
+      each = all_taken (ZoneStands c.args.known.now.site.now kept done moments (c.args.known.now.tick - 1)) (ZoneStands c.args.known.now.site.now kept done moments c.args.known.now.tick)
+          (length c.args.known.now.site.now.zones) c.loop-zone.zone c.loop-zone.settled (omega arith) partly;
     }

@@ -11,7 +11,7 @@ use Rattle.zone_signals.proofs.PartlyTaken.{ArePartly}
 use Rattle.zone_signals.proofs.zone_signals.take_rounds.Given as goal
 
 abbrev pub invariant-loop-zone : goal.invariant-loop-zone
-invariant-loop-zone l = (kept : Retained) (done : List Done) (moments : List Moment) → ArePointsKnown l.site kept done moments l.now l.members l.runs
-    → AreFloors l.site done l.now l.rows → AreZonesMarked l.site l.runs (l.now - round_of l.site.format) l.marks
-    → ZonesStand l.site kept done moments (l.now - 1) l.initial.settled
-    → ArePartly (ZoneStands l.site kept done moments (l.now - 1)) (ZoneStands l.site kept done moments l.now) (length l.site.zones) l.zone l.settled
+invariant-loop-zone l = (kept : Retained) (done : List Done) (moments : List Moment) → ArePointsKnown l.known.site.now kept done moments l.known.tick l.known.members.now l.known.runs.now
+    → AreFloors l.known.site.now done l.known.tick l.known.rows.now → AreZonesMarked l.known.site.now l.known.runs.now (l.known.tick - round_of l.known.site.now.format) l.marks
+    → ZonesStand l.known.site.now kept done moments (l.known.tick - 1) l.initial.settled
+    → ArePartly (ZoneStands l.known.site.now kept done moments (l.known.tick - 1)) (ZoneStands l.known.site.now kept done moments l.known.tick) (length l.known.site.now.zones) l.zone l.settled
