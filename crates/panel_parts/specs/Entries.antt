@@ -7,9 +7,9 @@ use Rattle.panel_conditions.specs.Shown.{entries_after}
 use Rattle.panel_laws.specs.TimelineLaws.{counted_entries}
 use Rattle.panel_rules.specs.Batches.{kept_after}
 use Rattle.panel_rules.specs.Moments.{Moment, IsPanel}
-use Rattle.panel_core.specs.declared.kept_counts.KeptCounts.{KeptCounts}
-use Rattle.panel_core.specs.declared.parts.Parts.{Parts}
-use Rattle.panel_core.specs.Applied.{done_so_far}
+use Rattle.panel_parts.specs.declared.kept_counts.KeptCounts.{KeptCounts}
+use Rattle.panel_parts.specs.declared.parts.Parts.{Parts}
+use Rattle.panel_parts.specs.Applied.{done_so_far}
 
 -- how many of each panel are kept, and its counter
 pub record CountsFor (site : Site) (kept : Retained) (before : List Moment) (counts : KeptCounts) : Type 0 where
