@@ -1,10 +1,9 @@
 -- What an event makes of a panel.
-use Rattle.std.proofs.Common.{◌≡◌, ◌≢◌, ℕ, ◌-◌, ◌^◌, ◌≤◌, ◌<◌, ◌==◌, ◌&&◌, List, ◌∷◌, length, Option, Some, None, slice_get}
-use Rattle.std.proofs.Common.{get_or, inl, inr, true, false, if◌then◌else◌, refl, sym, ◌∙◌, ap, subst, arith, Bool}
+use Rattle.std.proofs.Common.{◌≡◌, ℕ, ◌-◌, ◌^◌, ◌≤◌, ◌<◌, ◌==◌, ◌&&◌, List, ◌∷◌, length, Option, Some, None, slice_get}
+use Rattle.std.proofs.Common.{get_or, true, false, if◌then◌else◌, refl, sym, ◌∙◌, ap, subst, arith, Bool}
 use Rattle.std.specs.Prelude.{nat_le}
 use Rattle.std.specs.Vec.{with_item}
 use Rattle.std.proofs.lemmas.Bool.{eqb-true}
-use Rattle.std.proofs.lemmas.Bool.Decides.{eqb_tells}
 use Rattle.std.proofs.lemmas.Option.{slice_get_read, slice_get_within}
 use Rattle.site_types.specs.declared.event.Event.{Event}
 use Rattle.site_types.specs.declared.event.Event.TheVariants.{Point, Cable, Supply, Confirmed, Link as LinkEvent}
@@ -17,21 +16,15 @@ use Rattle.site_types.specs.declared.piece_state.PieceState.{PieceState}
 use Rattle.site_types.specs.declared.retained.Retained.{Retained}
 use Rattle.site_types.specs.declared.site.Site.{Site}
 use Rattle.site_types.specs.declared.supply_kind.SupplyKind.{SupplyKind}
-use Rattle.site_types.specs.Done.{Done}
 use Rattle.site_types.specs.Events.{has_event, has_piece, is_confirming, is_panel, is_some_with}
 use Rattle.site_types.specs.Valid.{IsValid}
 use Rattle.site_types.proofs.ValidSites.{loop_at, output_at, point_at}
-use Rattle.loop_poller.specs.declared.poller.Poller.{Poller}
-use Rattle.loop_poller.specs.Calls.{Call, Reported, Cabled}
-use Rattle.loop_poller.specs.Stands.{StandsFor as PollsFor}
-use Rattle.supply_monitor.specs.declared.supply.Supply.{Supply as SupplyPart}
-use Rattle.supply_monitor.specs.Supply.{Call as SupplyCall, Reported as SupplyReported}
-use Rattle.supply_monitor.specs.Stands.{StandsFor as MonitorsFor}
-use Rattle.panel_rules.specs.Faults.{and_supply, supply_calls}
+use Rattle.loop_poller.specs.Calls.{Reported, Cabled}
+use Rattle.supply_monitor.specs.Supply.{Reported as SupplyReported}
+use Rattle.panel_rules.specs.Faults.{supply_calls}
 use Rattle.panel_rules.specs.Moments.{Moment, Happened, IsPanel}
 use Rattle.panel_rules.specs.Operations.{requests}
 use Rattle.panel_rules.proofs.Bools.{parts as both_parts, at_any}
-use Rattle.panel_rules.proofs.Reports.{is_line}
 use Rattle.panel_rules.proofs.AnswersTell.{eq_true}
 use Rattle.panel_rules.proofs.Floors.{le_from, lt_from}
 use Rattle.operation_desk.specs.declared.desk.Desk.{Desk}
@@ -40,86 +33,13 @@ use Rattle.panel_laws.specs.OperationLaws.{AreOfSite}
 use Rattle.panel_laws.proofs.EventsOfSite.{of_site}
 use Rattle.panel_core.specs.declared.parts.Parts.{Parts}
 use Rattle.panel_core.specs.declared.system.System.{System}
-use Rattle.panel_rules.specs.Reports.{and_report, is_on_panel, reports}
+use Rattle.panel_rules.specs.Reports.{is_on_panel, reports}
 use Rattle.panel_core.specs.Stands.{KeepsWords, PanelStands, StandsFor}
 use Rattle.panel_core.specs.Applied.{applied}
 use Rattle.panel_core.proofs.Counts.{counts_stay}
-use Rattle.panel_effects.proofs.LatestFacts.{effects_stay}
-use Rattle.output_drive.specs.declared.drive.Drive.{Drive as DrivePart}
-use Rattle.output_drive.proofs.Alike.{ConfirmsNone, after_other_event}
 use Rattle.panel_links.specs.declared.ring.Ring.{Ring}
 use Rattle.panel_rules.specs.Outputs.{panel_of_plan}
-use Rattle.panel_rules.specs.Run.{facts_of}
-use Rattle.panel_core.proofs.Panels.{HasFacts, HasOutputs, leaves_lanes, with_lanes_left}
 use Rattle.panel_core.proofs.Whole.{panel_at, stands_changed, stands_unchanged}
-
-module _ (site : Site) (kept : Retained) (done : List Done) (panel : ℕ) (before : List Moment) (parts : Parts) (h : PanelStands site kept done panel before parts) where
-  -- an event is no turn of Effect
-  facts_stay : (event : Event) → HasFacts site kept done panel before (Happened event ∷ before) parts.effects
-  facts_stay event = effects_stay site (facts_of site kept done) panel before parts.effects (Happened event) (λ e. cc) h.effects
-
-  -- and one that confirms no output of the panel leaves its outputs
-  outputs_stay : (event : Event) → ConfirmsNone site panel event → HasOutputs site kept done panel before (Happened event ∷ before) parts.drive
-  outputs_stay event none = after_other_event site (facts_of site kept done) kept done panel before parts.drive h.drives event none
-
--- a panel after an event of which its poller was told, and its supplies and outputs weren't
-told : (site : Site) (kept : Retained) (done : List Done) (panel : ℕ) (before : List Moment) (parts : Parts) (poller : Poller) (event : Event)
-    → PanelStands site kept done panel before parts → PollsFor site panel (and_report site panel event (reports site panel before)) poller
-    → and_supply panel event (supply_calls panel before) ≡ supply_calls panel before → ConfirmsNone site panel event
-    → PanelStands site kept done panel (Happened event ∷ before) (record parts { poller = poller })
-told site kept done panel before parts poller event h p s none =
-    with_lanes_left site kept done panel before (Happened event) parts poller parts.supply parts.effects parts.drive h
-    (leaves_lanes site kept done panel before (Happened event) refl refl refl refl) p
-    (subst (λ calls. MonitorsFor site.waits calls parts.supply) (sym s) h.supplies) (facts_stay site kept done panel before parts h event)
-    (outputs_stay site kept done panel before parts h event none)
-
-pub after_point : (site : Site) (kept : Retained) (done : List Done) (panel : ℕ) (before : List Moment) (parts : Parts) (poller : Poller) (point : ℕ) (state :
-    PointState) → PanelStands site kept done panel before parts → is_on_panel panel (slice_get site.points point) ≡ true
-    → PollsFor site panel (Reported point state ∷ reports site panel before) poller
-    → PanelStands site kept done panel (Happened (Point point state) ∷ before) (record parts { poller = poller })
-after_point site kept done panel before parts poller point state h at p =
-    told site kept done panel before parts poller (Point point state) h
-    (subst (λ b. PollsFor site panel (if b then Reported point state ∷ reports site panel before else reports site panel before) poller) (sym at)
-    p) refl tt
-
-pub after_piece : (site : Site) (kept : Retained) (done : List Done) (panel : ℕ) (before : List Moment) (parts : Parts) (poller : Poller) (line piece : ℕ) (state :
-    PieceState) → 1 ≤ line → line ≤ 4 → PanelStands site kept done panel before parts
-    → PollsFor site panel (Cabled line piece state ∷ reports site panel before) poller
-    → PanelStands site kept done panel (Happened (Cable panel line piece state) ∷ before) (record parts { poller = poller })
-after_piece site kept done panel before parts poller line piece state low high h p =
-    told site kept done panel before parts poller (Cable panel line piece state) h
-    (subst (λ b. PollsFor site panel (if b then Cabled line piece state ∷ reports site panel before else reports site panel before) poller)
-    (sym (ap (λ b. b && (nat_le 1 line && nat_le line 4)) (eq_true panel panel refl) ∙ is_line line low high)) p) refl tt
-
-pub after_report : (site : Site) (kept : Retained) (done : List Done) (panel : ℕ) (before : List Moment) (parts : Parts) (supply : SupplyPart) (kind : SupplyKind)
-    (bad : Bool) → PanelStands site kept done panel before parts → MonitorsFor site.waits (SupplyReported kind bad ∷ supply_calls panel before) supply
-    → PanelStands site kept done panel (Happened (Supply panel kind bad) ∷ before) (record parts { supply = supply })
-after_report site kept done panel before parts supply kind bad h m =
-    with_lanes_left site kept done panel before (Happened (Supply panel kind bad)) parts parts.poller supply parts.effects parts.drive h
-    (leaves_lanes site kept done panel before (Happened (Supply panel kind bad)) refl refl refl refl) h.polls
-    (subst (λ b. MonitorsFor site.waits (if b then SupplyReported kind bad ∷ supply_calls panel before else supply_calls panel before) supply)
-    (sym (eq_true panel panel refl)) m) (facts_stay site kept done panel before parts h (Supply panel kind bad))
-    (outputs_stay site kept done panel before parts h (Supply panel kind bad) tt)
-
--- an output of the panel was confirmed
-pub after_confirmation : (site : Site) (kept : Retained) (done : List Done) (panel : ℕ) (before : List Moment) (parts : Parts) (drive : DrivePart) (output : ℕ)
-    → PanelStands site kept done panel before parts → HasOutputs site kept done panel before (Happened (Confirmed output) ∷ before) drive
-    → PanelStands site kept done panel (Happened (Confirmed output) ∷ before) (record parts { drive = drive })
-after_confirmation site kept done panel before parts drive output h confirmed =
-    with_lanes_left site kept done panel before (Happened (Confirmed output)) parts parts.poller parts.supply parts.effects drive h
-    (leaves_lanes site kept done panel before (Happened (Confirmed output)) refl refl refl refl) h.polls h.supplies
-    (facts_stay site kept done panel before parts h (Confirmed output)) confirmed
-
--- a panel that an event doesn't concern
-untold : (site : Site) (kept : Retained) (done : List Done) (panel : ℕ) (before : List Moment) (parts : Parts) (event : Event) → PanelStands site kept done panel before parts
-    → and_report site panel event (reports site panel before) ≡ reports site panel before
-    → and_supply panel event (supply_calls panel before) ≡ supply_calls panel before → ConfirmsNone site panel event
-    → PanelStands site kept done panel (Happened event ∷ before) parts
-untold site kept done panel before parts event h e s none =
-    told site kept done panel before parts parts.poller event h (subst (λ calls. PollsFor site panel calls parts.poller) (sym e) h.polls) s none
-
-not_there : (a b : ℕ) → a ≢ b → (a == b) ≡ false
-not_there a b n = elim (eqb_tells a b) [ inl t ↦ absurd (n t.1) | inr t ↦ t.0 ]
 
 -- the desk after an event of the site
 pub record DeskAfter (site : Site) (kept : Retained) (before : List Moment) (event : Event) (desk : Desk) : Type 0 where
@@ -177,27 +97,6 @@ stands_after_confirmation site kept before system desk output plan parts h after
     (λ other q n stood.
     untold site kept (applied site kept before) other before q (Confirmed output) stood refl refl
     (λ found there same. n (ap (λ (o : Option Output). panel_of_plan o) (sym is ∙ there) ∙ same)))
-
--- an event that concerns no panel
-abbrev pub IsOther : Event → Type 0
-IsOther (Point point state) = ⊥
-IsOther (Cable panel line piece state) = ⊥
-IsOther (Supply panel kind bad) = ⊥
-IsOther (Confirmed output) = ⊥
-IsOther event = Unit {0}
-
-none_confirmed : (site : Site) (panel : ℕ) (event : Event) → IsOther event → ConfirmsNone site panel event
-none_confirmed site panel (Confirmed output) o = absurd o
-none_confirmed site panel event o = tt
-
-not_reported : (site : Site) (panel : ℕ) (event : Event) (calls : List Call) → IsOther event → and_report site panel event calls ≡ calls
-not_reported site panel (Point point state) calls o = absurd o
-not_reported site panel (Cable other line piece state) calls o = absurd o
-not_reported site panel event calls o = refl
-
-not_monitored : (panel : ℕ) (event : Event) (calls : List SupplyCall) → IsOther event → and_supply panel event calls ≡ calls
-not_monitored panel (Supply other kind bad) calls o = absurd o
-not_monitored panel event calls o = refl
 
 pub stands_after_other : (site : Site) (kept : Retained) (before : List Moment) (system : System) (desk : Desk) (ring : Ring) (event : Event)
     → StandsFor site kept before system → DeskAfter site kept before event desk → KeepsWords site kept (applied site kept before) (Happened event ∷ before) ring

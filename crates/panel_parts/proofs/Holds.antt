@@ -21,18 +21,19 @@ use Rattle.supply_monitor.specs.Supply.{shown_mask}
 use Rattle.panel_rules.specs.Faults.{outside_with, supply_calls}
 use Rattle.panel_rules.specs.Moments.{Moment, Turned, IsRun, tick_of}
 use Rattle.panel_rules.proofs.Turns.{turn_lag}
-use Rattle.panel_core.specs.declared.parts.Parts.{Parts}
+use Rattle.panel_parts.specs.declared.parts.Parts.{Parts}
 use Rattle.panel_rules.specs.States.{piece_of}
 use Rattle.panel_rules.specs.Reports.{reports}
 use Rattle.hold_calls.specs.Lanes.{finding_lane}
+use Rattle.hold_calls.specs.Told.{Told}
 use Rattle.hold_calls.specs.Turns.{hold_turn, hold_turns, outside_now}
 use Rattle.panel_conditions.specs.Changes.{turn_from}
-use Rattle.panel_core.specs.Stands.{AreBefore, PanelStands}
-use Rattle.panel_core.proofs.Applied.{before_by}
+use Rattle.panel_parts.specs.Stands.{AreBefore, PanelStands}
+use Rattle.panel_parts.proofs.Applied.{before_by}
 use Rattle.panel_rules.proofs.Reports.{cable_told, is_line}
 use Rattle.hold_calls.proofs.Steps.{held_findings}
 use Rattle.hold_calls.proofs.TurnsMade.{own_turn, turns_tick}
-use Rattle.panel_core.proofs.Panels.{facts_left, outputs_left}
+use Rattle.panel_parts.proofs.Panels.{facts_left, outputs_left}
 
 -- four flags as the bits of four loops
 four : (test : ℕ → Bool) (a b c d : Bool) → a ≡ test 1 → b ≡ test 2 → c ≡ test 3 → d ≡ test 4 → (k : ℕ) → k < 4
@@ -85,24 +86,24 @@ module _ (site : Site) (panel : ℕ) (before : List Moment) where
       outside_same supply broken shorted silent links unconfirmed _ _ _ _ shown (flags_are (λ s. s.broken) one two three last broken a b c d opened)
       (flags_are (λ s. s.shorted) one two three last shorted a b c d shorts) waited
 
-pub after_hold : (site : Site) (kept : Retained) (done : List Done) (panel : ℕ) (before : List Moment) (parts : Parts) (hold : HoldPart) (findings' : LaneState Finding)
-    (outside : Outside) (now : ℕ) → PanelStands site kept done panel before parts → AreBefore (tick_of before) done
+pub after_hold : (site : Site) (kept : Retained) (done : List Done) (told : Told) (panel : ℕ) (before : List Moment) (parts : Parts) (hold : HoldPart) (findings' : LaneState Finding)
+    (outside : Outside) (now : ℕ) → PanelStands site kept done told panel before parts → AreBefore (tick_of before) done
     → now ≡ tick_of before → IsRun site.panels (Turned panel Hold ∷ before)
-    → outside ≡ outside_now site kept done panel before → findings' ≡ after_turn parts.findings
-    → (HoldsFor site kept panel done (hold_turns site kept done panel before) parts.hold → MayTurn done (hold_turns site kept done panel before) now
-    → HoldsFor site kept panel done (turn_from now parts.findings outside ∷ hold_turns site kept done panel before) hold)
-    → PanelStands site kept done panel (Turned panel Hold ∷ before) (record parts { hold = hold; findings = findings' })
-after_hold site kept done panel before parts hold findings' outside now h past tick run told taken held =
-    let turns = hold_turns site kept done panel before in
+    → outside ≡ outside_now site kept done told panel before → findings' ≡ after_turn parts.findings
+    → (HoldsFor site kept panel done (hold_turns site kept done told panel before) parts.hold → MayTurn done (hold_turns site kept done told panel before) now
+    → HoldsFor site kept panel done (turn_from now parts.findings outside ∷ hold_turns site kept done told panel before) hold)
+    → PanelStands site kept done told panel (Turned panel Hold ∷ before) (record parts { hold = hold; findings = findings' })
+after_hold site kept done told panel before parts hold findings' outside now h past tick run is taken held =
+    let turns = hold_turns site kept done told panel before in
     let lag = rw run.1 at (turn_lag site.panels panel Hold before h.member tt run.0) in
     let may : MayTurn done turns now =
     record {
-      later = (let last = turns_tick site kept done panel before in omega (arith, last, lag, tick));
+      later = (let last = turns_tick site kept done told panel before in omega (arith, last, lag, tick));
       since = subst (λ t. AreBy t done) (sym tick) (before_by (tick_of before) done past);
     } in
-    let turn : turn_from now parts.findings outside ≡ hold_turn site kept done panel before =
+    let turn : turn_from now parts.findings outside ≡ hold_turn site kept done told panel before =
     ap (λ t. turn_from t parts.findings outside) tick ∙ ap (λ l. turn_from (tick_of before) l outside) h.findings
-    ∙ ap (turn_from (tick_of before) (finding_lane site kept done panel before)) told in
+    ∙ ap (turn_from (tick_of before) (finding_lane site kept done panel before)) is in
     record {
       member = h.member;
       polls = h.polls;
@@ -110,8 +111,8 @@ after_hold site kept done panel before parts hold findings' outside now h past t
       decides = h.decides;
       findings = taken ∙ ap after_turn h.findings ∙ held_findings site kept done panel before;
       holds =
-          subst (λ ts. HoldsFor site kept panel done ts hold) (ap (λ t. t ∷ turns) turn ∙ sym (own_turn site kept done panel before)) (held h.holds may);
+          subst (λ ts. HoldsFor site kept panel done ts hold) (ap (λ t. t ∷ turns) turn ∙ sym (own_turn site kept done told panel before)) (held h.holds may);
       supplies = h.supplies;
-      effects = facts_left site kept done panel before Hold parts.effects (λ e. cc) h.effects;
-      drives = outputs_left site kept done panel before Hold parts.drive (λ e. cc) h.drives;
+      effects = facts_left site kept done told panel before Hold parts.effects (λ e. cc) h.effects;
+      drives = outputs_left site kept done told panel before Hold parts.drive (λ e. cc) h.drives;
     }

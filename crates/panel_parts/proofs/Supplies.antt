@@ -13,9 +13,10 @@ use Rattle.panel_rules.specs.Faults.{and_supply, supply_calls}
 use Rattle.panel_rules.specs.Moments.{Moment, Began, Happened, Turned, Kept, IsRun, latest_turn, tick_of}
 use Rattle.panel_rules.proofs.AnswersTell.{eq_true}
 use Rattle.panel_rules.proofs.Turns.{turn_lag}
-use Rattle.panel_core.specs.declared.parts.Parts.{Parts}
-use Rattle.panel_core.specs.Stands.{PanelStands}
-use Rattle.panel_core.proofs.Panels.{facts_left, leaves_lanes, outputs_left, with_lanes_left}
+use Rattle.hold_calls.specs.Told.{Told}
+use Rattle.panel_parts.specs.declared.parts.Parts.{Parts}
+use Rattle.panel_parts.specs.Stands.{PanelStands}
+use Rattle.panel_parts.proofs.Panels.{facts_left, leaves_lanes, outputs_left, with_lanes_left}
 
 -- a report is no turn
 before_report : (panel now : ℕ) (event : Event) (calls : List Call) → AllBefore now calls → AllBefore now (and_supply panel event calls)
@@ -51,17 +52,17 @@ turns_before panel (Turned other SupplyTask ∷ before) now l = go (other == pan
 turns_before panel (Turned other task ∷ before) now l = turns_before panel before now l
 turns_before panel (Kept failed ∷ before) now l = turns_before panel before now l
 
-pub after_supply : (site : Site) (kept : Retained) (done : List Done) (panel : ℕ) (before : List Moment) (parts : Parts) (supply : SupplyPart) (now : ℕ)
-    → PanelStands site kept done panel before parts → now ≡ tick_of before → IsRun site.panels (Turned panel SupplyTask ∷ before)
+pub after_supply : (site : Site) (kept : Retained) (done : List Done) (told : Told) (panel : ℕ) (before : List Moment) (parts : Parts) (supply : SupplyPart) (now : ℕ)
+    → PanelStands site kept done told panel before parts → now ≡ tick_of before → IsRun site.panels (Turned panel SupplyTask ∷ before)
     → (MonitorsFor site.waits (supply_calls panel before) parts.supply → AllBefore now (supply_calls panel before)
     → MonitorsFor site.waits (TurnMade now ∷ supply_calls panel before) supply)
-    → PanelStands site kept done panel (Turned panel SupplyTask ∷ before) (record parts { supply = supply })
-after_supply site kept done panel before parts supply now h tick run turned =
+    → PanelStands site kept done told panel (Turned panel SupplyTask ∷ before) (record parts { supply = supply })
+after_supply site kept done told panel before parts supply now h tick run turned =
     let lag = rw run.1 at (turn_lag site.panels panel SupplyTask before h.member tt run.0) in
     let made = turned h.supplies (turns_before panel before now (omega (arith, lag, tick))) in
-    with_lanes_left site kept done panel before (Turned panel SupplyTask) parts parts.poller supply parts.effects parts.drive h
-    (leaves_lanes site kept done panel before (Turned panel SupplyTask) refl refl refl refl) h.polls
+    with_lanes_left site kept done told panel before (Turned panel SupplyTask) parts parts.poller supply parts.effects parts.drive h
+    (leaves_lanes site kept done told panel before (Turned panel SupplyTask) refl refl refl refl) h.polls
     (subst (λ b. MonitorsFor site.waits (if b then TurnMade (tick_of before) ∷ supply_calls panel before else supply_calls panel before) supply)
     (sym (eq_true panel panel refl)) (subst (λ t. MonitorsFor site.waits (TurnMade t ∷ supply_calls panel before) supply) tick made))
-    (facts_left site kept done panel before SupplyTask parts.effects (λ e. cc) h.effects)
-    (outputs_left site kept done panel before SupplyTask parts.drive (λ e. cc) h.drives)
+    (facts_left site kept done told panel before SupplyTask parts.effects (λ e. cc) h.effects)
+    (outputs_left site kept done told panel before SupplyTask parts.drive (λ e. cc) h.drives)

@@ -1,5 +1,5 @@
 -- What a turn of Decide takes.
-use Rattle.std.proofs.Common.{◌≡◌, ◌≤◌, ℕ, zero, suc, ◌+◌, List, inl, inr, false, [], ◌∷◌, ◌++◌, take, drop, Some, slice_get, sym, ◌∙◌, ap, subst, arith}
+use Rattle.std.proofs.Common.{◌≡◌, ◌≤◌, ℕ, zero, suc, ◌+◌, List, inl, inr, false, [], ◌∷◌, ◌++◌, drop, Some, slice_get, sym, ◌∙◌, ap, subst, arith}
 use Rattle.std.proofs.lemmas.Bool.Decides.{leb_tells}
 use Rattle.tick_units.specs.Lane.{LaneState, with_put, after_turn, turn_count}
 use Rattle.tick_units.specs.declared.task.Task.TheVariants.{Decide}
@@ -21,24 +21,18 @@ use Rattle.panel_rules.proofs.AnswersTell.{told_by}
 use Rattle.panel_rules.proofs.Lags.{decide_has}
 use Rattle.panel_rules.proofs.Order.{answers_in_order}
 use Rattle.panel_rules.proofs.Turns.{turn_lag}
-use Rattle.panel_core.specs.declared.parts.Parts.{Parts}
+use Rattle.panel_parts.specs.declared.parts.Parts.{Parts}
 use Rattle.hold_calls.specs.Lanes.{answer_lane, decided}
-use Rattle.panel_core.specs.Stands.{AreBefore, PanelStands}
-use Rattle.panel_core.proofs.Panels.{facts_left, outputs_left}
-use Rattle.hold_calls.proofs.Fronts.{front_more}
+use Rattle.panel_parts.specs.Stands.{AreBefore, PanelStands}
+use Rattle.panel_parts.proofs.Panels.{facts_left, outputs_left}
+use Rattle.hold_calls.specs.Told.{Told}
+use Rattle.hold_calls.proofs.Fronts.{front_more, order_front}
 use Rattle.hold_calls.proofs.Steps.{decided_answers, decided_more, decided_findings}
 
 drop_get : {X : Type 0} (d : ℕ) (xs : List X) (k : ℕ) (x : X) → slice_get (drop d xs) k ≡ Some x → slice_get xs (d + k) ≡ Some x
 drop_get zero xs k x h = let e : k ≡ 0 + k = omega arith in subst (λ n. slice_get xs n ≡ Some x) e h
 drop_get (suc d) [] k x h = cc
 drop_get (suc d) (y ∷ xs) k x h = let e : suc (d + k) ≡ suc d + k = omega arith in subst (λ n. slice_get (y ∷ xs) n ≡ Some x) e (drop_get d xs k x h)
-
-pub order_front : (n : ℕ) (xs : List Answer) → AreInOrder xs → AreInOrder (take n xs)
-order_front n xs order =
-    record {
-      rising = λ i j a b l h g. order.rising i j a b l (take_get n xs i a h).1 (take_get n xs j b g).1;
-      once = λ i j a b h g e s. order.once i j a b (take_get n xs i a h).1 (take_get n xs j b g).1 e s;
-    }
 
 -- before Decide's turn the oldest answer that it hasn't taken is stamped in this tick or the one before
 lately : (site : Site) (panel : ℕ) (before : List Moment) (k : ℕ) (a : Answer) → IsPanel site.panels panel → IsRun site.panels before
@@ -80,9 +74,9 @@ may_take site done panel before p (run, owed) past =
           (lately site panel before (d + k) answer p run owed (drop_get d (answers site panel before) k answer got.1) (omega arith)) past);
     }
 
-pub can_take : (site : Site) (kept : Retained) (done : List Done) (panel : ℕ) (before : List Moment) (parts : Parts)
-    → PanelStands site kept done panel before parts → IsRun site.panels (Turned panel Decide ∷ before) → AreBefore (tick_of before) done → CanTake parts.decide (taken_by parts.answers)
-can_take site kept done panel before parts h run past =
+pub can_take : (site : Site) (kept : Retained) (done : List Done) (told : Told) (panel : ℕ) (before : List Moment) (parts : Parts)
+    → PanelStands site kept done told panel before parts → IsRun site.panels (Turned panel Decide ∷ before) → AreBefore (tick_of before) done → CanTake parts.decide (taken_by parts.answers)
+can_take site kept done told panel before parts h run past =
     record {
       site = site;
       kept = kept;
@@ -93,8 +87,8 @@ can_take site kept done panel before parts h run past =
       may = subst (λ (l : LaneState Answer). MayTake site panel done (decided site panel before) (taken_by l)) (sym h.answers) (may_take site done panel before h.member run past);
     }
 
-pub after_decide : (site : Site) (kept : Retained) (done : List Done) (panel : ℕ) (before : List Moment) (parts : Parts) (decide : DecidePart) (answers' :
-    LaneState Answer) (findings' : LaneState Finding) → PanelStands site kept done panel before parts
+pub after_decide : (site : Site) (kept : Retained) (done : List Done) (told : Told) (panel : ℕ) (before : List Moment) (parts : Parts) (decide : DecidePart) (answers' :
+    LaneState Answer) (findings' : LaneState Finding) → PanelStands site kept done told panel before parts
     → IsRun site.panels (Turned panel Decide ∷ before) → AreBefore (tick_of before) done → answers' ≡ after_turn parts.answers
     → (DecidesFor site kept panel done (decided site panel before) parts.decide
     → MayTake site panel done (decided site panel before) (taken_by parts.answers)
@@ -102,7 +96,7 @@ pub after_decide : (site : Site) (kept : Retained) (done : List Done) (panel : �
     → (DecidesFor site kept panel done (decided site panel before) parts.decide
     → MayTake site panel done (decided site panel before) (taken_by parts.answers)
     → findings' ≡ with_put parts.findings (findings_after site kept panel done (decided site panel before) (taken_by parts.answers)))
-    → PanelStands site kept done panel (Turned panel Decide ∷ before) (record {
+    → PanelStands site kept done told panel (Turned panel Decide ∷ before) (record {
       poller = parts.poller;
       decide = decide;
       hold = parts.hold;
@@ -113,7 +107,7 @@ pub after_decide : (site : Site) (kept : Retained) (done : List Done) (panel : �
       effects = parts.effects;
       drive = parts.drive;
     })
-after_decide site kept done panel before parts decide answers' findings' h run past taken stands found =
+after_decide site kept done told panel before parts decide answers' findings' h run past taken stands found =
     let may =
     subst (λ (l : LaneState Answer). MayTake site panel done (decided site panel before) (taken_by l)) (sym h.answers)
     (may_take site done panel before h.member run past) in
@@ -133,6 +127,6 @@ after_decide site kept done panel before parts decide answers' findings' h run p
           ∙ decided_findings site kept done panel before;
       holds = h.holds;
       supplies = h.supplies;
-      effects = facts_left site kept done panel before Decide parts.effects (λ e. cc) h.effects;
-      drives = outputs_left site kept done panel before Decide parts.drive (λ e. cc) h.drives;
+      effects = facts_left site kept done told panel before Decide parts.effects (λ e. cc) h.effects;
+      drives = outputs_left site kept done told panel before Decide parts.drive (λ e. cc) h.drives;
     }

@@ -9,13 +9,13 @@ use site_types::Retained;
 #[derive(Clone, Copy, Debug)]
 pub struct KeptCounts {
     /// How many of each panel's entries since opening are kept.
-    pub(crate) entries: [u64; 8],
+    pub entries: [u64; 8],
     /// The counters that are kept.
-    pub(crate) counters: [u32; 8],
+    pub counters: [u32; 8],
 }
 
 impl KeptCounts {
-    ghost use Rattle.panel_core.specs.Entries.{AreLeft, CountsFor};
+    ghost use Rattle.panel_parts.specs.Entries.{AreLeft, CountsFor};
 
     /// What is kept at opening.
     pub fn at_opening(kept: &Retained) -> KeptCounts
@@ -39,7 +39,7 @@ impl KeptCounts {
     }
 }
 
-ghost use Rattle.panel_core.specs.Entries.{TellsEntries};
+ghost use Rattle.panel_parts.specs.Entries.{TellsEntries};
 
 /// How often each panel entered the fire alarm condition since opening.
 pub fn entries_of(panels: &[Parts]) -> [u64; 8]

@@ -3,6 +3,7 @@ ghost use Rattle.site_types.specs.Valid.{IsValid};
 ghost use Rattle.site_types.specs.Changes.{IsNumber};
 ghost use Rattle.loop_poller.specs.Stands.{HasPoint};
 ghost use Rattle.panel_rules.specs.Moments.{IsPanel};
+ghost use Rattle.hold_calls.specs.Told.{Told};
 
 use cause_effect::Plan;
 use coincidence::{Decide, Finding};
@@ -16,27 +17,28 @@ use std::alloc::Global;
 use supply_monitor::Supply;
 use tick_units::{Lane, NoMemory, Tick};
 
-/// The parts of a panel, joined by lanes.
+/// The parts of a panel, joined by lanes. Effect and what begins Drive's tick are called on the parts themselves.
 #[derive(Drop)]
 pub struct Parts {
-    pub(crate) poller: Poller,
-    pub(crate) decide: Decide,
-    pub(crate) hold: Hold,
-    pub(crate) answers: Lane<Answer>,
-    pub(crate) findings: Lane<Finding>,
-    pub(crate) supply: Supply,
-    pub(crate) effects: Effects,
-    pub(crate) drive: Drive,
+    pub poller: Poller,
+    pub decide: Decide,
+    pub hold: Hold,
+    pub answers: Lane<Answer>,
+    pub findings: Lane<Finding>,
+    pub supply: Supply,
+    pub effects: Effects,
+    pub drive: Drive,
 }
 
 impl Parts {
-    ghost use Rattle.panel_core.specs.Changes.{AppliesDone, HearsConfirmation, HearsPiece, HearsPoint, HearsSupply};
-    ghost use Rattle.panel_core.specs.Changes.{MakesDriveTurn, MakesHoldTurn, MakesTurn, TellsHold};
+    ghost use Rattle.panel_parts.specs.Changes.{AppliesDone, HearsConfirmation, HearsPiece, HearsPoint, HearsSupply};
+    ghost use Rattle.panel_parts.specs.Changes.{MakesDriveTurn, MakesHoldTurn, MakesTurn, TellsHold};
     ghost use Rattle.tick_units.specs.declared.task.Task.TheVariants.{Decide as DecideTask, Hold as HoldTask};
     ghost use Rattle.tick_units.specs.declared.task.Task.TheVariants.{Poll, Supply as SupplyTask};
     ghost use Rattle.operation_desk.specs.Requests.{done_from};
-    ghost use Rattle.panel_core.specs.Stands.{HasPlan, MayComeInForce, MayTurn, PanelStands};
+    ghost use Rattle.panel_parts.specs.Stands.{HasPlan, MayComeInForce, MayTurn, PanelStands};
 
+    /// The parts of a panel before the first tick, whatever it is told from elsewhere.
     pub fn new(
         alloc: Global,
         site: &Site,
@@ -47,7 +49,7 @@ impl Parts {
         requires valid { IsValid site.now }
         requires plan { HasPlan site.now plan.now }
         requires member { IsPanel site.now.panels panel }
-        ensures { IfOk result (λ parts. PanelStands site.now kept.now [] panel [] parts) }
+        ensures { (told : Told) → IfOk result (λ parts. PanelStands site.now kept.now [] told panel [] parts) }
     {
         let poller = Poller::new(alloc, site, panel)?;
         let decide = Decide::new(alloc, site, panel, kept)?;

@@ -8,8 +8,8 @@ use Rattle.std.proofs.Math.ListN.{length-set}
 use Rattle.panel_conditions.specs.Changes.{ShowsAs}
 use Rattle.panel_conditions.specs.Shown.{entries_after}
 use Rattle.panel_conditions.specs.Stands.{HoldsFor}
-use Rattle.panel_core.specs.declared.parts.Parts.{Parts}
-use Rattle.panel_core.proofs.kept_counts.entries_of.Goals as goal
+use Rattle.panel_parts.specs.declared.parts.Parts.{Parts}
+use Rattle.panel_parts.proofs.kept_counts.entries_of.Goals as goal
 
 -- one panel more
 told_more : (panels : List Parts) (entries : List ℕ) (here : ℕ) (own : Parts) (count : ℕ) → here < length entries → slice_get panels here ≡ Some own

@@ -1,6 +1,6 @@
 use Rattle.std.proofs.Common.{◌≡◌, ◌-◌, ◌<◌, ◌≤◌, ℕ, length}
 use Rattle.std.specs.Prelude.{slice_index}
-use Rattle.panel_core.proofs.kept_counts.KeptCounts.left_of.Given as goal
+use Rattle.panel_parts.proofs.kept_counts.KeptCounts.left_of.Given as goal
 
 -- those of the first places are taken off
 abbrev pub invariant-loop-place : goal.invariant-loop-place

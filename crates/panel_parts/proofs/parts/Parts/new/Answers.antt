@@ -1,9 +1,8 @@
 use Rattle.std.proofs.Common.{[]}
-use Rattle.panel_rules.specs.Run.{facts_of}
-use Rattle.panel_core.proofs.parts.Parts.new.Goals as goal
+use Rattle.panel_parts.proofs.parts.Parts.new.Goals as goal
 
 pub returns : goal.returns
-returns c =
+returns c told =
     let site = c.args.site.now in
     record {
       member = c.requires.member;
@@ -13,6 +12,6 @@ returns c =
       findings = c.in_ok-findings.ensures;
       holds = c.in_ok-hold.ensures c.requires.valid;
       supplies = c.new-6.ensures;
-      effects = c.new-7.ensures site (facts_of site c.args.kept.now []) c.requires.plan.is;
-      drives = c.new-8.ensures (facts_of site c.args.kept.now []) [];
+      effects = c.new-7.ensures site told.facts c.requires.plan.is;
+      drives = c.new-8.ensures told.facts [];
     }

@@ -1,8 +1,8 @@
 use Rattle.std.proofs.Common.{subst, sym}
 use Rattle.tick_units.specs.Lane.{HasRoom}
-use Rattle.panel_core.proofs.Panels.{after_poll}
-use Rattle.panel_core.proofs.Rooms.{room_for_poll}
-use Rattle.panel_core.proofs.parts.Parts.poll_turn.Goals as goal
+use Rattle.panel_parts.proofs.Panels.{after_poll}
+use Rattle.panel_parts.proofs.Rooms.{room_for_poll}
+use Rattle.panel_parts.proofs.parts.Parts.poll_turn.Goals as goal
 
 pub turn-requires-clause-room : goal.turn-requires-clause-room
 turn-requires-clause-room c =
@@ -10,5 +10,5 @@ turn-requires-clause-room c =
     subst (λ lane. HasRoom lane 32) (sym r.stands.answers) (room_for_poll r.site r.panel r.before r.stands.member r.few r.run)
 
 pub returns : goal.returns
-returns c site kept done panel before h past now run =
-    after_poll site kept done panel before c.args.self.now c.turn.new.answers c.args.now.0 h now (c.turn.ensures.asked site panel _ h.polls)
+returns c site kept done told panel before h past now run =
+    after_poll site kept done told panel before c.args.self.now c.turn.new.answers c.args.now.0 h now (c.turn.ensures.asked site panel _ h.polls)

@@ -4,9 +4,9 @@ use Rattle.site_types.specs.declared.retained.Retained.{Retained}
 use Rattle.site_types.specs.declared.site.Site.{Site}
 use Rattle.panel_rules.specs.Batches.{kept_after}
 use Rattle.panel_rules.specs.Moments.{Moment, Began, Happened, Turned, Kept}
-use Rattle.panel_core.specs.declared.kept_counts.KeptCounts.{KeptCounts}
-use Rattle.panel_core.specs.Entries.{CountsFor}
-use Rattle.panel_core.proofs.EntriesKept.{counted_stays}
+use Rattle.panel_parts.specs.declared.kept_counts.KeptCounts.{KeptCounts}
+use Rattle.panel_parts.specs.Entries.{CountsFor}
+use Rattle.panel_parts.proofs.EntriesKept.{counted_stays}
 
 kept_stays : (site : Site) (kept : Retained) (before : List Moment) (moment : Moment) → moment ≢ Kept false
     → kept_after site kept (moment ∷ before) ≡ kept_after site kept before

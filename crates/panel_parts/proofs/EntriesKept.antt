@@ -19,10 +19,11 @@ use Rattle.panel_rules.specs.Operations.{Reply, Request, Busy, Denied, Waiting, 
 use Rattle.panel_rules.specs.Operations.{after_reply, after_request, desk_reply, do_all, done_in, operations, requests, requests_in}
 use Rattle.panel_rules.proofs.Bools.{parts}
 use Rattle.panel_rules.proofs.Counting.{each_filtered}
-use Rattle.panel_core.specs.Applied.{applied, done_so_far}
+use Rattle.panel_parts.specs.Applied.{applied, done_so_far}
+use Rattle.hold_calls.specs.Told.{Told}
 use Rattle.hold_calls.specs.Turns.{hold_turns}
-use Rattle.panel_core.proofs.Applied.{applied_begun, applied_stays}
-use Rattle.hold_calls.proofs.EntriesHeld.{entries_held}
+use Rattle.panel_parts.proofs.Applied.{applied_begun, applied_stays}
+use Rattle.hold_calls.proofs.EntriesHeld.{entries_by_told}
 
 -- ---- what was done so far, and what of it is in force
 
@@ -104,26 +105,26 @@ module _ (site : Site) (kept : Retained) (panel : ℕ) (before : List Moment) wh
       ap (λ ds. new_entries site kept ds panel before) grew.is
       ∙ new_same site kept grew.new less (tick_of before) grew.from panel before (omega arith)
 
-  module _ (valid : IsValid site) (run : IsRun site.panels before) (member : IsPanel site.panels panel) where
+  module _ (told : Told) (valid : IsValid site) (run : IsRun site.panels before) (member : IsPanel site.panels panel) where
     -- each entry that Hold told was counted, or is yet to be
-    pub told_by_hold : entries_after site kept panel (applied site kept before) (hold_turns site kept (applied site kept before) panel before)
+    pub told_by_hold : entries_after site kept panel (applied site kept before) (hold_turns site kept (applied site kept before) told panel before)
         ≡ counted_entries site kept now_done panel before + length (new_entries site kept now_done panel before)
     told_by_hold =
-        let told = entries_held site kept (applied site kept before) panel before valid member run in
+        let shown = entries_by_told site kept (applied site kept before) told panel before valid member run in
         let parted = counted_once site kept (applied site kept before) panel before in
         let grew = grew_since_applied site kept before in
         let counted = counted_grown now_done (applied site kept before) grew in
         let fresh = ap length (new_grown now_done (applied site kept before) grew) in
-        omega (arith, told, parted, counted, fresh)
+        omega (arith, shown, parted, counted, fresh)
 
     -- so the others are those that Keep's turn counts
     pub left_to_keep : (counted : ℕ) → counted ≡ counted_entries site kept now_done panel before
-        → entries_after site kept panel (applied site kept before) (hold_turns site kept (applied site kept before) panel before) - counted
+        → entries_after site kept panel (applied site kept before) (hold_turns site kept (applied site kept before) told panel before) - counted
         ≡ length (new_entries site kept (operations site kept before).done panel before)
     left_to_keep counted is = omega (arith, is, told_by_hold)
 
     -- and when it didn't fail, all are
-    pub counted_by_keep : entries_after site kept panel (applied site kept before) (hold_turns site kept (applied site kept before) panel before)
+    pub counted_by_keep : entries_after site kept panel (applied site kept before) (hold_turns site kept (applied site kept before) told panel before)
         ≡ counted_entries site kept (done_so_far site kept (Kept false ∷ before)) panel (Kept false ∷ before)
     counted_by_keep =
         let grew = next_grew site kept (Kept false) before in

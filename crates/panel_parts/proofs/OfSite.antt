@@ -13,7 +13,7 @@ use Rattle.panel_rules.specs.Moments.{Moment, Began, Happened, Turned, Kept, IsP
 use Rattle.panel_rules.specs.Operations.{Reply, Request, Busy, Denied, Waiting, Already, Store, WasDone, Operations, after_desk, after_keep}
 use Rattle.panel_rules.specs.Operations.{after_reply, after_request, desk_reply, do_all, done_in, operations, requests, requests_in}
 use Rattle.panel_rules.proofs.Counting.{each_filtered, each_more}
-use Rattle.panel_core.specs.Applied.{done_so_far}
+use Rattle.panel_parts.specs.Applied.{done_so_far}
 
 abbrev IsOf : Site → ℕ → Operation → Type 0
 IsOf site panel operation = IsPanel site.panels panel × (has_operands site panel operation ≡ true)

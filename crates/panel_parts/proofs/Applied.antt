@@ -19,9 +19,9 @@ use Rattle.panel_laws.proofs.SettingLaws.{settings_change_once}
 use Rattle.panel_rules.specs.Moments.{Moment, Began, Happened, Turned, Kept, IsRun, tick_of}
 use Rattle.panel_rules.proofs.Counting.{each_at}
 use Rattle.panel_rules.proofs.Floors.{lt_from}
-use Rattle.panel_core.specs.Applied.{MayBeApplied, applied, done_so_far}
-use Rattle.panel_core.specs.Stands.{AreBefore}
-use Rattle.panel_core.proofs.OfSite.{done_of_site}
+use Rattle.panel_parts.specs.Applied.{MayBeApplied, applied, done_so_far}
+use Rattle.panel_parts.specs.Stands.{AreBefore}
+use Rattle.panel_parts.proofs.OfSite.{done_of_site}
 
 -- ---- lists of operations before a tick
 
