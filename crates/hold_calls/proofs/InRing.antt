@@ -18,7 +18,7 @@ use Rattle.panel_rules.specs.Words.{latest_word, word_made}
 use Rattle.panel_rules.specs.Zones.{held_answers}
 use Rattle.panel_rules.proofs.FaultsTold.{told_where}
 use Rattle.panel_rules.proofs.KeptWords.{IsMade, nothing, in_turn, made_is}
-use Rattle.hold_calls.specs.Shown.{buzzer_told, fault_told, faults_told, latest_faults, news_told, tells_news, word_told}
+use Rattle.hold_calls.specs.Shown.{buzzer_told, fault_told, faults_told, latest_faults, news_told, is_news_told, word_told}
 use Rattle.hold_calls.specs.Told.{told_in_ring}
 
 -- equal words and faults have the same news
@@ -66,7 +66,7 @@ module _ (site : Site) (kept : Retained) (done : List Done) (panel : ℕ) where
   word_in_ring before = word_of_turn (made_at panel before) (made_is panel before).made
 
   news_now : (before : List Moment)
-      → tells_news site kept done (told_in_ring site kept done panel) panel before ≡ shows_news site kept done panel before
+      → is_news_told site kept done (told_in_ring site kept done panel) panel before ≡ shows_news site kept done panel before
   news_now before =
       news_alike _ _ _ _ _ _ _ _ (word_in_ring (Turned panel Hold ∷ before)) (faults_in_ring (Turned panel Hold ∷ before))
       (word_in_ring before) (faults_in_ring before)

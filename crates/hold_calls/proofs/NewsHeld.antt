@@ -13,7 +13,7 @@ use Rattle.panel_conditions.specs.Words.{faults_after, word_after}
 use Rattle.panel_rules.specs.Moments.{Moment, Began, Happened, Turned, Kept, IsPanel, IsRun, latest_turn, tick_of}
 use Rattle.panel_rules.proofs.AnswersTell.{eq_true}
 use Rattle.hold_calls.specs.HoldLaws.{HeldBuzzer, HeldNews}
-use Rattle.hold_calls.specs.Shown.{news_told, tells_news, word_told}
+use Rattle.hold_calls.specs.Shown.{news_told, is_news_told, word_told}
 use Rattle.hold_calls.specs.Told.{Told, told_in_ring}
 use Rattle.hold_calls.specs.ToldLaws.{ToldBuzzer, ToldNews}
 use Rattle.hold_calls.specs.Turns.{hold_turn, hold_turns}
@@ -33,7 +33,7 @@ module _ (site : Site) (kept : Retained) (done : List Done) (told : Told) (panel
       (faults_after site kept panel done (hold_turn site kept done told panel before ∷ hold_turns site kept done told panel before))
       (word_after site kept panel done (hold_turns site kept done told panel before))
       (faults_after site kept panel done (hold_turns site kept done told panel before))
-      ≡ tells_news site kept done told panel before
+      ≡ is_news_told site kept done told panel before
   news_now before run =
       news_alike _ _ _ _ _ _ _ _
       (ap (word_after site kept panel done) (sym (own_turn site kept done told panel before)) ∙ word_is (Turned panel Hold ∷ before) run)
@@ -49,8 +49,8 @@ module _ (site : Site) (kept : Retained) (done : List Done) (told : Told) (panel
   told_now before run ih =
       ap (last_news site kept panel done) (own_turn site kept done told panel before)
       ∙ ap (λ b. if b then tick_of before else last_news site kept panel done (hold_turns site kept done told panel before)) (news_now before run)
-      ∙ ap (λ n. if tells_news site kept done told panel before then tick_of before else n) ih
-      ∙ ap (λ b. if b && tells_news site kept done told panel before then tick_of before else news_told site kept done told panel before)
+      ∙ ap (λ n. if is_news_told site kept done told panel before then tick_of before else n) ih
+      ∙ ap (λ b. if b && is_news_told site kept done told panel before then tick_of before else news_told site kept done told panel before)
       (sym (eq_true panel panel refl))
 
   news_tell : (before : List Moment) → IsRun site.panels before

@@ -39,8 +39,8 @@ module _ (site : Site) (kept : Retained) (done : List Done) (told : Told) (panel
   word_told moments = word_made site kept done (λ source. fault_told) panel (made_at panel moments)
 
   -- a turn of Hold made now shows a zone in alarm, a first state or a fault that the turn before it did not
-  abbrev pub tells_news : List Moment → Bool
-  tells_news before =
+  abbrev pub is_news_told : List Moment → Bool
+  is_news_told before =
       is_news (word_told (Turned panel Hold ∷ before)) (latest_faults (Turned panel Hold ∷ before))
       (word_told before) (latest_faults before)
 
@@ -50,7 +50,7 @@ module _ (site : Site) (kept : Retained) (done : List Done) (told : Told) (panel
   news_told (Began ∷ before) = news_told before
   news_told (Happened event ∷ before) = news_told before
   news_told (Turned other Hold ∷ before) =
-      if (other == panel) && tells_news before then tick_of before else news_told before
+      if (other == panel) && is_news_told before then tick_of before else news_told before
   news_told (Turned other task ∷ before) = news_told before
   news_told (Kept failed ∷ before) = news_told before
 

@@ -21,6 +21,7 @@ use Rattle.site_types.specs.Valid.{IsValid}
 use Rattle.site_types.proofs.ValidSites.{loop_at, output_at, point_at}
 use Rattle.loop_poller.specs.Calls.{Reported, Cabled}
 use Rattle.supply_monitor.specs.Supply.{Reported as SupplyReported}
+use Rattle.hold_calls.specs.Told.{told_in_ring}
 use Rattle.panel_rules.specs.Faults.{supply_calls}
 use Rattle.panel_rules.specs.Moments.{Moment, Happened, IsPanel}
 use Rattle.panel_rules.specs.Operations.{requests}
@@ -31,14 +32,15 @@ use Rattle.operation_desk.specs.declared.desk.Desk.{Desk}
 use Rattle.operation_desk.specs.Stands.{CanTakeEvent, DesksFor}
 use Rattle.panel_laws.specs.OperationLaws.{AreOfSite}
 use Rattle.panel_laws.proofs.EventsOfSite.{of_site}
-use Rattle.panel_core.specs.declared.parts.Parts.{Parts}
+use Rattle.panel_parts.specs.declared.parts.Parts.{Parts}
 use Rattle.panel_core.specs.declared.system.System.{System}
 use Rattle.panel_rules.specs.Reports.{is_on_panel, reports}
-use Rattle.panel_core.specs.Stands.{KeepsWords, PanelStands, StandsFor}
-use Rattle.panel_core.specs.Applied.{applied}
-use Rattle.panel_core.proofs.Counts.{counts_stay}
+use Rattle.panel_core.specs.Stands.{KeepsWords, StandsFor, StandsInRing}
+use Rattle.panel_parts.specs.Applied.{applied}
+use Rattle.panel_parts.proofs.Counts.{counts_stay}
 use Rattle.panel_links.specs.declared.ring.Ring.{Ring}
 use Rattle.panel_rules.specs.Outputs.{panel_of_plan}
+use Rattle.panel_parts.proofs.Reports.{IsOther, none_confirmed, not_monitored, not_reported, not_there, untold}
 use Rattle.panel_core.proofs.Whole.{panel_at, stands_changed, stands_unchanged}
 
 -- the desk after an event of the site
@@ -49,7 +51,7 @@ pub record DeskAfter (site : Site) (kept : Retained) (before : List Moment) (eve
 pub stands_after_point : (site : Site) (kept : Retained) (before : List Moment) (system : System) (desk : Desk) (plan : PointPlan) (point : ℕ)
     (state : PointState) (parts : Parts) → StandsFor site kept before system → DeskAfter site kept before (Point point state) desk
     → 1 ≤ plan.panel → slice_get site.points point ≡ Some plan
-    → PanelStands site kept (applied site kept before) plan.panel (Happened (Point point state) ∷ before) parts
+    → StandsInRing site kept (applied site kept before) plan.panel (Happened (Point point state) ∷ before) parts
     → StandsFor site kept (Happened (Point point state) ∷ before)
     (record system { panels = with_item system.panels (plan.panel - 1) parts; desk = desk })
 stands_after_point site kept before system desk plan point state parts h after one is p =
@@ -57,45 +59,45 @@ stands_after_point site kept before system desk plan point state parts h after o
     (counts_stay site kept before (Happened (Point point state)) system.counts (λ e. cc) h.counts) h.ring h plan.panel parts one p
     (λ other q n stood.
     let away : is_on_panel other (slice_get site.points point) ≡ false = ap (is_on_panel other) is ∙ not_there plan.panel other n in
-    untold site kept (applied site kept before) other before q (Point point state) stood
+    untold site kept (applied site kept before) (told_in_ring site kept (applied site kept before) other) other before q (Point point state) stood
     (ap (λ b. if b then Reported point state ∷ reports site other before else reports site other before) away) refl tt)
 
 pub stands_after_piece : (site : Site) (kept : Retained) (before : List Moment) (system : System) (desk : Desk) (panel line piece : ℕ)
     (state : PieceState) (parts : Parts) → StandsFor site kept before system → DeskAfter site kept before (Cable panel line piece state) desk
-    → 1 ≤ panel → PanelStands site kept (applied site kept before) panel (Happened (Cable panel line piece state) ∷ before) parts
+    → 1 ≤ panel → StandsInRing site kept (applied site kept before) panel (Happened (Cable panel line piece state) ∷ before) parts
     → StandsFor site kept (Happened (Cable panel line piece state) ∷ before)
     (record system { panels = with_item system.panels (panel - 1) parts; desk = desk })
 stands_after_piece site kept before system desk panel line piece state parts h after one p =
     stands_changed site kept before system (Happened (Cable panel line piece state)) desk system.counts system.ring refl (h.events, after.has) after.desks
     (counts_stay site kept before (Happened (Cable panel line piece state)) system.counts (λ e. cc) h.counts) h.ring h panel parts one p
     (λ other q n stood.
-    untold site kept (applied site kept before) other before q (Cable panel line piece state) stood
+    untold site kept (applied site kept before) (told_in_ring site kept (applied site kept before) other) other before q (Cable panel line piece state) stood
     (ap (λ b. if b && (nat_le 1 line && nat_le line 4) then Cabled line piece state ∷ reports site other before else reports site other before)
     (not_there panel other n)) refl tt)
 
 pub stands_after_report : (site : Site) (kept : Retained) (before : List Moment) (system : System) (desk : Desk) (panel : ℕ) (kind : SupplyKind) (bad : Bool)
     (parts : Parts) → StandsFor site kept before system → DeskAfter site kept before (Supply panel kind bad) desk
-    → 1 ≤ panel → PanelStands site kept (applied site kept before) panel (Happened (Supply panel kind bad) ∷ before) parts
+    → 1 ≤ panel → StandsInRing site kept (applied site kept before) panel (Happened (Supply panel kind bad) ∷ before) parts
     → StandsFor site kept (Happened (Supply panel kind bad) ∷ before)
     (record system { panels = with_item system.panels (panel - 1) parts; desk = desk })
 stands_after_report site kept before system desk panel kind bad parts h after one p =
     stands_changed site kept before system (Happened (Supply panel kind bad)) desk system.counts system.ring refl (h.events, after.has) after.desks
     (counts_stay site kept before (Happened (Supply panel kind bad)) system.counts (λ e. cc) h.counts) h.ring h panel parts one p
     (λ other q n stood.
-    untold site kept (applied site kept before) other before q (Supply panel kind bad) stood refl
+    untold site kept (applied site kept before) (told_in_ring site kept (applied site kept before) other) other before q (Supply panel kind bad) stood refl
     (ap (λ b. if b then SupplyReported kind bad ∷ supply_calls other before else supply_calls other before) (not_there panel other n)) tt)
 
 pub stands_after_confirmation : (site : Site) (kept : Retained) (before : List Moment) (system : System) (desk : Desk) (output : ℕ) (plan : Output)
     (parts : Parts) → StandsFor site kept before system → DeskAfter site kept before (Confirmed output) desk
     → 1 ≤ plan.panel → slice_get site.outputs output ≡ Some plan
-    → PanelStands site kept (applied site kept before) plan.panel (Happened (Confirmed output) ∷ before) parts
+    → StandsInRing site kept (applied site kept before) plan.panel (Happened (Confirmed output) ∷ before) parts
     → StandsFor site kept (Happened (Confirmed output) ∷ before)
     (record system { panels = with_item system.panels (plan.panel - 1) parts; desk = desk })
 stands_after_confirmation site kept before system desk output plan parts h after one is p =
     stands_changed site kept before system (Happened (Confirmed output)) desk system.counts system.ring refl (h.events, after.has) after.desks
     (counts_stay site kept before (Happened (Confirmed output)) system.counts (λ e. cc) h.counts) h.ring h plan.panel parts one p
     (λ other q n stood.
-    untold site kept (applied site kept before) other before q (Confirmed output) stood refl refl
+    untold site kept (applied site kept before) (told_in_ring site kept (applied site kept before) other) other before q (Confirmed output) stood refl refl
     (λ found there same. n (ap (λ (o : Option Output). panel_of_plan o) (sym is ∙ there) ∙ same)))
 
 pub stands_after_other : (site : Site) (kept : Retained) (before : List Moment) (system : System) (desk : Desk) (ring : Ring) (event : Event)
@@ -104,7 +106,7 @@ pub stands_after_other : (site : Site) (kept : Retained) (before : List Moment) 
 stands_after_other site kept before system desk ring event h after rings o =
     stands_unchanged site kept before system (Happened event) desk system.counts ring refl (h.events, after.has) after.desks
     (counts_stay site kept before (Happened event) system.counts (λ e. cc) h.counts) rings h
-    (λ panel q stood. untold site kept (applied site kept before) panel before q event stood
+    (λ panel q stood. untold site kept (applied site kept before) (told_in_ring site kept (applied site kept before) panel) panel before q event stood
     (not_reported site panel event (reports site panel before) o) (not_monitored panel event (supply_calls panel before) o)
     (none_confirmed site panel event o))
 
@@ -152,7 +154,7 @@ point_read site kept before system point state points plan h has same read =
 -- the panel at a place of the system
 pub panel_read : (site : Site) (kept : Retained) (before : List Moment) (system : System) (panel : ℕ) (parts : Parts)
     → StandsFor site kept before system → IsPanel site.panels panel → parts ≡ get_or system.panels.items (panel - 1) parts
-    → PanelStands site kept (applied site kept before) panel before parts
+    → StandsInRing site kept (applied site kept before) panel before parts
 panel_read site kept before system panel parts h p read =
     panel_at site kept before system panel parts h p.0
     (slice_get_read system.panels.items site.panels (panel - 1) parts (sym h.count) (omega (arith, p.0, p.1)) read)
@@ -160,7 +162,7 @@ panel_read site kept before system panel parts h p read =
 -- the panel of a point that an event names, as the system finds it
 pub record PointPanel (site : Site) (kept : Retained) (before : List Moment) (point : ℕ) (plan : PointPlan) (parts : Parts) : Type 0 where
   pub read : PointRead site point plan
-  pub stands : PanelStands site kept (applied site kept before) plan.panel before parts
+  pub stands : StandsInRing site kept (applied site kept before) plan.panel before parts
   pub within : point < length parts.poller.states.items
 
 pub point_panel : (site : Site) (kept : Retained) (before : List Moment) (system : System) (event : Event) (point : ℕ) (state : PointState) (points :
@@ -181,7 +183,7 @@ point_panel site kept before system event point state points plan parts h has is
 pub point_done : (site : Site) (kept : Retained) (before : List Moment) (system : System) (desk : Desk) (event : Event) (point : ℕ) (state :
     PointState) (points : List PointPlan) (plan : PointPlan) (old new : Parts) → StandsFor site kept before system
     → DeskAfter site kept before event desk → event ≡ Point point state → plan ≡ get_or points point plan → PointPanel site kept before point plan old
-    → PanelStands site kept (applied site kept before) plan.panel (Happened (Point point state) ∷ before) new
+    → StandsInRing site kept (applied site kept before) plan.panel (Happened (Point point state) ∷ before) new
     → StandsFor site kept (Happened event ∷ before)
     (record system { panels = with_item system.panels ((get_or points point plan).panel - 1) new; desk = desk })
 point_done site kept before system desk event point state points plan old new h after is read p stands =
@@ -201,7 +203,7 @@ piece_read site event panel line piece state valid has is = piece_line site pane
 pub piece_done : (site : Site) (kept : Retained) (before : List Moment) (system : System) (desk : Desk) (event : Event) (panel line piece : ℕ) (state :
     PieceState) (new : Parts) → StandsFor site kept before system → DeskAfter site kept before event desk → event ≡ Cable panel line piece state
     → IsPanel site.panels panel
-    → PanelStands site kept (applied site kept before) panel (Happened (Cable panel line piece state) ∷ before) new
+    → StandsInRing site kept (applied site kept before) panel (Happened (Cable panel line piece state) ∷ before) new
     → StandsFor site kept (Happened event ∷ before) (record system { panels = with_item system.panels (panel - 1) new; desk = desk })
 piece_done site kept before system desk event panel line piece state new h after is member stands =
     subst (λ e. StandsFor site kept (Happened e ∷ before) (record system { panels = with_item system.panels (panel - 1) new; desk = desk })) (sym is)
@@ -219,7 +221,7 @@ supply_panel site event panel kind bad has is =
 pub report_done : (site : Site) (kept : Retained) (before : List Moment) (system : System) (desk : Desk) (event : Event) (panel : ℕ) (kind : SupplyKind)
     (bad : Bool) (new : Parts) → StandsFor site kept before system → DeskAfter site kept before event desk → event ≡ Supply panel kind bad
     → IsPanel site.panels panel
-    → PanelStands site kept (applied site kept before) panel (Happened (Supply panel kind bad) ∷ before) new
+    → StandsInRing site kept (applied site kept before) panel (Happened (Supply panel kind bad) ∷ before) new
     → StandsFor site kept (Happened event ∷ before) (record system { panels = with_item system.panels (panel - 1) new; desk = desk })
 report_done site kept before system desk event panel kind bad new h after is member stands =
     subst (λ e. StandsFor site kept (Happened e ∷ before) (record system { panels = with_item system.panels (panel - 1) new; desk = desk })) (sym is)
@@ -258,7 +260,7 @@ pub record OutputPanel (site : Site) (kept : Retained) (before : List Moment) (o
   pub is : slice_get site.outputs output ≡ Some plan
   pub member : IsPanel site.panels plan.panel
   pub number : IsNumber plan.number
-  pub stands : PanelStands site kept (applied site kept before) plan.panel before parts
+  pub stands : StandsInRing site kept (applied site kept before) plan.panel before parts
 
 pub output_panel : (site : Site) (kept : Retained) (before : List Moment) (system : System) (event : Event) (output : ℕ) (outputs : List Output)
     (plan : Output) (parts : Parts) → StandsFor site kept before system → has_event site event ≡ true → event ≡ Confirmed output
@@ -280,7 +282,7 @@ output_panel site kept before system event output outputs plan parts h has is sa
 pub confirmation_done : (site : Site) (kept : Retained) (before : List Moment) (system : System) (desk : Desk) (event : Event) (output : ℕ) (plan : Output)
     (old new : Parts) → StandsFor site kept before system → DeskAfter site kept before event desk → event ≡ Confirmed output
     → OutputPanel site kept before output plan old
-    → PanelStands site kept (applied site kept before) plan.panel (Happened (Confirmed output) ∷ before) new
+    → StandsInRing site kept (applied site kept before) plan.panel (Happened (Confirmed output) ∷ before) new
     → StandsFor site kept (Happened event ∷ before) (record system { panels = with_item system.panels (plan.panel - 1) new; desk = desk })
 confirmation_done site kept before system desk event output plan old new h after is p stands =
     subst (λ e. StandsFor site kept (Happened e ∷ before) (record system { panels = with_item system.panels (plan.panel - 1) new; desk = desk })) (sym is)

@@ -1,18 +1,13 @@
 -- What a turn of a task is told of the system: its panel, silent panels and links, the outputs that are disabled.
-use Rattle.std.proofs.Common.{◌≡◌, ◌≢◌, ◌∙◌, ◌+◌, ◌-◌, ◌++◌, ◌≤◌, ℕ, List, [], ◌∷◌, false, ap, arith, subst, sym}
-use Rattle.std.specs.Prelude.{slice_index}
+use Rattle.std.proofs.Common.{◌≡◌, ◌≢◌, ◌∙◌, ◌+◌, ◌≤◌, ℕ, List, [], ◌∷◌, false, ap, arith, subst, sym}
 use Rattle.tick_units.specs.declared.seat.Seat.{Seat}
 use Rattle.tick_units.specs.declared.task.Task.{Task}
 use Rattle.tick_units.specs.declared.task.Task.TheVariants.{Keep}
 use Rattle.site_types.specs.declared.retained.Retained.{Retained}
 use Rattle.site_types.specs.declared.site.Site.{Site}
-use Rattle.site_types.specs.Bits.{has_bit, mask_of}
-use Rattle.site_types.specs.Done.{Done, OutputOff, in_force, kept_output}
+use Rattle.site_types.specs.Bits.{mask_of}
+use Rattle.site_types.specs.Done.{Done}
 use Rattle.site_types.specs.Profile.{silent_of}
-use Rattle.site_types.proofs.Done.{in_force-later}
-use Rattle.operation_desk.specs.Replies.{AreInForce}
-use Rattle.output_calls.specs.DoneCalls.{IsLatestFirst}
-use Rattle.output_calls.proofs.LatestFirst.{latest_first}
 use Rattle.panel_bridges.proofs.RingStates.{silent_same}
 use Rattle.panel_links.specs.Stands.{is_silent}
 use Rattle.panel_rules.specs.Faults.{silent_panels}
@@ -21,12 +16,10 @@ use Rattle.panel_rules.specs.Moments.{Moment, Turned, IsPanel, IsRun, turn_of, t
 use Rattle.panel_rules.specs.Run.{tells_fault}
 use Rattle.panel_rules.specs.Words.{ring_calls}
 use Rattle.panel_core.specs.declared.system.System.{System}
-use Rattle.panel_core.specs.Applied.{applied, done_so_far}
-use Rattle.panel_core.specs.Changes.{AreOff, MakesTaskTurn, MakesTurns}
+use Rattle.panel_core.specs.Changes.{MakesTaskTurn, MakesTurns}
 use Rattle.panel_core.specs.Stands.{MayTurnSeat, MayTurnTask, StandsFor}
-use Rattle.panel_core.proofs.EntriesKept.{grew_since_applied}
 use Rattle.panel_core.proofs.Orders.{turn_is}
-use Rattle.panel_core.proofs.Panels.{seat_panel}
+use Rattle.panel_core.proofs.Orders.{seat_panel}
 
 -- a panel of one site for which the system stands is a panel of each
 pub member_too : (site other : Site) (kept before_kept : Retained) (before earlier : List Moment) (system : System) (panel : ℕ)

@@ -1,5 +1,5 @@
 -- What a panel stands for, after some moments, by what it is told from elsewhere.
-use Rattle.std.specs.Prelude.{◌≡◌, ◌<◌, ◌≤◌, ℕ, List, ◌∷◌}
+use Rattle.std.specs.Prelude.{◌≡◌, ◌<◌, ◌≤◌, ℕ, List, [], ◌∷◌}
 use Rattle.std.specs.List.{AllByRecursion}
 use Rattle.tick_units.specs.declared.task.Task.{Task}
 use Rattle.tick_units.specs.Ticks.{last_tick}
@@ -41,6 +41,10 @@ pub record PanelStands (site : Site) (kept : Retained) (done : List Done) (told 
   pub supplies : MonitorsFor site.waits (supply_calls panel before) parts.supply
   pub effects : HasEffects site told.facts panel before parts.effects
   pub drives : DrivesFor site told.facts kept done panel before parts.drive
+
+-- before the first tick, whatever it is told
+abbrev pub StandsAtOpening : Site → Retained → ℕ → Parts → Type 0
+StandsAtOpening site kept panel parts = (told : Told) → PanelStands site kept [] told panel [] parts
 
 -- two tell the same to every turn that was made so far
 pub record AgreeBefore (before : List Moment) (one other : Told) : Type 0 where

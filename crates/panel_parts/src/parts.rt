@@ -1,9 +1,8 @@
-ghost use Rattle.std.specs.Prelude.{◌≤◌, [], IfOk};
+ghost use Rattle.std.specs.Prelude.{◌≤◌, IfOk};
 ghost use Rattle.site_types.specs.Valid.{IsValid};
 ghost use Rattle.site_types.specs.Changes.{IsNumber};
 ghost use Rattle.loop_poller.specs.Stands.{HasPoint};
 ghost use Rattle.panel_rules.specs.Moments.{IsPanel};
-ghost use Rattle.hold_calls.specs.Told.{Told};
 
 use cause_effect::Plan;
 use coincidence::{Decide, Finding};
@@ -36,7 +35,7 @@ impl Parts {
     ghost use Rattle.tick_units.specs.declared.task.Task.TheVariants.{Decide as DecideTask, Hold as HoldTask};
     ghost use Rattle.tick_units.specs.declared.task.Task.TheVariants.{Poll, Supply as SupplyTask};
     ghost use Rattle.operation_desk.specs.Requests.{done_from};
-    ghost use Rattle.panel_parts.specs.Stands.{HasPlan, MayComeInForce, MayTurn, PanelStands};
+    ghost use Rattle.panel_parts.specs.Stands.{HasPlan, MayComeInForce, MayTurn, StandsAtOpening};
 
     /// The parts of a panel before the first tick, whatever it is told from elsewhere.
     pub fn new(
@@ -49,7 +48,7 @@ impl Parts {
         requires valid { IsValid site.now }
         requires plan { HasPlan site.now plan.now }
         requires member { IsPanel site.now.panels panel }
-        ensures { (told : Told) → IfOk result (λ parts. PanelStands site.now kept.now [] told panel [] parts) }
+        ensures { IfOk result (StandsAtOpening site.now kept.now panel) }
     {
         let poller = Poller::new(alloc, site, panel)?;
         let decide = Decide::new(alloc, site, panel, kept)?;
