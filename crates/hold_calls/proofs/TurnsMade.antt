@@ -18,6 +18,7 @@ use Rattle.panel_rules.specs.Zones.{held_answers}
 use Rattle.panel_rules.proofs.AnswersTell.{eq_true}
 use Rattle.panel_rules.proofs.Counts.{hold_behind}
 use Rattle.hold_calls.specs.Lanes.{decided, finding_lane}
+use Rattle.hold_calls.specs.Told.{Told}
 use Rattle.hold_calls.specs.Turns.{hold_turn, hold_turns}
 use Rattle.hold_calls.proofs.Steps.{decided_after_poll, seen, seen_after_decide, seen_more}
 
@@ -43,15 +44,16 @@ module _ (site : Site) (kept : Retained) (done : List Done) (panel : ℕ) where
       ∙ ap (findings_of site kept panel done)
       (take_less (taken_by_hold site panel before) (taken_by_decide site panel before) (answers site panel before) (hold_behind site panel before))
 
-  -- ---- which moments make a turn
+-- ---- which moments make a turn
 
-  pub own_turn : (before : List Moment) → hold_turns site kept done panel (Turned panel Hold ∷ before)
-      ≡ hold_turn site kept done panel before ∷ hold_turns site kept done panel before
+module _ (site : Site) (kept : Retained) (done : List Done) (told : Told) (panel : ℕ) where
+  pub own_turn : (before : List Moment) → hold_turns site kept done told panel (Turned panel Hold ∷ before)
+      ≡ hold_turn site kept done told panel before ∷ hold_turns site kept done told panel before
   own_turn before = rw (eq_true panel panel refl) refl
 
   -- a moment that is no turn of the panel's Hold makes none
   pub turns_stay : (moment : Moment) (before : List Moment) → moment ≢ Turned panel Hold
-      → hold_turns site kept done panel (moment ∷ before) ≡ hold_turns site kept done panel before
+      → hold_turns site kept done told panel (moment ∷ before) ≡ hold_turns site kept done told panel before
   turns_stay Began before other = refl
   turns_stay (Happened event) before other = refl
   turns_stay (Turned own Hold) before other =
@@ -61,18 +63,18 @@ module _ (site : Site) (kept : Retained) (done : List Done) (panel : ℕ) where
 
   -- nor does a turn of another panel
   pub turns_elsewhere : (other : ℕ) (task : Task) (before : List Moment) → (other == panel) ≡ false
-      → hold_turns site kept done panel (Turned other task ∷ before) ≡ hold_turns site kept done panel before
+      → hold_turns site kept done told panel (Turned other task ∷ before) ≡ hold_turns site kept done told panel before
   turns_elsewhere other Hold before e = rw e refl
   turns_elsewhere other task before e = refl
 
   -- those of a run were made by its latest one
-  pub turns_made : (before : List Moment) → hold_turns site kept done panel (made_at panel before) ≡ hold_turns site kept done panel before
+  pub turns_made : (before : List Moment) → hold_turns site kept done told panel (made_at panel before) ≡ hold_turns site kept done told panel before
   turns_made [] = refl
   turns_made (Began ∷ before) = turns_made before
   turns_made (Happened event ∷ before) = turns_made before
   turns_made (Turned other Hold ∷ before) =
       elim (eqb_tells other panel) [
-        | inl t ↦ ap (λ b. hold_turns site kept done panel (if b then Turned other Hold ∷ before else made_at panel before)) t.0
+        | inl t ↦ ap (λ b. hold_turns site kept done told panel (if b then Turned other Hold ∷ before else made_at panel before)) t.0
         | inr t ↦ rw t.0 (turns_made before)
       ]
   turns_made (Turned other task ∷ before) = turns_made before
@@ -80,15 +82,15 @@ module _ (site : Site) (kept : Retained) (done : List Done) (panel : ℕ) where
 
   -- ---- what the turns take
 
-  one_more : (before : List Moment) → findings_taken (hold_turns site kept done panel before) ≡ seen site kept done panel before
-      → findings_taken (hold_turns site kept done panel (Turned panel Hold ∷ before)) ≡ seen site kept done panel (Turned panel Hold ∷ before)
+  one_more : (before : List Moment) → findings_taken (hold_turns site kept done told panel before) ≡ seen site kept done panel before
+      → findings_taken (hold_turns site kept done told panel (Turned panel Hold ∷ before)) ≡ seen site kept done panel (Turned panel Hold ∷ before)
   one_more before ih =
       ap findings_taken (own_turn before)
       ∙ ap (λ xs. xs ++ take (turn_count (finding_lane site kept done panel before)) (finding_lane site kept done panel before).items) ih
       ∙ seen_more site kept done panel before
 
   -- the findings of all turns are those that Hold has taken
-  pub turns_seen : (before : List Moment) → findings_taken (hold_turns site kept done panel before) ≡ seen site kept done panel before
+  pub turns_seen : (before : List Moment) → findings_taken (hold_turns site kept done told panel before) ≡ seen site kept done panel before
   turns_seen [] = refl
   turns_seen (Began ∷ before) = turns_seen before
   turns_seen (Happened event ∷ before) = turns_seen before
@@ -109,7 +111,7 @@ module _ (site : Site) (kept : Retained) (done : List Done) (panel : ℕ) where
   turns_seen (Turned other Hold ∷ before) =
       elim (eqb_tells other panel) [
         | inl t ↦
-            subst (λ p. findings_taken (hold_turns site kept done panel (Turned p Hold ∷ before)) ≡ seen site kept done panel (Turned p Hold ∷ before))
+            subst (λ p. findings_taken (hold_turns site kept done told panel (Turned p Hold ∷ before)) ≡ seen site kept done panel (Turned p Hold ∷ before))
             (sym t.1) (one_more before (turns_seen before))
         | inr t ↦ rw t.0 (turns_seen before)
       ]
@@ -118,11 +120,11 @@ module _ (site : Site) (kept : Retained) (done : List Done) (panel : ℕ) where
 
   -- so they are those of the answers that it holds
   pub turns_hold : (before : List Moment)
-      → findings_taken (hold_turns site kept done panel before) ≡ findings_of site kept panel done (held_answers site panel before)
-  turns_hold before = turns_seen before ∙ seen_found before
+      → findings_taken (hold_turns site kept done told panel before) ≡ findings_of site kept panel done (held_answers site panel before)
+  turns_hold before = turns_seen before ∙ seen_found site kept done panel before
 
   -- and the latest turn's tick is that of Hold's latest turn
-  pub turns_tick : (before : List Moment) → latest_tick (hold_turns site kept done panel before) ≡ latest_turn panel Hold before
+  pub turns_tick : (before : List Moment) → latest_tick (hold_turns site kept done told panel before) ≡ latest_turn panel Hold before
   turns_tick [] = refl
   turns_tick (Began ∷ before) = turns_tick before
   turns_tick (Happened event ∷ before) = turns_tick before

@@ -1,4 +1,4 @@
--- Over the turns that a run makes of a panel's Hold, the part tells what the rules say of the run.
+-- Over the turns that a run makes of a panel's Hold in the ring, the part tells what the rules say of the run.
 use Rattle.std.specs.Prelude.{◌≡◌, ℕ, List, length}
 use Rattle.site_types.specs.declared.retained.Retained.{Retained}
 use Rattle.site_types.specs.declared.site.Site.{Site}
@@ -11,21 +11,21 @@ use Rattle.panel_rules.specs.Faces.{buzzer_of, last_news}
 use Rattle.panel_rules.specs.Moments.{Moment, IsPanel, IsRun}
 use Rattle.panel_rules.specs.Run.{faults_of, tells_fault}
 use Rattle.panel_rules.specs.Words.{latest_word}
-use Rattle.hold_calls.specs.Turns.{hold_turns}
+use Rattle.hold_calls.specs.Turns.{ring_turns}
 
 -- its word is the latest word of the panel, and tells a fault where the rules say so
 abbrev pub HeldWord : Type 0
 HeldWord =
     (site : Site) (kept : Retained) (done : List Done) (panel : ℕ) (before : List Moment)
     → IsValid site → IsPanel site.panels panel → IsRun site.panels before
-    → word_after site kept panel done (hold_turns site kept done panel before)
+    → word_after site kept panel done (ring_turns site kept done panel before)
     ≡ latest_word site kept done (tells_fault site kept done) panel before
 
 -- its faults are those of the panel, whatever befell it in whatever order
 abbrev pub HeldFaults : Type 0
 HeldFaults =
     (site : Site) (kept : Retained) (done : List Done) (panel : ℕ) (before : List Moment)
-    → faults_after site kept panel done (hold_turns site kept done panel before)
+    → faults_after site kept panel done (ring_turns site kept done panel before)
     ≡ faults_of site kept done panel before
 
 -- the last tick at which something was newly shown is that of the rules
@@ -33,7 +33,7 @@ abbrev pub HeldNews : Type 0
 HeldNews =
     (site : Site) (kept : Retained) (done : List Done) (panel : ℕ) (before : List Moment)
     → IsValid site → IsPanel site.panels panel → IsRun site.panels before
-    → last_news_told site kept panel done (hold_turns site kept done panel before)
+    → last_news_told site kept panel done (ring_turns site kept done panel before)
     ≡ last_news site kept done panel before
 
 -- its buzzer sounds as that of the panel
@@ -41,7 +41,7 @@ abbrev pub HeldBuzzer : Type 0
 HeldBuzzer =
     (site : Site) (kept : Retained) (done : List Done) (panel : ℕ) (before : List Moment)
     → IsValid site → IsPanel site.panels panel → IsRun site.panels before
-    → buzzer_after site kept panel done (hold_turns site kept done panel before)
+    → buzzer_after site kept panel done (ring_turns site kept done panel before)
     ≡ buzzer_of site kept done panel before
 
 -- it counts as many entries into the fire alarm condition as there were
@@ -49,5 +49,5 @@ abbrev pub HeldEntries : Type 0
 HeldEntries =
     (site : Site) (kept : Retained) (done : List Done) (panel : ℕ) (before : List Moment)
     → IsValid site → IsPanel site.panels panel → IsRun site.panels before
-    → entries_after site kept panel done (hold_turns site kept done panel before)
+    → entries_after site kept panel done (ring_turns site kept done panel before)
     ≡ length (entries site kept done panel before)

@@ -1,5 +1,5 @@
 -- The turns that a panel's Hold makes over a run: the findings that each takes from the lane, and what the other
--- parts tell it.
+-- parts tell it. What the panel is told from elsewhere is an argument.
 use Rattle.std.specs.Prelude.{ℕ, ◌==◌, List, [], ◌∷◌, if◌then◌else◌}
 use Rattle.tick_units.specs.declared.task.Task.TheVariants.{Hold}
 use Rattle.site_types.specs.declared.retained.Retained.{Retained}
@@ -9,32 +9,33 @@ use Rattle.panel_conditions.specs.declared.outside.Outside.{Outside}
 use Rattle.panel_conditions.specs.Changes.{turn_from}
 use Rattle.panel_conditions.specs.Turns.{HoldTurn}
 use Rattle.panel_rules.specs.Faults.{outside_at}
-use Rattle.panel_rules.specs.Kept.{heard}
 use Rattle.panel_rules.specs.Moments.{Moment, Began, Happened, Turned, Kept, tick_of}
-use Rattle.panel_rules.specs.Run.{facts_of}
-use Rattle.panel_rules.specs.States.{is_up}
 use Rattle.hold_calls.specs.Lanes.{finding_lane}
+use Rattle.hold_calls.specs.Told.{Told, told_in_ring}
 
 -- what the other parts tell a turn made now: supplies, loops, silent panels, links that are down and outputs
 -- without confirmation, by what befell before it
-abbrev pub outside_now : Site → Retained → List Done → ℕ → List Moment → Outside
-outside_now site kept done panel before =
-    outside_at site (facts_of site kept done) kept done (λ source. heard site.panels panel source before)
-    (λ link. is_up link before) panel before
+abbrev pub outside_now : Site → Retained → List Done → Told → ℕ → List Moment → Outside
+outside_now site kept done told panel before =
+    outside_at site told.facts kept done (told.stamps before) (told.up before) panel before
 
 -- a turn made now
-abbrev pub hold_turn : Site → Retained → List Done → ℕ → List Moment → HoldTurn
-hold_turn site kept done panel before =
+abbrev pub hold_turn : Site → Retained → List Done → Told → ℕ → List Moment → HoldTurn
+hold_turn site kept done told panel before =
     turn_from (tick_of before) (finding_lane site kept done panel before)
-    (outside_now site kept done panel before)
+    (outside_now site kept done told panel before)
 
 -- all turns so far, the newest first
-abbrev pub hold_turns : Site → Retained → List Done → ℕ → List Moment → List HoldTurn
-hold_turns site kept done panel [] = []
-hold_turns site kept done panel (Began ∷ before) = hold_turns site kept done panel before
-hold_turns site kept done panel (Happened event ∷ before) = hold_turns site kept done panel before
-hold_turns site kept done panel (Turned other Hold ∷ before) =
-    if other == panel then hold_turn site kept done panel before
-    ∷ hold_turns site kept done panel before else hold_turns site kept done panel before
-hold_turns site kept done panel (Turned other task ∷ before) = hold_turns site kept done panel before
-hold_turns site kept done panel (Kept failed ∷ before) = hold_turns site kept done panel before
+abbrev pub hold_turns : Site → Retained → List Done → Told → ℕ → List Moment → List HoldTurn
+hold_turns site kept done told panel [] = []
+hold_turns site kept done told panel (Began ∷ before) = hold_turns site kept done told panel before
+hold_turns site kept done told panel (Happened event ∷ before) = hold_turns site kept done told panel before
+hold_turns site kept done told panel (Turned other Hold ∷ before) =
+    if other == panel then hold_turn site kept done told panel before
+    ∷ hold_turns site kept done told panel before else hold_turns site kept done told panel before
+hold_turns site kept done told panel (Turned other task ∷ before) = hold_turns site kept done told panel before
+hold_turns site kept done told panel (Kept failed ∷ before) = hold_turns site kept done told panel before
+
+-- those of a panel in the ring
+abbrev pub ring_turns : Site → Retained → List Done → ℕ → List Moment → List HoldTurn
+ring_turns site kept done panel before = hold_turns site kept done (told_in_ring site kept done panel) panel before

@@ -23,7 +23,7 @@ use Rattle.panel_core.specs.Marks.{AreMarked, MarksKept, MarksTurnsFrom}
 use Rattle.panel_core.specs.PowerCuts.{IsLeftOver, OpensToFront, OpensToFrontOr}
 use Rattle.panel_core.specs.Stands.{MayTurnFrom, StandsFor}
 use Rattle.panel_core.specs.StepCounts.{CountsTurnsFrom, RisesOver, facts_in_force}
-use Rattle.panel_core.proofs.Applied.{applied_stays}
+use Rattle.panel_parts.proofs.Applied.{applied_stays}
 use Rattle.panel_core.proofs.Fronts.{front_left, fronts_left, left_over_stays}
 use Rattle.panel_core.proofs.StepsCounted.{applied_over, keep_rises, rises_both, rises_either, rises_more}
 use Rattle.panel_core.proofs.Orders.{before_turns, between_more, front_turns, keep_within, no_other, order_parted, panels_keep, panels_leave_keep, run_behind, same_turns, turns_tick}

@@ -1,101 +1,54 @@
 -- When a tick begins, what was done in the one that ends comes in force: one operation after another, at each panel and
 -- in the settings.
-use Rattle.std.proofs.Common.{◌≡◌, ℕ, ◌+◌, ◌<◌, ◌≤◌, ◌&&◌, List, [], ◌∷◌, length, take, Option, Some, None, slice_get, slice_set, inl, inr, false, refl, sym, ◌∙◌, ap, subst, arith, if◌then◌else◌}
-use Rattle.std.specs.Prelude.{nat_lt}
+use Rattle.std.proofs.Common.{◌≡◌, ℕ, ◌+◌, ◌<◌, ◌≤◌, List, ◌∷◌, length, take, Some, slice_get, slice_set, inl, inr, sym, ◌∙◌, ap, subst, arith}
 use Rattle.std.proofs.lemmas.List.{take_all}
 use Rattle.std.proofs.lemmas.Option.{slice_get_within}
 use Rattle.tick_units.specs.declared.tick.Tick.{Tick}
-use Rattle.site_types.specs.declared.change.Change.{Change}
 use Rattle.site_types.specs.declared.retained.Retained.{Retained}
 use Rattle.site_types.specs.declared.site.Site.{Site}
-use Rattle.site_types.specs.Changes.{CanApply, IsPanelNumber, IsSized, changed, operation_change}
-use Rattle.site_types.specs.Done.{Done, Setting, AreBy, in_force, is_kept_operation, is_on, operation_setting, value_set}
-use Rattle.site_types.specs.Valid.{IsValid}
-use Rattle.site_types.proofs.Changes.{can_apply, sized-changed}
-use Rattle.site_types.proofs.Done.{in_force-later, lt_true}
-use Rattle.site_types.proofs.Settled.{keeps-change, keeps-other}
+use Rattle.site_types.specs.Changes.{IsSized}
+use Rattle.site_types.specs.Done.{Done, AreBy, in_force}
+use Rattle.site_types.proofs.Done.{in_force-later}
 use Rattle.coincidence_rules.proofs.Lists.{get_set}
 use Rattle.operation_desk.specs.declared.desk.Desk.{Desk}
 use Rattle.operation_desk.specs.declared.done_operation.DoneOperation.{DoneOperation}
 use Rattle.operation_desk.specs.Replies.{AreInForce, TellsOpen}
 use Rattle.operation_desk.specs.Requests.{done_from, with_done}
 use Rattle.operation_desk.specs.Stands.{DesksFor}
-use Rattle.panel_laws.proofs.StoredSettings.{changes, own_places, unkept}
+use Rattle.hold_calls.specs.Told.{told_in_ring}
 use Rattle.panel_rules.specs.Moments.{Moment, Began, IsRun, tick_of}
 use Rattle.panel_rules.specs.Operations.{operations}
 use Rattle.settings_shown.specs.Shown.{HasNoStrangeBits}
-use Rattle.settings_shown.proofs.Changes.{changes_keep}
-use Rattle.panel_core.specs.declared.parts.Parts.{Parts}
+use Rattle.panel_parts.specs.declared.parts.Parts.{Parts}
 use Rattle.panel_core.specs.declared.system.System.{System}
-use Rattle.panel_core.specs.Applied.{MayBeApplied, applied, done_so_far}
-use Rattle.panel_core.specs.Entries.{CountsFor}
-use Rattle.panel_core.specs.Stands.{AreBefore, HasApplied, HasBegunPanels, HasPlan, KeepsWords, PanelStands, StandsFor}
-use Rattle.panel_core.proofs.Applied.{applied_begun, applied_is_older, before_by, by_tick, done_after_applied, done_in_front, next_may_be_applied, with_done_more}
+use Rattle.panel_parts.specs.Applied.{MayBeApplied, applied, done_so_far}
+use Rattle.panel_parts.specs.Entries.{CountsFor}
+use Rattle.panel_parts.specs.Stands.{AreBefore, HasPlan}
+use Rattle.panel_core.specs.Stands.{HasApplied, HasBegunPanels, KeepsWords, StandsFor, StandsInRing}
+use Rattle.panel_parts.proofs.Settings.{past_force}
+use Rattle.panel_parts.proofs.Applied.{applied_begun, applied_is_older, before_by, by_tick, done_after_applied, done_in_front, next_may_be_applied, with_done_more}
 use Rattle.panel_core.proofs.Later.{done_from_tick, words_later}
-use Rattle.panel_core.proofs.Counts.{counts_stay}
-use Rattle.panel_core.proofs.Panels.{HasOutputs, after_begin}
+use Rattle.panel_parts.proofs.Counts.{counts_stay}
+use Rattle.panel_parts.proofs.Panels.{after_begin}
 use Rattle.output_drive.specs.declared.drive.Drive.{Drive as DrivePart}
-
--- ---- settings
-
--- what was done before a tick sets the same in it and in the next one
-pub past_force : (site : Site) (kept : Retained) (setting : Setting) (tick : ℕ) (done : List Done) → AreBefore tick done
-    → in_force site kept setting tick done ≡ in_force site kept setting (tick + 1) done
-past_force site kept setting tick [] past = refl
-past_force site kept setting tick (d ∷ done) past =
-    let now = past.0 in
-    ap (λ b. if is_on setting d && b then value_set d.operation else in_force site kept setting tick done)
-    (lt_true d.tick tick past.0 ∙ sym (lt_true d.tick (tick + 1) (omega (arith, now))))
-    ∙ ap (λ v. if is_on setting d && nat_lt d.tick (tick + 1) then value_set d.operation else v) (past_force site kept setting tick done past.1)
-
-module _ (site : Site) (kept : Retained) (before : List Moment) (done : List Done) (d : Done) (valid : IsValid site) (settings : Retained)
-    (sized : IsSized settings) (may : MayBeApplied site before done d) (h : AreInForce site kept (tick_of before + 1) done settings) where
-  number : IsPanelNumber d.panel
-  number = (let at = may.at in let few = valid.forms.panels.1 in (at.0, omega (arith, at.1, few)))
-
-  soon : d.tick < tick_of before + 1
-  soon = (let now = may.now in omega (arith, now))
-
-  -- one that changes nothing of the settings
-  pub settings_left : operation_change site d.panel d.operation ≡ None → AreInForce site kept (tick_of before + 1) (d ∷ done) settings
-  settings_left none =
-      keeps-other site kept done (tick_of before + 1) settings d soon (unset (operation_setting d.panel d.operation) refl) h
-    where
-      unset : (o : Option Setting) → operation_setting d.panel d.operation ≡ o → is_kept_operation d.operation ≡ false
-      unset None e = unkept d.panel d.operation e
-      unset (Some setting) e = (let made = changes site d.panel d.operation setting may.has e in let no_way = sym none ∙ made.is in cc)
-
-  -- one that makes a change
-  pub can_change : (change : Change) → operation_change site d.panel d.operation ≡ Some change → CanApply change
-  can_change change is = can_apply site d.panel d.operation change (own_places site valid) number is
-
-  pub settings_changed : (change : Change) → operation_change site d.panel d.operation ≡ Some change
-      → AreInForce site kept (tick_of before + 1) (d ∷ done) (changed change settings)
-  settings_changed change is =
-      keeps-change site kept done (tick_of before + 1) settings d change (own_places site valid) sized number soon is h
-
-  pub own_changed : (change : Change) → operation_change site d.panel d.operation ≡ Some change → HasNoStrangeBits site settings
-      → HasNoStrangeBits site (changed change settings)
-  own_changed change is own = changes_keep site settings d.panel d.operation change valid sized is own
-
-  pub sized_changed : (change : Change) → operation_change site d.panel d.operation ≡ Some change → IsSized (changed change settings)
-  sized_changed change is = sized-changed change settings (can_change change is) sized
+use Rattle.output_drive.specs.Stands.{DrivesFor}
+use Rattle.panel_rules.specs.Run.{facts_of}
 
 -- ---- panels
 
 -- the operation came in force at the first so many panels
 pub record PartlyApplied (site : Site) (kept : Retained) (before : List Moment) (done : List Done) (d : Done) (n : ℕ) (panels : List Parts) :
     Type 0 where
-  pub first : (place : ℕ) (parts : Parts) → slice_get panels place ≡ Some parts → place < n → PanelStands site kept (d ∷ done) (place + 1) before parts
-  pub rest : (place : ℕ) (parts : Parts) → slice_get panels place ≡ Some parts → n ≤ place → PanelStands site kept done (place + 1) before parts
+  pub first : (place : ℕ) (parts : Parts) → slice_get panels place ≡ Some parts → place < n → StandsInRing site kept (d ∷ done) (place + 1) before parts
+  pub rest : (place : ℕ) (parts : Parts) → slice_get panels place ≡ Some parts → n ≤ place → StandsInRing site kept done (place + 1) before parts
 
 pub partly_more : (site : Site) (kept : Retained) (before : List Moment) (done : List Done) (d : Done) (n : ℕ) (panels : List Parts) (parts : Parts)
-    → PartlyApplied site kept before done d n panels → PanelStands site kept (d ∷ done) (n + 1) before parts
+    → PartlyApplied site kept before done d n panels → StandsInRing site kept (d ∷ done) (n + 1) before parts
     → PartlyApplied site kept before done d (n + 1) (slice_set panels n parts)
 partly_more site kept before done d n panels parts h p = record {
   first = λ place q is less. elim (get_set panels n place parts q is) [
     | inl g ↦ (let at : n + 1 ≡ place + 1 = omega (arith, g.0) in
-        subst (λ m. PanelStands site kept (d ∷ done) m before q) at (subst (PanelStands site kept (d ∷ done) (n + 1) before) g.1 p))
+        subst (λ m. StandsInRing site kept (d ∷ done) m before q) at (subst (StandsInRing site kept (d ∷ done) (n + 1) before) g.1 p))
     | inr g ↦ h.first place q g.1 (let apart = g.0 in omega (arith, less, apart))
   ];
   rest = λ place q is more. elim (get_set panels n place parts q is) [
@@ -132,16 +85,16 @@ applied_more site kept before done d old new n h same tick count partly whole se
 
 -- the outputs of the first so many panels have taken what was done
 pub record PartlyBegun (site : Site) (kept : Retained) (before : List Moment) (done : List Done) (n : ℕ) (panels : List Parts) : Type 0 where
-  pub first : (place : ℕ) (parts : Parts) → slice_get panels place ≡ Some parts → place < n → PanelStands site kept done (place + 1) (Began ∷ before) parts
-  pub rest : (place : ℕ) (parts : Parts) → slice_get panels place ≡ Some parts → n ≤ place → PanelStands site kept done (place + 1) before parts
+  pub first : (place : ℕ) (parts : Parts) → slice_get panels place ≡ Some parts → place < n → StandsInRing site kept done (place + 1) (Began ∷ before) parts
+  pub rest : (place : ℕ) (parts : Parts) → slice_get panels place ≡ Some parts → n ≤ place → StandsInRing site kept done (place + 1) before parts
 
 pub begun_more : (site : Site) (kept : Retained) (before : List Moment) (done : List Done) (n : ℕ) (panels : List Parts) (parts : Parts)
-    → PartlyBegun site kept before done n panels → PanelStands site kept done (n + 1) (Began ∷ before) parts
+    → PartlyBegun site kept before done n panels → StandsInRing site kept done (n + 1) (Began ∷ before) parts
     → PartlyBegun site kept before done (n + 1) (slice_set panels n parts)
 begun_more site kept before done n panels parts h p = record {
   first = λ place q is less. elim (get_set panels n place parts q is) [
     | inl g ↦ (let at : n + 1 ≡ place + 1 = omega (arith, g.0) in
-        subst (λ m. PanelStands site kept done m (Began ∷ before) q) at (subst (PanelStands site kept done (n + 1) (Began ∷ before)) g.1 p))
+        subst (λ m. StandsInRing site kept done m (Began ∷ before) q) at (subst (StandsInRing site kept done (n + 1) (Began ∷ before)) g.1 p))
     | inr g ↦ h.first place q g.1 (let apart = g.0 in omega (arith, less, apart))
   ];
   rest = λ place q is more. elim (get_set panels n place parts q is) [
@@ -157,20 +110,24 @@ begun_none site kept before done system h = record {
   rest = λ place q is more. h.each place q is;
 }
 
+-- what drives the outputs of a panel of the ring
+abbrev DrivesInRing : Site → Retained → List Done → ℕ → List Moment → DrivePart → Type 0
+DrivesInRing site kept done panel before drive = DrivesFor site (facts_of site kept done) kept done panel before drive
+
 -- a panel whose outputs took what its desk has done in the tick that ends
 pub outputs_begun : (site : Site) (kept : Retained) (before : List Moment) (panel : ℕ) (desk : Desk) (ds : List DoneOperation) (parts : Parts) (drive : DrivePart)
     → DesksFor site kept before desk → ds ≡ desk.done.items
-    → PanelStands site kept (done_so_far site kept before) panel before parts
-    → ((older : List Done) → HasOutputs site kept (with_done (tick_of before) ds older) panel before before parts.drive → AreBefore (tick_of before) older
-    → HasOutputs site kept (with_done (tick_of before) ds older) panel before (Began ∷ before) drive)
-    → PanelStands site kept (done_so_far site kept before) panel (Began ∷ before) (record parts { drive = drive })
+    → StandsInRing site kept (done_so_far site kept before) panel before parts
+    → ((older : List Done) → DrivesInRing site kept (with_done (tick_of before) ds older) panel before parts.drive → AreBefore (tick_of before) older
+    → DrivesInRing site kept (with_done (tick_of before) ds older) panel (Began ∷ before) drive)
+    → StandsInRing site kept (done_so_far site kept before) panel (Began ∷ before) (record parts { drive = drive })
 outputs_begun site kept before panel desk ds parts drive desks is stands takes =
     let told = desks.outcomes.unsettled in
     let whole : done_so_far site kept before ≡ with_done (tick_of before) ds told.older =
     told.done_is ∙ ap (λ xs. with_done (tick_of before) xs told.older) (sym is) in
-    let before_it = subst (λ done. HasOutputs site kept done panel before before parts.drive) whole stands.drives in
-    after_begin site kept (done_so_far site kept before) panel before parts drive stands
-    (subst (λ done. HasOutputs site kept done panel before (Began ∷ before) drive) (sym whole) (takes told.older before_it told.earlier))
+    let before_it = subst (λ done. DrivesInRing site kept done panel before parts.drive) whole stands.drives in
+    after_begin site kept (done_so_far site kept before) (told_in_ring site kept (done_so_far site kept before) panel) panel before parts drive stands
+    (subst (λ done. DrivesInRing site kept done panel (Began ∷ before) drive) (sym whole) (takes told.older before_it told.earlier))
 
 pub all_begun : (site : Site) (kept : Retained) (before : List Moment) (old new : System) (n : ℕ)
     → HasApplied site kept before (done_so_far site kept before) old → new.site ≡ old.site → new.tick ≡ old.tick
@@ -205,7 +162,7 @@ module _ (site : Site) (kept : Retained) (before : List Moment) (system : System
     tick = h.tick;
     count = h.count;
     each = λ place parts is.
-        subst (λ done. PanelStands site kept done (place + 1) before parts) (applied_is_older site kept before ds unsettled.older unsettled.done_is unsettled.earlier)
+        subst (λ done. StandsInRing site kept done (place + 1) before parts) (applied_is_older site kept before ds unsettled.older unsettled.done_is unsettled.earlier)
         (h.each place parts is);
     settings = λ setting is.
         let front = done_in_front (tick_of before) ds unsettled.older in
@@ -262,7 +219,7 @@ module _ (site : Site) (kept : Retained) (before : List Moment) (system : System
     tick = now;
     count = g.count;
     each = λ place parts is.
-        subst (λ done. PanelStands site kept done (place + 1) (Began ∷ before) parts) (applied_begun site kept before by_now) (g.each place parts is);
+        subst (λ done. StandsInRing site kept done (place + 1) (Began ∷ before) parts) (applied_begun site kept before by_now) (g.each place parts is);
     ring = subst (KeepsWords site kept (applied site kept (Began ∷ before)) (Began ∷ before)) (sym ring) words;
     events = h.events;
     desk = desks;

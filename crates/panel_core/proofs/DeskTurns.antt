@@ -7,9 +7,9 @@ use Rattle.operation_desk.specs.declared.desk.Desk.{Desk}
 use Rattle.operation_desk.specs.Stands.{CanAnswerAll, CanTurn, DesksFor, MayTakeKeepTurn, MayTakeTurn}
 use Rattle.panel_laws.proofs.EventsOfSite.{of_site}
 use Rattle.panel_rules.specs.Moments.{Moment, Turned, Kept, IsPanel, IsRun}
-use Rattle.panel_core.specs.declared.kept_counts.KeptCounts.{KeptCounts}
+use Rattle.panel_parts.specs.declared.kept_counts.KeptCounts.{KeptCounts}
 use Rattle.panel_core.specs.declared.system.System.{System}
-use Rattle.panel_core.specs.Entries.{CountsFor}
+use Rattle.panel_parts.specs.Entries.{CountsFor}
 use Rattle.panel_core.specs.Stands.{StandsFor}
 use Rattle.panel_core.proofs.Whole.{stands_after_desk, stands_after_keep}
 

@@ -1,10 +1,9 @@
 -- What an event makes of a panel.
-use Rattle.std.proofs.Common.{◌≡◌, ◌≢◌, ℕ, ◌-◌, ◌^◌, ◌≤◌, ◌<◌, ◌==◌, ◌&&◌, List, ◌∷◌, length, Option, Some, None, slice_get}
-use Rattle.std.proofs.Common.{get_or, inl, inr, true, false, if◌then◌else◌, refl, sym, ◌∙◌, ap, subst, arith, Bool}
+use Rattle.std.proofs.Common.{◌≡◌, ℕ, ◌-◌, ◌^◌, ◌≤◌, ◌<◌, ◌==◌, ◌&&◌, List, ◌∷◌, length, Option, Some, None, slice_get}
+use Rattle.std.proofs.Common.{get_or, true, false, if◌then◌else◌, refl, sym, ◌∙◌, ap, subst, arith, Bool}
 use Rattle.std.specs.Prelude.{nat_le}
 use Rattle.std.specs.Vec.{with_item}
 use Rattle.std.proofs.lemmas.Bool.{eqb-true}
-use Rattle.std.proofs.lemmas.Bool.Decides.{eqb_tells}
 use Rattle.std.proofs.lemmas.Option.{slice_get_read, slice_get_within}
 use Rattle.site_types.specs.declared.event.Event.{Event}
 use Rattle.site_types.specs.declared.event.Event.TheVariants.{Point, Cable, Supply, Confirmed, Link as LinkEvent}
@@ -17,109 +16,32 @@ use Rattle.site_types.specs.declared.piece_state.PieceState.{PieceState}
 use Rattle.site_types.specs.declared.retained.Retained.{Retained}
 use Rattle.site_types.specs.declared.site.Site.{Site}
 use Rattle.site_types.specs.declared.supply_kind.SupplyKind.{SupplyKind}
-use Rattle.site_types.specs.Done.{Done}
 use Rattle.site_types.specs.Events.{has_event, has_piece, is_confirming, is_panel, is_some_with}
 use Rattle.site_types.specs.Valid.{IsValid}
 use Rattle.site_types.proofs.ValidSites.{loop_at, output_at, point_at}
-use Rattle.loop_poller.specs.declared.poller.Poller.{Poller}
-use Rattle.loop_poller.specs.Calls.{Call, Reported, Cabled}
-use Rattle.loop_poller.specs.Stands.{StandsFor as PollsFor}
-use Rattle.supply_monitor.specs.declared.supply.Supply.{Supply as SupplyPart}
-use Rattle.supply_monitor.specs.Supply.{Call as SupplyCall, Reported as SupplyReported}
-use Rattle.supply_monitor.specs.Stands.{StandsFor as MonitorsFor}
-use Rattle.panel_rules.specs.Faults.{and_supply, supply_calls}
+use Rattle.loop_poller.specs.Calls.{Reported, Cabled}
+use Rattle.supply_monitor.specs.Supply.{Reported as SupplyReported}
+use Rattle.hold_calls.specs.Told.{told_in_ring}
+use Rattle.panel_rules.specs.Faults.{supply_calls}
 use Rattle.panel_rules.specs.Moments.{Moment, Happened, IsPanel}
 use Rattle.panel_rules.specs.Operations.{requests}
 use Rattle.panel_rules.proofs.Bools.{parts as both_parts, at_any}
-use Rattle.panel_rules.proofs.Reports.{is_line}
 use Rattle.panel_rules.proofs.AnswersTell.{eq_true}
 use Rattle.panel_rules.proofs.Floors.{le_from, lt_from}
 use Rattle.operation_desk.specs.declared.desk.Desk.{Desk}
 use Rattle.operation_desk.specs.Stands.{CanTakeEvent, DesksFor}
 use Rattle.panel_laws.specs.OperationLaws.{AreOfSite}
 use Rattle.panel_laws.proofs.EventsOfSite.{of_site}
-use Rattle.panel_core.specs.declared.parts.Parts.{Parts}
+use Rattle.panel_parts.specs.declared.parts.Parts.{Parts}
 use Rattle.panel_core.specs.declared.system.System.{System}
-use Rattle.panel_rules.specs.Reports.{and_report, is_on_panel, reports}
-use Rattle.panel_core.specs.Stands.{KeepsWords, PanelStands, StandsFor}
-use Rattle.panel_core.specs.Applied.{applied}
-use Rattle.panel_core.proofs.Counts.{counts_stay}
-use Rattle.panel_effects.proofs.LatestFacts.{effects_stay}
-use Rattle.output_drive.specs.declared.drive.Drive.{Drive as DrivePart}
-use Rattle.output_drive.proofs.Alike.{ConfirmsNone, after_other_event}
+use Rattle.panel_rules.specs.Reports.{is_on_panel, reports}
+use Rattle.panel_core.specs.Stands.{KeepsWords, StandsFor, StandsInRing}
+use Rattle.panel_parts.specs.Applied.{applied}
+use Rattle.panel_parts.proofs.Counts.{counts_stay}
 use Rattle.panel_links.specs.declared.ring.Ring.{Ring}
 use Rattle.panel_rules.specs.Outputs.{panel_of_plan}
-use Rattle.panel_rules.specs.Run.{facts_of}
-use Rattle.panel_core.proofs.Panels.{HasFacts, HasOutputs, leaves_lanes, with_lanes_left}
+use Rattle.panel_parts.proofs.Reports.{IsOther, none_confirmed, not_monitored, not_reported, not_there, untold}
 use Rattle.panel_core.proofs.Whole.{panel_at, stands_changed, stands_unchanged}
-
-module _ (site : Site) (kept : Retained) (done : List Done) (panel : ℕ) (before : List Moment) (parts : Parts) (h : PanelStands site kept done panel before parts) where
-  -- an event is no turn of Effect
-  facts_stay : (event : Event) → HasFacts site kept done panel before (Happened event ∷ before) parts.effects
-  facts_stay event = effects_stay site (facts_of site kept done) panel before parts.effects (Happened event) (λ e. cc) h.effects
-
-  -- and one that confirms no output of the panel leaves its outputs
-  outputs_stay : (event : Event) → ConfirmsNone site panel event → HasOutputs site kept done panel before (Happened event ∷ before) parts.drive
-  outputs_stay event none = after_other_event site (facts_of site kept done) kept done panel before parts.drive h.drives event none
-
--- a panel after an event of which its poller was told, and its supplies and outputs weren't
-told : (site : Site) (kept : Retained) (done : List Done) (panel : ℕ) (before : List Moment) (parts : Parts) (poller : Poller) (event : Event)
-    → PanelStands site kept done panel before parts → PollsFor site panel (and_report site panel event (reports site panel before)) poller
-    → and_supply panel event (supply_calls panel before) ≡ supply_calls panel before → ConfirmsNone site panel event
-    → PanelStands site kept done panel (Happened event ∷ before) (record parts { poller = poller })
-told site kept done panel before parts poller event h p s none =
-    with_lanes_left site kept done panel before (Happened event) parts poller parts.supply parts.effects parts.drive h
-    (leaves_lanes site kept done panel before (Happened event) refl refl refl refl) p
-    (subst (λ calls. MonitorsFor site.waits calls parts.supply) (sym s) h.supplies) (facts_stay site kept done panel before parts h event)
-    (outputs_stay site kept done panel before parts h event none)
-
-pub after_point : (site : Site) (kept : Retained) (done : List Done) (panel : ℕ) (before : List Moment) (parts : Parts) (poller : Poller) (point : ℕ) (state :
-    PointState) → PanelStands site kept done panel before parts → is_on_panel panel (slice_get site.points point) ≡ true
-    → PollsFor site panel (Reported point state ∷ reports site panel before) poller
-    → PanelStands site kept done panel (Happened (Point point state) ∷ before) (record parts { poller = poller })
-after_point site kept done panel before parts poller point state h at p =
-    told site kept done panel before parts poller (Point point state) h
-    (subst (λ b. PollsFor site panel (if b then Reported point state ∷ reports site panel before else reports site panel before) poller) (sym at)
-    p) refl tt
-
-pub after_piece : (site : Site) (kept : Retained) (done : List Done) (panel : ℕ) (before : List Moment) (parts : Parts) (poller : Poller) (line piece : ℕ) (state :
-    PieceState) → 1 ≤ line → line ≤ 4 → PanelStands site kept done panel before parts
-    → PollsFor site panel (Cabled line piece state ∷ reports site panel before) poller
-    → PanelStands site kept done panel (Happened (Cable panel line piece state) ∷ before) (record parts { poller = poller })
-after_piece site kept done panel before parts poller line piece state low high h p =
-    told site kept done panel before parts poller (Cable panel line piece state) h
-    (subst (λ b. PollsFor site panel (if b then Cabled line piece state ∷ reports site panel before else reports site panel before) poller)
-    (sym (ap (λ b. b && (nat_le 1 line && nat_le line 4)) (eq_true panel panel refl) ∙ is_line line low high)) p) refl tt
-
-pub after_report : (site : Site) (kept : Retained) (done : List Done) (panel : ℕ) (before : List Moment) (parts : Parts) (supply : SupplyPart) (kind : SupplyKind)
-    (bad : Bool) → PanelStands site kept done panel before parts → MonitorsFor site.waits (SupplyReported kind bad ∷ supply_calls panel before) supply
-    → PanelStands site kept done panel (Happened (Supply panel kind bad) ∷ before) (record parts { supply = supply })
-after_report site kept done panel before parts supply kind bad h m =
-    with_lanes_left site kept done panel before (Happened (Supply panel kind bad)) parts parts.poller supply parts.effects parts.drive h
-    (leaves_lanes site kept done panel before (Happened (Supply panel kind bad)) refl refl refl refl) h.polls
-    (subst (λ b. MonitorsFor site.waits (if b then SupplyReported kind bad ∷ supply_calls panel before else supply_calls panel before) supply)
-    (sym (eq_true panel panel refl)) m) (facts_stay site kept done panel before parts h (Supply panel kind bad))
-    (outputs_stay site kept done panel before parts h (Supply panel kind bad) tt)
-
--- an output of the panel was confirmed
-pub after_confirmation : (site : Site) (kept : Retained) (done : List Done) (panel : ℕ) (before : List Moment) (parts : Parts) (drive : DrivePart) (output : ℕ)
-    → PanelStands site kept done panel before parts → HasOutputs site kept done panel before (Happened (Confirmed output) ∷ before) drive
-    → PanelStands site kept done panel (Happened (Confirmed output) ∷ before) (record parts { drive = drive })
-after_confirmation site kept done panel before parts drive output h confirmed =
-    with_lanes_left site kept done panel before (Happened (Confirmed output)) parts parts.poller parts.supply parts.effects drive h
-    (leaves_lanes site kept done panel before (Happened (Confirmed output)) refl refl refl refl) h.polls h.supplies
-    (facts_stay site kept done panel before parts h (Confirmed output)) confirmed
-
--- a panel that an event doesn't concern
-untold : (site : Site) (kept : Retained) (done : List Done) (panel : ℕ) (before : List Moment) (parts : Parts) (event : Event) → PanelStands site kept done panel before parts
-    → and_report site panel event (reports site panel before) ≡ reports site panel before
-    → and_supply panel event (supply_calls panel before) ≡ supply_calls panel before → ConfirmsNone site panel event
-    → PanelStands site kept done panel (Happened event ∷ before) parts
-untold site kept done panel before parts event h e s none =
-    told site kept done panel before parts parts.poller event h (subst (λ calls. PollsFor site panel calls parts.poller) (sym e) h.polls) s none
-
-not_there : (a b : ℕ) → a ≢ b → (a == b) ≡ false
-not_there a b n = elim (eqb_tells a b) [ inl t ↦ absurd (n t.1) | inr t ↦ t.0 ]
 
 -- the desk after an event of the site
 pub record DeskAfter (site : Site) (kept : Retained) (before : List Moment) (event : Event) (desk : Desk) : Type 0 where
@@ -129,7 +51,7 @@ pub record DeskAfter (site : Site) (kept : Retained) (before : List Moment) (eve
 pub stands_after_point : (site : Site) (kept : Retained) (before : List Moment) (system : System) (desk : Desk) (plan : PointPlan) (point : ℕ)
     (state : PointState) (parts : Parts) → StandsFor site kept before system → DeskAfter site kept before (Point point state) desk
     → 1 ≤ plan.panel → slice_get site.points point ≡ Some plan
-    → PanelStands site kept (applied site kept before) plan.panel (Happened (Point point state) ∷ before) parts
+    → StandsInRing site kept (applied site kept before) plan.panel (Happened (Point point state) ∷ before) parts
     → StandsFor site kept (Happened (Point point state) ∷ before)
     (record system { panels = with_item system.panels (plan.panel - 1) parts; desk = desk })
 stands_after_point site kept before system desk plan point state parts h after one is p =
@@ -137,67 +59,46 @@ stands_after_point site kept before system desk plan point state parts h after o
     (counts_stay site kept before (Happened (Point point state)) system.counts (λ e. cc) h.counts) h.ring h plan.panel parts one p
     (λ other q n stood.
     let away : is_on_panel other (slice_get site.points point) ≡ false = ap (is_on_panel other) is ∙ not_there plan.panel other n in
-    untold site kept (applied site kept before) other before q (Point point state) stood
+    untold site kept (applied site kept before) (told_in_ring site kept (applied site kept before) other) other before q (Point point state) stood
     (ap (λ b. if b then Reported point state ∷ reports site other before else reports site other before) away) refl tt)
 
 pub stands_after_piece : (site : Site) (kept : Retained) (before : List Moment) (system : System) (desk : Desk) (panel line piece : ℕ)
     (state : PieceState) (parts : Parts) → StandsFor site kept before system → DeskAfter site kept before (Cable panel line piece state) desk
-    → 1 ≤ panel → PanelStands site kept (applied site kept before) panel (Happened (Cable panel line piece state) ∷ before) parts
+    → 1 ≤ panel → StandsInRing site kept (applied site kept before) panel (Happened (Cable panel line piece state) ∷ before) parts
     → StandsFor site kept (Happened (Cable panel line piece state) ∷ before)
     (record system { panels = with_item system.panels (panel - 1) parts; desk = desk })
 stands_after_piece site kept before system desk panel line piece state parts h after one p =
     stands_changed site kept before system (Happened (Cable panel line piece state)) desk system.counts system.ring refl (h.events, after.has) after.desks
     (counts_stay site kept before (Happened (Cable panel line piece state)) system.counts (λ e. cc) h.counts) h.ring h panel parts one p
     (λ other q n stood.
-    untold site kept (applied site kept before) other before q (Cable panel line piece state) stood
+    untold site kept (applied site kept before) (told_in_ring site kept (applied site kept before) other) other before q (Cable panel line piece state) stood
     (ap (λ b. if b && (nat_le 1 line && nat_le line 4) then Cabled line piece state ∷ reports site other before else reports site other before)
     (not_there panel other n)) refl tt)
 
 pub stands_after_report : (site : Site) (kept : Retained) (before : List Moment) (system : System) (desk : Desk) (panel : ℕ) (kind : SupplyKind) (bad : Bool)
     (parts : Parts) → StandsFor site kept before system → DeskAfter site kept before (Supply panel kind bad) desk
-    → 1 ≤ panel → PanelStands site kept (applied site kept before) panel (Happened (Supply panel kind bad) ∷ before) parts
+    → 1 ≤ panel → StandsInRing site kept (applied site kept before) panel (Happened (Supply panel kind bad) ∷ before) parts
     → StandsFor site kept (Happened (Supply panel kind bad) ∷ before)
     (record system { panels = with_item system.panels (panel - 1) parts; desk = desk })
 stands_after_report site kept before system desk panel kind bad parts h after one p =
     stands_changed site kept before system (Happened (Supply panel kind bad)) desk system.counts system.ring refl (h.events, after.has) after.desks
     (counts_stay site kept before (Happened (Supply panel kind bad)) system.counts (λ e. cc) h.counts) h.ring h panel parts one p
     (λ other q n stood.
-    untold site kept (applied site kept before) other before q (Supply panel kind bad) stood refl
+    untold site kept (applied site kept before) (told_in_ring site kept (applied site kept before) other) other before q (Supply panel kind bad) stood refl
     (ap (λ b. if b then SupplyReported kind bad ∷ supply_calls other before else supply_calls other before) (not_there panel other n)) tt)
 
 pub stands_after_confirmation : (site : Site) (kept : Retained) (before : List Moment) (system : System) (desk : Desk) (output : ℕ) (plan : Output)
     (parts : Parts) → StandsFor site kept before system → DeskAfter site kept before (Confirmed output) desk
     → 1 ≤ plan.panel → slice_get site.outputs output ≡ Some plan
-    → PanelStands site kept (applied site kept before) plan.panel (Happened (Confirmed output) ∷ before) parts
+    → StandsInRing site kept (applied site kept before) plan.panel (Happened (Confirmed output) ∷ before) parts
     → StandsFor site kept (Happened (Confirmed output) ∷ before)
     (record system { panels = with_item system.panels (plan.panel - 1) parts; desk = desk })
 stands_after_confirmation site kept before system desk output plan parts h after one is p =
     stands_changed site kept before system (Happened (Confirmed output)) desk system.counts system.ring refl (h.events, after.has) after.desks
     (counts_stay site kept before (Happened (Confirmed output)) system.counts (λ e. cc) h.counts) h.ring h plan.panel parts one p
     (λ other q n stood.
-    untold site kept (applied site kept before) other before q (Confirmed output) stood refl refl
+    untold site kept (applied site kept before) (told_in_ring site kept (applied site kept before) other) other before q (Confirmed output) stood refl refl
     (λ found there same. n (ap (λ (o : Option Output). panel_of_plan o) (sym is ∙ there) ∙ same)))
-
--- an event that concerns no panel
-abbrev pub IsOther : Event → Type 0
-IsOther (Point point state) = ⊥
-IsOther (Cable panel line piece state) = ⊥
-IsOther (Supply panel kind bad) = ⊥
-IsOther (Confirmed output) = ⊥
-IsOther event = Unit {0}
-
-none_confirmed : (site : Site) (panel : ℕ) (event : Event) → IsOther event → ConfirmsNone site panel event
-none_confirmed site panel (Confirmed output) o = absurd o
-none_confirmed site panel event o = tt
-
-not_reported : (site : Site) (panel : ℕ) (event : Event) (calls : List Call) → IsOther event → and_report site panel event calls ≡ calls
-not_reported site panel (Point point state) calls o = absurd o
-not_reported site panel (Cable other line piece state) calls o = absurd o
-not_reported site panel event calls o = refl
-
-not_monitored : (panel : ℕ) (event : Event) (calls : List SupplyCall) → IsOther event → and_supply panel event calls ≡ calls
-not_monitored panel (Supply other kind bad) calls o = absurd o
-not_monitored panel event calls o = refl
 
 pub stands_after_other : (site : Site) (kept : Retained) (before : List Moment) (system : System) (desk : Desk) (ring : Ring) (event : Event)
     → StandsFor site kept before system → DeskAfter site kept before event desk → KeepsWords site kept (applied site kept before) (Happened event ∷ before) ring
@@ -205,7 +106,7 @@ pub stands_after_other : (site : Site) (kept : Retained) (before : List Moment) 
 stands_after_other site kept before system desk ring event h after rings o =
     stands_unchanged site kept before system (Happened event) desk system.counts ring refl (h.events, after.has) after.desks
     (counts_stay site kept before (Happened event) system.counts (λ e. cc) h.counts) rings h
-    (λ panel q stood. untold site kept (applied site kept before) panel before q event stood
+    (λ panel q stood. untold site kept (applied site kept before) (told_in_ring site kept (applied site kept before) panel) panel before q event stood
     (not_reported site panel event (reports site panel before) o) (not_monitored panel event (supply_calls panel before) o)
     (none_confirmed site panel event o))
 
@@ -253,7 +154,7 @@ point_read site kept before system point state points plan h has same read =
 -- the panel at a place of the system
 pub panel_read : (site : Site) (kept : Retained) (before : List Moment) (system : System) (panel : ℕ) (parts : Parts)
     → StandsFor site kept before system → IsPanel site.panels panel → parts ≡ get_or system.panels.items (panel - 1) parts
-    → PanelStands site kept (applied site kept before) panel before parts
+    → StandsInRing site kept (applied site kept before) panel before parts
 panel_read site kept before system panel parts h p read =
     panel_at site kept before system panel parts h p.0
     (slice_get_read system.panels.items site.panels (panel - 1) parts (sym h.count) (omega (arith, p.0, p.1)) read)
@@ -261,7 +162,7 @@ panel_read site kept before system panel parts h p read =
 -- the panel of a point that an event names, as the system finds it
 pub record PointPanel (site : Site) (kept : Retained) (before : List Moment) (point : ℕ) (plan : PointPlan) (parts : Parts) : Type 0 where
   pub read : PointRead site point plan
-  pub stands : PanelStands site kept (applied site kept before) plan.panel before parts
+  pub stands : StandsInRing site kept (applied site kept before) plan.panel before parts
   pub within : point < length parts.poller.states.items
 
 pub point_panel : (site : Site) (kept : Retained) (before : List Moment) (system : System) (event : Event) (point : ℕ) (state : PointState) (points :
@@ -282,7 +183,7 @@ point_panel site kept before system event point state points plan parts h has is
 pub point_done : (site : Site) (kept : Retained) (before : List Moment) (system : System) (desk : Desk) (event : Event) (point : ℕ) (state :
     PointState) (points : List PointPlan) (plan : PointPlan) (old new : Parts) → StandsFor site kept before system
     → DeskAfter site kept before event desk → event ≡ Point point state → plan ≡ get_or points point plan → PointPanel site kept before point plan old
-    → PanelStands site kept (applied site kept before) plan.panel (Happened (Point point state) ∷ before) new
+    → StandsInRing site kept (applied site kept before) plan.panel (Happened (Point point state) ∷ before) new
     → StandsFor site kept (Happened event ∷ before)
     (record system { panels = with_item system.panels ((get_or points point plan).panel - 1) new; desk = desk })
 point_done site kept before system desk event point state points plan old new h after is read p stands =
@@ -302,7 +203,7 @@ piece_read site event panel line piece state valid has is = piece_line site pane
 pub piece_done : (site : Site) (kept : Retained) (before : List Moment) (system : System) (desk : Desk) (event : Event) (panel line piece : ℕ) (state :
     PieceState) (new : Parts) → StandsFor site kept before system → DeskAfter site kept before event desk → event ≡ Cable panel line piece state
     → IsPanel site.panels panel
-    → PanelStands site kept (applied site kept before) panel (Happened (Cable panel line piece state) ∷ before) new
+    → StandsInRing site kept (applied site kept before) panel (Happened (Cable panel line piece state) ∷ before) new
     → StandsFor site kept (Happened event ∷ before) (record system { panels = with_item system.panels (panel - 1) new; desk = desk })
 piece_done site kept before system desk event panel line piece state new h after is member stands =
     subst (λ e. StandsFor site kept (Happened e ∷ before) (record system { panels = with_item system.panels (panel - 1) new; desk = desk })) (sym is)
@@ -320,7 +221,7 @@ supply_panel site event panel kind bad has is =
 pub report_done : (site : Site) (kept : Retained) (before : List Moment) (system : System) (desk : Desk) (event : Event) (panel : ℕ) (kind : SupplyKind)
     (bad : Bool) (new : Parts) → StandsFor site kept before system → DeskAfter site kept before event desk → event ≡ Supply panel kind bad
     → IsPanel site.panels panel
-    → PanelStands site kept (applied site kept before) panel (Happened (Supply panel kind bad) ∷ before) new
+    → StandsInRing site kept (applied site kept before) panel (Happened (Supply panel kind bad) ∷ before) new
     → StandsFor site kept (Happened event ∷ before) (record system { panels = with_item system.panels (panel - 1) new; desk = desk })
 report_done site kept before system desk event panel kind bad new h after is member stands =
     subst (λ e. StandsFor site kept (Happened e ∷ before) (record system { panels = with_item system.panels (panel - 1) new; desk = desk })) (sym is)
@@ -359,7 +260,7 @@ pub record OutputPanel (site : Site) (kept : Retained) (before : List Moment) (o
   pub is : slice_get site.outputs output ≡ Some plan
   pub member : IsPanel site.panels plan.panel
   pub number : IsNumber plan.number
-  pub stands : PanelStands site kept (applied site kept before) plan.panel before parts
+  pub stands : StandsInRing site kept (applied site kept before) plan.panel before parts
 
 pub output_panel : (site : Site) (kept : Retained) (before : List Moment) (system : System) (event : Event) (output : ℕ) (outputs : List Output)
     (plan : Output) (parts : Parts) → StandsFor site kept before system → has_event site event ≡ true → event ≡ Confirmed output
@@ -381,7 +282,7 @@ output_panel site kept before system event output outputs plan parts h has is sa
 pub confirmation_done : (site : Site) (kept : Retained) (before : List Moment) (system : System) (desk : Desk) (event : Event) (output : ℕ) (plan : Output)
     (old new : Parts) → StandsFor site kept before system → DeskAfter site kept before event desk → event ≡ Confirmed output
     → OutputPanel site kept before output plan old
-    → PanelStands site kept (applied site kept before) plan.panel (Happened (Confirmed output) ∷ before) new
+    → StandsInRing site kept (applied site kept before) plan.panel (Happened (Confirmed output) ∷ before) new
     → StandsFor site kept (Happened event ∷ before) (record system { panels = with_item system.panels (plan.panel - 1) new; desk = desk })
 confirmation_done site kept before system desk event output plan old new h after is p stands =
     subst (λ e. StandsFor site kept (Happened e ∷ before) (record system { panels = with_item system.panels (plan.panel - 1) new; desk = desk })) (sym is)

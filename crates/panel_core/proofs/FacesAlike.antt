@@ -32,9 +32,9 @@ use Rattle.panel_rules.specs.Outputs.{panel_of_output, panel_of_plan}
 use Rattle.panel_rules.specs.Run.{facts_of, faults_of, faults_with, tells_fault}
 use Rattle.panel_rules.specs.Timeline.{face_of}
 use Rattle.panel_rules.specs.Words.{kept_word_of, latest_word, word_made}
-use Rattle.panel_core.specs.Applied.{applied, done_so_far}
-use Rattle.panel_core.proofs.Applied.{applied_past, applied_stays}
-use Rattle.panel_core.proofs.Begun.{past_force}
+use Rattle.panel_parts.specs.Applied.{applied, done_so_far}
+use Rattle.panel_parts.proofs.Applied.{applied_past, applied_stays}
+use Rattle.panel_parts.proofs.Settings.{past_force}
 use Rattle.panel_core.proofs.WholeFaces.{buzzer_now, confirmed_now, faults_now, kept_word_now, on_now, word_now}
 
 -- tasks whose turns show nothing

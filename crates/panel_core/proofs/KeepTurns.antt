@@ -19,23 +19,24 @@ use Rattle.operation_desk.specs.declared.desk.Desk.{Desk}
 use Rattle.operation_desk.specs.declared.request.Request.{Request}
 use Rattle.operation_desk.specs.Requests.{requests_from}
 use Rattle.operation_desk.specs.Stands.{DesksFor, MayTakeKeepTurn}
+use Rattle.hold_calls.specs.Told.{told_in_ring}
 use Rattle.panel_laws.specs.TimelineLaws.{counted_entries}
 use Rattle.panel_laws.proofs.EventsOfSite.{of_site}
 use Rattle.panel_rules.specs.Batches.{batch, kept_after, new_entries}
 use Rattle.panel_rules.specs.Operations.{operations}
 use Rattle.panel_rules.specs.Moments.{Moment, Kept, IsPanel, IsRun, tick_of}
 use Rattle.panel_rules.specs.Storing.{keep_answer}
-use Rattle.panel_core.specs.declared.parts.Parts.{Parts}
+use Rattle.panel_parts.specs.declared.parts.Parts.{Parts}
 use Rattle.panel_core.specs.declared.system.System.{System}
-use Rattle.panel_core.specs.Applied.{applied, done_so_far}
-use Rattle.panel_core.specs.Entries.{AreLeft, CountsFor, TellsEntries}
+use Rattle.panel_parts.specs.Applied.{applied, done_so_far}
+use Rattle.panel_parts.specs.Entries.{AreLeft, CountsFor, TellsEntries}
 use Rattle.panel_core.specs.Keeping.{KeepsRun, MayKeep, MayMakeBatch, has_failed, store_of}
 use Rattle.panel_core.specs.PowerCuts.{IsLeftOver}
 use Rattle.panel_core.specs.Stands.{StandsFor}
-use Rattle.hold_calls.specs.Turns.{hold_turns}
-use Rattle.panel_core.proofs.Counts.{counts_stay}
+use Rattle.hold_calls.specs.Turns.{ring_turns}
+use Rattle.panel_parts.proofs.Counts.{counts_stay}
 use Rattle.panel_core.proofs.DeskTurns.{keep_turn}
-use Rattle.panel_core.proofs.EntriesKept.{counted_by_keep, left_to_keep}
+use Rattle.panel_parts.proofs.EntriesKept.{counted_by_keep, left_to_keep}
 use Rattle.panel_core.proofs.Fronts.{left_over_failed}
 use Rattle.panel_core.proofs.Whole.{panel_at}
 
@@ -62,11 +63,11 @@ module _ (site : Site) (kept : Retained) (before : List Moment) (system : System
       → slice_index left (panel - 1) ≡ length (new_entries site kept (operations site kept before).done panel before)
   entered panel p parts is =
       let eight = h.valid.forms.panels.1 in
-      let counted = told (panel - 1) parts is site kept panel (applied site kept before) (hold_turns site kept (applied site kept before) panel before)
+      let counted = told (panel - 1) parts is site kept panel (applied site kept before) (ring_turns site kept (applied site kept before) panel before)
       (panel_at site kept before system panel parts h p.0 is).holds in
       less (panel - 1) (omega (arith, p.0, p.1, eight))
       ∙ ap (λ n. n - slice_index system.counts.entries (panel - 1)) counted
-      ∙ left_to_keep site kept panel before h.valid run p (slice_index system.counts.entries (panel - 1)) (h.counts.counted panel p)
+      ∙ left_to_keep site kept panel before (told_in_ring site kept (applied site kept before) panel) h.valid run p (slice_index system.counts.entries (panel - 1)) (h.counts.counted panel p)
 
   pub is_left : (waiting : List Request) → waiting ≡ system.desk.waiting.items → IsLeftToKeep site kept before left waiting
   is_left waiting same = record {
@@ -149,9 +150,9 @@ module _ (site : Site) (kept : Retained) (before : List Moment) (system : System
       noted : (panel : ℕ) (p : IsPanel site.panels panel) (parts : Parts) → slice_get system.panels.items (panel - 1) ≡ Some parts
           → slice_index entries (panel - 1) ≡ counted_entries site kept (done_so_far site kept (Kept false ∷ before)) panel (Kept false ∷ before)
       noted panel p parts is =
-          told (panel - 1) parts is site kept panel (applied site kept before) (hold_turns site kept (applied site kept before) panel before)
+          told (panel - 1) parts is site kept panel (applied site kept before) (ring_turns site kept (applied site kept before) panel before)
           (panel_at site kept before system panel parts h p.0 is).holds
-          ∙ counted_by_keep site kept panel before h.valid run p
+          ∙ counted_by_keep site kept panel before (told_in_ring site kept (applied site kept before) panel) h.valid run p
 
   module _ (desk : Desk) (entries : List ℕ) (journal : Journal) (told : TellsEntries system.panels.items entries) where
     pub noted : (failed : Bool) → failed ≡ false → IsRun site.panels (Kept failed ∷ before) → journal.kept ≡ kept_after site kept (Kept failed ∷ before)

@@ -1,18 +1,5 @@
--- lanes: that they have room
-pub mod Rooms
--- operations: that they are of the site, which were done before a tick
-pub mod OfSite
-pub mod Applied
--- what befalls a panel: turns, those of Decide, Hold and Supply, an operation that comes in force
+-- what a ring tells its panels
 pub mod Later
-pub mod Panels
-pub mod Takes
-pub mod Holds
-pub mod Supplies
-pub mod Operations
--- entries into the fire alarm condition: which are kept
-pub mod EntriesKept
-pub mod Counts
 -- all panels: a moment, events, turns one after another, operations that come in force
 pub mod Whole
 pub mod TaskTurns

@@ -25,13 +25,13 @@ use Rattle.panel_core.specs.declared.hold_shown.HoldShown.{HoldShown}
 use Rattle.panel_core.specs.declared.outputs_shown.OutputsShown.{OutputsShown}
 use Rattle.panel_core.specs.declared.shown_zones.ShownZones.{ShownZones}
 use Rattle.panel_core.specs.declared.system.System.{System}
-use Rattle.panel_core.specs.Applied.{applied, done_so_far}
+use Rattle.panel_parts.specs.Applied.{applied, done_so_far}
 use Rattle.panel_core.specs.Changes.{MakesTaskTurn}
 use Rattle.panel_core.specs.Marks.{AreMarked, MarksEvent, MarksTurn, MarksTurns, RaisesMark, RaisesMarks, ShowsSame, is_marked}
 use Rattle.panel_core.specs.PartsShown.{ShowsByDrive, ShowsByHold}
 use Rattle.panel_core.specs.ShownFaces.{ShowsZones}
 use Rattle.panel_core.specs.Stands.{HasPanel, MayTurnTask, StandsFor}
-use Rattle.panel_core.proofs.Applied.{applied_is_older, applied_stays}
+use Rattle.panel_parts.proofs.Applied.{applied_is_older, applied_stays}
 use Rattle.panel_core.proofs.FacesAlike.{IsUnseen, IsUnseenEvent, alarms_shown, alike_now, confirmed_elsewhere, drive_alike, drive_elsewhere, face_stays}
 use Rattle.panel_core.proofs.FacesAlike.{face_stays_begun, firsts_shown, hold_alike, hold_elsewhere, link_alike, link_elsewhere, unseen_event, unseen_keep, unseen_turn}
 use Rattle.panel_core.proofs.Orders.{turn_is}

@@ -1,10 +1,11 @@
 -- Turns one after another.
 use Rattle.std.proofs.Common.{◌≡◌, ◌≢◌, ℕ, zero, suc, ◌+◌, ◌<◌, ◌≤◌, List, [], ◌∷◌, ◌++◌, length, take, drop, get_or, Some, slice_get, Contains}
-use Rattle.std.proofs.Common.{Bool, false, refl, sym, ◌∙◌, ap, subst, arith, take-append-drop, length-take, inl, inr}
+use Rattle.std.proofs.Common.{Bool, false, refl, sym, ◌∙◌, ap, subst, arith, take-append-drop, length-take, ◌⊎◌, inl, inr}
 use Rattle.std.proofs.lemmas.List.{drop-append-le, take_all, take_more}
 use Rattle.std.proofs.lemmas.Bool.Decides.{eqb_tells}
 use Rattle.std.proofs.lemmas.Option.{slice_get-get_or, slice_get_within, get_or_from_slice_get}
 use Rattle.tick_units.specs.Orders.{IsOrder, canonical_seats, keep_seat}
+use Rattle.tick_units.proofs.Canonical.{IsPanelSeat, Contains-canonical_seats-cases}
 use Rattle.tick_units.proofs.OrderLaws.{Contains-order, keep_in_order}
 use Rattle.tick_units.specs.declared.seat.Seat.{Seat}
 use Rattle.tick_units.specs.declared.task.Task.{Task}
@@ -12,7 +13,7 @@ use Rattle.tick_units.specs.declared.task.Task.TheVariants.{Keep}
 use Rattle.site_types.specs.declared.retained.Retained.{Retained}
 use Rattle.site_types.specs.declared.site.Site.{Site}
 use Rattle.panel_rules.specs.Batches.{kept_after}
-use Rattle.panel_rules.specs.Moments.{Moment, Turned, Kept, IsRun, and_turns, has_kept, has_turned, turn_of, tick_of}
+use Rattle.panel_rules.specs.Moments.{Moment, Turned, Kept, IsPanel, IsRun, and_turns, has_kept, has_turned, turn_of, tick_of}
 use Rattle.panel_rules.specs.Operations.{requests}
 use Rattle.panel_rules.proofs.Counting.{each_at}
 use Rattle.panel_rules.proofs.Turns.{run_before}
@@ -219,3 +220,11 @@ module _ (order : List Seat) (place : ℕ) (seat : Seat) (is : slice_get order p
         let no_way = sym (panels_kept false (seats_between (place + 1) last order) (Kept false ∷ before) rest) ∙ next.1 in
         cc)
   ]
+
+-- a seat that is not Keep's is of a panel
+pub seat_panel : (panels : ℕ) (seat : Seat) → Contains (canonical_seats panels) seat → seat.task ≢ Keep → IsPanel panels seat.panel
+seat_panel panels seat known n = go ((Contains-canonical_seats-cases panels seat).0 known)
+  where
+    go : IsPanelSeat panels seat ⊎ (seat ≡ keep_seat) → IsPanel panels seat.panel
+    go (inl h) = (h.low, h.high)
+    go (inr e) = absurd (n (ap (λ (s : Seat). s.task) e))

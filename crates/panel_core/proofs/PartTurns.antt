@@ -5,14 +5,17 @@ use Rattle.tick_units.specs.declared.task.Task.{Task}
 use Rattle.tick_units.specs.declared.task.Task.TheVariants.{Desk as DeskTask, Link}
 use Rattle.site_types.specs.declared.retained.Retained.{Retained}
 use Rattle.site_types.specs.declared.site.Site.{Site}
+use Rattle.hold_calls.specs.Told.{told_in_ring}
 use Rattle.panel_links.specs.Stands.{HasPanel as RingHasPanel}
 use Rattle.panel_rules.specs.Moments.{Moment, Turned, IsPanel}
-use Rattle.panel_core.specs.declared.parts.Parts.{Parts}
+use Rattle.panel_parts.specs.declared.parts.Parts.{Parts}
 use Rattle.panel_core.specs.declared.system.System.{System}
-use Rattle.panel_core.specs.Applied.{applied}
-use Rattle.panel_core.specs.Changes.{MakesTaskTurn, MakesTurn}
-use Rattle.panel_core.specs.Stands.{MayTurn, MayTurnTask, PanelStands, StandsFor}
-use Rattle.panel_core.proofs.Applied.{applied_past}
+use Rattle.panel_parts.specs.Applied.{applied}
+use Rattle.panel_parts.specs.Changes.{MakesTurn}
+use Rattle.panel_core.specs.Changes.{MakesTaskTurn}
+use Rattle.panel_parts.specs.Stands.{MayTurn}
+use Rattle.panel_core.specs.Stands.{MayTurnTask, StandsFor, StandsInRing}
+use Rattle.panel_parts.proofs.Applied.{applied_past}
 use Rattle.panel_core.proofs.Events.{panel_read}
 use Rattle.panel_core.proofs.TaskTurns.{member_too}
 use Rattle.panel_core.proofs.Whole.{stands_after_turn}
@@ -29,6 +32,7 @@ module _ {panel : ℕ} {task : Task} {system : System} (may : MayTurnTask panel 
     site = may.site;
     kept = may.kept;
     done = applied may.site may.kept may.before;
+    told = told_in_ring may.site may.kept (applied may.site may.kept may.before) panel;
     panel = panel;
     before = may.before;
     stands = panel_read may.site may.kept may.before system panel parts may.stands may.member read;
@@ -43,11 +47,11 @@ module _ {panel : ℕ} {task : Task} {system : System} (may : MayTurnTask panel 
     pub member_here : IsPanel site.panels panel
     member_here = member_too site may.site kept may.kept before may.before system panel may.stands may.member h
 
-    pub parts_here : (parts : Parts) → parts ≡ get_or system.panels.items (panel - 1) parts → PanelStands site kept (applied site kept before) panel before parts
+    pub parts_here : (parts : Parts) → parts ≡ get_or system.panels.items (panel - 1) parts → StandsInRing site kept (applied site kept before) panel before parts
     parts_here parts read = panel_read site kept before system panel parts h member_here read
 
     pub system_after : task ≢ DeskTask → task ≢ Link → (parts : Parts)
-        → PanelStands site kept (applied site kept before) panel (Turned panel task ∷ before) parts
+        → StandsInRing site kept (applied site kept before) panel (Turned panel task ∷ before) parts
         → StandsFor site kept (Turned panel task ∷ before) (record system { panels = with_item system.panels (panel - 1) parts })
     system_after other apart parts stands =
         let first = member_here.0 in
@@ -59,4 +63,4 @@ module _ {panel : ℕ} {task : Task} {system : System} (may : MayTurnTask panel 
       → MakesTaskTurn system panel task (record system { panels = with_item system.panels (panel - 1) after })
   made_by_parts parts after read other apart made site kept before h run =
       system_after h other apart after
-      (made site kept (applied site kept before) panel before (parts_here h parts read) (applied_past site kept before) h.tick run)
+      (made site kept (applied site kept before) (told_in_ring site kept (applied site kept before) panel) panel before (parts_here h parts read) (applied_past site kept before) h.tick run)

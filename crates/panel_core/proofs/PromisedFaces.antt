@@ -26,7 +26,7 @@ use Rattle.panel_laws.proofs.ProfileRows.{disablement_shown, joined_shown, signa
 use Rattle.panel_laws.proofs.SettingsShow.{accepted_shown, settings_shown}
 use Rattle.panel_laws.proofs.Supplies.{bad_supply_shown}
 use Rattle.panel_core.specs.declared.system.System.{System}
-use Rattle.panel_core.specs.Applied.{done_so_far}
+use Rattle.panel_parts.specs.Applied.{done_so_far}
 use Rattle.panel_core.specs.PromisedFaces.{PromisedCounter, PromisedFaults, PromisedOutputs, PromisedSettings, PromisedZones}
 use Rattle.panel_core.specs.ShownFaces.{ShowsFace}
 use Rattle.panel_core.specs.Stands.{HasPanel, StandsFor}

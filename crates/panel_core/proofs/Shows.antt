@@ -15,6 +15,7 @@ use Rattle.coincidence_rules.proofs.Later.{first-later, in_alarm-later, zones_sa
 use Rattle.coincidence_rules.proofs.Seconds.{AreUpTo}
 use Rattle.coincidence_rules.proofs.ValidWired.{wired_of}
 use Rattle.coincidence_rules.proofs.ZoneMasks.{has_bit-zone}
+use Rattle.hold_calls.specs.Told.{told_in_ring}
 use Rattle.panel_rules.specs.Moments.{Moment, IsRun, IsPanel, HaveAllTurned, latest_turn, tick_of}
 use Rattle.panel_rules.specs.Zones.{panel_of, panel_of_zone, held_answers, holds_alarm, holds_first}
 use Rattle.panel_rules.specs.Answers.{answers}
@@ -26,16 +27,16 @@ use Rattle.panel_rules.specs.Due.{IsDue, LoneSignals}
 use Rattle.panel_rules.specs.Caused.{IsCausedAt}
 use Rattle.panel_rules.specs.Laws.{IsAfterTick}
 use Rattle.panel_rules.proofs.Deadlines.{own_shown, own_caused, lone_shown}
-use Rattle.panel_core.specs.declared.parts.Parts.{Parts}
+use Rattle.panel_parts.specs.declared.parts.Parts.{Parts}
 use Rattle.panel_core.specs.declared.system.System.{System}
-use Rattle.panel_core.specs.Stands.{PanelStands, StandsFor, HasPanel}
+use Rattle.panel_core.specs.Stands.{HasPanel, StandsFor, StandsInRing}
 use Rattle.site_types.specs.declared.word.Word.{Word}
 use Rattle.panel_conditions.specs.Stands.{HoldsFor}
 use Rattle.panel_conditions.specs.Turns.{HoldTurn}
 use Rattle.panel_conditions.specs.Words.{word_after}
-use Rattle.hold_calls.specs.Turns.{hold_turns}
-use Rattle.panel_core.specs.Applied.{applied, done_so_far}
-use Rattle.panel_core.proofs.Applied.{done_after_applied}
+use Rattle.hold_calls.specs.Turns.{ring_turns}
+use Rattle.panel_parts.specs.Applied.{applied, done_so_far}
+use Rattle.panel_parts.proofs.Applied.{done_after_applied}
 use Rattle.panel_core.proofs.Events.{panel_read}
 use Rattle.hold_calls.proofs.ZonesHeld.{alarm_shown, first_shown}
 
@@ -91,7 +92,7 @@ asked_member site kept before system panel has h =
     (m.0, omega (arith, m.1, one, two))
 
 pub asked_panel : (site : Site) (kept : Retained) (before : List Moment) (system : System) (panel : ℕ) (parts : Parts) → HasPanel panel system
-    → StandsFor site kept before system → parts ≡ get_or system.panels.items (panel - 1) parts → PanelStands site kept (applied site kept before) panel before parts
+    → StandsFor site kept before system → parts ≡ get_or system.panels.items (panel - 1) parts → StandsInRing site kept (applied site kept before) panel before parts
 asked_panel site kept before system panel parts has h read =
     panel_read site kept before system panel parts h (asked_member site kept before system panel has h) read
 
@@ -128,17 +129,17 @@ module _ (site : Site) (kept : Retained) (before : List Moment) (system : System
     HasPanel panel system) (h : StandsFor site kept before system) (read : parts ≡ get_or system.panels.items (panel - 1) parts) (told :
     (done : List Done) (turns : List HoldTurn) → HoldsFor site kept panel done turns parts.hold → word ≡ word_after site kept panel done turns)
     (run : IsRun site.panels before) where
-  stands : PanelStands site kept (applied site kept before) panel before parts
+  stands : StandsInRing site kept (applied site kept before) panel before parts
   stands = asked_panel site kept before system panel parts has h read
 
   pub alarm_of : word.alarm ≡ zones_where site panel (λ zone. holds_alarm site kept (done_so_far site kept before) panel before zone)
   alarm_of =
-      ap (λ (w : Word). w.alarm) (told (applied site kept before) (hold_turns site kept (applied site kept before) panel before) stands.holds)
-      ∙ alarm_shown site kept (applied site kept before) panel before h.valid run stands.member
+      ap (λ (w : Word). w.alarm) (told (applied site kept before) (ring_turns site kept (applied site kept before) panel before) stands.holds)
+      ∙ alarm_shown site kept (applied site kept before) (told_in_ring site kept (applied site kept before) panel) panel before h.valid run stands.member
       ∙ zones_same site panel _ _ (alarm_same site kept panel before system h)
 
   pub first_of : word.first ≡ zones_where site panel (λ zone. holds_first site kept (done_so_far site kept before) panel before zone)
   first_of =
-      ap (λ (w : Word). w.first) (told (applied site kept before) (hold_turns site kept (applied site kept before) panel before) stands.holds)
-      ∙ first_shown site kept (applied site kept before) panel before h.valid run stands.member
+      ap (λ (w : Word). w.first) (told (applied site kept before) (ring_turns site kept (applied site kept before) panel before) stands.holds)
+      ∙ first_shown site kept (applied site kept before) (told_in_ring site kept (applied site kept before) panel) panel before h.valid run stands.member
       ∙ zones_same site panel _ _ (first_same site kept panel before system h)

@@ -7,10 +7,10 @@ use Rattle.site_types.specs.declared.retained.Retained.{Retained}
 use Rattle.site_types.specs.declared.site.Site.{Site}
 use Rattle.panel_rules.specs.Markers.{Facts}
 use Rattle.panel_rules.specs.Moments.{Moment, and_turns, turn_of}
-use Rattle.panel_core.specs.Applied.{applied}
+use Rattle.panel_parts.specs.Applied.{applied}
 use Rattle.panel_core.specs.Changes.{AreOfPanels}
 use Rattle.panel_core.specs.StepCounts.{RisesAt, RisesOver}
-use Rattle.panel_core.proofs.Applied.{applied_stays}
+use Rattle.panel_parts.proofs.Applied.{applied_stays}
 use Rattle.panel_core.proofs.Orders.{turn_is, turns_tick}
 
 -- what is in force stays so over the turns of a tick

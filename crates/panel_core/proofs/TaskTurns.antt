@@ -1,18 +1,13 @@
 -- What a turn of a task is told of the system: its panel, silent panels and links, the outputs that are disabled.
-use Rattle.std.proofs.Common.{◌≡◌, ◌≢◌, ◌∙◌, ◌+◌, ◌-◌, ◌++◌, ◌≤◌, ℕ, List, [], ◌∷◌, false, ap, arith, subst, sym}
-use Rattle.std.specs.Prelude.{slice_index}
+use Rattle.std.proofs.Common.{◌≡◌, ◌≢◌, ◌∙◌, ◌+◌, ◌≤◌, ℕ, List, [], ◌∷◌, false, ap, arith, subst, sym}
 use Rattle.tick_units.specs.declared.seat.Seat.{Seat}
 use Rattle.tick_units.specs.declared.task.Task.{Task}
 use Rattle.tick_units.specs.declared.task.Task.TheVariants.{Keep}
 use Rattle.site_types.specs.declared.retained.Retained.{Retained}
 use Rattle.site_types.specs.declared.site.Site.{Site}
-use Rattle.site_types.specs.Bits.{has_bit, mask_of}
-use Rattle.site_types.specs.Done.{Done, OutputOff, in_force, kept_output}
+use Rattle.site_types.specs.Bits.{mask_of}
+use Rattle.site_types.specs.Done.{Done}
 use Rattle.site_types.specs.Profile.{silent_of}
-use Rattle.site_types.proofs.Done.{in_force-later}
-use Rattle.operation_desk.specs.Replies.{AreInForce}
-use Rattle.output_calls.specs.DoneCalls.{IsLatestFirst}
-use Rattle.output_calls.proofs.LatestFirst.{latest_first}
 use Rattle.panel_bridges.proofs.RingStates.{silent_same}
 use Rattle.panel_links.specs.Stands.{is_silent}
 use Rattle.panel_rules.specs.Faults.{silent_panels}
@@ -21,12 +16,10 @@ use Rattle.panel_rules.specs.Moments.{Moment, Turned, IsPanel, IsRun, turn_of, t
 use Rattle.panel_rules.specs.Run.{tells_fault}
 use Rattle.panel_rules.specs.Words.{ring_calls}
 use Rattle.panel_core.specs.declared.system.System.{System}
-use Rattle.panel_core.specs.Applied.{applied, done_so_far}
-use Rattle.panel_core.specs.Changes.{AreOff, MakesTaskTurn, MakesTurns}
+use Rattle.panel_core.specs.Changes.{MakesTaskTurn, MakesTurns}
 use Rattle.panel_core.specs.Stands.{MayTurnSeat, MayTurnTask, StandsFor}
-use Rattle.panel_core.proofs.EntriesKept.{grew_since_applied}
 use Rattle.panel_core.proofs.Orders.{turn_is}
-use Rattle.panel_core.proofs.Panels.{seat_panel}
+use Rattle.panel_core.proofs.Orders.{seat_panel}
 
 -- a panel of one site for which the system stands is a panel of each
 pub member_too : (site other : Site) (kept before_kept : Retained) (before earlier : List Moment) (system : System) (panel : ℕ)
@@ -70,25 +63,3 @@ silent_told site kept done panel before silent now limit few p tick is told =
     ∙ ap (λ t. mask_of 8 (λ k. is_silent site.panels panel calls t limit (k + 1))) tick
     ∙ ap (λ l. mask_of 8 (λ k. is_silent site.panels panel calls (tick_of before) l (k + 1))) is
     ∙ silent_same site kept done told_of few panel p before (tick_of before)
-
--- the settings tell which outputs are disabled
-pub are_off : (site : Site) (kept : Retained) (before : List Moment) (settings : Retained) (panel off : ℕ)
-    → AreInForce site kept (tick_of before) (done_so_far site kept before) settings → off ≡ slice_index settings.outputs (panel - 1)
-    → AreOff site kept (applied site kept before) panel (tick_of before) off
-are_off site kept before settings panel off force read output plan is at =
-    let grew = grew_since_applied site kept before in
-    ap (λ mask. has_bit mask (plan.number - 1)) (read ∙ ap (λ p. slice_index settings.outputs (p - 1)) (sym at))
-    ∙ ap (kept_output settings) (sym is)
-    ∙ force (OutputOff output) tt
-    ∙ ap (in_force site kept (OutputOff output) (tick_of before)) grew.is
-    ∙ in_force-later site kept (OutputOff output) (tick_of before) grew.new (applied site kept before) grew.from
-
-latest_behind : (new old : List Done) → IsLatestFirst (new ++ old) → IsLatestFirst old
-latest_behind [] old h = h
-latest_behind (d ∷ new) old h = latest_behind new old h.1
-
--- what is in force stands the latest first
-pub applied_latest_first : (site : Site) (kept : Retained) (before : List Moment) → IsLatestFirst (applied site kept before)
-applied_latest_first site kept before =
-    let grew = grew_since_applied site kept before in
-    latest_behind grew.new (applied site kept before) (rw grew.is at (latest_first site kept before))

@@ -11,19 +11,20 @@ use Rattle.site_types.specs.Done.{Done}
 use Rattle.coincidence_rules.proofs.Lists.{get_set}
 use Rattle.operation_desk.specs.declared.desk.Desk.{Desk}
 use Rattle.operation_desk.specs.Stands.{DesksFor}
+use Rattle.hold_calls.specs.Told.{told_in_ring}
 use Rattle.panel_laws.specs.OperationLaws.{AreEventsOf}
 use Rattle.panel_rules.specs.Moments.{Moment, Turned, Kept, tick_of}
 use Rattle.panel_rules.proofs.Places.{get_either}
-use Rattle.panel_core.specs.declared.kept_counts.KeptCounts.{KeptCounts}
-use Rattle.panel_core.specs.declared.parts.Parts.{Parts}
+use Rattle.panel_parts.specs.declared.kept_counts.KeptCounts.{KeptCounts}
+use Rattle.panel_parts.specs.declared.parts.Parts.{Parts}
 use Rattle.panel_core.specs.declared.system.System.{System}
-use Rattle.panel_core.specs.Applied.{applied}
-use Rattle.panel_core.specs.Entries.{CountsFor}
+use Rattle.panel_parts.specs.Applied.{applied}
+use Rattle.panel_parts.specs.Entries.{CountsFor}
 use Rattle.panel_links.specs.declared.ring.Ring.{Ring}
-use Rattle.panel_core.specs.Stands.{KeepsWords, PanelStands, StandsFor}
-use Rattle.panel_core.proofs.Applied.{applied_stays, settings_stay}
-use Rattle.panel_core.proofs.Counts.{counts_stay}
-use Rattle.panel_core.proofs.Panels.{after_elsewhere, after_keep, others_stay}
+use Rattle.panel_core.specs.Stands.{KeepsWords, StandsFor, StandsInRing}
+use Rattle.panel_parts.proofs.Applied.{applied_stays, settings_stay}
+use Rattle.panel_parts.proofs.Counts.{counts_stay}
+use Rattle.panel_parts.proofs.Panels.{after_elsewhere, after_keep, others_stay}
 
 module _ (site : Site) (kept : Retained) (before : List Moment) (system : System) (moment : Moment) (desk : Desk) (counts :
     KeptCounts) (ring : Ring) (same_tick : tick_of (moment ∷ before) ≡ tick_of before) (events : AreEventsOf site (moment ∷ before))
@@ -34,14 +35,14 @@ module _ (site : Site) (kept : Retained) (before : List Moment) (system : System
 
   -- with what was done before this tick a panel stands for the moment more
   abbrev StandsMore : ℕ → Parts → Type 0
-  StandsMore panel parts = PanelStands site kept (applied site kept before) panel (moment ∷ before) parts
+  StandsMore panel parts = StandsInRing site kept (applied site kept before) panel (moment ∷ before) parts
 
-  more_is : (panel : ℕ) (parts : Parts) → StandsMore panel parts → PanelStands site kept (applied site kept (moment ∷ before)) panel (moment ∷ before) parts
+  more_is : (panel : ℕ) (parts : Parts) → StandsMore panel parts → StandsInRing site kept (applied site kept (moment ∷ before)) panel (moment ∷ before) parts
   more_is panel parts p =
-      subst (λ done. PanelStands site kept done panel (moment ∷ before) parts) (applied_stays site kept moment before same_tick) p
+      subst (λ done. StandsInRing site kept done panel (moment ∷ before) parts) (applied_stays site kept moment before same_tick) p
 
   abbrev StoodBefore : ℕ → Parts → Type 0
-  StoodBefore panel parts = PanelStands site kept (applied site kept before) panel before parts
+  StoodBefore panel parts = StandsInRing site kept (applied site kept before) panel before parts
 
   -- with panels that stand for the moment more
   stands_with : (panels : Vec Parts) → length panels.items ≡ site.panels
@@ -108,13 +109,13 @@ module _ (site : Site) (kept : Retained) (done : List Done) (before : List Momen
 -- a panel had its turn of another task than Desk and Link
 pub stands_after_turn : (site : Site) (kept : Retained) (before : List Moment) (system : System) (panel : ℕ) (task : Task) (parts : Parts)
     → StandsFor site kept before system → 1 ≤ panel → task ≢ DeskTask → task ≢ Link
-    → PanelStands site kept (applied site kept before) panel (Turned panel task ∷ before) parts
+    → StandsInRing site kept (applied site kept before) panel (Turned panel task ∷ before) parts
     → StandsFor site kept (Turned panel task ∷ before) (record system { panels = with_item system.panels (panel - 1) parts })
 stands_after_turn site kept before system panel task parts h one other apart p =
     stands_changed site kept before system (Turned panel task) system.desk system.counts system.ring refl h.events
     (desk_left site kept before system.desk panel h.desk task other) (counts_stay site kept before (Turned panel task) system.counts (λ e. cc) h.counts)
     (words_left site kept (applied site kept before) before panel system.ring task apart h.ring) h panel parts one p
-    (λ next q away stood. others_stay site kept (applied site kept before) next panel task before q away stood)
+    (λ next q away stood. others_stay site kept (applied site kept before) (told_in_ring site kept (applied site kept before) next) next panel task before q away stood)
 
 -- Desk's turn changes no panel
 pub stands_after_desk : (site : Site) (kept : Retained) (before : List Moment) (system : System) (panel : ℕ) (desk : Desk)
@@ -123,7 +124,7 @@ pub stands_after_desk : (site : Site) (kept : Retained) (before : List Moment) (
 stands_after_desk site kept before system panel desk h desks =
     stands_unchanged site kept before system (Turned panel DeskTask) desk system.counts system.ring refl h.events desks
     (counts_stay site kept before (Turned panel DeskTask) system.counts (λ e. cc) h.counts) h.ring h
-    (λ at q stood. after_elsewhere site kept (applied site kept before) at panel before q DeskTask (inl refl) stood)
+    (λ at q stood. after_elsewhere site kept (applied site kept before) (told_in_ring site kept (applied site kept before) at) at panel before q DeskTask (inl refl) stood)
 
 -- nor does Keep's
 pub stands_after_keep : (site : Site) (kept : Retained) (before : List Moment) (system : System) (failed : Bool) (desk : Desk) (counts : KeptCounts)
@@ -131,7 +132,7 @@ pub stands_after_keep : (site : Site) (kept : Retained) (before : List Moment) (
     → StandsFor site kept (Kept failed ∷ before) (record system { desk = desk; counts = counts })
 stands_after_keep site kept before system failed desk counts h desks counted =
     stands_unchanged site kept before system (Kept failed) desk counts system.ring refl h.events desks counted h.ring h
-    (λ panel q stood. after_keep site kept (applied site kept before) panel failed before q stood)
+    (λ panel q stood. after_keep site kept (applied site kept before) (told_in_ring site kept (applied site kept before) panel) panel failed before q stood)
 
 -- Link's turn changes no panel; the ring has what it took
 pub stands_after_link : (site : Site) (kept : Retained) (before : List Moment) (system : System) (panel : ℕ) (ring : Ring)
@@ -140,32 +141,32 @@ pub stands_after_link : (site : Site) (kept : Retained) (before : List Moment) (
 stands_after_link site kept before system panel ring h rings =
     stands_unchanged site kept before system (Turned panel Link) system.desk system.counts ring refl h.events
     (desk_left site kept before system.desk panel h.desk Link (λ e. cc)) (counts_stay site kept before (Turned panel Link) system.counts (λ e. cc) h.counts)
-    rings h (λ at q stood. after_elsewhere site kept (applied site kept before) at panel before q Link (inr (inl refl)) stood)
+    rings h (λ at q stood. after_elsewhere site kept (applied site kept before) (told_in_ring site kept (applied site kept before) at) at panel before q Link (inr (inl refl)) stood)
 
 -- the panel at a place
 pub panel_at : (site : Site) (kept : Retained) (before : List Moment) (system : System) (panel : ℕ) (parts : Parts)
     → StandsFor site kept before system → 1 ≤ panel → slice_get system.panels.items (panel - 1) ≡ Some parts
-    → PanelStands site kept (applied site kept before) panel before parts
+    → StandsInRing site kept (applied site kept before) panel before parts
 panel_at site kept before system panel parts h one is =
     let at : panel - 1 + 1 ≡ panel = omega arith in
-    subst (λ n. PanelStands site kept (applied site kept before) n before parts) at (h.each (panel - 1) parts is)
+    subst (λ n. StandsInRing site kept (applied site kept before) n before parts) at (h.each (panel - 1) parts is)
 
 -- one panel more
 pub panels_counted : (xs ys : List Parts) (x : Parts) (n : ℕ) → ys ≡ xs ++ x ∷ [] → length xs ≡ n → length ys ≡ n + 1
 panels_counted xs ys x n e l = let m = ap length e ∙ length-append xs (x ∷ []) in omega (arith, m, l)
 
 pub panel_added : (site : Site) (kept : Retained) (xs ys : List Parts) (x : Parts) (n : ℕ) → ys ≡ xs ++ x ∷ [] → length xs ≡ n
-    → ((place : ℕ) (parts : Parts) → slice_get xs place ≡ Some parts → PanelStands site kept [] (place + 1) [] parts)
-    → PanelStands site kept [] (n + 1) [] x → (place : ℕ) (parts : Parts) → slice_get ys place ≡ Some parts → PanelStands site kept [] (place + 1) [] parts
+    → ((place : ℕ) (parts : Parts) → slice_get xs place ≡ Some parts → StandsInRing site kept [] (place + 1) [] parts)
+    → StandsInRing site kept [] (n + 1) [] x → (place : ℕ) (parts : Parts) → slice_get ys place ≡ Some parts → StandsInRing site kept [] (place + 1) [] parts
 panel_added site kept xs ys x n e l each new place parts is =
     elim (get_either xs (x ∷ []) place parts (sym (ap (λ zs. slice_get zs place) e) ∙ is)) [
       | inl g ↦ each place parts g
       | inr g ↦ last g.place g.far g.is
     ]
   where
-    last : (k : ℕ) → place ≡ k + length xs → slice_get (x ∷ []) k ≡ Some parts → PanelStands site kept [] (place + 1) [] parts
+    last : (k : ℕ) → place ≡ k + length xs → slice_get (x ∷ []) k ≡ Some parts → StandsInRing site kept [] (place + 1) [] parts
     last zero far h =
         let same : x ≡ parts = cc in
         let at : n + 1 ≡ place + 1 = omega (arith, far, l) in
-        subst (λ m. PanelStands site kept [] m [] parts) at (subst (PanelStands site kept [] (n + 1) []) same new)
+        subst (λ m. StandsInRing site kept [] m [] parts) at (subst (StandsInRing site kept [] (n + 1) []) same new)
     last (suc k) far h = cc

@@ -24,8 +24,8 @@ use Rattle.panel_rules.specs.Run.{facts_of, faults_of, tells_fault}
 use Rattle.panel_rules.specs.Words.{kept_word_of, latest_word}
 use Rattle.panel_rules.proofs.AnswersTell.{eq_true}
 use Rattle.settings_shown.specs.OnFaces.{with_settings_of}
-use Rattle.panel_core.specs.Applied.{applied, done_so_far}
-use Rattle.panel_core.proofs.EntriesKept.{grew_since_applied}
+use Rattle.panel_parts.specs.Applied.{applied, done_so_far}
+use Rattle.panel_parts.proofs.EntriesKept.{grew_since_applied}
 use Rattle.panel_core.proofs.Later.{done_from_tick}
 
 -- ---- as more is done

@@ -16,7 +16,7 @@ use Rattle.panel_rules.specs.Moments.{Moment, IsRun}
 use Rattle.panel_rules.specs.Run.{tells_fault}
 use Rattle.panel_rules.specs.Words.{word_made}
 use Rattle.panel_core.specs.declared.system.System.{System}
-use Rattle.panel_core.specs.Applied.{done_so_far}
+use Rattle.panel_parts.specs.Applied.{done_so_far}
 use Rattle.panel_core.specs.ShownFaces.{ShowsByWords, ShowsWord}
 use Rattle.panel_core.specs.Stands.{HasPanel, StandsFor}
 use Rattle.panel_core.proofs.Shows.{asked_member}

@@ -8,7 +8,7 @@ use Rattle.panel_rules.specs.Moments.{Moment}
 use Rattle.panel_rules.specs.Run.{tells_fault}
 use Rattle.panel_rules.specs.Words.{ring_calls}
 use Rattle.panel_core.specs.declared.system.System.{System}
-use Rattle.panel_core.specs.Applied.{applied}
+use Rattle.panel_parts.specs.Applied.{applied}
 use Rattle.panel_core.specs.Stands.{StandsFor}
 
 -- for whatever run the system stands for it is that of the rules, the greatest stamp of a word that came over any

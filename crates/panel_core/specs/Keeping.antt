@@ -16,7 +16,7 @@ use Rattle.panel_rules.specs.Batches.{batch, kept_after}
 use Rattle.panel_rules.specs.Moments.{Moment, Began, Happened, Turned, Kept, IsRun, and_turns, tick_of}
 use Rattle.panel_rules.specs.Storing.{KeepAnswer, Idle as WasIdle, Stored, NotStored, keep_answer}
 use Rattle.panel_core.specs.declared.system.System.{System}
-use Rattle.panel_core.specs.Entries.{TellsEntries}
+use Rattle.panel_parts.specs.Entries.{TellsEntries}
 use Rattle.panel_core.specs.PowerCuts.{IsLeftOver, OpensToFront, OpensToFrontOr}
 use Rattle.panel_core.specs.Stands.{StandsFor}
 

@@ -1,5 +1,3 @@
-pub mod Applied
-pub mod Entries
 pub mod Stands
 pub mod Heard
 pub mod Changes

@@ -11,7 +11,7 @@ use Rattle.keep_turn.specs.declared.store.Store.{Store}
 use Rattle.panel_rules.specs.Moments.{Moment, Began, Happened, Turned, Kept, IsPanel, IsRun, and_turns, tick_of}
 use Rattle.panel_rules.specs.Timeline.{face_of}
 use Rattle.panel_core.specs.declared.system.System.{System}
-use Rattle.panel_core.specs.Applied.{applied, done_so_far}
+use Rattle.panel_parts.specs.Applied.{applied, done_so_far}
 use Rattle.panel_core.specs.Changes.{seats_between}
 use Rattle.panel_core.specs.Keeping.{KeepsRun, has_failed}
 use Rattle.panel_core.specs.Stands.{StandsFor}

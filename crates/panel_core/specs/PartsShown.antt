@@ -11,7 +11,7 @@ use Rattle.panel_rules.specs.Words.{latest_word}
 use Rattle.panel_core.specs.declared.hold_shown.HoldShown.{HoldShown}
 use Rattle.panel_core.specs.declared.outputs_shown.OutputsShown.{OutputsShown}
 use Rattle.panel_core.specs.declared.system.System.{System}
-use Rattle.panel_core.specs.Applied.{applied}
+use Rattle.panel_parts.specs.Applied.{applied}
 use Rattle.panel_core.specs.Stands.{StandsFor}
 
 module _ (site : Site) (kept : Retained) (panel : ℕ) (before : List Moment) where

@@ -36,7 +36,7 @@ use Rattle.panel_laws.specs.ProfileLaws.{IsSignalled, WereJoined}
 use Rattle.panel_laws.specs.ShownSettings.{WasAccepted, is_setting_at, shows_setting}
 use Rattle.panel_laws.specs.TimelineLaws.{clears_counter, counted_entries}
 use Rattle.panel_core.specs.declared.system.System.{System}
-use Rattle.panel_core.specs.Applied.{done_so_far}
+use Rattle.panel_parts.specs.Applied.{done_so_far}
 use Rattle.panel_core.specs.Stands.{StandsFor}
 
 -- in each run that the system stands for

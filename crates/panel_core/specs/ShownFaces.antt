@@ -11,7 +11,7 @@ use Rattle.panel_rules.specs.Faces.{face_with, shown_word}
 use Rattle.panel_rules.specs.Moments.{Moment, IsRun}
 use Rattle.panel_core.specs.declared.shown_zones.ShownZones.{ShownZones}
 use Rattle.panel_core.specs.declared.system.System.{System}
-use Rattle.panel_core.specs.Applied.{done_so_far}
+use Rattle.panel_parts.specs.Applied.{done_so_far}
 use Rattle.panel_core.specs.Stands.{StandsFor}
 
 -- for whatever run the system stands for, with the operations of the run and with what is kept after it

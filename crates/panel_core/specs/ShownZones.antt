@@ -12,7 +12,7 @@ use Rattle.panel_rules.specs.Due.{IsDue, LoneSignals}
 use Rattle.panel_rules.specs.Moments.{Moment, IsRun, HaveAllTurned, latest_turn, tick_of}
 use Rattle.panel_rules.specs.Zones.{holds_alarm, holds_first}
 use Rattle.panel_core.specs.declared.system.System.{System}
-use Rattle.panel_core.specs.Applied.{done_so_far}
+use Rattle.panel_parts.specs.Applied.{done_so_far}
 use Rattle.panel_core.specs.Stands.{StandsFor}
 
 -- the zones are those that the panel holds in alarm

@@ -1,7 +1,6 @@
 -- What the system and each of its panels stand for, after some moments.
 use Rattle.std.specs.Prelude.{◌≡◌, ◌<◌, ◌≤◌, ◌+◌, ◌-◌, ◌^◌, ℕ, List, ◌∷◌, [], length, true, false, Some}
 use Rattle.std.specs.Prelude.{◌≢◌, drop, slice_get, Contains}
-use Rattle.std.specs.List.{AllByRecursion}
 use Rattle.tick_units.specs.declared.seat.Seat.{Seat}
 use Rattle.tick_units.specs.declared.task.Task.{Task}
 use Rattle.tick_units.specs.declared.task.Task.TheVariants.{Keep}
@@ -14,77 +13,27 @@ use Rattle.site_types.specs.Changes.{IsSized}
 use Rattle.site_types.specs.Done.{Done}
 use Rattle.site_types.specs.Events.{has_event}
 use Rattle.site_types.specs.Valid.{IsValid}
-use Rattle.loop_poller.specs.Stands.{StandsFor as PollsFor}
-use Rattle.supply_monitor.specs.Stands.{StandsFor as MonitorsFor}
-use Rattle.coincidence.specs.Stands.{DecidesFor}
-use Rattle.panel_conditions.specs.Stands.{HoldsFor}
 use Rattle.panel_links.specs.Stands.{StandsFor as RingStandsFor}
-use Rattle.cause_effect.specs.declared.plan.Plan.{Plan}
-use Rattle.cause_effect.specs.Cycles.{HasNoCycle}
-use Rattle.cause_effect.specs.Stands.{IsPlanOf}
-use Rattle.panel_effects.specs.Stands.{HasEffects}
-use Rattle.output_drive.specs.Stands.{DrivesFor}
-use Rattle.panel_rules.specs.Run.{facts_of, tells_fault}
+use Rattle.panel_rules.specs.Run.{tells_fault}
 use Rattle.panel_rules.specs.Words.{ring_calls}
-use Rattle.panel_rules.specs.Faults.{supply_calls}
 use Rattle.panel_rules.specs.Moments.{Moment, Began, Turned, IsRun, IsPanel, and_turns, tick_of}
 use Rattle.panel_rules.specs.Operations.{requests}
 use Rattle.panel_laws.specs.OperationLaws.{AreEventsOf}
 use Rattle.operation_desk.specs.Replies.{AreInForce}
 use Rattle.operation_desk.specs.Stands.{DesksFor}
+use Rattle.hold_calls.specs.Told.{told_in_ring}
 use Rattle.panel_links.specs.declared.ring.Ring.{Ring}
 use Rattle.settings_shown.specs.Shown.{HasNoStrangeBits}
-use Rattle.panel_core.specs.declared.parts.Parts.{Parts}
+use Rattle.panel_parts.specs.declared.parts.Parts.{Parts}
 use Rattle.panel_core.specs.declared.system.System.{System}
-use Rattle.panel_rules.specs.Reports.{reports}
-use Rattle.panel_core.specs.Applied.{MayBeApplied, applied, done_so_far}
-use Rattle.panel_core.specs.Entries.{CountsFor}
-use Rattle.hold_calls.specs.Lanes.{answer_lane, finding_lane, decided}
-use Rattle.hold_calls.specs.Turns.{hold_turns}
+use Rattle.panel_parts.specs.Applied.{MayBeApplied, applied, done_so_far}
+use Rattle.panel_parts.specs.Entries.{CountsFor}
+use Rattle.panel_parts.specs.Stands.{HasPlan, PanelStands}
 
--- the plan is of a site in which no marker depends on itself
-pub record HasPlan (site : Site) (plan : Plan) : Type 0 where
-  pub is : IsPlanOf site plan
-  pub free : HasNoCycle site
-
--- a panel of a site, with these operations applied
-pub record PanelStands (site : Site) (kept : Retained) (done : List Done) (panel : ℕ) (before : List Moment)
-    (parts : Parts) : Type 0 where
-  pub member : IsPanel site.panels panel
-  pub polls : PollsFor site panel (reports site panel before) parts.poller
-  pub answers : parts.answers ≡ answer_lane site panel before
-  pub decides : DecidesFor site kept panel done (decided site panel before) parts.decide
-  pub findings : parts.findings ≡ finding_lane site kept done panel before
-  pub holds : HoldsFor site kept panel done (hold_turns site kept done panel before) parts.hold
-  pub supplies : MonitorsFor site.waits (supply_calls panel before) parts.supply
-  pub effects : HasEffects site (facts_of site kept done) panel before parts.effects
-  pub drives : DrivesFor site (facts_of site kept done) kept done panel before parts.drive
-
--- each was done before a tick
-abbrev pub AreBefore : ℕ → List Done → Type 0
-AreBefore tick done = AllByRecursion (λ (d : Done). d.tick < tick) done
-
--- a panel stands for some run in which a task of it may have its turn
-pub record MayTurn (task : Task) (tick : ℕ) (parts : Parts) : Type 0 where
-  pub site : Site
-  pub kept : Retained
-  pub done : List Done
-  pub panel : ℕ
-  pub before : List Moment
-  pub stands : PanelStands site kept done panel before parts
-  pub past : AreBefore (tick_of before) done
-  pub run : IsRun site.panels (Turned panel task ∷ before)
-  pub now : tick ≡ tick_of before
-  pub few : tick_of before ≤ last_tick
-
--- a panel stands for some run in which an operation comes in force
-pub record MayComeInForce (panel : ℕ) (d : Done) (parts : Parts) : Type 0 where
-  pub site : Site
-  pub kept : Retained
-  pub done : List Done
-  pub before : List Moment
-  pub stands : PanelStands site kept done panel before parts
-  pub may : MayBeApplied site before done d
+-- a panel of the ring, with these operations applied
+abbrev pub StandsInRing : Site → Retained → List Done → ℕ → List Moment → Parts → Type 0
+StandsInRing site kept done panel before parts =
+    PanelStands site kept done (told_in_ring site kept done panel) panel before parts
 
 -- the ring keeps what it does over a run with these operations
 abbrev pub KeepsWords : Site → Retained → List Done → List Moment → Ring → Type 0
@@ -99,7 +48,7 @@ pub record StandsFor (site : Site) (kept : Retained) (before : List Moment) (sys
   pub tick : system.tick.0 ≡ tick_of before
   pub count : length system.panels.items ≡ site.panels
   pub each : (place : ℕ) (parts : Parts) → slice_get system.panels.items place ≡ Some parts
-      → PanelStands site kept (applied site kept before) (place + 1) before parts
+      → StandsInRing site kept (applied site kept before) (place + 1) before parts
   pub ring : KeepsWords site kept (applied site kept before) before system.ring
   pub events : AreEventsOf site before
   pub desk : DesksFor site kept before system.desk
@@ -116,7 +65,7 @@ pub record HasApplied (site : Site) (kept : Retained) (before : List Moment) (do
   pub tick : system.tick.0 ≡ tick_of before
   pub count : length system.panels.items ≡ site.panels
   pub each : (place : ℕ) (parts : Parts) → slice_get system.panels.items place ≡ Some parts
-      → PanelStands site kept done (place + 1) before parts
+      → StandsInRing site kept done (place + 1) before parts
   pub settings : AreInForce site kept (tick_of before + 1) done system.settings
   pub sized : IsSized system.settings
   pub own : HasNoStrangeBits site system.settings
@@ -128,7 +77,7 @@ pub record HasBegunPanels (site : Site) (kept : Retained) (before : List Moment)
   pub tick : system.tick.0 ≡ tick_of before
   pub count : length system.panels.items ≡ site.panels
   pub each : (place : ℕ) (parts : Parts) → slice_get system.panels.items place ≡ Some parts
-      → PanelStands site kept (done_so_far site kept before) (place + 1) (Began ∷ before) parts
+      → StandsInRing site kept (done_so_far site kept before) (place + 1) (Began ∷ before) parts
   pub settings : AreInForce site kept (tick_of before + 1) (done_so_far site kept before) system.settings
   pub sized : IsSized system.settings
   pub own : HasNoStrangeBits site system.settings

@@ -15,7 +15,7 @@ use Rattle.panel_rules.specs.Run.{facts_of}
 use Rattle.retained_journal.specs.declared.journal.Journal.{Journal}
 use Rattle.tick_units.specs.Ticks.{last_tick}
 use Rattle.panel_core.specs.declared.system.System.{System}
-use Rattle.panel_core.specs.Applied.{applied}
+use Rattle.panel_parts.specs.Applied.{applied}
 use Rattle.panel_core.specs.Changes.{seats_between}
 use Rattle.panel_core.specs.Keeping.{KeepsRun, has_failed}
 use Rattle.panel_core.specs.Stands.{StandsFor}

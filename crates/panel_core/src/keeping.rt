@@ -3,15 +3,15 @@ ghost use Rattle.retained_journal.specs.Images.{HasRoom, IsEarly, Stands};
 ghost use Rattle.retained_journal.specs.Outcomes.{EachMayBeLeft, EachOpens};
 ghost use Rattle.keep_turn.specs.Turns.{FailsByItsDisk, TriesAtMostOnce};
 
-use crate::kept_counts::{KeptCounts, entries_of};
 use crate::system::System;
 use keep_batch::make_batch;
 use keep_turn::{Store, keep_turn};
 use panel_edges::Disk;
+use panel_parts::{KeptCounts, entries_of};
 use retained_journal::{Batch, Journal};
 
 impl System {
-    ghost use Rattle.panel_core.specs.Entries.{TellsEntries};
+    ghost use Rattle.panel_parts.specs.Entries.{TellsEntries};
     ghost use Rattle.panel_core.specs.Keeping.{IsLeftBatch, KeepsTurn, LeavesWithBatch, NotesKept};
     ghost use Rattle.panel_core.specs.Keeping.{MayKeep, MayMakeBatch, MayNoteKept};
     ghost use Rattle.panel_core.specs.Marks.{MarksKept};

@@ -18,8 +18,7 @@
 //! [`System::has_changed`] tells which panels may show something else than at the end of the tick before: each is
 //! marked in the call that changes what it shows, so no faces need to be compared.
 //!
-//! Within a panel two lanes join Poll, Decide and Hold; they never hold more than 64 items, so no turn has an
-//! answer for a full lane.
+//! The parts of each panel are those of `panel_parts`; what they are told from elsewhere is what the ring tells.
 //!
 //! [`System::open`] alone takes memory. A tick costs a turn of each seat: Poll looks at 32 addresses, Decide and Hold
 //! take at most 32 items, Link and Effect look at eight words, Drive at the outputs of its panel that have a delay or a
@@ -30,12 +29,10 @@
 mod faces;
 mod hold_shown;
 mod keeping;
-mod kept_counts;
 mod laws;
 mod marked_turns;
 mod marks;
 mod outputs_shown;
-mod parts;
 mod shown_zones;
 mod system;
 mod task_turns;

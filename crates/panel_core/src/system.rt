@@ -5,12 +5,11 @@ ghost use Rattle.site_types.specs.Changes.{IsSized};
 ghost use Rattle.site_types.specs.Valid.{IsValid};
 ghost use Rattle.panel_rules.specs.Moments.{Moment, tick_of};
 
-use crate::kept_counts::KeptCounts;
-use crate::parts::Parts;
 use cause_effect::Plan;
 use face_text::Answers;
 use operation_desk::{Desk, DoneOperation};
 use panel_links::Ring;
+use panel_parts::{KeptCounts, Parts};
 use settings_shown::settings_at_opening;
 use site_types::{Event, Retained, Site};
 use std::alloc::Global;
@@ -41,7 +40,8 @@ impl System {
     ghost use Rattle.hold_calls.specs.Lanes.{taken_by};
     ghost use Rattle.panel_core.specs.ShownZones.{ShowsCausedZones, ShowsDueZones, ShowsLoneSignals};
     ghost use Rattle.panel_core.specs.ShownZones.{ShowsOwnFirsts, ShowsOwnZones};
-    ghost use Rattle.panel_core.specs.Stands.{HasPanel, HasPlan, MayApplyAll, MayBegin, MayBeginOutputs, MayHappen};
+    ghost use Rattle.panel_parts.specs.Stands.{HasPlan};
+    ghost use Rattle.panel_core.specs.Stands.{HasPanel, MayApplyAll, MayBegin, MayBeginOutputs, MayHappen};
     ghost use Rattle.panel_core.specs.Stands.{StandsFor};
     ghost use Rattle.operation_desk.specs.Requests.{done_from};
 

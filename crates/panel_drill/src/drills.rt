@@ -1,5 +1,5 @@
 ghost use Rattle.std.specs.Prelude.{◌≡◌, ◌≤◌, IfOk};
-ghost use Rattle.panel_core.specs.Stands.{HasPlan};
+ghost use Rattle.panel_parts.specs.Stands.{HasPlan};
 ghost use Rattle.panel_drill.specs.Drills.{drill_line as line_text};
 ghost use Rattle.panel_drill.specs.Running.{MayRun, RunsOn, most_ticks};
 ghost use Rattle.site_types.specs.Valid.{IsValid};

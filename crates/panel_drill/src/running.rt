@@ -2,7 +2,7 @@
 
 ghost use Rattle.std.specs.Prelude.{◌≡◌, ◌<◌, [], IfOk, IsOk, false};
 ghost use Rattle.panel_core.specs.Keeping.{has_failed};
-ghost use Rattle.panel_core.specs.Stands.{HasPlan};
+ghost use Rattle.panel_parts.specs.Stands.{HasPlan};
 ghost use Rattle.panel_drill.specs.Running.{IsAfter, IsUnderWay, RunsTick, MayTell, MayRunTurns, TellsAll, RunsTurns};
 ghost use Rattle.panel_drill.specs.Running.{OpensFor};
 ghost use Rattle.site_types.specs.Valid.{IsValid};

@@ -1,7 +1,7 @@
 //! Reading a record, tick by tick.
 
 ghost use Rattle.std.specs.Prelude.{◌≡◌, ◌≢◌, ◌<◌, ◌≤◌, ◌↔◌, [], IfOk, IfSome, OnErr, Ok, length, take};
-ghost use Rattle.panel_core.specs.Stands.{HasPlan};
+ghost use Rattle.panel_parts.specs.Stands.{HasPlan};
 ghost use Rattle.panel_edges.specs.Contents.{Consumes};
 ghost use Rattle.panel_edges.specs.Faults.{HasCause, Rose};
 ghost use Rattle.site_run.specs.Disks.{KeepsOn};

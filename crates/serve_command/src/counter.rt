@@ -1,6 +1,6 @@
 ghost use Rattle.std.specs.Prelude.{◌≡◌, false, [], IfOk};
 ghost use Rattle.face_text.specs.Timelines.{empty_faces};
-ghost use Rattle.panel_core.specs.Stands.{HasPlan};
+ghost use Rattle.panel_parts.specs.Stands.{HasPlan};
 ghost use Rattle.panel_edges.specs.Faults.{HasCause};
 ghost use Rattle.retained_journal.specs.Images.{Stands as StandsOn};
 ghost use Rattle.serve_command.specs.Acting.{BlamesDoor, HasServedAll, IsAt, IsCount, IsOpened};

@@ -16,10 +16,10 @@ use Rattle.access_levels.specs.Levels.{level_of}
 use Rattle.panel_rules.specs.Moments.{Moment, Happened, tick_of}
 use Rattle.panel_rules.specs.Operations.{operations, request_of, requests, requests_in}
 use Rattle.panel_rules.specs.Timeline.{busy_count}
-use Rattle.panel_core.specs.declared.parts.Parts.{Parts}
+use Rattle.panel_parts.specs.declared.parts.Parts.{Parts}
 use Rattle.panel_core.specs.declared.system.System.{System}
 use Rattle.panel_core.specs.Marks.{AreMarked}
-use Rattle.panel_core.specs.Stands.{PanelStands, StandsFor}
+use Rattle.panel_core.specs.Stands.{StandsFor, StandsInRing}
 
 module _ (site : Site) (kept : Retained) (panel : ℕ) (operation : Operation) (before : List Moment) where
   abbrev with_code : Option ArrayString → List Moment
@@ -38,8 +38,8 @@ module _ (site : Site) (kept : Retained) (panel : ℕ) (operation : Operation) (
     requests_same =
         ap (λ b. requests site before ++ request_of (tick_of before) panel (level_of site b) operation (requests site before) ∷ []) (bytes_same code)
 
-    panel_viewed : (done : List Done) (at : ℕ) (parts : Parts) → PanelStands site kept done at (with_code code) parts
-        → PanelStands site kept done at (with_code viewed) parts
+    panel_viewed : (done : List Done) (at : ℕ) (parts : Parts) → StandsInRing site kept done at (with_code code) parts
+        → StandsInRing site kept done at (with_code viewed) parts
     panel_viewed done at parts h =
         record {
           member = h.member;

@@ -1,4 +1,4 @@
-use Rattle.std.proofs.Common.{◌∙◌, ◌+◌, ◌∷◌, refl, sym, ap, subst, arith}
+use Rattle.std.proofs.Common.{◌∙◌, ◌+◌, [], ◌∷◌, refl, sym, ap, subst, arith}
 use Rattle.std.proofs.Math.ListN.{length-set}
 use Rattle.std.proofs.lemmas.Option.{slice_get_read}
 use Rattle.tick_units.specs.declared.tick.Tick.{Tick}
@@ -7,11 +7,14 @@ use Rattle.site_types.specs.declared.site.Site.{Site}
 use Rattle.site_types.specs.Changes.{IsSized, operation_change}
 use Rattle.operation_desk.specs.Replies.{AreInForce}
 use Rattle.operation_desk.specs.Requests.{done_from}
+use Rattle.hold_calls.specs.Told.{told_in_ring}
 use Rattle.panel_rules.specs.Moments.{tick_of}
 use Rattle.settings_shown.specs.Shown.{HasNoStrangeBits}
-use Rattle.panel_core.specs.Applied.{MayBeApplied}
-use Rattle.panel_core.specs.Stands.{PanelStands}
-use Rattle.panel_core.proofs.Begun.{applied_more, can_change, own_changed, partly_more, partly_none, settings_changed, settings_left, sized_changed}
+use Rattle.panel_parts.specs.Applied.{MayBeApplied}
+use Rattle.panel_parts.proofs.Settings.{can_change, own_changed, settings_changed, settings_left, sized_changed}
+use Rattle.panel_core.specs.Stands.{StandsInRing}
+use Rattle.panel_core.proofs.Later.{ring_agrees}
+use Rattle.panel_core.proofs.Begun.{applied_more, partly_more, partly_none}
 use Rattle.panel_core.proofs.system.System.apply.Goals as goal
 
 pub loop-before-init : goal.loop-before-init
@@ -41,6 +44,7 @@ apply-requires c =
       site = r.site;
       kept = r.kept;
       done = r.done;
+      told = told_in_ring r.site r.kept r.done (c.loop-before.before + 1);
       before = r.before;
       stands = (inv.partly r.site r.kept r.before r.done r.has r.may).rest c.loop-before.before c.index_mut-parts.result.now at (omega arith);
       may = subst (λ (t : Tick). MayBeApplied r.site r.before r.done (done_from t.0 c.args.done.now)) (sym inv.tick) r.may;
@@ -68,10 +72,13 @@ loop-before-preserved c =
       count = length-set items n c.apply.new.self ∙ inv.count;
       partly = λ site kept before done h may.
           partly_more site kept before done (done_from c.args.self.now.tick.0 c.args.done.now) n items c.apply.new.self (inv.partly site kept before done h may)
-          (subst (λ (t : Tick). PanelStands site kept (done_from t.0 c.args.done.now ∷ done) (n + 1) before c.apply.new.self) inv.tick
-          (c.apply.ensures site kept done before
+          (subst (λ (t : Tick). StandsInRing site kept (done_from t.0 c.args.done.now ∷ done) (n + 1) before c.apply.new.self) inv.tick
+          (c.apply.ensures site kept done (told_in_ring site kept done (n + 1))
+          (told_in_ring site kept (done_from c.loop-before.self.tick.0 c.args.done.now ∷ done) (n + 1)) before
           ((inv.partly site kept before done h may).rest n c.index_mut-parts.result.now at (omega arith))
-          (subst (λ (t : Tick). MayBeApplied site before done (done_from t.0 c.args.done.now)) (sym inv.tick) may)));
+          (subst (λ (t : Tick). MayBeApplied site before done (done_from t.0 c.args.done.now)) (sym inv.tick) may)
+          (ring_agrees site kept done (done_from c.loop-before.self.tick.0 c.args.done.now ∷ []) before c.loop-before.self.tick.0 (omega arith, tt)
+          (let now = may.now in let same = ap (λ (t : Tick). t.0) inv.tick in omega (arith, now, same)) (n + 1))));
     }
 
 pub apply-requires-in-Some : goal.apply-requires-in-Some

@@ -4,7 +4,7 @@ use Rattle.site_types.specs.declared.site.Site.{Site}
 use Rattle.site_types.specs.Done.{Done}
 use Rattle.operation_desk.specs.Requests.{done_from}
 use Rattle.panel_rules.specs.Moments.{Moment}
-use Rattle.panel_core.specs.Applied.{MayBeApplied}
+use Rattle.panel_parts.specs.Applied.{MayBeApplied}
 use Rattle.panel_core.specs.Stands.{HasApplied}
 use Rattle.panel_core.proofs.Begun.{PartlyApplied}
 use Rattle.panel_core.proofs.system.System.apply.Given as goal

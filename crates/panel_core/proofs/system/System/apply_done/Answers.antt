@@ -1,7 +1,7 @@
 use Rattle.std.proofs.Common.{◌∙◌, length, refl, ap, arith}
 use Rattle.tick_units.specs.declared.tick.Tick.{Tick}
 use Rattle.panel_core.proofs.Begun.{all_applied, more_applied, next_applied, none_applied, so_many}
-use Rattle.panel_core.proofs.Applied.{read_done}
+use Rattle.panel_parts.proofs.Applied.{read_done}
 use Rattle.panel_core.proofs.system.System.apply_done.Goals as goal
 
 pub loop-place-init : goal.loop-place-init

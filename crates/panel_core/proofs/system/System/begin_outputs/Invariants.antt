@@ -3,7 +3,7 @@ use Rattle.site_types.specs.declared.retained.Retained.{Retained}
 use Rattle.site_types.specs.declared.site.Site.{Site}
 use Rattle.operation_desk.specs.Stands.{DesksFor}
 use Rattle.panel_rules.specs.Moments.{Moment}
-use Rattle.panel_core.specs.Applied.{done_so_far}
+use Rattle.panel_parts.specs.Applied.{done_so_far}
 use Rattle.panel_core.specs.Changes.{HasSameDesk}
 use Rattle.panel_core.specs.Stands.{HasApplied}
 use Rattle.panel_core.proofs.Begun.{PartlyBegun}

@@ -1,8 +1,9 @@
 use Rattle.std.proofs.Common.{◌∙◌, ap, arith, sym}
 use Rattle.site_types.specs.declared.site.Site.{Site}
+use Rattle.hold_calls.specs.Told.{told_in_ring}
 use Rattle.panel_rules.specs.Run.{facts_of}
-use Rattle.panel_core.specs.Applied.{applied}
-use Rattle.panel_core.proofs.Panels.{after_effect}
+use Rattle.panel_parts.specs.Applied.{applied}
+use Rattle.panel_parts.proofs.Panels.{after_effect}
 use Rattle.panel_core.proofs.PartTurns.{parts_here, place_there, ring_there, system_after}
 use Rattle.panel_core.proofs.system.System.effect_turn.Goals as goal
 
@@ -24,7 +25,7 @@ returns-clause-turn g c site kept before h run =
     let parts = c.index_mut-parts.result.now in
     let stands = parts_here c.requires h parts c.index_mut-parts.ensures.value in
     system_after c.requires h (λ e. cc) (λ e. cc) _
-    (after_effect site kept done c.args.panel before parts c.turn.new.self stands
+    (after_effect site kept done (told_in_ring site kept done c.args.panel) c.args.panel before parts c.turn.new.self stands
     (c.turn.ensures.stands site (facts_of site kept done) before h.plan.is stands.effects (c.facts_heard-facts.ensures site kept done before h.valid h.ring)))
 
 pub returns-clause-steps : goal.returns-clause-steps

@@ -47,7 +47,7 @@ returns-in-Point-clause-takes c site kept before h =
     let after = desk_after site system.site kept before system c.args.event.now c.event.new.self h h.same has (c.event.ensures kept before) in
     point_done site kept before system c.event.new.self c.args.event.now c.in-Point.point c.in-Point.state c.as_slice.result.now c.index-as_slice-point.result
     c.index_mut-parts.result.now c.set_point.new.self h after c.in-Point.is c.index-as_slice-point.is p
-    (c.set_point.ensures site kept _ _ before p.stands p.read.there)
+    (c.set_point.ensures site kept _ _ _ before p.stands p.read.there)
 
 pub returns-in-Cable-clause-takes : goal.returns-in-Cable-clause-takes
 returns-in-Cable-clause-takes c site kept before h =
@@ -59,7 +59,7 @@ returns-in-Cable-clause-takes c site kept before h =
     let line = piece_read site c.args.event.now i.panel i.line i.piece i.state h.valid has i.is in
     let after = desk_after site system.site kept before system c.args.event.now c.event.new.self h h.same has (c.event.ensures kept before) in
     piece_done site kept before system c.event.new.self c.args.event.now i.panel i.line i.piece i.state c.set_piece.new.self h after i.is line.member
-    (c.set_piece.ensures site kept _ i.panel before (panel_read site kept before system i.panel c.index_mut-parts-in-Cable.result.now h line.member
+    (c.set_piece.ensures site kept _ _ i.panel before (panel_read site kept before system i.panel c.index_mut-parts-in-Cable.result.now h line.member
     c.index_mut-parts-in-Cable.ensures.value))
 
 pub overflow_sub-panel-in-Supply : goal.overflow_sub-panel-in-Supply
@@ -83,7 +83,7 @@ returns-in-Supply-clause-takes c site kept before h =
     let member = supply_panel site event i.panel i.kind i.bad has i.is in
     let after = desk_after site system.site kept before system event c.event.new.self h h.same has (c.event.ensures kept before) in
     report_done site kept before system c.event.new.self event i.panel i.kind i.bad c.set_supply.new.self h after i.is member
-    (c.set_supply.ensures site kept _ i.panel before (panel_read site kept before system i.panel c.index_mut-parts-in-Supply.result.now h member
+    (c.set_supply.ensures site kept _ _ i.panel before (panel_read site kept before system i.panel c.index_mut-parts-in-Supply.result.now h member
     c.index_mut-parts-in-Supply.ensures.value))
 
 pub set_link-requires : goal.set_link-requires
@@ -109,7 +109,7 @@ returns-in-Confirmed-clause-takes c site kept before h =
     h has i.is c.as_slice-in-Confirmed.ensures c.index-as_slice-output.is c.index_mut-parts-in-Confirmed.ensures.value in
     stands_raised c.mark.ensures.rest site kept _
     (confirmation_done site kept before system c.event.new.self event i.output c.index-as_slice-output.result c.index_mut-parts-in-Confirmed.result.now
-    c.confirm.new.self h after i.is p (c.confirm.ensures site kept _ _ i.output c.index-as_slice-output.result before p.stands p.is refl refl))
+    c.confirm.new.self h after i.is p (c.confirm.ensures site kept _ _ _ i.output c.index-as_slice-output.result before p.stands p.is refl refl))
 
 pub returns-in-Op-clause-takes : goal.returns-in-Op-clause-takes
 returns-in-Op-clause-takes c site kept before h =

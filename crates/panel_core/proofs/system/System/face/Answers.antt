@@ -2,7 +2,7 @@ use mathlib.Core.Path.{fun_ext}
 use Rattle.std.proofs.Common.{◌∙◌, ◌-◌, ap, sym}
 use Rattle.std.specs.Prelude.{slice_index}
 use Rattle.face_text.specs.declared.face.Face.{Face}
-use Rattle.hold_calls.specs.Turns.{hold_turns}
+use Rattle.hold_calls.specs.Turns.{ring_turns}
 use Rattle.hold_calls.proofs.FaultsHeld.{faults_held}
 use Rattle.hold_calls.proofs.NewsHeld.{buzzer_held}
 use Rattle.panel_rules.specs.Batches.{kept_after}
@@ -10,7 +10,7 @@ use Rattle.panel_rules.specs.Faces.{buzzer_of, counter_in, face_with, shown_word
 use Rattle.panel_rules.specs.Moments.{tick_of}
 use Rattle.panel_rules.specs.Outputs.{is_confirmed_out, is_on, outputs_where}
 use Rattle.panel_rules.specs.Run.{facts_of, faults_of}
-use Rattle.panel_core.specs.Applied.{applied, done_so_far}
+use Rattle.panel_parts.specs.Applied.{applied, done_so_far}
 use Rattle.panel_core.proofs.PromisedFaces.{counter, faults, outputs, settings, zones}
 use Rattle.panel_core.proofs.Shows.{asked_panel}
 use Rattle.panel_core.proofs.WholeFaces.{buzzer_now, confirmed_now, faults_now, on_now, same_face}
@@ -22,7 +22,7 @@ returns-clause-shown c site kept before h run =
     let done = applied site kept before in
     let all = done_so_far site kept before in
     let facts = facts_of site kept done in
-    let turns = hold_turns site kept done panel before in
+    let turns = ring_turns site kept done panel before in
     let stored = kept_after site kept before in
     let face = record c.empty-face.result {
       zones = c.zones_shown-zones.result.alarms;

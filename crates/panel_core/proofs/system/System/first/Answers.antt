@@ -1,4 +1,4 @@
-use Rattle.panel_core.specs.Applied.{done_so_far}
+use Rattle.panel_parts.specs.Applied.{done_so_far}
 use Rattle.panel_core.proofs.Shows.{first_of, lone_first}
 use Rattle.panel_core.proofs.system.System.first.Goals as goal
 

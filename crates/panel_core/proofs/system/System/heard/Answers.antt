@@ -5,7 +5,7 @@ use Rattle.panel_laws.proofs.HeardWords.{heard_is_stamp}
 use Rattle.panel_rules.specs.Run.{tells_fault}
 use Rattle.panel_rules.specs.Words.{kept_word_of}
 use Rattle.panel_rules.proofs.RingWords.{kept_by_ring, newest_over_chains}
-use Rattle.panel_core.specs.Applied.{applied}
+use Rattle.panel_parts.specs.Applied.{applied}
 use Rattle.panel_core.proofs.Shows.{asked_member}
 use Rattle.panel_core.proofs.system.System.heard.Goals as goal
 

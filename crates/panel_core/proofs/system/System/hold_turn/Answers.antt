@@ -1,10 +1,11 @@
 use Rattle.std.proofs.Common.{◌∙◌, ap, arith}
 use Rattle.site_types.specs.declared.site.Site.{Site}
 use Rattle.site_types.specs.Profile.{silent_of}
+use Rattle.hold_calls.specs.Told.{told_in_ring}
 use Rattle.panel_bridges.proofs.RingStates.{down_same}
 use Rattle.panel_rules.specs.Run.{tells_fault}
-use Rattle.panel_core.specs.Applied.{applied}
-use Rattle.panel_core.proofs.Applied.{applied_past}
+use Rattle.panel_parts.specs.Applied.{applied}
+use Rattle.panel_parts.proofs.Applied.{applied_past}
 use Rattle.panel_core.proofs.PartTurns.{member_here, parts_here, parts_may_turn, place_there, ring_there, system_after}
 use Rattle.panel_core.proofs.TaskTurns.{silent_told}
 use Rattle.panel_core.proofs.system.System.hold_turn.Goals as goal
@@ -32,7 +33,7 @@ returns-clause-turn c site kept before h run =
     let eight = h.valid.forms.panels.1 in
     let limit = c.silent-limit.ensures ∙ ap silent_of c.profile.ensures ∙ ap (λ (s : Site). silent_of s.format) h.same in
     system_after c.requires h (λ e. cc) (λ e. cc) c.hold_turn.new.self
-    (c.hold_turn.ensures site kept done panel before (parts_here c.requires h c.index_mut-parts.result.now c.index_mut-parts.ensures.value)
+    (c.hold_turn.ensures site kept done (told_in_ring site kept done panel) panel before (parts_here c.requires h c.index_mut-parts.result.now c.index_mut-parts.ensures.value)
     (applied_past site kept before) h.tick run
     (silent_told site kept done panel before c.silent-silent.result c.args.self.now.tick.0 c.silent-limit.result eight here h.tick limit
     (c.silent-silent.ensures site.panels _ h.ring))

@@ -2,7 +2,7 @@ use Rattle.std.proofs.Common.{◌∙◌, subst}
 use Rattle.keep_turn.specs.Turns.{AnswersTurn}
 use Rattle.retained_journal.specs.Images.{MayLeaveOr}
 use Rattle.panel_edges.specs.Crashes.{LeavesOnly}
-use Rattle.panel_core.specs.Entries.{TellsEntries}
+use Rattle.panel_parts.specs.Entries.{TellsEntries}
 use Rattle.panel_core.proofs.KeepTurns.{answers_by, can_commit, can_make, keeps_by, torn_by}
 use Rattle.panel_core.specs.Keeping.{has_failed}
 use Rattle.panel_core.proofs.Marked.{keep_marks, not_false, stands_raised}

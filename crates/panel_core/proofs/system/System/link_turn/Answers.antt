@@ -1,8 +1,8 @@
 use Rattle.std.proofs.Common.{◌∙◌, arith}
-use Rattle.hold_calls.specs.Turns.{hold_turns}
+use Rattle.hold_calls.specs.Turns.{ring_turns}
 use Rattle.hold_calls.proofs.WordsHeld.{word_held}
 use Rattle.panel_bridges.proofs.RingStates.{took_same}
-use Rattle.panel_core.specs.Applied.{applied}
+use Rattle.panel_parts.specs.Applied.{applied}
 use Rattle.panel_core.proofs.PartTurns.{member_here, parts_here, place_there, ring_there}
 use Rattle.panel_core.proofs.Whole.{stands_after_link}
 use Rattle.panel_core.proofs.system.System.link_turn.Goals as goal
@@ -22,7 +22,7 @@ returns-clause-turn c site kept before h run =
     let done = applied site kept before in
     let here = member_here c.requires h in
     let parts = parts_here c.requires h c.index.result.now c.index.ensures in
-    let word = c.word-word.ensures site kept panel done (hold_turns site kept done panel before) parts.holds
+    let word = c.word-word.ensures site kept panel done (ring_turns site kept done panel before) parts.holds
     ∙ word_held site kept done panel before h.valid here run.0 in
     stands_after_link site kept before c.args.self.now panel c.turn.new.self h
     (took_same site.panels panel _ c.turn.new.self _ _ _ _ h.tick word (c.turn.ensures.stands site.panels _ h.ring))

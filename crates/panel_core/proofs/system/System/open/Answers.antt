@@ -1,4 +1,5 @@
-use Rattle.std.proofs.Common.{refl, arith}
+use Rattle.std.proofs.Common.{◌+◌, [], refl, arith}
+use Rattle.hold_calls.specs.Told.{told_in_ring}
 use Rattle.panel_core.proofs.Whole.{panel_added, panels_counted}
 use Rattle.panel_core.proofs.system.System.open.Goals as goal
 
@@ -11,7 +12,8 @@ loop-before-preserved c =
           c.loop-before.invariant.count;
       each =
           λ place parts is. panel_added c.args.site c.args.kept.now c.loop-before.panels.items c.push.new.self.items c.in_ok-new.field-0
-          c.loop-before.before pushed c.loop-before.invariant.count c.loop-before.invariant.each c.in_ok-new.ensures place parts is;
+          c.loop-before.before pushed c.loop-before.invariant.count c.loop-before.invariant.each
+          (c.in_ok-new.ensures (told_in_ring c.args.site c.args.kept.now [] (c.loop-before.before + 1))) place parts is;
     }
 
 pub returns : goal.returns

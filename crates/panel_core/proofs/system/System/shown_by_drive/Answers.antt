@@ -1,5 +1,5 @@
 use Rattle.panel_rules.specs.Run.{facts_of}
-use Rattle.panel_core.specs.Applied.{applied}
+use Rattle.panel_parts.specs.Applied.{applied}
 use Rattle.panel_core.proofs.Shows.{asked_panel}
 use Rattle.panel_core.proofs.system.System.shown_by_drive.Goals as goal
 

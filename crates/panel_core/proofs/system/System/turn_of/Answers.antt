@@ -2,7 +2,7 @@ use Rattle.std.proofs.Common.{arith, refl}
 use Rattle.tick_units.specs.declared.task.Task.TheVariants.{Decide, Desk, Drive, Effect, Hold, Link, Poll, Supply}
 use Rattle.panel_core.proofs.DeskTurns.{can_turn, desk_turn}
 use Rattle.panel_core.proofs.Marked.{seat_marks, unseen_marks}
-use Rattle.panel_core.proofs.Panels.{seat_panel}
+use Rattle.panel_core.proofs.Orders.{seat_panel}
 use Rattle.panel_core.proofs.TaskTurns.{made_turn, may_turn_task}
 use Rattle.panel_core.proofs.system.System.turn_of.Goals as goal
 

@@ -1,4 +1,4 @@
-use Rattle.panel_core.specs.Applied.{done_so_far}
+use Rattle.panel_parts.specs.Applied.{done_so_far}
 use Rattle.panel_core.proofs.Shows.{alarm_of, due_shown, shown_caused}
 use Rattle.panel_core.proofs.system.System.zones.Goals as goal
 

@@ -1,6 +1,0 @@
-use Rattle.panel_core.proofs.Events.{after_point}
-use Rattle.panel_core.proofs.parts.Parts.set_point.Goals as goal
-
-pub returns : goal.returns
-returns c site kept done panel before h at =
-    after_point site kept done panel before c.args.self.now c.set_point.new.self c.args.point c.args.state h at (c.set_point.ensures site panel _ h.polls)

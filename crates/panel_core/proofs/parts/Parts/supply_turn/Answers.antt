@@ -1,7 +1,0 @@
-use Rattle.panel_rules.specs.Faults.{supply_calls}
-use Rattle.panel_core.proofs.Supplies.{after_supply}
-use Rattle.panel_core.proofs.parts.Parts.supply_turn.Goals as goal
-
-pub returns : goal.returns
-returns c site kept done panel before h past now run =
-    after_supply site kept done panel before c.args.self.now c.turn.new.self c.args.now.0 h now run (c.turn.ensures site.waits (supply_calls panel before))

@@ -1,0 +1,4 @@
+pub mod Applied
+pub mod Entries
+pub mod Stands
+pub mod Changes
