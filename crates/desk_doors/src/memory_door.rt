@@ -1,5 +1,6 @@
-ghost use Rattle.std.specs.Prelude.{◌≡◌, ◌≤◌, ◌↔◌, [], true, false, Some, length, map, IfOk, IsTrue};
-ghost use Rattle.panel_edges.specs.Faults.{IsListed, counted};
+ghost use Rattle.std.specs.Prelude.{◌≡◌, ◌⊎◌, ◌≤◌, ◌↔◌, [], ◌∷◌, true, false, Some, length, map, is_ok};
+ghost use Rattle.std.specs.Prelude.{IfOk, IsErr, IsTrue, OnErr};
+ghost use Rattle.panel_edges.specs.Faults.{HasCause, IsListed, counted};
 ghost use Rattle.desk_doors.specs.MemoryDoors.{given_back, not_given, told_conn};
 
 use crate::doors::Door;
@@ -63,7 +64,15 @@ impl Door for MemoryDoor {
 
     ghost faults = { λ d. d.faults };
 
-    fn start(&mut self, _port: u16) -> Result<(), Failed> {
+    fn start(&mut self, _port: u16) -> Result<(), Failed>
+        ensures conns { self.new.conns ≡ self.old.conns }
+        ensures given { (self.new.given ≡ self.old.given) × (self.new.is_out ≡ self.old.is_out) }
+        ensures cause { HasCause self.old.faults self.new.faults result }
+        // It fails exactly where the call's number is listed.
+        ensures fails { IsErr result ↔ IsListed self.old.fails.items self.old.calls }
+        ensures calls { (self.new.calls ≡ counted self.old.calls)
+            × (self.new.fails.items ≡ self.old.fails.items) }
+    {
         if count_call(&mut self.calls, &self.fails) {
             self.faults = self.faults.saturating_add(1);
             return Err(Failed);
@@ -71,7 +80,22 @@ impl Door for MemoryDoor {
         Ok(())
     }
 
-    fn next(&mut self) -> Result<MemoryConn, Failed> {
+    fn next(&mut self) -> Result<MemoryConn, Failed>
+        requires { self.old.is_out ≡ false }
+        ensures given { IfOk result (λ conn. not_given told_conn self.old.conns.items self.old.given
+            ≡ told_conn conn ∷ not_given told_conn self.new.conns.items self.new.given) }
+        ensures err { OnErr result ((self.new.conns ≡ self.old.conns)
+            × (self.new.given ≡ self.old.given)) }
+        ensures handed { given_back told_conn self.new.conns.items self.new.given self.new.is_out
+            ≡ given_back told_conn self.old.conns.items self.old.given false }
+        ensures out { self.new.is_out ≡ is_ok result }
+        ensures cause { HasCause self.old.faults self.new.faults result }
+        // It fails exactly where the call's number is listed or no connection waits.
+        ensures fails { IsErr result ↔ (IsListed self.old.fails.items self.old.calls
+            ⊎ (self.old.given ≡ length self.old.conns.items)) }
+        ensures calls { (self.new.calls ≡ counted self.old.calls)
+            × (self.new.fails.items ≡ self.old.fails.items) }
+    {
         if count_call(&mut self.calls, &self.fails) || self.given == self.conns.len() {
             self.faults = self.faults.saturating_add(1);
             return Err(Failed);

@@ -1,8 +1,7 @@
 -- Where the spaces of a line lie, and walks over its fields.
 use Rattle.std.proofs.Common.{◌≡◌, ◌<◌, ◌≤◌, ◌+◌, ◌-◌, ◌++◌, ◌&&◌, ◌∙◌, ℕ, zero, suc, Bool, true, false, cond, List, []}
-use Rattle.std.proofs.Common.{◌∷◌, refl, sym, ap, length, get_or, take, drop, take-append-drop, arith}
-use Rattle.std.specs.Prelude.{◌==◌, bytes_eq, if◌then◌else◌}
-use Rattle.std.proofs.lemmas.Slice.Eq.{bytes_eq-Decides}
+use Rattle.std.proofs.Common.{◌∷◌, refl, sym, ap, length, get_or, take, drop, arith}
+use Rattle.std.specs.Prelude.{◌==◌, if◌then◌else◌}
 use Rattle.std.proofs.lemmas.Bool.{eq-eqb, eqb-true, ne_eqb}
 use Rattle.line_fields.specs.Fields.{each_field, space_count}
 use Rattle.line_fields.proofs.Joined.{count_front}
@@ -105,12 +104,6 @@ pub each_on : (test : List ℕ → Bool) (count passed : ℕ) (rest front next :
     each_field test (count - passed) rest ≡ whole → each_field test (count - (passed + 1)) next ≡ whole
 each_on test count passed rest front next whole below is_next is_front passes is =
     ap (λ r. each_field test (count - (passed + 1)) r) is_next ∙ each_step test count passed rest whole below (sym (passes ∙ ap test is_front)) is
-
--- what is left of a text that begins with a word
-pub word_front : (text word rest : List ℕ) → bytes_eq (take (length word) text) word ≡ true → rest ≡ drop (length word) text → text ≡ word ++ rest
-word_front text word rest begins is =
-    sym (take-append-drop (length word) text) ∙ ap (λ t. t ++ drop (length word) text) ((bytes_eq-Decides (take (length word) text) word).0 begins) ∙
-    ap (λ t. word ++ t) (sym is)
 
 -- ---- texts with few spaces
 

@@ -1,6 +1,6 @@
 //! The fields of a line, which single spaces part.
 
-ghost use Rattle.std.specs.Prelude.{◌≡◌, ◌+◌, ◌<◌, ◌≤◌, ◌++◌, IfSome, length};
+ghost use Rattle.std.specs.Prelude.{◌≡◌, ◌≤◌, length};
 ghost use Rattle.line_fields.specs.Fields.{field_count as fields_in, space_count as spaces_in};
 ghost use Rattle.site_types.specs.Fields.{after_space as behind_space, before_space as front, field as field_at};
 
@@ -63,16 +63,6 @@ fn behind(text: &[u8], place: usize) -> &[u8]
         &text[place + 1..]
     } else {
         &text[place..]
-    }
-}
-
-/// What stands behind a word, where a text begins with it.
-pub fn behind_word<'a>(text: &'a [u8], word: &[u8]) -> Option<&'a [u8]>
-    ensures { IfSome result (λ rest. text.now ≡ word.now ++ rest.now) }
-{
-    match text.strip_prefix(word) {
-        Some(rest) => Some(rest),
-        None => None,
     }
 }
 

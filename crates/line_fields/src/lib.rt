@@ -21,8 +21,6 @@ mod fields;
 mod numbers;
 mod words;
 
-pub use fields::{
-    after_space, before_space, behind_word, field, field_count, space_count, split_field,
-};
+pub use fields::{after_space, before_space, field, field_count, space_count, split_field};
 pub use numbers::{is_number, read_count, read_octet};
 pub use words::{is_word, read_truth};
