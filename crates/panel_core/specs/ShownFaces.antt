@@ -40,3 +40,9 @@ ShowsByWords told system panel zones =
 pub record ShowsZones (system : System) (panel : ℕ) (zones : ShownZones) : Type 0 where
   pub alarms : ShowsByWords (λ (word : Word). word.alarm) system panel zones.alarms
   pub firsts : ShowsByWords (λ (word : Word). word.first) system panel zones.firsts
+
+-- so only one value meets it, for each run that the system stands for
+abbrev pub FacesArePinned : Type 0
+FacesArePinned = (system : System) (panel : ℕ) (face other : Face) (site : Site) (kept : Retained) (before : List Moment)
+    → StandsFor site kept before system → IsRun site.panels before
+    → ShowsFace system panel face → ShowsFace system panel other → face ≡ other

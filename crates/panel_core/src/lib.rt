@@ -14,7 +14,8 @@
 //! entries into the fire alarm condition that aren't kept yet and the operations that wait, in one batch, and after a
 //! failure it tries again in the next tick. Whatever a power cut then leaves opens to a front of the run, and
 //! [`fronts_hold_acknowledged`] says what each of these holds. [`System::face`] is all that a panel shows, the zones of
-//! other panels by the words that it keeps of them; its clauses say what the rules promise of it, and how soon.
+//! other panels by the words that it keeps of them; its clauses say what the rules promise of it, and how soon, and one
+//! value alone meets them ([`faces_are_pinned`]).
 //! [`System::has_changed`] tells which panels may show something else than at the end of the tick before: each is
 //! marked in the call that changes what it shows, so no faces need to be compared.
 //!
@@ -39,5 +40,5 @@ mod task_turns;
 mod turns;
 
 pub use keep_turn::Store;
-pub use laws::fronts_hold_acknowledged;
+pub use laws::{faces_are_pinned, fronts_hold_acknowledged};
 pub use system::System;
