@@ -17,7 +17,7 @@ part_whole [] = refl
 part_whole (moment ∷ before) = rw (le-leb (length (befallen (moment ∷ before))) (length (befallen (moment ∷ before))) (omega arith)) refl
 
 -- one moment more is cut off
-cut_off : (moment : NodeMoment) (before : List NodeMoment) (count : ℕ) → count < length (befallen (moment ∷ before))
+pub cut_off : (moment : NodeMoment) (before : List NodeMoment) (count : ℕ) → count < length (befallen (moment ∷ before))
     → part_until count (moment ∷ before) ≡ part_until count before
 cut_off moment before count more =
     elim (cases_Bool (nat_le (length (befallen (moment ∷ before))) count)) [

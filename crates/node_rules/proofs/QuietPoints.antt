@@ -68,7 +68,7 @@ module _ (site : Site) (panel point : ℕ) (plan : PointPlan) (is : slice_get si
   stays_quiet (Turned other task ∷ before) h = stays_quiet before h
   stays_quiet (Kept failed ∷ before) h = stays_quiet before h
 
-  was_quiet : (tick : ℕ) (moments : List Moment) → HasQuietPoints site panel moments → state_of point (up_to tick moments) ≡ Quiet
+  pub was_quiet : (tick : ℕ) (moments : List Moment) → HasQuietPoints site panel moments → state_of point (up_to tick moments) ≡ Quiet
   was_quiet tick [] h = refl
   was_quiet tick (moment ∷ before) h =
       elim (nat_le (tick_of (moment ∷ before)) tick) as (λ b. state_of point (if b then moment ∷ before else up_to tick before) ≡ Quiet) [
