@@ -37,7 +37,7 @@ impl Parts {
     ghost use Rattle.operation_desk.specs.Requests.{done_from};
     ghost use Rattle.panel_parts.specs.Stands.{HasPlan, MayComeInForce, MayTurn, StandsAtOpening};
 
-    /// The parts of a panel before the first tick, whatever it is told from elsewhere.
+    /// The parts of a panel before the first tick, whatever the panel is told from elsewhere.
     pub fn new(
         alloc: Global,
         site: &Site,
