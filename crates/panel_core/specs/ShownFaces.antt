@@ -43,6 +43,7 @@ pub record ShowsZones (system : System) (panel : ℕ) (zones : ShownZones) : Typ
 
 -- so only one value meets it, for each run that the system stands for
 abbrev pub FacesArePinned : Type 0
-FacesArePinned = (system : System) (panel : ℕ) (face other : Face) (site : Site) (kept : Retained) (before : List Moment)
+FacesArePinned =
+    (system : System) (panel : ℕ) (face other : Face) (site : Site) (kept : Retained) (before : List Moment)
     → StandsFor site kept before system → IsRun site.panels before
     → ShowsFace system panel face → ShowsFace system panel other → face ≡ other
