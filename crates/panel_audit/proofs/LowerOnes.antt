@@ -86,9 +86,11 @@ module _ (things : List Numbered) (marks : List Bool) where
         | inr h ↦ inl h.1
       ]
 
-  pub comes_now : (place : ℕ) (lowest : Option ℕ) → place < length things → slice_index_or marks place false ≡ true
-      → ComesFirst things place lowest true → LowestBefore things marks place lowest → IsLowestBefore things marks (place + 1) place
-  comes_now place None in_it marked first before =
+  -- a marked thing that those before it don't come before
+  lowest_now : (place : ℕ) → place < length things → slice_index_or marks place false ≡ true
+      → ((other : ℕ) (own one : Numbered) → other < place → slice_get things place ≡ Some own → slice_get things other ≡ Some one
+      → slice_index_or marks other false ≡ true → is_lower (standing_of one) (standing_of own) ≡ false) → IsLowestBefore things marks (place + 1) place
+  lowest_now place in_it marked earlier =
       let at = there things place in_it in
       record {
         before = omega arith;
@@ -96,25 +98,37 @@ module _ (things : List Numbered) (marks : List Bool) where
         is = at.1;
         marked = marked;
         least = λ other one low is on. elim (last_or place other low) [
-          | inl early ↦ absurd (let no : true ≡ false = sym on ∙ before other early in cc)
+          | inl early ↦ earlier other at.0 one early at.1 is on
           | inr same ↦ (
               let it : one ≡ at.0 = same_thing place one at.0 (sym (ap (slice_get things) same) ∙ is) at.1 in
               rw it (not_below_itself at.0.panel at.0.number))
         ];
       }
+
+  pub comes_now : (place : ℕ) (lowest : Option ℕ) → place < length things → slice_index_or marks place false ≡ true
+      → ComesFirst things place lowest true → LowestBefore things marks place lowest → IsLowestBefore things marks (place + 1) place
+  comes_now place None in_it marked first before =
+      lowest_now place in_it marked (λ other own one early at is on. absurd (let no : true ≡ false = sym on ∙ before other early in cc))
   comes_now place (Some best) in_it marked first before =
-      let at = there things place in_it in
-      let lower : is_lower (standing_of at.0) (standing_of before.thing) ≡ true = sym (first at.0 before.thing at.1 before.is) in
+      lowest_now place in_it marked
+      (λ other own one early at is on.
+      (let lower : is_lower (standing_of own) (standing_of before.thing) ≡ true = sym (first own before.thing at before.is) in
+      below_falls own.panel own.number before.thing.panel before.thing.number one.panel one.number lower (before.least other one early is on)))
+
+  -- what came first still does where a thing doesn't come before it
+  still_lowest : (place best : ℕ) (before : IsLowestBefore things marks place best)
+      → ((one : Numbered) → slice_get things place ≡ Some one → slice_index_or marks place false ≡ true
+      → is_lower (standing_of one) (standing_of before.thing) ≡ false) → IsLowestBefore things marks (place + 1) best
+  still_lowest place best before now =
+      let low = before.before in
       record {
-        before = omega arith;
-        thing = at.0;
-        is = at.1;
-        marked = marked;
+        before = omega (arith, low);
+        thing = before.thing;
+        is = before.is;
+        marked = before.marked;
         least = λ other one low is on. elim (last_or place other low) [
-          | inl early ↦ below_falls at.0.panel at.0.number before.thing.panel before.thing.number one.panel one.number lower (before.least other one early is on)
-          | inr same ↦ (
-              let it : one ≡ at.0 = same_thing place one at.0 (sym (ap (slice_get things) same) ∙ is) at.1 in
-              rw it (not_below_itself at.0.panel at.0.number))
+          | inl early ↦ before.least other one early is on
+          | inr same ↦ now one (sym (ap (slice_get things) same) ∙ is) (sym (ap (λ k. slice_index_or marks k false) same) ∙ on)
         ];
       }
 
@@ -126,32 +140,10 @@ module _ (things : List Numbered) (marks : List Bool) where
     | inr same ↦ ap (λ k. slice_index_or marks k false) same ∙ off
   ]
   not_marked place (Some best) off before =
-      let low = before.before in
-      record {
-        before = omega (arith, low);
-        thing = before.thing;
-        is = before.is;
-        marked = before.marked;
-        least = λ other one low is on. elim (last_or place other low) [
-          | inl early ↦ before.least other one early is on
-          | inr same ↦ absurd (let no : true ≡ false = sym on ∙ ap (λ k. slice_index_or marks k false) same ∙ off in cc)
-        ];
-      }
+      still_lowest place best before (λ one is on. absurd (let no : true ≡ false = sym on ∙ off in cc))
 
   -- and one that another one comes before
   pub not_first : (place : ℕ) (lowest : Option ℕ) → place < length things → ComesFirst things place lowest false
       → LowestBefore things marks place lowest → LowestBefore things marks (place + 1) lowest
   not_first place None in_it first before = absurd (let no : false ≡ true = first in cc)
-  not_first place (Some best) in_it first before =
-      let at = there things place in_it in
-      let low = before.before in
-      record {
-        before = omega (arith, low);
-        thing = before.thing;
-        is = before.is;
-        marked = before.marked;
-        least = λ other one low is on. elim (last_or place other low) [
-          | inl early ↦ before.least other one early is on
-          | inr same ↦ sym (first one before.thing (sym (ap (slice_get things) same) ∙ is) before.is)
-        ];
-      }
+  not_first place (Some best) in_it first before = still_lowest place best before (λ one is on. sym (first one before.thing is before.is))

@@ -175,18 +175,28 @@ any_of_map p f [] = refl
 any_of_map p f (x ∷ xs) = ap (λ b. p (f x) || b) (any_of_map p f xs)
 
 module _ (old new : State) (register : IsRegister old) (rows : List Row) where
-  pub last_day_shown : (point : List ℕ) → Shown select_tests_text (Text point ∷ []) old new rows
-      → last_of_days (filter_map (day_shown (tables_in old.now.trees).visits) rows) ≡ last_day_of point (tables_in old.now.trees)
-  last_day_shown point h =
+  -- the answer is of the point's tests, in some order
+  tests_read : (point : List ℕ) → Shown select_tests_text (Text point ∷ []) old new rows
+      → (a : IsAnswer tests_query (overlay old.now.trees []) (Text point ∷ []) rows)
+      × IsPermutation (map test_output (filter (tests_point point) (tables_in old.now.trees).tests)) a.ordered
+  tests_read point h =
       let params = Text point ∷ [] in
-      let visits = (tables_in old.now.trees).visits in
       let tests = (tables_in old.now.trees).tests in
       let reads = reads_as select_tests_text params old new register_schema register.schema _ select_tests_command select_tests_plain select_tests_unlisted rows h in
       let a : IsAnswer tests_query (overlay old.now.trees []) params rows = reads.answer Rattle.sqlite_value.specs.declared.value.Value.TheVariants.Null in
       let matched = ap (λ all. map (output tests_query) (flat_map (λ (r : Row). if list_all (holds (params ∷ r ∷ [])) tests_query.filter then (params ∷ r ∷ []) ∷ [] else []) all)) register.tests
       ∙ matching_tests point 1 tests in
       let kept = a.distinct ∙ ap (map (output tests_query)) a.grouped ∙ matched in
-      let perm = subst (λ k. IsPermutation k a.ordered) kept a.same in
+      (a, subst (λ k. IsPermutation k a.ordered) kept a.same)
+
+  pub last_day_shown : (point : List ℕ) → Shown select_tests_text (Text point ∷ []) old new rows
+      → last_of_days (filter_map (day_shown (tables_in old.now.trees).visits) rows) ≡ last_day_of point (tables_in old.now.trees)
+  last_day_shown point h =
+      let visits = (tables_in old.now.trees).visits in
+      let tests = (tables_in old.now.trees).tests in
+      let read = tests_read point h in
+      let a = read.0 in
+      let perm = read.1 in
       let row_days = day_shown visits in
       same_reach _ _ (λ at.
       let q : Row → Bool = λ row. reaches (row_days row) at in
@@ -199,14 +209,10 @@ module _ (old new : State) (register : IsRegister old) (rows : List Row) where
   -- each of the rows has the number of a visit
   pub tests_numbered : (point : List ℕ) → Shown select_tests_text (Text point ∷ []) old new rows → All HasNumber rows
   tests_numbered point h =
-      let params = Text point ∷ [] in
       let tests = (tables_in old.now.trees).tests in
-      let reads = reads_as select_tests_text params old new register_schema register.schema _ select_tests_command select_tests_plain select_tests_unlisted rows h in
-      let a : IsAnswer tests_query (overlay old.now.trees []) params rows = reads.answer Rattle.sqlite_value.specs.declared.value.Value.TheVariants.Null in
-      let matched = ap (λ all. map (output tests_query) (flat_map (λ (r : Row). if list_all (holds (params ∷ r ∷ [])) tests_query.filter then (params ∷ r ∷ []) ∷ [] else []) all)) register.tests
-      ∙ matching_tests point 1 tests in
-      let kept = a.distinct ∙ ap (map (output tests_query)) a.grouped ∙ matched in
-      let perm = subst (λ k. IsPermutation k a.ordered) kept a.same in
+      let read = tests_read point h in
+      let a = read.0 in
+      let perm = read.1 in
       let of_test : All IsTestRow (filter (tests_point point) tests) = All-filter (tests_point point) IsTestRow tests (All-from_recursion IsTestRow tests register.of_tests) in
       let given : All ShowsNumber (map test_output (filter (tests_point point) tests)) =
       All-map ShowsNumber test_output (filter (tests_point point) tests) (λ k d low. ((slice_index_or (filter (tests_point point) tests) k d).visit, (refl, (of_test k d low).visit))) in
