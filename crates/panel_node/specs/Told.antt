@@ -12,7 +12,13 @@ use Rattle.node_rules.specs.Histories.{NodeMoment, befallen, frames_in}
 use Rattle.node_rules.specs.Nodes.{node_up, node_words}
 
 module _ (site : Site) (kept : Retained) (done : List Done) (panel : ℕ) (history : List NodeMoment) where
-  -- the words that its turns go by, its own too
+  -- the word that it keeps of itself at a turn made now: the latest that it had made at its latest turn of Link
+  abbrev pub own_word : List Moment → Word
+  own_word =
+      own_kept site kept done panel (node_words site panel history) (node_up site panel history)
+      (own_tells site kept done panel (node_words site panel history) (node_up site panel history))
+
+  -- the words that such a turn goes by, its own too
   abbrev pub words_by_frames : List Moment → ℕ → Word
   words_by_frames =
       words_held site kept done panel (node_words site panel history) (node_up site panel history)
@@ -27,12 +33,6 @@ module _ (site : Site) (kept : Retained) (done : List Done) (panel : ℕ) (histo
         up = node_up site panel history;
       }
 
-  -- the word that it keeps of itself: the latest that it had made at its latest turn of Link
-  abbrev pub own_word : Word
-  own_word =
-      own_kept site kept done panel (node_words site panel history) (node_up site panel history)
-      (own_tells site kept done panel (node_words site panel history) (node_up site panel history)) (befallen history)
-
-  -- what it keeps words of: the frames that came, and then that word
+  -- what its words come from: the frames that came, and then the word that it keeps of itself
   abbrev pub arrived : List Arrival
-  arrived = Made own_word ∷ frames_in history
+  arrived = Made (own_word (befallen history)) ∷ frames_in history
