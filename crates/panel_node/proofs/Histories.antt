@@ -7,15 +7,16 @@ use Rattle.site_types.specs.declared.word.Word.{Word}
 use Rattle.site_types.specs.Done.{Done}
 use Rattle.site_types.specs.Profile.{silent_of}
 use Rattle.kept_words.specs.Arrivals.{counts_as_down, word_kept}
-use Rattle.node_rules.specs.Handed.{facts_of_words}
+use Rattle.node_rules.specs.Handed.{facts_of_words, own_tells}
 use Rattle.node_rules.specs.Histories.{Befell, FrameCame, NodeMoment, befallen, frames_in, part_until}
 use Rattle.node_rules.specs.Nodes.{node_up, node_words}
 use Rattle.panel_links.specs.declared.frame.Frame.{Frame}
 use Rattle.panel_rules.specs.Moments.{Moment, IsPast, tick_of}
+use Rattle.panel_rules.specs.Words.{word_made}
 use Rattle.panel_rules.proofs.FaultsTold.{past_short}
 use Rattle.panel_parts.specs.Stands.{AgreeBefore}
 use Rattle.panel_node.specs.Told.{own_word, told_by_frames, words_by_frames}
-use Rattle.panel_node.proofs.WhatCame.{IsBelow, own_came, words_came}
+use Rattle.panel_node.proofs.WhatCame.{IsBelow, own_came, word_came, words_came}
 
 -- one more is cut off
 pub cut_one : (moment : NodeMoment) (history : List NodeMoment) (count : ℕ) → count < length (befallen (moment ∷ history))
@@ -59,6 +60,14 @@ module _ (site : Site) (panel : ℕ) (history other : List NodeMoment) (count : 
         own_came site kept done panel (node_words site panel history) (node_words site panel other) (node_up site panel history) (node_up site panel other)
         count words_cut links_cut before few
 
+    -- and a word that it made
+    pub word_cut : (word : List Moment) → length word ≤ count
+        → word_made site kept done (λ source. own_tells site kept done panel (node_words site panel history) (node_up site panel history)) panel word
+        ≡ word_made site kept done (λ source. own_tells site kept done panel (node_words site panel other) (node_up site panel other)) panel word
+    word_cut word few =
+        word_came site kept done panel (node_words site panel history) (node_words site panel other) (node_up site panel history) (node_up site panel other)
+        count words_cut links_cut word few
+
 -- ---- one moment more
 
 module _ (site : Site) (kept : Retained) (done : List Done) (panel : ℕ) (moment : Moment) (history : List NodeMoment) where
@@ -74,6 +83,13 @@ module _ (site : Site) (kept : Retained) (done : List Done) (panel : ℕ) (momen
   pub own_moment : own_word site kept done panel history (befallen history) ≡ own_word site kept done panel (Befell moment ∷ history) (befallen history)
   own_moment =
       own_cut site panel history (Befell moment ∷ history) (length (befallen (Befell moment ∷ history))) cut_moment kept done (befallen history) (omega arith)
+
+  pub word_moment : (word : List Moment) → length word ≤ length (befallen history)
+      → word_made site kept done (λ source. own_tells site kept done panel (node_words site panel history) (node_up site panel history)) panel word
+      ≡ word_made site kept done (λ source. own_tells site kept done panel (node_words site panel (Befell moment ∷ history)) (node_up site panel (Befell moment
+      ∷ history))) panel word
+  word_moment word few =
+      word_cut site panel history (Befell moment ∷ history) (length (befallen (Befell moment ∷ history))) cut_moment kept done word (omega (arith, few))
 
 -- ---- one frame more
 

@@ -109,3 +109,9 @@ module _ (site : Site) (kept : Retained) (done : List Done) (panel : ℕ) (hande
       → own_kept site kept done panel handed up (own_tells site kept done panel handed up) b
       ≡ own_kept site kept done panel others up' (own_tells site kept done panel others up') b
   own_came b l = own_alike (own_tells site kept done panel handed up) (own_tells site kept done panel others up') tells b l
+
+  -- and a word that it made
+  pub word_came : (word : List Moment) → length word ≤ count
+      → word_made site kept done (λ source. own_tells site kept done panel handed up) panel word
+      ≡ word_made site kept done (λ source. own_tells site kept done panel others up') panel word
+  word_came word l = word_alike (own_tells site kept done panel handed up) (own_tells site kept done panel others up') tells word l

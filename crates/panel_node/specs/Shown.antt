@@ -69,6 +69,6 @@ ShowsByWords told node zones =
     → zones ≡ map (λ source. told (node_shows site panel kept history source)) (range_with_len 1 most_panels)
 
 -- those in alarm and those in first state
-pub record ShowsZones (node : Node) (alarms firsts : List ℕ) : Type 0 where
-  pub alarms : ShowsByWords (λ (word : Word). word.alarm) node alarms
-  pub firsts : ShowsByWords (λ (word : Word). word.first) node firsts
+pub record ShowsZones (node : Node) (in_alarm in_first : List ℕ) : Type 0 where
+  pub alarms : ShowsByWords (λ (word : Word). word.alarm) node in_alarm
+  pub firsts : ShowsByWords (λ (word : Word). word.first) node in_first
