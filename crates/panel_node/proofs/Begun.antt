@@ -26,7 +26,6 @@ use Rattle.panel_parts.specs.Changes.{AppliesDone}
 use Rattle.panel_parts.specs.Stands.{HasPlan, PanelStands}
 use Rattle.panel_parts.proofs.Applied.{applied_begun, applied_is_older, before_by, by_tick, done_after_applied, done_in_front, next_may_be_applied, with_done_more}
 use Rattle.panel_parts.proofs.Counts.{counts_stay}
-use Rattle.panel_parts.proofs.Later.{done_from_tick}
 use Rattle.panel_parts.proofs.Operations.{stands_alike}
 use Rattle.panel_parts.proofs.Panels.{after_begin}
 use Rattle.panel_parts.proofs.Settings.{past_force}
@@ -38,7 +37,7 @@ use Rattle.panel_node.specs.Changes.{HasSameRest}
 use Rattle.panel_node.specs.Stands.{NodeHasApplied, NodeStandsFor}
 use Rattle.panel_node.specs.Told.{arrived, own_word, told_by_frames}
 use Rattle.panel_node.proofs.Histories.{agree_moment}
-use Rattle.panel_node.proofs.Later.{agree_later, own_later}
+use Rattle.panel_node.proofs.Later.{agree_later, done_from_tick, own_later}
 use Rattle.panel_node.proofs.Next.{own_stays}
 
 -- ---- one operation
@@ -151,7 +150,7 @@ module _ (site : Site) (panel : ℕ) (kept : Retained) (history : List NodeMomen
       (rw (is, now) at begins site told.facts kept unsettled.older before
       (subst (λ done. DrivesFor site told.facts kept done panel before parts.drive) unsettled.done_is stands.drives) unsettled.earlier refl))
     where
-      abbrev told : Told
+      told : Told
       told = told_by_frames site kept (done_so_far site kept before) panel history
 
   pub begun : (node' : Node) → HasSameRest node node' → NodeHasApplied site panel kept history (done_so_far site kept before) node'

@@ -1,11 +1,12 @@
 -- What is done in a tick or later changes nothing of what the turns up to it were told, nor of the word that the panel keeps of itself.
-use Rattle.std.proofs.Common.{◌≡◌, ◌≤◌, ◌==◌, ◌++◌, ℕ, List, ◌∷◌, if◌then◌else◌, refl, sym, ap, arith}
+use Rattle.std.proofs.Common.{◌≡◌, ◌≤◌, ◌==◌, ◌++◌, ℕ, List, [], ◌∷◌, if◌then◌else◌, refl, sym, ap, arith}
 use Rattle.std.proofs.Math.Path.{fun_ext}
 use Rattle.tick_units.specs.declared.task.Task.TheVariants.{Link}
 use Rattle.site_types.specs.declared.retained.Retained.{Retained}
 use Rattle.site_types.specs.declared.site.Site.{Site}
 use Rattle.site_types.specs.declared.word.Word.{Word}
 use Rattle.site_types.specs.Done.{Done}
+use Rattle.site_types.proofs.LaterDone.{AreFrom}
 use Rattle.later_operations.specs.Later.{AreDoneFrom}
 use Rattle.node_rules.specs.Histories.{NodeMoment}
 use Rattle.node_rules.specs.Nodes.{node_up, node_words}
@@ -15,6 +16,10 @@ use Rattle.panel_parts.proofs.Later.{past_tail}
 use Rattle.panel_rules.specs.Moments.{Moment, IsPast, before_turn, tick_of}
 use Rattle.panel_rules.proofs.Turns.{before_past, tick_rises}
 use Rattle.panel_node.specs.Told.{own_word, told_by_frames, words_by_frames}
+
+pub done_from_tick : (tick : ℕ) (ds : List Done) → AreFrom tick ds → AreDoneFrom tick ds
+done_from_tick tick [] from = tt
+done_from_tick tick (d ∷ ds) from = (from.0, done_from_tick tick ds from.1)
 
 module _ (site : Site) (kept : Retained) (panel : ℕ) (history : List NodeMoment) (new old : List Done) (tick : ℕ) (from : AreDoneFrom tick new) where
   pub own_later : (b : List Moment) → tick_of b ≤ tick → own_word site kept (new ++ old) panel history b ≡ own_word site kept old panel history b

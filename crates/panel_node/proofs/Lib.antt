@@ -11,4 +11,5 @@ pub mod Desks
 -- a frame, a moment more
 pub mod Came
 pub mod Next
+pub mod Events
 pub mod Begun

@@ -1,5 +1,5 @@
 -- Where each event was the panel's own, nothing befell the others: no report came on a point of theirs, and nothing was asked for at them.
-use Rattle.std.proofs.Common.{◌≡◌, ◌≢◌, ◌∙◌, ◌==◌, ◌&&◌, ◌++◌, ℕ, Bool, true, false, List, [], ◌∷◌, Option, Some, None, filter, inl, inr, refl, sym, ap, slice_get}
+use Rattle.std.proofs.Common.{◌≡◌, ◌≢◌, ◌∙◌, ◌==◌, ◌&&◌, ◌++◌, ℕ, Bool, true, false, List, [], ◌∷◌, Option, Some, None, filter, if◌then◌else◌, refl, sym, ap, slice_get}
 use Rattle.std.specs.Prelude.{option_map}
 use Rattle.std.proofs.lemmas.Bool.{eqb-true, ne_eqb}
 use Rattle.site_types.specs.declared.event.Event.{Event}
@@ -35,13 +35,16 @@ module _ (site : Site) (panel other : ℕ) (apart : other ≢ panel) where
 
   -- ---- what was asked for
 
+  none_front : {X : Type 0} (test : X → Bool) (x : X) (xs : List X) → filter test (x ∷ xs) ≡ [] → (test x ≡ false) × (filter test xs ≡ [])
+  none_front test x xs none = go (test x) refl none
+    where
+      go : (b : Bool) → test x ≡ b → (if b then x ∷ filter test xs else filter test xs) ≡ [] → (test x ≡ false) × (filter test xs ≡ [])
+      go true is some = absurd (let no_way : x ∷ filter test xs ≡ [] = some in cc)
+      go false is rest = (is, rest)
+
   filter_both : {X : Type 0} (test : X → Bool) (xs ys : List X) → filter test xs ≡ [] → filter test ys ≡ [] → filter test (xs ++ ys) ≡ []
   filter_both test [] ys none more = more
-  filter_both test (x ∷ xs) ys none more = go (test x) refl
-    where
-      go : (b : Bool) → test x ≡ b → filter test ((x ∷ xs) ++ ys) ≡ []
-      go true is = absurd (let no_way = rw is at none in cc)
-      go false is = rw is (filter_both test xs ys (rw is at none) more)
+  filter_both test (x ∷ xs) ys none more = (let front = none_front test x xs none in rw front.0 (filter_both test xs ys front.1 more))
 
   none_more : (tick now : ℕ) (event : Event) (before : List Request) → is_event_of site panel event ≡ true → requests_in other tick before ≡ []
       → requests_in other tick (and_request site now event before) ≡ []

@@ -107,7 +107,8 @@ impl Node {
                 let plan = self.site.outputs.as_slice()[output as usize];
                 self.parts.confirm(plan.number);
             }
-            Event::Link { .. } | Event::Op { .. } => {}
+            Event::Link { .. } => {}
+            Event::Op { .. } => {}
         }
     }
 
