@@ -13,3 +13,6 @@ pub mod Came
 pub mod Next
 pub mod Events
 pub mod Begun
+-- turns of its tasks
+pub mod Elsewhere
+pub mod OwnTurns
