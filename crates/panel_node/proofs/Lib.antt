@@ -16,3 +16,7 @@ pub mod Begun
 -- turns of its tasks
 pub mod Elsewhere
 pub mod OwnTurns
+-- what is shown
+pub mod HandedNow
+pub mod ZonesShown
+pub mod Sent
