@@ -20,3 +20,8 @@ pub mod OwnTurns
 pub mod HandedNow
 pub mod ZonesShown
 pub mod Sent
+-- Keep
+pub mod KeepTurns
+-- the turns of a tick
+pub mod Seats
+pub mod AllTurns
