@@ -50,7 +50,7 @@ elsewhere_both panel (x ∷ xs) ys all more = (all.0, elsewhere_both panel xs ys
 
 elsewhere_seats : (panel other : ℕ) → other ≢ panel → AreElsewhere panel (panel_seats other)
 elsewhere_seats panel other apart =
-    ((apart, λ e. cc), (apart, λ e. cc), (apart, λ e. cc), (apart, λ e. cc), (apart, λ e. cc), (apart, λ e. cc), (apart, λ e. cc), (apart, λ e. cc), tt)
+    ((apart, λ e. cc), ((apart, λ e. cc), ((apart, λ e. cc), ((apart, λ e. cc), ((apart, λ e. cc), ((apart, λ e. cc), ((apart, λ e. cc), ((apart, λ e. cc), tt))))))))
 
 below_seats : (panel count : ℕ) → count < panel → AreElsewhere panel (seats_of_panels count)
 below_seats panel zero less = tt
@@ -108,7 +108,7 @@ panels_both [] ys all more = more
 panels_both (x ∷ xs) ys all more = (all.0, panels_both xs ys all.1 more)
 
 panels_own : (panel : ℕ) → AreOfPanels (panel_seats panel)
-panels_own panel = ((λ e. cc), (λ e. cc), (λ e. cc), (λ e. cc), (λ e. cc), (λ e. cc), (λ e. cc), (λ e. cc), tt)
+panels_own panel = (λ e. cc, (λ e. cc, (λ e. cc, (λ e. cc, (λ e. cc, (λ e. cc, (λ e. cc, (λ e. cc, tt))))))))
 
 -- they change nothing
 pub stands_others : (site : Site) (panel : ℕ) (kept : Retained) (node : Node) (seats : List Seat) (history : List NodeMoment) → AreElsewhere panel seats
