@@ -1,30 +1,30 @@
 -- The turns of a tick of a panel by itself: its own, and Keep's.
-use Rattle.std.proofs.Common.{◌≡◌, ◌∙◌, ◌≤◌, ℕ, List, ◌∷◌, Bool, false, refl, sym, ap, subst}
+use Rattle.std.proofs.Common.{◌≡◌, ◌∙◌, ◌≤◌, ℕ, List, ◌∷◌, false, sym, ap, subst}
 use Rattle.panel_edges.specs.Crashes.{LeavesOnly}
 use Rattle.tick_units.specs.Orders.{canonical_seats}
 use Rattle.tick_units.specs.Ticks.{last_tick}
 use Rattle.site_types.specs.declared.retained.Retained.{Retained}
 use Rattle.site_types.specs.declared.site.Site.{Site}
 use Rattle.keep_turn.specs.declared.store.Store.{Store}
-use Rattle.node_rules.specs.Histories.{Befell, NodeMoment, befallen}
+use Rattle.node_rules.specs.Histories.{NodeMoment, befallen}
 use Rattle.panel_core.specs.Keeping.{KeepsRun, before_keep, has_failed}
 use Rattle.panel_core.specs.PowerCuts.{OpensToFront, OpensToFrontOr}
 use Rattle.panel_core.proofs.Fronts.{front_left, fronts_left, left_over_stays}
 use Rattle.panel_core.proofs.Orders.{panels_keep}
-use Rattle.panel_rules.specs.Batches.{batch, kept_after}
-use Rattle.panel_rules.specs.Moments.{Moment, Kept, IsRun, and_turns, tick_of}
+use Rattle.panel_rules.specs.Batches.{batch}
+use Rattle.panel_rules.specs.Moments.{Kept, IsRun, and_turns, tick_of}
 use Rattle.retained_journal.specs.declared.journal.Journal.{Journal}
 use Rattle.retained_journal.specs.Images.{HasRoomForTwo, MayLeave, MayLeaveOr}
 use Rattle.panel_node.specs.declared.node.Node.{Node}
 use Rattle.panel_node.specs.Changes.{MakesOwnTurns}
-use Rattle.panel_node.specs.Keeping.{KeepsTurn, LeavesWithBatch, MayKeep, MayTurnAll, NodeHasTurned, turned}
+use Rattle.panel_node.specs.Keeping.{KeepsTurn, LeavesWithBatch, MayKeep, MayTurnAll, NodeHasTurned, and_all_turns}
 use Rattle.panel_node.specs.Seats.{and_seats}
 use Rattle.panel_node.specs.Stands.{MayTurnOwn, NodeStandsFor}
 use Rattle.panel_node.proofs.Seats.{all_befallen, all_is, all_panels, at_keep, at_own, befallen_seats, keep_befallen, keep_run, keep_tick, own_run, own_tick, parts, seats}
 use Rattle.panel_node.proofs.Seats.{stands_at_keep, stands_others}
 
 module _ {journal : Journal} {old between : Node} (own : MakesOwnTurns old between) {site : Site} {panel : ℕ} {kept : Retained} {history : List NodeMoment}
-    (h : NodeStandsFor site panel kept history old) (keeps : KeepsRun site kept (befallen history) journal) (run : IsRun site.panels (turned site history))
+    (h : NodeStandsFor site panel kept history old) (keeps : KeepsRun site kept (befallen history) journal) (run : IsRun site.panels (and_all_turns site history))
     (few : tick_of (befallen history) ≤ last_tick) where
   -- what had befallen before the turn of Keep
   abbrev then : List NodeMoment
@@ -75,9 +75,9 @@ module _ {journal : Journal} {old between : Node} (own : MakesOwnTurns old betwe
     pub fronts_then : {D : Type 0} (moment : D → ℕ) (left_since : D → ℕ → List ℕ → Type 0) (disk disk' : D)
         → LeavesWithBatch moment left_since disk disk' between journal → HasRoomForTwo journal
         → LeavesOnly moment left_since disk disk'
-        (OpensToFrontOr site kept journal.digest (befallen history) (batch site kept (before_keep (turned site history))))
+        (OpensToFrontOr site kept journal.digest (befallen history) (batch site kept (before_keep (and_all_turns site history))))
     fronts_then moment left_since disk disk' leaves room =
-        fronts_left site kept (befallen history) journal keeps moment left_since disk disk' (batch site kept (before_keep (turned site history)))
+        fronts_left site kept (befallen history) journal keeps moment left_since disk disk' (batch site kept (before_keep (and_all_turns site history)))
         (subst (λ ms. LeavesOnly moment left_since disk disk' (MayLeaveOr journal (batch site kept ms)))
         (sym (ap before_keep (all_befallen site panel kept history h.parts.member false)))
         (leaves site panel kept then stands_then keeps_then run_then.0 few_then room))

@@ -33,9 +33,9 @@ use Rattle.panel_rules.specs.Moments.{Moment, Began, IsRun, tick_of}
 use Rattle.panel_rules.specs.Operations.{operations}
 use Rattle.settings_shown.specs.Shown.{HasNoStrangeBits}
 use Rattle.panel_node.specs.declared.node.Node.{Node}
-use Rattle.panel_node.specs.Changes.{HasSameRest}
+use Rattle.panel_node.specs.Changes.{LeavesTheRest}
 use Rattle.panel_node.specs.Stands.{NodeHasApplied, NodeStandsFor}
-use Rattle.panel_node.specs.Told.{arrived, own_word, told_by_frames}
+use Rattle.panel_node.specs.Told.{arrived, word_of_itself, told_by_frames}
 use Rattle.panel_node.proofs.Histories.{agree_moment}
 use Rattle.panel_node.proofs.Later.{agree_later, done_from_tick, own_later}
 use Rattle.panel_node.proofs.Next.{own_stays}
@@ -129,13 +129,13 @@ module _ (site : Site) (panel : ℕ) (kept : Retained) (history : List NodeMomen
   all_done = applied_begun site kept before by_now
 
   -- the word that it keeps of itself is that with all that was done
-  own_begun : own_word site kept (applied site kept before) panel history before
-      ≡ own_word site kept (applied site kept (Began ∷ before)) panel (Befell Began ∷ history) (Began ∷ before)
+  own_begun : word_of_itself site kept (applied site kept before) panel history before
+      ≡ word_of_itself site kept (applied site kept (Began ∷ before)) panel (Befell Began ∷ history) (Began ∷ before)
   own_begun =
       let grew = done_after_applied site kept before ds unsettled.older unsettled.done_is unsettled.earlier in
       sym (own_later site kept panel history grew.new (applied site kept before) (tick_of before) (done_from_tick (tick_of before) grew.new grew.from) before
       (omega arith))
-      ∙ ap (λ done. own_word site kept done panel history before) (sym grew.is ∙ all_done)
+      ∙ ap (λ done. word_of_itself site kept done panel history before) (sym grew.is ∙ all_done)
       ∙ own_stays site kept (applied site kept (Began ∷ before)) panel Began history refl
 
   -- its outputs took what its desk has done
@@ -153,7 +153,7 @@ module _ (site : Site) (panel : ℕ) (kept : Retained) (history : List NodeMomen
       told : Told
       told = told_by_frames site kept (done_so_far site kept before) panel history
 
-  pub begun : (node' : Node) → HasSameRest node node' → NodeHasApplied site panel kept history (done_so_far site kept before) node'
+  pub begun : (node' : Node) → LeavesTheRest node node' → NodeHasApplied site panel kept history (done_so_far site kept before) node'
       → (drive : DrivePart) → BeginsTickAfter node'.parts.drive node'.panel node'.tick.0 node'.desk.done.items drive
       → (desk : Desk) → DesksFor site kept (Began ∷ before) desk → (tick : Tick) → tick.0 ≡ tick_of (Began ∷ before)
       → NodeStandsFor site panel kept (Befell Began ∷ history) (record node' { parts = record node'.parts { drive = drive }; desk = desk; tick = tick })

@@ -1,16 +1,15 @@
 -- A frame that came: who sent it, and what it makes of a panel.
-use Rattle.std.proofs.Common.{◌≡◌, ◌≤◌, ◌<◌, ◌-◌, ◌+◌, ◌==◌, ◌&&◌, ◌||◌, ℕ, Bool, true, false, List, ◌∷◌, nat_le, nat_lt, if◌then◌else◌, inl, inr, refl, sym, ◌∙◌, ap, subst, arith}
+use Rattle.std.proofs.Common.{◌≡◌, ◌≤◌, ◌==◌, ◌&&◌, ◌||◌, ℕ, Bool, true, false, List, ◌∷◌, nat_le, nat_lt, if◌then◌else◌, inl, inr, refl, subst, arith}
 use Rattle.std.proofs.lemmas.Bool.{eqb-true}
 use Rattle.std.proofs.lemmas.Bool.Decides.{eqb_tells}
 use Rattle.site_types.specs.declared.retained.Retained.{Retained}
 use Rattle.site_types.specs.declared.site.Site.{Site}
-use Rattle.site_types.specs.declared.word.Word.{Word}
 use Rattle.site_types.specs.Valid.{IsValid}
 use Rattle.kept_words.specs.declared.kept_words.KeptWords.{KeptWords}
 use Rattle.kept_words.specs.Arrivals.{Came, Made}
 use Rattle.kept_words.specs.Stands.{KeepsArrived}
 use Rattle.node_rules.specs.Histories.{FrameCame, NodeMoment, befallen, frames_in}
-use Rattle.panel_frames.specs.Grammar.{IsFrame, last_group}
+use Rattle.panel_frames.specs.Grammar.{IsFrame}
 use Rattle.panel_links.specs.declared.frame.Frame.{Frame}
 use Rattle.panel_links.specs.Words.{left_of, right_of}
 use Rattle.panel_parts.specs.Applied.{applied}
@@ -18,7 +17,7 @@ use Rattle.panel_parts.proofs.Operations.{stands_alike}
 use Rattle.panel_rules.specs.Moments.{IsPanel, tick_of}
 use Rattle.panel_node.specs.declared.node.Node.{Node}
 use Rattle.panel_node.specs.Stands.{NodeStandsFor}
-use Rattle.panel_node.specs.Told.{arrived, own_word, told_by_frames}
+use Rattle.panel_node.specs.Told.{arrived, word_of_itself, told_by_frames}
 use Rattle.panel_node.proofs.Histories.{agree_frame, own_frame}
 use Rattle.panel_node.proofs.KeptWords.{came_before}
 
@@ -66,7 +65,7 @@ pub stands_framed : (site : Site) (panel : ℕ) (kept : Retained) (history : Lis
     → NodeStandsFor site panel kept (FrameCame frame ∷ history) (record node { words = words })
 stands_framed site panel kept history node frame h framed words keeps =
     let done = applied site kept (befallen history) in
-    let own = own_word site kept done panel history (befallen history) in
+    let own = word_of_itself site kept done panel history (befallen history) in
     record {
       valid = h.valid;
       same = h.same;

@@ -1,9 +1,9 @@
 -- What a turn of a panel by itself is told of the others: the facts that words tell, who is silent, which links are down.
-use Rattle.std.proofs.Common.{◌≡◌, ◌≢◌, ◌∙◌, ◌+◌, ◌-◌, ◌^◌, ◌≤◌, ◌<◌, ◌==◌, ◌&&◌, not, ℕ, Bool, true, false, List, [], ◌∷◌, length, nat_le, nat_lt, if◌then◌else◌}
+use Rattle.std.proofs.Common.{◌≡◌, ◌∙◌, ◌+◌, ◌-◌, ◌^◌, ◌≤◌, ◌<◌, ◌==◌, ◌&&◌, not, ℕ, Bool, true, false, List, nat_le, nat_lt, if◌then◌else◌}
 use Rattle.std.proofs.Common.{inl, inr, refl, sym, ap, subst, arith, lit<}
 use Rattle.std.proofs.Math.Path.{fun_ext}
 use Rattle.std.proofs.lemmas.Bool.Decides.{eqb_tells, leb_tells}
-use Rattle.tick_units.specs.declared.task.Task.TheVariants.{Hold, Link}
+use Rattle.tick_units.specs.declared.task.Task.TheVariants.{Link}
 use Rattle.tick_units.specs.Ticks.{last_tick}
 use Rattle.site_types.specs.declared.retained.Retained.{Retained}
 use Rattle.site_types.specs.declared.site.Site.{Site}
@@ -11,15 +11,13 @@ use Rattle.site_types.specs.declared.word.Word.{Word}
 use Rattle.site_types.specs.Bits.{mask_of}
 use Rattle.site_types.specs.Done.{Done}
 use Rattle.site_types.specs.Profile.{silent_of}
-use Rattle.site_types.specs.Valid.{IsPanel as IsPanelOf}
 use Rattle.site_types.proofs.Done.{lt_false, lt_true}
 use Rattle.site_types.proofs.Masks.{mask_same}
 use Rattle.kept_words.specs.Arrivals.{counts_as_down, is_silent_from, last_from, joined_by, word_kept}
-use Rattle.kept_facts.specs.KeptFacts.{AreWordsOf, TellsKeptFacts}
-use Rattle.kept_words.specs.declared.kept_words.KeptWords.{KeptWords}
+use Rattle.kept_facts.specs.KeptFacts.{AreWordsOf}
 use Rattle.marker_table.specs.declared.facts.Facts.{Facts as Masks}
 use Rattle.node_rules.specs.Handed.{facts_of_words, own_tells}
-use Rattle.node_rules.specs.Histories.{NodeMoment, befallen, frames_in, part_until}
+use Rattle.node_rules.specs.Histories.{NodeMoment, befallen, frames_in}
 use Rattle.node_rules.specs.NodeLaws.{AreFramesTo}
 use Rattle.node_rules.specs.Nodes.{node_up, node_words}
 use Rattle.node_rules.proofs.OwnFrames.{came_ok, made_ok}
@@ -32,8 +30,7 @@ use Rattle.panel_rules.specs.Kept.{made_at}
 use Rattle.panel_rules.specs.Moments.{Moment, IsPanel, IsRun, before_turn, tick_of}
 use Rattle.panel_rules.proofs.KeptWords.{made_is}
 use Rattle.panel_rules.proofs.Turns.{before_past, past_on, run_tail, tick_rises}
-use Rattle.panel_node.specs.declared.node.Node.{Node}
-use Rattle.panel_node.specs.Told.{arrived, own_word, told_by_frames, words_by_frames}
+use Rattle.panel_node.specs.Told.{arrived, word_of_itself, told_by_frames, words_by_frames}
 
 -- ticks are told apart by sums and by differences alike
 later : (limit now stamp : ℕ) → nat_lt limit (now - stamp) ≡ nat_lt (stamp + limit) now
@@ -50,7 +47,7 @@ module _ (site : Site) (kept : Retained) (done : List Done) (panel : ℕ) (histo
   -- the words that are kept are those that a turn made now goes by
   word_arrived : (source : ℕ) → word_kept panel source (arrived site kept done panel history) ≡ words_by_frames site kept done panel history before source
   word_arrived source =
-      ap (λ part. if source == panel then own_word site kept done panel history before else word_kept panel source (frames_in part)) (sym (part_whole history))
+      ap (λ part. if source == panel then word_of_itself site kept done panel history before else word_kept panel source (frames_in part)) (sym (part_whole history))
 
   -- ---- Effect
 
@@ -70,14 +67,14 @@ module _ (site : Site) (kept : Retained) (done : List Done) (panel : ℕ) (histo
       → AreWordsOf site panel (arrived site kept done panel history)
   words_framed member run few framed source p =
       elim (eqb_tells source panel) [
-        | inl t ↦ rw t.0 (subst (λ q. IsWord site q (own_word site kept done panel history before)) (sym t.1) own_ok)
+        | inl t ↦ rw t.0 (subst (λ q. IsWord site q (word_of_itself site kept done panel history before)) (sym t.1) own_ok)
         | inr t ↦ rw t.0 (came_ok site panel source p.0 history framed)
       ]
     where
       small : last_tick < 2 ^ 64
       small = lit< tt
 
-      own_ok : IsWord site panel (own_word site kept done panel history before)
+      own_ok : IsWord site panel (word_of_itself site kept done panel history before)
       own_ok =
           made_ok site kept done (λ source. own_tells site kept done panel (node_words site panel history) (node_up site panel history)) panel member
           (made_at panel (before_turn panel Link before)) (own_past run) (let early = own_early in let few' = small in omega (arith, early, few, few'))

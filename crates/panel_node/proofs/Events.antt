@@ -1,9 +1,9 @@
 -- What an event of its own makes of a panel.
-use Rattle.std.proofs.Common.{◌≡◌, ◌≤◌, ◌<◌, ◌^◌, ◌-◌, ◌∙◌, ◌==◌, ℕ, Bool, true, false, List, ◌∷◌, length, get_or, Option, Some, None, slice_get, refl, sym, ap, subst, arith}
+use Rattle.std.proofs.Common.{◌≡◌, ◌<◌, ◌∙◌, ℕ, Bool, true, false, List, ◌∷◌, length, get_or, Option, Some, None, slice_get, refl, sym, ap, subst}
 use Rattle.std.proofs.lemmas.Bool.{eqb-true}
 use Rattle.std.proofs.lemmas.Option.{slice_get_read, slice_get_within}
 use Rattle.site_types.specs.declared.event.Event.{Event}
-use Rattle.site_types.specs.declared.event.Event.TheVariants.{Point, Cable, Supply, Confirmed, Link, Op}
+use Rattle.site_types.specs.declared.event.Event.TheVariants.{Point, Cable, Supply, Confirmed}
 use Rattle.site_types.specs.declared.output.Output.{Output}
 use Rattle.site_types.specs.declared.piece_state.PieceState.{PieceState}
 use Rattle.site_types.specs.declared.point.Point.{Point as PointPlan}
@@ -27,7 +27,6 @@ use Rattle.panel_parts.specs.Stands.{PanelStands}
 use Rattle.panel_parts.proofs.Reports.{IsOther, none_confirmed, not_monitored, not_reported, untold}
 use Rattle.panel_rules.specs.Faults.{supply_calls}
 use Rattle.panel_rules.specs.Moments.{Moment, Happened}
-use Rattle.panel_rules.specs.Operations.{requests}
 use Rattle.panel_rules.specs.Reports.{is_on_panel, reports}
 use Rattle.panel_node.specs.declared.node.Node.{Node}
 use Rattle.panel_node.specs.Stands.{MayHappen, NodeStandsFor}

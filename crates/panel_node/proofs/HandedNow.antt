@@ -1,7 +1,6 @@
 -- What the parts of a panel by itself show is what the rules show of it: what was done in the tick that began last changes nothing of it.
-use Rattle.std.proofs.Common.{◌≡◌, ◌≢◌, ◌∙◌, ◌++◌, ◌≤◌, ◌==◌, ◌&&◌, ℕ, Bool, List, [], ◌∷◌, nat_lt, if◌then◌else◌, refl, sym, ap, arith}
+use Rattle.std.proofs.Common.{◌≡◌, ◌∙◌, ◌++◌, ◌≤◌, ℕ, Bool, List, [], ◌∷◌, nat_lt, refl, ap, arith}
 use Rattle.tick_units.specs.declared.task.Task.TheVariants.{Poll, Decide, Supply, Desk, Hold, Link, Effect, Drive, Keep}
-use Rattle.site_types.specs.declared.buzzer.Buzzer.{Buzzer}
 use Rattle.site_types.specs.declared.fault_set.FaultSet.{FaultSet}
 use Rattle.site_types.specs.declared.retained.Retained.{Retained}
 use Rattle.site_types.specs.declared.site.Site.{Site}
@@ -9,7 +8,7 @@ use Rattle.site_types.specs.declared.word.Word.{Word}
 use Rattle.site_types.specs.Done.{Done, muted_before}
 use Rattle.site_types.proofs.Done.{muted-later}
 use Rattle.site_types.proofs.LaterDone.{AreFrom}
-use Rattle.hold_calls.specs.Shown.{buzzer_told, latest_faults, news_told, tells_news as told_news, word_told}
+use Rattle.hold_calls.specs.Shown.{buzzer_told, news_told, is_news_told}
 use Rattle.later_operations.specs.Later.{AreDoneFrom}
 use Rattle.later_operations.proofs.ByFacts.{goes_by_facts}
 use Rattle.later_operations.proofs.ByOutputs.{confirmed_by_outputs, on_by_outputs}
@@ -26,7 +25,7 @@ use Rattle.panel_parts.specs.Applied.{applied, done_so_far}
 use Rattle.panel_parts.proofs.EntriesKept.{grew_since_applied}
 use Rattle.panel_rules.specs.Moments.{Moment, Began, Happened, Turned, Kept, latest_turn, tick_of}
 use Rattle.panel_rules.specs.Outputs.{goes_on, is_confirmed_out, is_on}
-use Rattle.panel_node.specs.Told.{own_word, told_by_frames}
+use Rattle.panel_node.specs.Told.{word_of_itself, told_by_frames}
 use Rattle.panel_node.proofs.Later.{done_from_tick, own_later}
 use Rattle.panel_node.proofs.Words.{faults_handed, word_handed}
 
@@ -41,7 +40,7 @@ news_alike word word' earlier earlier' faults faults' past past' a b c d =
 -- ---- what Hold tells is what the panel is handed
 
 module _ (site : Site) (kept : Retained) (done : List Done) (panel : ℕ) (history : List NodeMoment) where
-  news_there : (before : List Moment) → told_news site kept done (told_by_frames site kept done panel history) panel before
+  news_there : (before : List Moment) → is_news_told site kept done (told_by_frames site kept done panel history) panel before
       ≡ tells_news site kept done panel (node_words site panel history) (node_up site panel history) before
   news_there before =
       news_alike _ _ _ _ _ _ _ _ (word_handed site kept done panel history (Turned panel Hold ∷ before))
@@ -169,9 +168,9 @@ module _ (site : Site) (kept : Retained) (panel : ℕ) (history : List NodeMomen
       ap (λ done. handed_word site kept done panel handed up before) grew.is
       ∙ word_later site kept panel handed up grew.new in_force_done (tick_of before) grew.from before (omega arith)
 
-  pub own_now : own_word site kept all_done panel history before ≡ own_word site kept in_force_done panel history before
+  pub own_now : word_of_itself site kept all_done panel history before ≡ word_of_itself site kept in_force_done panel history before
   own_now =
-      ap (λ done. own_word site kept done panel history before) grew.is
+      ap (λ done. word_of_itself site kept done panel history before) grew.is
       ∙ own_later site kept panel history grew.new in_force_done (tick_of before) (done_from_tick (tick_of before) grew.new grew.from) before (omega arith)
 
   pub faults_now : handed_faults site kept all_done panel handed up before ≡ handed_faults site kept in_force_done panel handed up before

@@ -1,5 +1,5 @@
 -- A history one moment or one frame later: what turns before were told stays.
-use Rattle.std.proofs.Common.{◌≡◌, ◌≤◌, ◌<◌, ℕ, not, Bool, List, [], ◌∷◌, length, nat_le, if◌then◌else◌, inl, inr, refl, sym, ◌∙◌, ap, arith}
+use Rattle.std.proofs.Common.{◌≡◌, ◌≤◌, ◌<◌, ℕ, not, List, ◌∷◌, length, nat_le, inl, inr, refl, sym, ap, arith}
 use Rattle.std.proofs.lemmas.Bool.{cases_Bool, leb-true}
 use Rattle.site_types.specs.declared.retained.Retained.{Retained}
 use Rattle.site_types.specs.declared.site.Site.{Site}
@@ -15,7 +15,7 @@ use Rattle.panel_rules.specs.Moments.{Moment, IsPast, tick_of}
 use Rattle.panel_rules.specs.Words.{word_made}
 use Rattle.panel_rules.proofs.FaultsTold.{past_short}
 use Rattle.panel_parts.specs.Stands.{AgreeBefore}
-use Rattle.panel_node.specs.Told.{own_word, told_by_frames, words_by_frames}
+use Rattle.panel_node.specs.Told.{word_of_itself, told_by_frames, words_by_frames}
 use Rattle.panel_node.proofs.WhatCame.{IsBelow, own_came, word_came, words_came}
 
 -- one more is cut off
@@ -55,7 +55,7 @@ module _ (site : Site) (panel : ℕ) (history other : List NodeMoment) (count : 
         earlier moment past p = let short = past_short (moment ∷ past) before p in omega (arith, short, few)
 
     -- so is the word that it keeps of itself
-    pub own_cut : (before : List Moment) → length before ≤ count → own_word site kept done panel history before ≡ own_word site kept done panel other before
+    pub own_cut : (before : List Moment) → length before ≤ count → word_of_itself site kept done panel history before ≡ word_of_itself site kept done panel other before
     own_cut before few =
         own_came site kept done panel (node_words site panel history) (node_words site panel other) (node_up site panel history) (node_up site panel other)
         count words_cut links_cut before few
@@ -80,7 +80,7 @@ module _ (site : Site) (kept : Retained) (done : List Done) (panel : ℕ) (momen
       agree_cut site panel history (Befell moment ∷ history) (length (befallen (Befell moment ∷ history))) cut_moment kept done (moment ∷ befallen history)
       (omega arith)
 
-  pub own_moment : own_word site kept done panel history (befallen history) ≡ own_word site kept done panel (Befell moment ∷ history) (befallen history)
+  pub own_moment : word_of_itself site kept done panel history (befallen history) ≡ word_of_itself site kept done panel (Befell moment ∷ history) (befallen history)
   own_moment =
       own_cut site panel history (Befell moment ∷ history) (length (befallen (Befell moment ∷ history))) cut_moment kept done (befallen history) (omega arith)
 
@@ -101,5 +101,5 @@ module _ (site : Site) (kept : Retained) (done : List Done) (panel : ℕ) (frame
   agree_frame =
       agree_cut site panel history (FrameCame frame ∷ history) (length (befallen history)) cut_frame kept done (befallen history) (omega arith)
 
-  pub own_frame : own_word site kept done panel history (befallen history) ≡ own_word site kept done panel (FrameCame frame ∷ history) (befallen history)
+  pub own_frame : word_of_itself site kept done panel history (befallen history) ≡ word_of_itself site kept done panel (FrameCame frame ∷ history) (befallen history)
   own_frame = own_cut site panel history (FrameCame frame ∷ history) (length (befallen history)) cut_frame kept done (befallen history) (omega arith)

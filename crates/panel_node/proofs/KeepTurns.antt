@@ -1,5 +1,5 @@
 -- A turn of Keep of a panel by itself: what is left to keep is the batch of the rules, and what is noted after it. The other panels have no entries.
-use Rattle.std.proofs.Common.{◌≡◌, ◌≢◌, ◌∙◌, ◌+◌, ◌-◌, ◌<◌, ◌≤◌, ℕ, Bool, true, false, List, [], ◌∷◌, length, get_or, set, inl, inr, refl, sym, ap, subst, arith, length-set, replicate}
+use Rattle.std.proofs.Common.{◌≡◌, ◌≢◌, ◌∙◌, ◌-◌, ◌≤◌, ℕ, Bool, true, false, List, ◌∷◌, length, get_or, set, inl, inr, refl, sym, ap, subst, arith, length-set, replicate}
 use Rattle.std.specs.Prelude.{slice_index}
 use Rattle.std.proofs.lemmas.Bool.Decides.{eqb_tells}
 use Rattle.std.proofs.lemmas.List.{get_or-replicate, get_or-set_other, get_or-set_same, get_or_past}
@@ -34,14 +34,14 @@ use Rattle.panel_parts.specs.Entries.{AreLeft, CountsFor}
 use Rattle.panel_parts.proofs.Counts.{counts_stay}
 use Rattle.panel_parts.proofs.EntriesKept.{counted_by_keep, left_to_keep}
 use Rattle.panel_parts.proofs.Panels.{after_keep}
-use Rattle.panel_rules.specs.Batches.{batch, entries, kept_after, new_entries}
+use Rattle.panel_rules.specs.Batches.{batch, kept_after, new_entries}
 use Rattle.panel_rules.specs.Moments.{Moment, Kept, IsPanel, IsRun, tick_of}
 use Rattle.panel_rules.specs.Operations.{operations}
 use Rattle.retained_journal.specs.declared.journal.Journal.{Journal}
 use Rattle.panel_node.specs.declared.node.Node.{Node}
 use Rattle.panel_node.specs.Keeping.{TellsOwnEntries}
 use Rattle.panel_node.specs.Stands.{NodeStandsFor}
-use Rattle.panel_node.specs.Told.{own_word, told_by_frames}
+use Rattle.panel_node.specs.Told.{word_of_itself, told_by_frames}
 use Rattle.panel_node.proofs.Next.{own_stays, stands_next}
 use Rattle.panel_node.proofs.OwnEvents.{others_quiet}
 
@@ -149,7 +149,7 @@ module _ (site : Site) (panel : ℕ) (kept : Retained) (history : List NodeMomen
       → NodeStandsFor site panel kept (Befell (Kept failed) ∷ history) (record node { desk = desk; counts = counts })
   stands_kept failed desk counts desks counted =
       stands_next site panel kept history node h (Kept failed) refl h.events h.own_events node.parts node.words
-      (own_word site kept (applied site kept before) panel history before) desk counts
+      (word_of_itself site kept (applied site kept before) panel history before) desk counts
       (after_keep site kept (applied site kept before) told panel failed before node.parts h.parts)
       (own_stays site kept (applied site kept before) panel (Kept failed) history refl) h.words desks counted
 

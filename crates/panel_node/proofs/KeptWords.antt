@@ -1,10 +1,10 @@
 -- The words that a panel keeps, by the order in which they came.
-use Rattle.std.proofs.Common.{◌≡◌, ◌==◌, ◌≤◌, ◌∙◌, ℕ, Bool, true, false, List, [], ◌∷◌, if◌then◌else◌, refl, sym, ap}
+use Rattle.std.proofs.Common.{◌≡◌, ◌==◌, ◌∙◌, ℕ, Bool, true, false, List, [], ◌∷◌, if◌then◌else◌, refl}
 use Rattle.site_types.specs.declared.word.Word.{Word}
 use Rattle.site_types.specs.Words.{empty_word}
 use Rattle.kept_words.specs.declared.kept_words.KeptWords.{KeptWords}
 use Rattle.kept_words.specs.Arrivals.{Arrival, Came, Made, framed_word, has_word_of, word_kept}
-use Rattle.kept_words.specs.Stands.{KeepsArrived, word_stored}
+use Rattle.kept_words.specs.Stands.{KeepsArrived}
 use Rattle.panel_links.specs.declared.frame.Frame.{Frame}
 use Rattle.panel_links.specs.Kept.{newest}
 

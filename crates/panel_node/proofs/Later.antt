@@ -15,14 +15,14 @@ use Rattle.panel_parts.specs.Stands.{AgreeBefore}
 use Rattle.panel_parts.proofs.Later.{past_tail}
 use Rattle.panel_rules.specs.Moments.{Moment, IsPast, before_turn, tick_of}
 use Rattle.panel_rules.proofs.Turns.{before_past, tick_rises}
-use Rattle.panel_node.specs.Told.{own_word, told_by_frames, words_by_frames}
+use Rattle.panel_node.specs.Told.{word_of_itself, told_by_frames, words_by_frames}
 
 pub done_from_tick : (tick : ℕ) (ds : List Done) → AreFrom tick ds → AreDoneFrom tick ds
 done_from_tick tick [] from = tt
 done_from_tick tick (d ∷ ds) from = (from.0, done_from_tick tick ds from.1)
 
 module _ (site : Site) (kept : Retained) (panel : ℕ) (history : List NodeMoment) (new old : List Done) (tick : ℕ) (from : AreDoneFrom tick new) where
-  pub own_later : (b : List Moment) → tick_of b ≤ tick → own_word site kept (new ++ old) panel history b ≡ own_word site kept old panel history b
+  pub own_later : (b : List Moment) → tick_of b ≤ tick → word_of_itself site kept (new ++ old) panel history b ≡ word_of_itself site kept old panel history b
   own_later b by =
       (handed_stays site kept panel (node_words site panel history) (node_up site panel history)).word tick new old (before_turn panel Link b) from
       (let rises = tick_rises (before_turn panel Link b) b (before_past panel Link b) in omega (arith, rises, by))

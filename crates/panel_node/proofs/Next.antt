@@ -32,7 +32,7 @@ use Rattle.panel_rules.specs.Words.{word_made}
 use Rattle.panel_node.specs.declared.node.Node.{Node}
 use Rattle.panel_node.specs.Seats.{AreOwnEvents}
 use Rattle.panel_node.specs.Stands.{NodeStandsFor}
-use Rattle.panel_node.specs.Told.{arrived, own_word, told_by_frames}
+use Rattle.panel_node.specs.Told.{arrived, word_of_itself, told_by_frames}
 use Rattle.panel_node.proofs.Desks.{desk_idle, desk_left}
 use Rattle.panel_node.proofs.Histories.{agree_moment, own_moment}
 use Rattle.panel_node.proofs.OwnEvents.{none_asked}
@@ -40,7 +40,7 @@ use Rattle.panel_node.proofs.OwnEvents.{none_asked}
 -- a moment that isn't the panel's turn of Link leaves the word that it keeps of itself
 pub own_stays : (site : Site) (kept : Retained) (done : List Done) (panel : ℕ) (moment : Moment) (history : List NodeMoment)
     → before_turn panel Link (moment ∷ befallen history) ≡ before_turn panel Link (befallen history)
-    → own_word site kept done panel history (befallen history) ≡ own_word site kept done panel (Befell moment ∷ history) (moment ∷ befallen history)
+    → word_of_itself site kept done panel history (befallen history) ≡ word_of_itself site kept done panel (Befell moment ∷ history) (moment ∷ befallen history)
 own_stays site kept done panel moment history turn =
     own_moment site kept done panel moment history
     ∙ ap (λ b. word_made site kept done (λ source. own_tells site kept done panel (node_words site panel (Befell moment ∷ history)) (node_up site panel (Befell moment
@@ -64,7 +64,7 @@ module _ (site : Site) (panel : ℕ) (kept : Retained) (history : List NodeMomen
         (stands_alike site kept done (told_by_frames site kept done panel history) (told_by_frames site kept done panel (Befell moment ∷ history)) panel
         (moment ∷ before) parts (agree_moment site kept done panel moment history) stands)
 
-    words_more : (words : KeptWords) (own : Word) → own ≡ own_word site kept done panel (Befell moment ∷ history) (moment ∷ before)
+    words_more : (words : KeptWords) (own : Word) → own ≡ word_of_itself site kept done panel (Befell moment ∷ history) (moment ∷ before)
         → KeepsArrived site.panels panel (Made own ∷ frames_in history) words
         → KeepsArrived site.panels panel (arrived site kept (applied site kept (moment ∷ before)) panel (Befell moment ∷ history)) words
     words_more words own is keeps =
@@ -73,7 +73,7 @@ module _ (site : Site) (panel : ℕ) (kept : Retained) (history : List NodeMomen
 
     pub stands_next : (parts : Parts) (words : KeptWords) (own : Word) (desk : Desk) (counts : KeptCounts)
         → PanelStands site kept done (told_by_frames site kept done panel history) panel (moment ∷ before) parts
-        → own ≡ own_word site kept done panel (Befell moment ∷ history) (moment ∷ before)
+        → own ≡ word_of_itself site kept done panel (Befell moment ∷ history) (moment ∷ before)
         → KeepsArrived site.panels panel (Made own ∷ frames_in history) words → DesksFor site kept (moment ∷ before) desk
         → CountsFor site kept (moment ∷ before) counts
         → NodeStandsFor site panel kept (Befell moment ∷ history) (record node { parts = parts; words = words; desk = desk; counts = counts })
@@ -100,7 +100,7 @@ module _ (site : Site) (panel : ℕ) (kept : Retained) (history : List NodeMomen
         → PanelStands site kept done (told_by_frames site kept done panel history) panel (moment ∷ before) parts → DesksFor site kept (moment ∷ before) desk
         → NodeStandsFor site panel kept (Befell moment ∷ history) (record node { parts = parts; desk = desk })
     stands_further parts desk other turn stands desks =
-        stands_next parts node.words (own_word site kept done panel history before) desk node.counts stands
+        stands_next parts node.words (word_of_itself site kept done panel history before) desk node.counts stands
         (own_stays site kept done panel moment history turn) h.words desks (counts_stay site kept before moment node.counts other h.counts)
 
   -- a turn that only the parts of the panel make

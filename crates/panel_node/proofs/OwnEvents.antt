@@ -1,6 +1,5 @@
 -- Where each event was the panel's own, nothing befell the others: no report came on a point of theirs, and nothing was asked for at them.
-use Rattle.std.proofs.Common.{◌≡◌, ◌≢◌, ◌∙◌, ◌==◌, ◌&&◌, ◌++◌, ℕ, Bool, true, false, List, [], ◌∷◌, Option, Some, None, filter, if◌then◌else◌, refl, sym, ap, slice_get}
-use Rattle.std.specs.Prelude.{option_map}
+use Rattle.std.proofs.Common.{◌≡◌, ◌≢◌, ◌∙◌, ◌==◌, ◌&&◌, ◌++◌, ℕ, Bool, true, false, List, [], ◌∷◌, Option, Some, None, filter, if◌then◌else◌, refl, sym, slice_get}
 use Rattle.std.proofs.lemmas.Bool.{eqb-true, ne_eqb}
 use Rattle.site_types.specs.declared.event.Event.{Event}
 use Rattle.site_types.specs.declared.event.Event.TheVariants.{Point, Cable, Supply, Link, Confirmed, Op}
@@ -9,7 +8,7 @@ use Rattle.site_types.specs.declared.site.Site.{Site}
 use Rattle.node_inputs.specs.OwnEvents.{is_event_of, is_point_of}
 use Rattle.node_rules.specs.QuietPanels.{HasQuietPoints, IsElsewhere}
 use Rattle.panel_rules.specs.Moments.{Moment, Began, Happened, Turned, Kept, tick_of}
-use Rattle.panel_rules.specs.Operations.{Request, and_request, request_of, requests, requests_in}
+use Rattle.panel_rules.specs.Operations.{Request, and_request, requests, requests_in}
 use Rattle.panel_rules.specs.Reports.{is_on_panel}
 use Rattle.panel_node.specs.Seats.{AreOwnEvents}
 

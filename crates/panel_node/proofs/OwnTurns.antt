@@ -1,9 +1,9 @@
 -- A turn of a task of the panel: when its parts and its desk may have it, and what it makes of the panel.
-use Rattle.std.proofs.Common.{◌≡◌, ◌≢◌, ◌-◌, ◌∙◌, ◌≤◌, ℕ, List, ◌∷◌, inl, inr, refl, sym, ap, subst, arith}
+use Rattle.std.proofs.Common.{◌≡◌, ◌≢◌, ◌-◌, ◌∙◌, ◌≤◌, ℕ, List, ◌∷◌, inl, inr, refl, ap, arith}
 use Rattle.std.specs.Prelude.{slice_index}
 use Rattle.tick_units.specs.declared.task.Task.{Task}
 use Rattle.tick_units.specs.Ticks.{last_tick}
-use Rattle.tick_units.specs.declared.task.Task.TheVariants.{Desk as DeskTask, Link, Effect, Drive, Hold}
+use Rattle.tick_units.specs.declared.task.Task.TheVariants.{Desk as DeskTask, Link, Effect, Drive}
 use Rattle.site_types.specs.declared.retained.Retained.{Retained}
 use Rattle.site_types.specs.declared.site.Site.{Site}
 use Rattle.site_types.specs.declared.word.Word.{Word}
@@ -33,7 +33,7 @@ use Rattle.panel_rules.specs.Moments.{Moment, Turned, IsRun, tick_of}
 use Rattle.panel_node.specs.declared.node.Node.{Node}
 use Rattle.panel_node.specs.Changes.{MakesTurn}
 use Rattle.panel_node.specs.Stands.{MayTurn, NodeStandsFor}
-use Rattle.panel_node.specs.Told.{arrived, own_word, told_by_frames}
+use Rattle.panel_node.specs.Told.{arrived, word_of_itself, told_by_frames}
 use Rattle.panel_node.proofs.Desks.{desk_left}
 use Rattle.panel_node.proofs.KeptWords.{made_again}
 use Rattle.panel_node.proofs.Next.{stands_further, stands_next, stands_turned}
@@ -96,7 +96,7 @@ module _ (site : Site) (panel : ℕ) (kept : Retained) (history : List NodeMomen
       (after_elsewhere site kept (applied site kept before) told panel panel before node.parts Link (inr (inl refl)) h.parts)
       (is ∙ word_by_told site kept (applied site kept before) told panel before h.valid h.parts.member run
       ∙ own_at_link site kept (applied site kept before) panel history)
-      (made_again site.panels panel words (frames_in history) word (own_word site kept (applied site kept before) panel history before)
+      (made_again site.panels panel words (frames_in history) word (word_of_itself site kept (applied site kept before) panel history before)
       (hears site.panels panel (arrived site kept (applied site kept before) panel history) h.words))
       (desk_left site kept before node.desk panel h.desk Link (λ e. cc))
       (counts_stay site kept before (Turned panel Link) node.counts (λ e. cc) h.counts)

@@ -1,18 +1,16 @@
 -- The turns of all seats of a site in canonical order, of which a panel by itself makes its own and Keep's.
-use Rattle.std.proofs.Common.{◌≡◌, ◌≢◌, ◌∙◌, ◌+◌, ◌-◌, ◌<◌, ◌≤◌, ◌++◌, ℕ, zero, suc, Bool, true, false, List, [], ◌∷◌, length, inl, inr, refl, sym, ap, subst, arith, append_assoc}
+use Rattle.std.proofs.Common.{◌≡◌, ◌≢◌, ◌∙◌, ◌<◌, ◌++◌, ℕ, zero, suc, Bool, false, List, [], ◌∷◌, inl, inr, refl, sym, ap, subst, arith, append_assoc}
 use Rattle.std.specs.List.{AllByRecursion}
 use Rattle.std.proofs.lemmas.Bool.Decides.{eqb_tells}
 use Rattle.tick_units.specs.declared.seat.Seat.{Seat}
 use Rattle.tick_units.specs.declared.task.Task.TheVariants.{Keep}
 use Rattle.tick_units.specs.Orders.{canonical_seats, keep_seat, panel_seats, seats_of_panels}
-use Rattle.tick_units.specs.Ticks.{last_tick}
 use Rattle.site_types.specs.declared.retained.Retained.{Retained}
 use Rattle.site_types.specs.declared.site.Site.{Site}
 use Rattle.node_rules.specs.Histories.{Befell, NodeMoment, befallen}
 use Rattle.panel_core.specs.Changes.{AreOfPanels}
-use Rattle.panel_core.proofs.Orders.{before_turns, same_turns, turn_is, turns_tick}
-use Rattle.panel_rules.specs.Moments.{Moment, Turned, Kept, IsPanel, IsRun, and_turns, tick_of, turn_of}
-use Rattle.panel_rules.proofs.RecordRuns.{turns-append}
+use Rattle.panel_core.proofs.Orders.{before_turns, turn_is, turns_tick}
+use Rattle.panel_rules.specs.Moments.{Kept, IsPanel, IsRun, and_turns, tick_of, turn_of}
 use Rattle.panel_node.specs.declared.node.Node.{Node}
 use Rattle.panel_node.specs.Seats.{and_seats}
 use Rattle.panel_node.specs.Stands.{NodeStandsFor}

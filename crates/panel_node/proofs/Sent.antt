@@ -1,5 +1,5 @@
 -- What a panel by itself hands to its neighbours.
-use Rattle.std.proofs.Common.{◌≡◌, ◌≤◌, ◌<◌, ◌^◌, ◌==◌, ◌∙◌, ℕ, true, List, if◌then◌else◌, refl, sym, ap, subst, arith, lit<}
+use Rattle.std.proofs.Common.{◌≡◌, ◌≤◌, ◌<◌, ◌^◌, ◌==◌, ◌∙◌, ℕ, true, List, if◌then◌else◌, sym, ap, subst, arith, lit<}
 use Rattle.tick_units.specs.Ticks.{last_tick}
 use Rattle.site_types.specs.declared.retained.Retained.{Retained}
 use Rattle.site_types.specs.declared.site.Site.{Site}

@@ -1,5 +1,5 @@
 -- What a panel is handed before its first so many moments alone goes into what it makes of them.
-use Rattle.std.proofs.Common.{◌≡◌, ◌≤◌, ◌<◌, ◌==◌, ◌&&◌, ℕ, zero, suc, Bool, List, [], ◌∷◌, length, if◌then◌else◌, refl, ◌∙◌, ap, arith}
+use Rattle.std.proofs.Common.{◌≡◌, ◌≤◌, ◌<◌, ◌==◌, ℕ, zero, suc, Bool, List, [], ◌∷◌, length, if◌then◌else◌, refl, ◌∙◌, ap, arith}
 use Rattle.std.proofs.Math.Path.{fun_ext}
 use Rattle.tick_units.specs.declared.task.Task.TheVariants.{Link}
 use Rattle.site_types.specs.declared.retained.Retained.{Retained}

@@ -1,10 +1,8 @@
 -- The word that a panel by itself makes, and the one that it keeps of itself at its turn of Link.
-use Rattle.std.proofs.Common.{◌≡◌, ◌≤◌, ◌∙◌, ℕ, Bool, List, [], ◌∷◌, length, refl, sym, ap}
+use Rattle.std.proofs.Common.{◌≡◌, ◌∙◌, ℕ, List, [], ◌∷◌, refl, sym, ap}
 use Rattle.tick_units.specs.declared.task.Task.TheVariants.{Link}
-use Rattle.site_types.specs.declared.fault_set.FaultSet.{FaultSet}
 use Rattle.site_types.specs.declared.retained.Retained.{Retained}
 use Rattle.site_types.specs.declared.site.Site.{Site}
-use Rattle.site_types.specs.declared.word.Word.{Word}
 use Rattle.site_types.specs.Done.{Done}
 use Rattle.hold_calls.specs.Shown.{fault_told, faults_told, latest_faults, word_told}
 use Rattle.node_rules.specs.Handed.{faults_at_word, handed_faults, handed_word, own_tells, own_tells_to}
@@ -17,7 +15,7 @@ use Rattle.panel_rules.specs.Words.{word_made}
 use Rattle.panel_rules.proofs.FaultsTold.{past_short}
 use Rattle.panel_rules.proofs.KeptWords.{made_is}
 use Rattle.panel_rules.proofs.Turns.{own_turn}
-use Rattle.panel_node.specs.Told.{own_word, told_by_frames}
+use Rattle.panel_node.specs.Told.{word_of_itself, told_by_frames}
 use Rattle.panel_node.proofs.Histories.{word_moment}
 
 module _ (site : Site) (kept : Retained) (done : List Done) (panel : ℕ) (history : List NodeMoment) where
@@ -50,7 +48,7 @@ module _ (site : Site) (kept : Retained) (done : List Done) (panel : ℕ) (histo
 
   -- the word that it keeps of itself is the latest that it had made at its turn of Link
   pub own_at_link : word_told site kept done (told_by_frames site kept done panel history) panel (befallen history)
-      ≡ own_word site kept done panel (Befell (Turned panel Link) ∷ history) (Turned panel Link ∷ befallen history)
+      ≡ word_of_itself site kept done panel (Befell (Turned panel Link) ∷ history) (Turned panel Link ∷ befallen history)
   own_at_link =
       word_handed (befallen history)
       ∙ word_moment site kept done panel (Turned panel Link) history (made_at panel (befallen history))

@@ -52,7 +52,7 @@ MakesOwnTurns old node =
     → NodeStandsFor site panel kept (and_seats false (panel_seats panel) history) node
 
 -- all but its parts and settings is as it was
-pub record HasSameRest (old node : Node) : Type 0 where
+pub record LeavesTheRest (old node : Node) : Type 0 where
   pub site : node.site ≡ old.site
   pub plan : node.plan ≡ old.plan
   pub digest : node.digest ≡ old.digest

@@ -15,15 +15,15 @@ use Rattle.panel_conditions.specs.Shown.{entries_after}
 use Rattle.panel_core.specs.Keeping.{KeepsRun, before_keep, has_failed, store_of}
 use Rattle.panel_core.specs.PowerCuts.{OpensToFront, OpensToFrontOr}
 use Rattle.panel_rules.specs.Batches.{batch, kept_after}
-use Rattle.panel_rules.specs.Moments.{Moment, Kept, IsPanel, IsRun, and_turns, tick_of}
+use Rattle.panel_rules.specs.Moments.{Moment, Kept, IsRun, and_turns, tick_of}
 use Rattle.panel_rules.specs.Storing.{keep_answer}
 use Rattle.panel_node.specs.declared.node.Node.{Node}
 use Rattle.panel_node.specs.Seats.{and_seats}
 use Rattle.panel_node.specs.Stands.{NodeStandsFor}
 
--- the moments of a history with the turns of all seats in canonical order, Keep answering so
-abbrev pub turned : Site → List NodeMoment → List Moment
-turned site history = and_turns false (canonical_seats site.panels) (befallen history)
+-- what befell with the turns of all seats in canonical order, of which Keep's didn't fail
+abbrev pub and_all_turns : Site → List NodeMoment → List Moment
+and_all_turns site history = and_turns false (canonical_seats site.panels) (befallen history)
 
 -- after a turn of Keep that answered so
 pub record NodeHasTurned (site : Site) (panel : ℕ) (kept : Retained) (history : List NodeMoment) (store : Store)
@@ -102,7 +102,7 @@ pub record MayTurnAll (journal : Journal) (node : Node) : Type 0 where
   pub history : List NodeMoment
   pub stands : NodeStandsFor site panel kept history node
   pub keeps : KeepsRun site kept (befallen history) journal
-  pub run : IsRun site.panels (turned site history)
+  pub run : IsRun site.panels (and_all_turns site history)
   pub few : tick_of (befallen history) ≤ last_tick
   pub tried : journal.tried ≤ last_tick
 
@@ -111,7 +111,7 @@ abbrev pub MakesAllTurns : Node → Journal → Store → Journal → Node → T
 MakesAllTurns old journal store journal' node =
     (site : Site) (panel : ℕ) (kept : Retained) (history : List NodeMoment)
     → NodeStandsFor site panel kept history old → KeepsRun site kept (befallen history) journal
-    → IsRun site.panels (turned site history) → tick_of (befallen history) ≤ last_tick
+    → IsRun site.panels (and_all_turns site history) → tick_of (befallen history) ≤ last_tick
     → NodeHasTurned site panel kept (and_seats (has_failed store) (canonical_seats site.panels) history) store
     journal' node
 
@@ -131,15 +131,15 @@ module _ {D : Type 0} (moment : D → ℕ) (left_since : D → ℕ → List ℕ 
   LeavesInTurns node journal =
       (site : Site) (panel : ℕ) (kept : Retained) (history : List NodeMoment)
       → NodeStandsFor site panel kept history node → KeepsRun site kept (befallen history) journal
-      → IsRun site.panels (turned site history) → tick_of (befallen history) ≤ last_tick → HasRoomForTwo journal
+      → IsRun site.panels (and_all_turns site history) → tick_of (befallen history) ≤ last_tick → HasRoomForTwo journal
       → LeavesOnly moment left_since old new (OpensToFrontOr site kept journal.digest (befallen history)
-      (batch site kept (before_keep (turned site history))))
+      (batch site kept (before_keep (and_all_turns site history))))
 
 -- after the turns of a tick, of which Keep's answered so, a power cut leaves a file that opens to a front of the run
 abbrev pub LeavesAfterTurns : (List ℕ → Type 0) → Node → Journal → Store → Type 0
 LeavesAfterTurns images node journal store =
     (site : Site) (panel : ℕ) (kept : Retained) (history : List NodeMoment) (file : List ℕ)
     → NodeStandsFor site panel kept history node → KeepsRun site kept (befallen history) journal
-    → IsRun site.panels (turned site history) → tick_of (befallen history) ≤ last_tick → images file
+    → IsRun site.panels (and_all_turns site history) → tick_of (befallen history) ≤ last_tick → images file
     → OpensToFront site kept journal.digest
     (and_turns (has_failed store) (canonical_seats site.panels) (befallen history)) file

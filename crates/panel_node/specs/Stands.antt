@@ -22,7 +22,7 @@ use Rattle.panel_links.specs.declared.frame.Frame.{Frame}
 use Rattle.panel_parts.specs.Applied.{MayBeApplied, applied, done_so_far}
 use Rattle.panel_parts.specs.Entries.{CountsFor}
 use Rattle.panel_parts.specs.Stands.{HasPlan, PanelStands}
-use Rattle.panel_rules.specs.Moments.{Moment, Began, Turned, IsPanel, IsRun, and_turns, tick_of}
+use Rattle.panel_rules.specs.Moments.{Began, Turned, IsRun, and_turns, tick_of}
 use Rattle.panel_rules.specs.Operations.{requests}
 use Rattle.settings_shown.specs.Shown.{HasNoStrangeBits}
 use Rattle.panel_node.specs.declared.node.Node.{Node}
@@ -126,7 +126,7 @@ pub record MayTurnOwn (node : Node) : Type 0 where
   pub few : tick_of (befallen history) ≤ last_tick
 
 -- it stands for some history
-pub record StandsForSome (node : Node) : Type 0 where
+pub record StandsForHistory (node : Node) : Type 0 where
   pub site : Site
   pub panel : ℕ
   pub kept : Retained

@@ -13,8 +13,8 @@ use Rattle.node_rules.specs.Nodes.{node_up, node_words}
 
 module _ (site : Site) (kept : Retained) (done : List Done) (panel : ℕ) (history : List NodeMoment) where
   -- the word that it keeps of itself at a turn made now: the latest that it had made at its latest turn of Link
-  abbrev pub own_word : List Moment → Word
-  own_word =
+  abbrev pub word_of_itself : List Moment → Word
+  word_of_itself =
       own_kept site kept done panel (node_words site panel history) (node_up site panel history)
       (own_tells site kept done panel (node_words site panel history) (node_up site panel history))
 
@@ -35,4 +35,4 @@ module _ (site : Site) (kept : Retained) (done : List Done) (panel : ℕ) (histo
 
   -- what its words come from: the frames that came, and then the word that it keeps of itself
   abbrev pub arrived : List Arrival
-  arrived = Made (own_word (befallen history)) ∷ frames_in history
+  arrived = Made (word_of_itself (befallen history)) ∷ frames_in history

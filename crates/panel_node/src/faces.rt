@@ -6,13 +6,13 @@ use site_types::Word;
 
 impl Node {
     ghost use Rattle.panel_node.specs.Shown.{SendsFrame, ShowsFace, ShowsWord, ShowsZones, StaysInGrammar};
-    ghost use Rattle.panel_node.specs.Stands.{StandsForSome};
+    ghost use Rattle.panel_node.specs.Stands.{StandsForHistory};
     ghost use Rattle.panel_rules.specs.Moments.{IsPanel};
 
     /// What the panel shows: its own zones, those of the other panels by the newest words that came, its faults, its
     /// outputs, the settings in force at it, its buzzer and its counter.
     pub fn face(&self) -> Face
-        requires { StandsForSome self.now }
+        requires { StandsForHistory self.now }
         ensures shown { ShowsFace self.now result }
     {
         let (alarms, firsts) = self.zones_shown();
@@ -38,7 +38,7 @@ impl Node {
 
     // The zones of each panel that the panel shows in alarm, and those in first state.
     fn zones_shown(&self) -> ([u32; 8], [u32; 8])
-        requires { StandsForSome self.now }
+        requires { StandsForHistory self.now }
         ensures { ShowsZones self.now result.0 result.1 }
     {
         let mut alarms = [0; 8];
@@ -53,7 +53,7 @@ impl Node {
 
     // The word of a panel by which its zones are shown: of its own the latest, of others the newest that came.
     fn word_shown(&self, source: u8) -> Word
-        requires some { StandsForSome self.now }
+        requires some { StandsForHistory self.now }
         requires source { IsPanel self.now.site.panels source }
         ensures { ShowsWord self.now source result }
     {

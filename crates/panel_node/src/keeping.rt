@@ -13,7 +13,7 @@ use retained_journal::{Batch, Journal};
 impl Node {
     ghost use Rattle.panel_node.specs.Keeping.{IsLeftBatch, KeepsTurn, LeavesWithBatch, MayKeep, MayMakeBatch};
     ghost use Rattle.panel_node.specs.Keeping.{MayNoteKept, NotesKept, TellsOwnEntries};
-    ghost use Rattle.panel_node.specs.Stands.{StandsForSome};
+    ghost use Rattle.panel_node.specs.Stands.{StandsForHistory};
 
     // Keep has its turn: what isn't kept yet is committed, and the operations that wait get their answers.
     pub(crate) fn keep<D: Disk>(&mut self, journal: &mut Journal, disk: &mut D) -> Store
@@ -42,7 +42,7 @@ impl Node {
 
     // How often each panel entered the fire alarm condition since opening: the others never did.
     fn entries(&self) -> [u64; 8]
-        requires { StandsForSome self.now }
+        requires { StandsForHistory self.now }
         ensures { TellsOwnEntries self.now result }
     {
         let mut entries = [0; 8];

@@ -6,10 +6,10 @@
 //! [`Node::face`] is what the panel then shows, [`Node::frame`] what it hands to its neighbours and [`Node::answers`]
 //! what it answered in the tick: all are those that `node_rules` computes from the history.
 //!
-//! The parts of the panel are those of a panel in the ring of `panel_core`. What they are told from elsewhere comes from
-//! the words that a `KeptWords` keeps: Effect goes by the facts that these tell, Hold by how old they are and by the
-//! frames that came of late, and Link keeps the panel's own latest word. Turns of the other panels change nothing here,
-//! as nothing befalls them. Keep commits to the panel's own journal, as in the ring.
+//! The parts of the panel are those of a panel in the ring of `panel_core`. What they are told from elsewhere comes
+//! from the words that a `KeptWords` keeps: Effect goes by the facts that these tell, Hold by how old they are and by
+//! the frames that came of late, and Link keeps the panel's own latest word. Turns of the other panels change nothing
+//! here, as nothing befalls them. Keep commits to the panel's own journal, as in the ring.
 //!
 //! [`Node::open`] alone takes memory. A tick costs one turn of each of the panel's tasks, a frame four comparisons.
 #![tactic(auto)]

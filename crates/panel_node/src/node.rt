@@ -1,4 +1,4 @@
-ghost use Rattle.std.specs.Prelude.{◌≡◌, [], List, IfOk};
+ghost use Rattle.std.specs.Prelude.{◌≡◌, ℕ, [], List, IfOk};
 ghost use Rattle.site_types.specs.declared.retained.Retained.{Retained as RetainedOf};
 ghost use Rattle.site_types.specs.declared.site.Site.{Site as SiteOf};
 ghost use Rattle.site_types.specs.Changes.{IsSized};
@@ -39,7 +39,8 @@ pub struct Node {
 
 impl Node {
     ghost use Rattle.operation_desk.specs.Requests.{done_from};
-    ghost use Rattle.panel_node.specs.Changes.{AppliesAll, AppliesOne, BeginsTick, HasSameRest, TakesEvent, TakesFrame};
+    ghost use Rattle.panel_node.specs.Changes.{AppliesAll, AppliesOne, BeginsTick, LeavesTheRest, TakesEvent};
+    ghost use Rattle.panel_node.specs.Changes.{TakesFrame};
     ghost use Rattle.panel_node.specs.Shown.{AnswersAsRuled};
     ghost use Rattle.panel_node.specs.Stands.{MayApply, MayBegin, MayHappen, MayReceive, NodeStandsFor};
 
@@ -100,7 +101,10 @@ impl Node {
         match *event {
             Event::Point { point, state } => self.parts.set_point(point, state),
             Event::Cable {
-                line, piece, state, ..
+                line,
+                piece,
+                state,
+                ..
             } => self.parts.set_piece(line, piece, state),
             Event::Supply { kind, bad, .. } => self.parts.set_supply(kind, bad),
             Event::Confirmed { output } => {
@@ -125,7 +129,7 @@ impl Node {
     fn apply_done(&mut self)
         requires { MayBegin self.old }
         ensures applied { AppliesAll self.old self.new }
-        ensures same { HasSameRest self.old self.new }
+        ensures same { LeavesTheRest self.old self.new }
     {
         for place in 0..self.desk.done().len() {
             let done = self.desk.done()[place];
@@ -137,7 +141,7 @@ impl Node {
     fn apply(&mut self, done: &DoneOperation)
         requires { MayApply (done_from self.old.tick.0 done.now) self.old }
         ensures applied { AppliesOne self.old (done_from self.old.tick.0 done.now) self.new }
-        ensures same { HasSameRest self.old self.new }
+        ensures same { LeavesTheRest self.old self.new }
     {
         self.parts.apply(self.panel, done, self.tick);
         if let Some(change) = self.site.change_of(done.panel, &done.operation) {

@@ -1,8 +1,5 @@
-use Rattle.std.proofs.Common.{◌≤◌, subst}
-use Rattle.tick_units.specs.Ticks.{last_tick}
 use Rattle.node_rules.specs.Histories.{befallen}
 use Rattle.panel_parts.specs.Applied.{applied}
-use Rattle.panel_rules.specs.Moments.{tick_of}
 use Rattle.panel_node.specs.Told.{arrived}
 use Rattle.panel_node.proofs.Elsewhere.{facts_told, words_framed}
 use Rattle.panel_node.proofs.OwnTurns.{effect_turned, few_here}

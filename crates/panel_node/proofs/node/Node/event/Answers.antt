@@ -1,7 +1,5 @@
-use Rattle.std.proofs.Common.{◌∙◌, length, refl, sym, ap, subst}
+use Rattle.std.proofs.Common.{◌∙◌, length, sym, ap}
 use Rattle.site_types.specs.declared.site.Site.{Site}
-use Rattle.site_types.specs.Events.{has_event}
-use Rattle.site_types.specs.declared.event.Event.TheVariants.{Confirmed, Op}
 use Rattle.node_inputs.specs.OwnEvents.{is_event_of}
 use Rattle.panel_core.proofs.Events.{piece_read}
 use Rattle.panel_node.proofs.Events.{desk_heard, desk_may_hear, may_here, output_inside, read_output, stands_confirmed, stands_other, stands_piece, stands_point}

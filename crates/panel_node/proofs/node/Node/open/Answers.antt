@@ -1,5 +1,4 @@
 use Rattle.std.proofs.Common.{[], refl}
-use Rattle.site_types.specs.Done.{Done}
 use Rattle.panel_node.specs.Told.{told_by_frames}
 use Rattle.panel_node.proofs.KeptWords.{at_first}
 use Rattle.panel_node.proofs.node.Node.open.Goals as goal
