@@ -84,7 +84,7 @@ none_before_ticks panels (Kept failed ∷ before) run e =
 
 module _ (site : Site) (kept : Retained) (done : List Done) (told : ℕ → List Moment → Bool) (panel : ℕ) (member : IsPanel site.panels panel) where
   -- a word that the panel made
-  made_ok : (word : List Moment) → IsRun site.panels word → tick_of word < 2 ^ 64 → IsWord site panel (word_made site kept done told panel word)
+  pub made_ok : (word : List Moment) → IsRun site.panels word → tick_of word < 2 ^ 64 → IsWord site panel (word_made site kept done told panel word)
   made_ok [] run few = no_word site panel
   made_ok (turn ∷ before) run few = record {
     absent = λ beyond. absurd (omega (arith, beyond, member.1));
@@ -109,7 +109,7 @@ module _ (site : Site) (panel source : ℕ) (first : 1 ≤ source) where
       let at : 4 * frame.group + 1 + (source - 1) % 4 ≡ source = omega (arith, group, first) in
       subst (λ n. IsWord site n (framed_word source frame)) at (h.words ((source - 1) % 4) (omega arith))
 
-  came_ok : (history : List NodeMoment) → AreFramesTo site panel history → IsWord site source (word_kept panel source (frames_in history))
+  pub came_ok : (history : List NodeMoment) → AreFramesTo site panel history → IsWord site source (word_kept panel source (frames_in history))
   came_ok [] all = no_word site source
   came_ok (Befell moment ∷ before) all = came_ok before all
   came_ok (FrameCame frame ∷ before) all =
