@@ -2,6 +2,7 @@
 //!
 //! Begin with [`keep_turn`]. Its answer, [`Store`], says whether there was nothing to commit, whether the batch is
 //! kept, or whether a call of the disk failed. One failure makes no later one: the next turn mends first.
+//! [`idle_turn`] is the turn with nothing to commit.
 //!
 //! It takes no memory.
 #![tactic(auto)]
@@ -10,4 +11,4 @@ mod store;
 mod turn;
 
 pub use store::Store;
-pub use turn::keep_turn;
+pub use turn::{idle_turn, keep_turn};

@@ -1,9 +1,9 @@
-ghost use Rattle.std.specs.Prelude.{◌≡◌, ◌≢◌, ◌≤◌, ◌↔◌};
+ghost use Rattle.std.specs.Prelude.{◌≢◌, ◌≤◌, ◌↔◌, []};
 ghost use Rattle.panel_edges.specs.Crashes.{LeavesOnly};
 ghost use Rattle.tick_units.specs.Ticks.{last_tick};
 ghost use Rattle.retained_journal.specs.Images.{HasRoom, HasRoomForTwo, IsEarly, MayLeaveOr, Stands};
 ghost use Rattle.retained_journal.specs.Outcomes.{EachMayBeLeft, EachOpens};
-ghost use Rattle.keep_turn.specs.Turns.{AnswersTurn, FailsByItsDisk, MayCommit, TriesAtMostOnce};
+ghost use Rattle.keep_turn.specs.Turns.{AnswersTurn, FailsByItsDisk, MakesTurn, MayCommit, TriesAtMostOnce};
 
 use crate::store::Store;
 use panel_edges::Disk;
@@ -31,14 +31,23 @@ pub fn keep_turn<D: Disk>(journal: &mut Journal, disk: &mut D, batch: &Batch) ->
     ensures cause { FailsByItsDisk (D.faults disk.old) (D.faults disk.new) result }
 {
     if batch.is_empty() {
-        match journal.mend(disk) {
-            Ok(()) => Store::Idle,
-            Err(_) => Store::Failed,
-        }
+        idle_turn(journal, disk)
     } else {
         match journal.commit(disk, batch) {
             Ok(()) => Store::Kept,
             Err(_) => Store::Failed,
         }
+    }
+}
+
+/// The turn of Keep where nothing is to be kept.
+pub fn idle_turn<D: Disk>(journal: &mut Journal, disk: &mut D) -> Store
+    requires { Stands D.honest D.images disk.old journal.old }
+    ensures { MakesTurn D.honest D.images D.moment D.left_since D.faults disk.old disk.new
+        [] journal.old result journal.new }
+{
+    match journal.mend(disk) {
+        Ok(()) => Store::Idle,
+        Err(_) => Store::Failed,
     }
 }

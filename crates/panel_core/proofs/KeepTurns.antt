@@ -1,6 +1,8 @@
 -- A turn of Keep: what is left to keep is the batch of the rules, and what its answer makes of the journal and the system.
-use Rattle.std.proofs.Common.{◌≡◌, ◌≢◌, ℕ, zero, suc, ◌-◌, ◌<◌, ◌≤◌, List, [], ◌∷◌, length, Some, slice_get, Bool, true, false, inl, inr, refl, sym, ◌∙◌, ap, subst, arith}
-use Rattle.std.specs.Prelude.{slice_index}
+use Rattle.std.proofs.Common.{◌≡◌, ◌≢◌, ℕ, zero, suc, ◌+◌, ◌-◌, ◌<◌, ◌≤◌, List, [], ◌∷◌, ◌++◌, length, replicate, Some, slice_get, Bool, true, false, inl, inr, refl, sym, ◌∙◌, ap, subst, arith}
+use Rattle.std.specs.Prelude.{◌==◌, slice_index}
+use Rattle.std.specs.List.{flat_map, range_with_len}
+use Rattle.std.proofs.lemmas.Bool.{eqb-true}
 use Rattle.tick_units.specs.Ticks.{last_tick}
 use Rattle.site_types.specs.declared.change.Change.{Change}
 use Rattle.site_types.specs.declared.retained.Retained.{Retained}
@@ -8,10 +10,11 @@ use Rattle.site_types.specs.declared.site.Site.{Site}
 use Rattle.site_types.specs.Changes.{changed_by}
 use Rattle.retained_journal.specs.declared.journal.Journal.{Journal}
 use Rattle.retained_journal.proofs.Calls.{same_batch}
+use Rattle.retained_journal.proofs.NewFiles.{zeros_everywhere}
 use Rattle.keep_turn.specs.declared.store.Store.{Store}
 use Rattle.keep_turn.specs.declared.store.Store.TheVariants.{Idle, Kept as WasKept, Failed}
 use Rattle.keep_turn.specs.Turns.{AnswersTurn, MayCommit}
-use Rattle.keep_batch.specs.Making.{MayMake, batch_from}
+use Rattle.keep_batch.specs.Making.{MayMake, batch_from, count_from}
 use Rattle.keep_batch.specs.MakingLaws.{IsLeftToKeep}
 use Rattle.keep_batch.proofs.Committing.{batch_may_be_committed}
 use Rattle.keep_batch.proofs.Making.{batch_is, batch_may_be_made}
@@ -30,7 +33,7 @@ use Rattle.panel_parts.specs.declared.parts.Parts.{Parts}
 use Rattle.panel_core.specs.declared.system.System.{System}
 use Rattle.panel_parts.specs.Applied.{applied, done_so_far}
 use Rattle.panel_parts.specs.Entries.{AreLeft, CountsFor, TellsEntries}
-use Rattle.panel_core.specs.Keeping.{KeepsRun, MayKeep, MayMakeBatch, has_failed, store_of}
+use Rattle.panel_core.specs.Keeping.{KeepsRun, has_failed, store_of}
 use Rattle.panel_core.specs.PowerCuts.{IsLeftOver}
 use Rattle.panel_core.specs.Stands.{StandsFor}
 use Rattle.hold_calls.specs.Turns.{ring_turns}
@@ -88,6 +91,21 @@ module _ (site : Site) (kept : Retained) (before : List Moment) (system : System
   left_batch waiting same =
       ap (λ s. batch_from s left waiting) h.same ∙ batch_is site kept before left waiting (is_left waiting same)
 
+-- where no entries are left and no request waits, it is nothing
+pub none_left : (site : Site) (left : List ℕ) (waiting : List Request) → left ≡ replicate 8 0 → (length waiting == 0) ≡ true
+    → batch_from site left waiting ≡ []
+none_left site left (request ∷ waiting) none idle =
+    absurd (let some = eqb-true (length (request ∷ waiting)) 0 idle in omega (arith, some))
+none_left site left [] none idle = rw (none) (ap (λ xs. xs ++ []) (go 1 site.panels))
+  where
+    go : (first many : ℕ)
+        → flat_map (λ panel. count_from panel (slice_index (replicate 8 0) (panel - 1))) (range_with_len first many) ≡ []
+    go first zero = refl
+    go first (suc many) =
+        ap (λ xs. xs ++ flat_map (λ panel. count_from panel (slice_index (replicate 8 0) (panel - 1))) (range_with_len (first + 1) many))
+        (ap (count_from first) (zeros_everywhere 8 (first - 1)))
+        ∙ go (first + 1) many
+
 -- and the journal can keep it
 pub can_commit : (site : Site) (kept : Retained) (before : List Moment) (system : System) (journal : Journal) (changes : List Change)
     → StandsFor site kept before system → KeepsRun site kept before journal → IsRun site.panels before → changes ≡ batch site kept before
@@ -126,9 +144,6 @@ module _ (site : Site) (kept : Retained) (before : List Moment) (old new : Journ
         subst (IsLeftOver site kept (Kept true ∷ before)) (sym (same_batch old new same.1))
         (left_over_failed site kept old.attempt.items before (h same.0))
   ]
-
-pub can_make : (journal : Journal) (system : System) → MayKeep journal system → MayMakeBatch system
-can_make journal system may = record { site = may.site; kept = may.kept; before = may.before; stands = may.stands; run = may.run.0; few = may.few }
 
 -- ---- what is kept after it
 

@@ -4,13 +4,13 @@ use Rattle.panel_edges.specs.Crashes.{LeavesOnly}
 use Rattle.tick_units.specs.declared.seat.Seat.{Seat}
 use Rattle.tick_units.specs.Orders.{IsOrder}
 use Rattle.tick_units.specs.Ticks.{last_tick}
-use Rattle.site_types.specs.declared.change.Change.{Change}
 use Rattle.site_types.specs.declared.retained.Retained.{Retained}
 use Rattle.site_types.specs.declared.site.Site.{Site}
 use Rattle.retained_journal.specs.declared.journal.Journal.{Journal}
 use Rattle.retained_journal.specs.Images.{HasRoomForTwo, MayLeaveOr}
 use Rattle.keep_turn.specs.declared.store.Store.{Store}
 use Rattle.keep_turn.specs.declared.store.Store.TheVariants.{Idle, Kept as WasKept, Failed}
+use Rattle.keep_turn.specs.Turns.{MakesTurn}
 use Rattle.keep_batch.specs.MakingLaws.{is_wide}
 use Rattle.panel_rules.specs.Batches.{batch, kept_after}
 use Rattle.panel_rules.specs.Moments.{Moment, Began, Happened, Turned, Kept, IsRun, and_turns, tick_of}
@@ -51,22 +51,6 @@ pub record HasTurned (site : Site) (kept : Retained) (moments : List Moment) (st
   pub keeps : KeepsRun site kept moments journal
   pub answers : store ≡ store_of (keep_answer (has_failed store) (batch site kept (before_keep moments)))
 
--- the system stands for some run up to the last tick
-pub record MayMakeBatch (system : System) : Type 0 where
-  pub site : Site
-  pub kept : Retained
-  pub before : List Moment
-  pub stands : StandsFor site kept before system
-  pub run : IsRun site.panels before
-  pub few : tick_of before ≤ last_tick
-
--- what is left to keep is the batch of the rules
-abbrev pub IsLeftBatch : System → List Change → Type 0
-IsLeftBatch system changes =
-    (site : Site) (kept : Retained) (before : List Moment)
-    → StandsFor site kept before system → IsRun site.panels before → tick_of before ≤ last_tick
-    → changes ≡ batch site kept before
-
 -- Keep may have its turn, and answer so
 pub record MayNoteKept (store : Store) (system : System) : Type 0 where
   pub site : Site
@@ -102,6 +86,14 @@ KeepsTurn old journal store journal' system =
     → StandsFor site kept before old → KeepsRun site kept before journal
     → IsRun site.panels (Kept false ∷ before) → tick_of before ≤ last_tick
     → HasTurned site kept (Kept (has_failed store) ∷ before) store journal' system
+
+-- Keep had its turn with the batch of the rules, on a disk
+abbrev pub KeepsLeft : {D : Type 0} → (D → Type 0) → (D → List ℕ → Type 0) → (D → ℕ) → (D → ℕ → List ℕ → Type 0)
+    → (D → ℕ) → D → D → System → Journal → Store → Journal → Type 0
+KeepsLeft honest images moment left_since faults disk disk' system journal store journal' =
+    (site : Site) (kept : Retained) (before : List Moment)
+    → StandsFor site kept before system → IsRun site.panels before → tick_of before ≤ last_tick
+    → MakesTurn honest images moment left_since faults disk disk' (batch site kept before) journal store journal'
 
 -- each seat may have its turn, in this order, and the journal one commit more
 pub record MayTurnAll (order : List Seat) (journal : Journal) (system : System) : Type 0 where

@@ -5,15 +5,15 @@ ghost use Rattle.keep_turn.specs.Turns.{FailsByItsDisk, TriesAtMostOnce};
 
 use crate::system::System;
 use keep_batch::make_batch;
-use keep_turn::{Store, keep_turn};
+use keep_turn::{Store, idle_turn, keep_turn};
 use panel_edges::Disk;
 use panel_parts::{KeptCounts, entries_of};
-use retained_journal::{Batch, Journal};
+use retained_journal::Journal;
 
 impl System {
     ghost use Rattle.panel_parts.specs.Entries.{TellsEntries};
-    ghost use Rattle.panel_core.specs.Keeping.{IsLeftBatch, KeepsTurn, LeavesWithBatch, NotesKept};
-    ghost use Rattle.panel_core.specs.Keeping.{MayKeep, MayMakeBatch, MayNoteKept};
+    ghost use Rattle.panel_core.specs.Keeping.{KeepsLeft, KeepsTurn, LeavesWithBatch, MayKeep};
+    ghost use Rattle.panel_core.specs.Keeping.{MayNoteKept, NotesKept};
     ghost use Rattle.panel_core.specs.Marks.{MarksKept};
 
     // Keep has its turn: what isn't kept yet is committed, and the operations that wait get their answers.
@@ -35,8 +35,7 @@ impl System {
         ensures cause { FailsByItsDisk (D.faults disk.old) (D.faults disk.new) result }
     {
         let entries = entries_of(self.panels.as_slice());
-        let batch = self.left_batch(&entries);
-        let store = keep_turn(journal, disk, &batch);
+        let store = self.keep_left(&entries, journal, disk);
         let counters = self.counts.counters;
         self.note_kept(store, &entries, journal);
         let now_kept = self.counts.counters;
@@ -44,17 +43,21 @@ impl System {
         store
     }
 
-    // What is left to keep.
-    fn left_batch(&self, entries: &[u64; 8]) -> Batch
-        requires may { MayMakeBatch self.now }
+    // What is left to keep is committed.
+    fn keep_left<D: Disk>(&self, entries: &[u64; 8], journal: &mut Journal, disk: &mut D) -> Store
+        requires may { MayKeep journal.old self.now }
+        requires stands { Stands D.honest D.images disk.old journal.old }
         requires told { TellsEntries self.now.panels.items entries.now }
-        ensures { IsLeftBatch self.now result.items }
+        ensures { KeepsLeft D.honest D.images D.moment D.left_since D.faults disk.old disk.new
+            self.now journal.old result journal.new }
     {
-        make_batch(
-            &self.site,
-            &self.counts.left_of(entries),
-            self.desk.waiting(),
-        )
+        let left = self.counts.left_of(entries);
+        let waiting = self.desk.waiting();
+        if are_none(&left) && waiting.is_empty() {
+            idle_turn(journal, disk)
+        } else {
+            keep_turn(journal, disk, &make_batch(&self.site, &left, waiting))
+        }
     }
 
     // The operations that wait get their answers, and what is kept is noted unless Keep failed.
@@ -74,13 +77,19 @@ impl System {
     }
 }
 
-ghost use Rattle.std.specs.Prelude.{true};
+ghost use Rattle.std.specs.Prelude.{replicate, true};
 ghost use Rattle.panel_core.specs.Keeping.{has_failed as answers_failed};
 
 fn are_same(counters: &[u32; 8], others: &[u32; 8]) -> bool
     ensures { result ≡ true → counters.now ≡ others.now }
 {
     counters == others
+}
+
+fn are_none(entries: &[u64; 8]) -> bool
+    ensures { result ≡ true → entries.now ≡ replicate 8 0 }
+{
+    entries == &[0; 8]
 }
 
 fn has_failed(store: Store) -> bool

@@ -316,7 +316,7 @@ fn show_now(system: &System, shown: &[Face], faces: &mut Vec<Face>) -> bool
     for place in 0..faces.len() {
         let panel = place as u8 + 1;
         changed = either(changed, system.has_changed(panel));
-        faces[place] = face_now(system, panel, &shown[place]);
+        put_face(system, panel, &shown[place], &mut faces[place]);
     }
     changed
 }
@@ -327,15 +327,15 @@ fn either(one: bool, other: bool) -> bool
     one || other
 }
 
-// What a panel shows, with what it showed at the end of the tick before.
-fn face_now(system: &System, panel: u8, shown: &Face) -> Face
+// Puts what a panel shows, with what it showed at the end of the tick before.
+fn put_face(system: &System, panel: u8, shown: &Face, face: &mut Face)
     requires { HasPanel panel system.now }
-    ensures shows { ShowsNow system.now panel shown.now result }
-    ensures same { is_marked system.now.changed panel ≡ false → result ≡ shown.now }
+    ensures shows { ShowsNow system.now panel shown.now face.new }
+    ensures same { is_marked system.now.changed panel ≡ false → face.new ≡ shown.now }
 {
     if system.has_changed(panel) {
-        system.face(panel)
+        *face = system.face(panel);
     } else {
-        *shown
+        *face = *shown;
     }
 }

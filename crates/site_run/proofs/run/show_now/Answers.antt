@@ -29,20 +29,20 @@ loop-place-preserved c =
     let less = c.loop-place-test.true in
     let wide = c.requires.before in
     record {
-      room = length-set faces k c.face_now.result ∙ room;
+      room = length-set faces k c.put_face.new.face ∙ room;
       within = omega (arith, less, end);
       shown = λ site kept before stands run marked initial last.
-          take_more_set faces k c.face_now.result (omega (arith, room, less, end))
-          ∙ ap (λ xs. xs ++ c.face_now.result ∷ []) (inv.shown site kept before stands run marked initial last)
+          take_more_set faces k c.put_face.new.face (omega (arith, room, less, end))
+          ∙ ap (λ xs. xs ++ c.put_face.new.face ∷ []) (inv.shown site kept before stands run marked initial last)
           ∙ ap (λ face. map (λ panel. face_of site kept panel before) (range_with_len 1 k) ++ face ∷ [])
-          (c.face_now.ensures.shows site kept before stands run marked
+          (c.put_face.ensures.shows site kept before stands run marked
           (read_face shown k site.panels _ (λ panel. face_of site kept panel (before_tick before)) last (omega (arith, less, end, initial))))
           ∙ sym (map-range_with_len_more (λ panel. face_of site kept panel before) 1 k (k + 1) (omega arith));
       same = λ unchanged. (
           let none = neither c.loop-place.changed c.has_changed.result (sym c.either-changed.ensures ∙ unchanged) in
-          take_more_set faces k c.face_now.result (omega (arith, room, less, end))
-          ∙ ap (λ xs. xs ++ c.face_now.result ∷ []) (inv.same none.0)
-          ∙ ap (λ face. take k shown ++ face ∷ []) (c.face_now.ensures.same (sym c.has_changed.ensures.marked ∙ none.1))
+          take_more_set faces k c.put_face.new.face (omega (arith, room, less, end))
+          ∙ ap (λ xs. xs ++ c.put_face.new.face ∷ []) (inv.same none.0)
+          ∙ ap (λ face. take k shown ++ face ∷ []) (c.put_face.ensures.same (sym c.has_changed.ensures.marked ∙ none.1))
           ∙ sym (take_more shown k _ (omega (arith, wide, less, end))));
     }
 

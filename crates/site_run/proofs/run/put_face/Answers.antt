@@ -1,5 +1,5 @@
 use Rattle.std.proofs.Common.{◌∙◌, sym}
-use Rattle.site_run.proofs.run.face_now.Goals as goal
+use Rattle.site_run.proofs.run.put_face.Goals as goal
 
 pub returns-then-has_changed-clause-shows : goal.returns-then-has_changed-clause-shows
 returns-then-has_changed-clause-shows c site kept before h run marked last = c.face.ensures.shown site kept before h run
