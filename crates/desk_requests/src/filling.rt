@@ -32,20 +32,26 @@ impl RequestRoom {
             .0
     }
 
-    pub(crate) fn read_so_far(&self) -> &[u8]
+    /// What was read since it was cleared.
+    pub fn read_so_far(&self) -> &[u8]
         ensures { result.now ≡ read_into self.now }
     {
         self.bytes.split_at(self.filled).0
     }
 
-    pub(crate) fn clear(&mut self)
+    /// Lets go what was read.
+    pub fn clear(&mut self)
         ensures { read_into self.new ≡ [] }
     {
         self.filled = 0;
     }
 
-    // Reads once, so that no more than so many bytes stand here.
-    pub(crate) fn read_more<C: Source>(
+    /// Reads once, so that no more than so many bytes stand here.
+    ///
+    /// # Errors
+    ///
+    /// Where the read fails. What stands here stays as it was.
+    pub fn read_more<C: Source>(
         &mut self,
         conn: &mut C,
         most: usize,

@@ -1,6 +1,6 @@
 ghost use Rattle.std.specs.Prelude.{◌≡◌, ◌≤◌, length};
 
-/// Room for one request, which is taken when this is made.
+/// Room for one request, or for other bytes of a connection, which is taken when this is made.
 #[derive(Drop)]
 pub struct RequestRoom {
     pub(crate) bytes: Vec<u8>,

@@ -189,16 +189,23 @@ module _ (site : Site) (panel : ℕ) (all left : List ℕ) (reader new_reader : 
   own_stops refusal e = own_stops_at fed.step refusal (told_so site all left reader new_reader number fed h.read some feeds) e
 
   -- the line is an event of the panel, and the next may be read
+  pub own_goes_event : (event : EventOf) → LineStep (Event event) ≡ fed.step → is_event_of site panel event ≡ true
+      → (next : IsOwnRead site panel all (drop fed.used left) new_reader (number + 1))
+      × (next.read.tail ≡ h.read.tail ++ Event (event_view event) ∷ [])
+  own_goes_event event is own =
+      let next = goes_event site all left reader new_reader number fed h.read some feeds event is in (
+        record {
+          read = next.0;
+          own = subst (AllOwn site panel) (sym next.1) (own_more site panel h.read.tail (event_view event) h.own (viewed site panel event ∙ own));
+        },
+        next.1,
+      )
+
   own_goes_at : (step : Step) → step ≡ fed.step → own_stop_by site panel step number ≡ None
       → IsOwnRead site panel all (drop fed.used left) new_reader (number + 1)
   own_goes_at Need is e = absurd cc
   own_goes_at (LineStep (Tick tick)) is e = absurd cc
-  own_goes_at (LineStep (Event event)) is e =
-      let next = goes_event site all left reader new_reader number fed h.read some feeds event is in
-      record {
-        read = next.0;
-        own = subst (AllOwn site panel) (sym next.1) (own_more site panel h.read.tail (event_view event) h.own (viewed site panel event ∙ is_own (is_event_of site panel event) e));
-      }
+  own_goes_at (LineStep (Event event)) is e = (own_goes_event event is (is_own (is_event_of site panel event) e)).0
     where
       is_own : (b : Bool) → (if b then None else Some (names_none number)) ≡ None → b ≡ true
       is_own true h = refl

@@ -3,6 +3,7 @@ use Rattle.std.specs.Prelude.{ℕ, ◌==◌, nat_lt, List, [], ◌∷◌, length
 use Rattle.site_types.specs.declared.site.Site.{Site}
 use Rattle.panel_links.specs.declared.frame.Frame.{Frame}
 use Rattle.panel_frames.specs.declared.frame_refusal.FrameRefusal.{FrameRefusal}
+use Rattle.panel_frames.specs.Grammar.{IsFrame}
 use Rattle.panel_frames.specs.Refusals.{frame_read}
 use Rattle.desk_ticks.specs.declared.block_refusal.BlockRefusal.{BlockRefusal}
 use Rattle.desk_ticks.specs.Blocks.{most_block_bytes}
@@ -27,3 +28,12 @@ what_came site digest panel (byte ∷ bytes) =
     if byte == 70 then as_frame (frame_read site digest panel (byte ∷ bytes))
     else if nat_lt most_block_bytes (length (byte ∷ bytes)) then TooLong
     else as_block (own_verdict_of site panel (byte ∷ bytes))
+
+-- a frame that is taken is one that the panel may get
+abbrev pub IsOwnInput : Site → ℕ → NodeInput → Type 0
+IsOwnInput site panel Nothing = Unit {0}
+IsOwnInput site panel (Framed frame) = IsFrame site panel frame
+IsOwnInput site panel (BadFrame refusal) = Unit {0}
+IsOwnInput site panel (Block tick) = Unit {0}
+IsOwnInput site panel (BadBlock refusal) = Unit {0}
+IsOwnInput site panel TooLong = Unit {0}

@@ -1,3 +1,4 @@
 pub mod OwnEvents
 pub mod OwnBlocks
 pub mod Inputs
+pub mod Reading

@@ -1,8 +1,9 @@
 ghost use Rattle.std.specs.Prelude.{◌≡◌};
-ghost use Rattle.node_inputs.specs.Inputs.{what_came};
+ghost use Rattle.node_inputs.specs.Inputs.{IsOwnInput, what_came};
 ghost use Rattle.site_types.specs.Valid.{IsPanel, IsValid};
 
 use crate::blocks::own_tick_of_block;
+use crate::octets::note_octets;
 use desk_ticks::{BlockRefusal, MOST_BLOCK_BYTES};
 use panel_frames::{FrameRefusal, read_frame};
 use panel_links::Frame;
@@ -29,14 +30,18 @@ pub enum NodeInput {
 pub fn read_input(site: &Site, digest: &[u8; 32], panel: u8, bytes: &[u8]) -> NodeInput
     requires site { IsValid site.now }
     requires panel { IsPanel site.now panel }
-    ensures { result ≡ what_came site.now digest.now panel bytes.now }
+    ensures came { result ≡ what_came site.now digest.now panel bytes.now }
+    ensures grammar { IsOwnInput site.now panel result }
 {
     if bytes.is_empty() {
         return NodeInput::Nothing;
     }
     if bytes[0] == b'F' {
         return match read_frame(site, digest, panel, bytes) {
-            Ok(frame) => NodeInput::Framed(frame),
+            Ok(frame) => {
+                note_octets(bytes);
+                NodeInput::Framed(frame)
+            }
             Err(refusal) => NodeInput::BadFrame(refusal),
         };
     }

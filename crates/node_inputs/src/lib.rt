@@ -10,13 +10,19 @@
 //! [`own_tick_of_block`] does that alone, and [`is_own_event`] tells which events are a panel's own. What the tick is
 //! that is expected, and what an accepted block brings about, is for whoever has the panel.
 //!
+//! [`read_whole`] reads a connection into a room that was taken before: to its end, or one byte more than a block may
+//! have, by which it is known to be too long.
+//!
 //! No call takes memory, and each byte is read at most twice.
 #![tactic(auto)]
 
 mod blocks;
 mod input;
+mod octets;
 mod own;
+mod reading;
 
 pub use blocks::own_tick_of_block;
 pub use input::{NodeInput, read_input};
 pub use own::is_own_event;
+pub use reading::read_whole;
