@@ -51,11 +51,7 @@ impl RequestRoom {
     /// # Errors
     ///
     /// Where the read fails. What stands here stays as it was.
-    pub fn read_more<C: Source>(
-        &mut self,
-        conn: &mut C,
-        most: usize,
-    ) -> Result<usize, Failed>
+    pub fn read_more<C: Source>(&mut self, conn: &mut C, most: usize) -> Result<usize, Failed>
         requires room { length (read_into self.old) < most }
         requires within { most ≤ 73728 }
         ensures gains { IfOk result

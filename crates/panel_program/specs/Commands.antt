@@ -20,7 +20,7 @@ use Rattle.site_commands.specs.Refusals.{stop_status, stop_text}
 use Rattle.site_run.specs.PowerCuts.{JournalDisk, disk_of}
 use Rattle.panel_program.specs.Runs.{RanOver, Streams}
 use Rattle.desk_register.specs.Replies.{KeeperSides}
-use Rattle.serve_command.specs.Doors.{DoorSides}
+use Rattle.desk_doors.specs.Passing.{DoorSides}
 use Rattle.serve_command.specs.Serving.{AnswersServe}
 use Rattle.site_commands.specs.Commands.{AnswersOver, Checks, Draws, RanNothing, Tells}
 use Rattle.site_commands.specs.Files.{Files}

@@ -10,8 +10,8 @@ ghost use Rattle.panel_program.specs.Runs.{streams_of};
 ghost use Rattle.program_status.specs.Statuses.{BlamesDisk, BlamesKeeper, BlamesWrites, IsSilentWithoutMemory};
 ghost use Rattle.program_status.specs.Statuses.{number_of};
 ghost use Rattle.desk_register.specs.Replies.{sides_of};
-ghost use Rattle.serve_command.specs.Doors.{door_sides};
-ghost use Rattle.serve_command.specs.Serving.{BlamesStores};
+ghost use Rattle.desk_doors.specs.Passing.{door_sides};
+ghost use Rattle.serving_ends.specs.Ends.{BlamesStores};
 ghost use Rattle.site_commands.specs.Files.{files_of};
 
 use crate::command::{Command, command_of};

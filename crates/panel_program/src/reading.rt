@@ -9,7 +9,7 @@ ghost use Rattle.panel_program.specs.Endings.{last_line as last_text, status_of 
 ghost use Rattle.site_run.specs.Journals.{IsOpenFor};
 ghost use Rattle.site_run.specs.Outside.{disks_of};
 ghost use Rattle.site_run.specs.PowerCuts.{disk_after, disk_of};
-ghost use Rattle.serve_command.specs.Serving.{BlamesStores};
+ghost use Rattle.serving_ends.specs.Ends.{BlamesStores};
 ghost use Rattle.panel_program.specs.Runs.{HasReadRecord, RanFrom, RanOver, streams_of};
 ghost use Rattle.site_commands.specs.Sites.{IsLoaded};
 ghost use Rattle.panel_program.specs.Taking.{HasTakenLine, HasTakenNext, HasTakenPiece, HasTakenStep};

@@ -2,14 +2,16 @@
 use Rattle.std.proofs.Common.{◌≡◌, ◌∙◌, ◌++◌, ◌+◌, ◌*◌, ◌^◌, ◌≤◌, ◌<◌, ℕ, Bool, true, false, List, [], ◌∷◌, length, Option, Some, None}
 use Rattle.std.proofs.Common.{refl, sym, ap, subst, arith, length-append}
 use Rattle.desk_doors.specs.Doors.{StillTells}
+use Rattle.desk_doors.specs.Passing.{DoorSides}
+use Rattle.desk_doors.proofs.Passing.{door_from, none_passed, passed_more, passed_same}
 use Rattle.desk_runs.specs.Ticks.{HasRoomForTick}
 use Rattle.panel_desk.specs.declared.served.Served.{Served}
 use Rattle.panel_rules.specs.Moments.{TickBlock, moments}
 use Rattle.serve_command.specs.Acting.{GivesNone, IsAt, ServesAt, ServesSome, World, between}
-use Rattle.serve_command.specs.Doors.{DoorSides, GivesAndTakes, ServedConn, has_stop, is_stop}
+use Rattle.serve_command.specs.Doors.{GivesAndTakes, ServedConn, has_stop, is_stop}
 use Rattle.serve_command.specs.Serving.{Between, ServesConn, ServesEach, and_conn, no_conn}
 use Rattle.serve_command.specs.declared.counter.Counter.{Counter}
-use Rattle.serve_command.proofs.Doors.{door_from, gave_more, gave_same, none_gave, still_tells, stops_more}
+use Rattle.serve_command.proofs.Doors.{back_of, given_of, stops_more}
 use Rattle.site_run.specs.Outside.{DiskKind, Stored}
 use Rattle.site_run.specs.Stands.{Stores}
 use Rattle.site_run.proofs.Cuts.{stores_more, stores_same}
@@ -25,7 +27,7 @@ module _ (site : Site) (kept : Retained) {kind : DiskKind} where
         ticks = [];
         conns = [];
         each = no_conn;
-        gave = none_gave door waiting handed;
+        gave = none_passed given_of back_of door waiting handed;
         count = refl;
         stops = refl;
         is_at = at;
@@ -46,7 +48,7 @@ module _ (site : Site) (kept : Retained) {kind : DiskKind} where
         ticks = one.next;
         conns = some.conns ++ one.conn ∷ [];
         each = and_conn some.conns one.conn _ _ some.each some.stops one.serves;
-        gave = gave_more some.conns one.conn door mid waiting handed some.gave one.gives one.takes;
+        gave = passed_more given_of back_of some.conns one.conn door mid waiting handed some.gave one.gives one.takes;
         count = omega (arith, count, sum);
         stops = stops_more some.conns one.conn some.stops ∙ ap is_stop one.is_conn;
         is_at = one.is_at;
@@ -80,7 +82,7 @@ module _ (site : Site) (kept : Retained) {kind : DiskKind} where
         ticks = some.ticks;
         conns = some.conns;
         each = some.each;
-        gave = gave_same some.conns door mid waiting handed some.gave none.waiting none.handed;
+        gave = passed_same given_of back_of some.conns door mid waiting handed some.gave none.waiting none.handed;
         count = some.count;
         stops = some.stops;
         is_at = some.is_at;

@@ -4,17 +4,19 @@ use Rattle.panel_edges.specs.Contents.{Grows}
 use Rattle.program_status.specs.Sayings.{Says}
 use Rattle.program_status.specs.declared.outcome.Outcome.{Outcome}
 use Rattle.program_status.specs.declared.status.Status.TheVariants.{Done, DoorFault}
+use Rattle.desk_doors.specs.Passing.{DoorSides}
 use Rattle.desk_register.specs.Replies.{KeeperSides}
 use Rattle.retained_journal.specs.Images.{Stands as StandsOn}
 use Rattle.retained_journal.specs.declared.journal.Journal.{Journal}
 use Rattle.run_text.proofs.PromisesHold.{are_kept}
 use Rattle.run_text.specs.SoFar.{opening_text}
-use Rattle.serve_command.specs.Acting.{EndsSo, IsAt, SaysEnd, ServesSome, World, between}
-use Rattle.serve_command.specs.Doors.{DoorSides, ServedConn, has_stop}
-use Rattle.serve_command.specs.Serving.{EndsAtDoor, EndsServing, ServesAll, served_line}
+use Rattle.serve_command.specs.Acting.{EndsSo, IsAt, ServesSome, World, between}
+use Rattle.serve_command.specs.Doors.{ServedConn, has_stop}
+use Rattle.serve_command.specs.Serving.{EndsAtDoor, EndsServing, ServesAll}
 use Rattle.serve_command.specs.declared.counter.Counter.{Counter}
-use Rattle.serve_command.specs.declared.serving_end.ServingEnd.{ServingEnd}
 use Rattle.serve_command.proofs.Each.{stores_each}
+use Rattle.serving_ends.specs.Ends.{SaysEnd, served_line}
+use Rattle.serving_ends.specs.declared.serving_end.ServingEnd.{ServingEnd}
 use Rattle.site_run.specs.Journals.{IsOpenFor}
 use Rattle.site_run.specs.Outside.{DiskKind}
 use Rattle.site_run.specs.PowerCuts.{IsJournalOf, JournalDisk}

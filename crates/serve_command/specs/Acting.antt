@@ -4,15 +4,13 @@ use Rattle.std.specs.Prelude.{Err, length}
 use Rattle.desk_runs.specs.Ticks.{HasRoomForTick, at_rest}
 use Rattle.panel_desk.specs.declared.served.Served.{Served}
 use Rattle.panel_edges.specs.declared.failed.Failed.{Failed}
-use Rattle.panel_edges.specs.Faults.{Rose}
 use Rattle.panel_rules.specs.Moments.{TickBlock, moments}
 use Rattle.desk_doors.specs.Doors.{Gives, HandsBack, StillTells}
-use Rattle.serve_command.specs.Doors.{DoorSides, GivesAndTakes, ServedConn, has_stop}
-use Rattle.program_status.specs.Sayings.{Says}
-use Rattle.program_status.specs.declared.status.Status.TheVariants.{Done, DoorFault}
-use Rattle.serve_command.specs.Serving.{Between, ServesConn, ServesEach, door_line, served_line}
+use Rattle.desk_doors.specs.Passing.{DoorSides}
+use Rattle.serve_command.specs.Doors.{GivesAndTakes, ServedConn, has_stop}
+use Rattle.serve_command.specs.Serving.{Between, ServesConn, ServesEach}
 use Rattle.serve_command.specs.declared.counter.Counter.{Counter}
-use Rattle.serve_command.specs.declared.serving_end.ServingEnd.{ServingEnd}
+use Rattle.serving_ends.specs.declared.serving_end.ServingEnd.{ServingEnd}
 use Rattle.service_keepers.specs.Tables.{Tables}
 use Rattle.service_register.specs.Points.{points_of}
 use Rattle.site_run.specs.Outside.{DiskKind, disk_kind}
@@ -123,17 +121,3 @@ HasServedAll worlds door count before after end =
     (site : Site) (kept : Retained) → IsAt site kept [] before
     → (stopped : Bool) × ServesSome site kept worlds.old worlds.new door before after end.served stopped
     × EndsSo count end stopped
-
--- the door's count of faults never falls, and has risen where the door failed
-pub record BlamesDoor (before after : ℕ) (end : ServingEnd) : Type 0 where
-  pub later : before ≤ after
-  pub failed : end.failed ≡ true → Rose before after
-
--- a number of connections that may be asked for
-abbrev pub IsCount : ℕ → Type 0
-IsCount count = (1 ≤ count) × (count ≤ 1000000)
-
--- the last line of serving that ended so was written
-pub record SaysEnd (end : ServingEnd) (old new : Option (List ℕ)) (status : ℕ) : Type 0 where
-  pub whole : end.failed ≡ false → Says Done (served_line end.served) old new status
-  pub part : end.failed ≡ true → Says DoorFault door_line old new status

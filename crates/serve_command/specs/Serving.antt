@@ -1,7 +1,7 @@
 -- What serving a site comes to.
-use Rattle.std.specs.Prelude.{◌≡◌, ◌⊎◌, ◌+◌, ◌-◌, ◌^◌, ◌<◌, ◌≤◌, ℕ, false, true, List, [], ◌∷◌, ◌++◌, Option, Result}
-use Rattle.std.specs.Prelude.{Ok, Err}
-use Rattle.std.specs.Prelude.{codes, decimal, length}
+use Rattle.std.specs.Prelude.{◌≡◌, ◌⊎◌, ◌<◌, ℕ, false, true, List, [], ◌∷◌, ◌++◌, Option, Result}
+use Rattle.std.specs.Prelude.{Ok, Err, length}
+use Rattle.desk_doors.specs.Passing.{DoorSides}
 use Rattle.desk_register.specs.Replies.{KeeperSides}
 use Rattle.journal_refusals.specs.JournalTexts.{journal_status, journal_text}
 use Rattle.keep_batch.specs.MakingLaws.{is_wide}
@@ -18,7 +18,8 @@ use Rattle.retained_journal.specs.declared.open_refusal.OpenRefusal.{OpenRefusal
 use Rattle.run_text.specs.Failures.{failures}
 use Rattle.run_text.specs.RunPromises.{KeepsPromises}
 use Rattle.run_text.specs.SoFar.{opening_text}
-use Rattle.serve_command.specs.Doors.{DoorSides, GivesAndTakes, ServedConn, has_stop, sides_of_conn}
+use Rattle.serve_command.specs.Doors.{GivesAndTakes, ServedConn, has_stop, sides_of_conn}
+use Rattle.serving_ends.specs.Ends.{door_line, served_line}
 use Rattle.service_keepers.specs.Tables.{Tables}
 use Rattle.site_commands.specs.Commands.{AnswersOver, RanNothing, Tells}
 use Rattle.site_commands.specs.Files.{Files}
@@ -56,13 +57,6 @@ module _ (site : Site) (kept : Retained) where
     no_conn : ServesEach first [] first
     and_conn : (conns : List ServedConn) (conn : ServedConn) (last next : Between kind) → ServesEach first conns last
         → has_stop conns ≡ false → ServesConn last conn next → ServesEach first (conns ++ conn ∷ []) next
-
--- what is told at the end: how many connections were served
-abbrev pub served_line : ℕ → List ℕ
-served_line count = codes "served " ++ decimal count ++ codes "\n"
-
-abbrev pub door_line : List ℕ
-door_line = codes "fault door\n"
 
 -- serving ended by itself: so many connections were served, or the last was a stop
 pub record EndsServing (count : ℕ) (conns : List ServedConn) (old new : Option (List ℕ)) (outcome : Outcome) : Type 0
@@ -167,8 +161,3 @@ abbrev pub AnswersServe : List ℕ → Files → JournalDisk → DoorSides → K
     → Option (List ℕ) → Outcome → Type 0
 AnswersServe name files disk door keeper count old new outcome =
     AnswersOver files name (λ digest. ServesSite digest disk door keeper count old new outcome)
-
--- the failed ticks are no more than the disk's count of faults rose by, unless that stands at its last value
-pub record BlamesStores (outcome : Outcome) (before after : ℕ) : Type 0 where
-  pub later : before ≤ after
-  pub failed : after < 2 ^ 64 - 1 → outcome.store_failures + before ≤ after

@@ -10,8 +10,6 @@
 #![tactic(auto)]
 
 mod counter;
-mod lines;
 mod serving;
-mod serving_end;
 
 pub use serving::serve_site;

@@ -1,6 +1,7 @@
 //! Serving a site.
 
-ghost use Rattle.std.specs.Prelude.{◌≡◌, ◌≢◌, true, false};
+ghost use Rattle.std.specs.Prelude.{◌≡◌, ◌≢◌, false};
+ghost use Rattle.desk_doors.specs.Passing.{door_sides};
 ghost use Rattle.desk_register.specs.Replies.{sides_of};
 ghost use Rattle.panel_parts.specs.Stands.{HasPlan};
 ghost use Rattle.panel_edges.specs.Faults.{Rose};
@@ -8,9 +9,8 @@ ghost use Rattle.program_status.specs.Statuses.{BlamesDisk, BlamesReads, BlamesW
 ghost use Rattle.program_status.specs.Statuses.{IsSilentWithoutMemory};
 ghost use Rattle.program_status.specs.Statuses.{number_of};
 ghost use Rattle.retained_journal.specs.Images.{Stands as StandsOn};
-ghost use Rattle.serve_command.specs.Acting.{IsCount, SaysEnd};
-ghost use Rattle.serve_command.specs.Doors.{door_sides};
-ghost use Rattle.serve_command.specs.Serving.{AnswersServe, BlamesStores, ServesFrom, ServesOver};
+ghost use Rattle.serve_command.specs.Serving.{AnswersServe, ServesFrom, ServesOver};
+ghost use Rattle.serving_ends.specs.Ends.{BlamesStores, IsCount};
 ghost use Rattle.site_commands.specs.Files.{files_of};
 ghost use Rattle.site_commands.specs.Sites.{IsLoaded};
 ghost use Rattle.site_run.specs.Journals.{IsOpenFor};
@@ -18,17 +18,15 @@ ghost use Rattle.site_run.specs.PowerCuts.{disk_after, disk_of};
 ghost use Rattle.site_types.specs.Valid.{IsValid};
 
 use crate::counter::Counter;
-use crate::lines::served_line;
-use crate::serving_end::ServingEnd;
 use cause_effect::Plan;
 use desk_doors::Door;
 use journal_refusals::stop_at_journal;
 use panel_edges::{Disk, Shelf, Sink};
-use program_status::{Outcome, Status, say};
+use program_status::{Outcome, Status};
 use retained_journal::Journal;
 use service_keepers::Keeper;
+use serving_ends::tell_end;
 use site_commands::{Loaded, load, stop_with};
-use site_run::Run;
 use site_types::Site;
 use std::alloc::Global;
 
@@ -141,28 +139,5 @@ fn serve_with<K: Sink, D: Disk, G: Door, R: Keeper>(
         return Outcome::after(Status::WriteFault, 0);
     };
     let end = counter.serve(alloc, port, count, door, disk, keeper);
-    finish(end, &counter.run, out)
-}
-
-// Writes the last line of serving.
-fn finish<K: Sink>(end: ServingEnd, run: &Run, out: &mut K) -> Outcome
-    ensures says { SaysEnd end (K.written out.old) (K.written out.new) result.status }
-    ensures ticks { (result.ticks ≡ run.now.ticks)
-        × (result.store_failures ≡ run.now.store_failures) }
-    ensures write { BlamesWrites result (K.write_faults out.old) (K.write_faults out.new) }
-    ensures door { result.status ≡ number_of Status.DoorFault → end.failed ≡ true }
-    ensures read { result.status ≢ number_of Status.ReadFault }
-    ensures memory { result.status ≢ number_of Status.NoMemory }
-    ensures disk { result.status ≢ number_of Status.DiskFault }
-{
-    let outcome = if end.failed {
-        say(b"fault door\n", Status::DoorFault, run.ticks(), out)
-    } else {
-        let line = served_line(end.served);
-        say(line.as_str().as_bytes(), Status::Done, run.ticks(), out)
-    };
-    Outcome {
-        store_failures: run.store_failures(),
-        ..outcome
-    }
+    tell_end(end, counter.run.ticks(), counter.run.store_failures(), out)
 }

@@ -8,7 +8,7 @@ use Rattle.panel_program.specs.Runs.{streams_of}
 use Rattle.site_commands.specs.Files.{files_of}
 use Rattle.panel_program.specs.Words.{IsBounded, command_of}
 use Rattle.desk_register.specs.Replies.{sides_of}
-use Rattle.serve_command.specs.Doors.{door_sides}
+use Rattle.desk_doors.specs.Passing.{door_sides}
 use Rattle.serve_command.specs.Serving.{AnswersServe}
 use Rattle.site_run.specs.PowerCuts.{disk_of}
 use Rattle.audit_command.specs.Audits.{AnswersAudit}

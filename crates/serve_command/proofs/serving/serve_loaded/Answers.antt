@@ -1,6 +1,7 @@
 use Rattle.std.proofs.Common.{inl, inr, refl, subst, sym}
-use Rattle.serve_command.proofs.Doors.{none_gave, still_tells}
-use Rattle.serve_command.specs.Doors.{door_sides}
+use Rattle.desk_doors.proofs.Passing.{none_passed, still_tells}
+use Rattle.serve_command.proofs.Doors.{back_of, given_of}
+use Rattle.desk_doors.specs.Passing.{door_sides}
 use Rattle.site_run.specs.Journals.{KeepsFor}
 use Rattle.site_run.proofs.PowerCuts.{opened_of}
 use Rattle.serve_command.proofs.serving.serve_loaded.Goals as goal
@@ -24,7 +25,7 @@ returns-in-Err-clause-serves g c =
       refusal = c.in-Err.refusal;
       cause = c.in-Err.ensures.err;
       spared = c.open.ensures.unwritten;
-      gave = none_gave (door_sides g.G.Door.waiting g.G.Door.handed c.args.door.now c.args.door.now) refl (still_tells (g.G.Door.handed c.args.door.now));
+      gave = none_passed given_of back_of (door_sides g.G.Door.waiting g.G.Door.handed c.args.door.now c.args.door.now) refl (still_tells (g.G.Door.handed c.args.door.now));
       tables = refl;
       says = said.says;
       ticks = said.ticks.0;

@@ -1,9 +1,10 @@
 use Rattle.std.proofs.Common.{◌≡◌, ◌∙◌, inl, inr, ap, refl}
 use Rattle.program_status.specs.declared.outcome.Outcome.{Outcome}
-use Rattle.serve_command.proofs.Doors.{none_gave, still_tells}
+use Rattle.desk_doors.proofs.Passing.{none_passed, still_tells}
+use Rattle.serve_command.proofs.Doors.{back_of, given_of}
 use Rattle.serve_command.proofs.Ends.{served_all}
 use Rattle.serve_command.specs.Acting.{worlds_of}
-use Rattle.serve_command.specs.Doors.{door_sides}
+use Rattle.desk_doors.specs.Passing.{door_sides}
 use Rattle.site_run.specs.Outside.{disk_kind}
 use Rattle.site_run.proofs.PowerCuts.{leaves_opened}
 use Rattle.serve_command.proofs.serving.serve_with.Goals as goal
@@ -23,7 +24,7 @@ returns-in_default-clause-serves g c digest seen is =
         failures = ap (λ (o : Outcome). o.store_failures) told;
         same = refl;
       },
-      record { gave = none_gave door refl (still_tells (g.G.Door.handed c.args.door.now)); tables = refl; faults = refl; cut = cut },
+      record { gave = none_passed given_of back_of door refl (still_tells (g.G.Door.handed c.args.door.now)); tables = refl; faults = refl; cut = cut },
     )
 
 pub returns-in_default-write_opening-clause-serves : goal.returns-in_default-write_opening-clause-serves
@@ -36,7 +37,7 @@ returns-in_default-write_opening-clause-serves g c digest seen is =
     c.args.site c.args.journal.kept digest seen c.args.disk.now c.args.journal c.requires.journal c.requires.stands is
     (g.D.Disk.seen c.args.disk.now) in
     inr (inl (record {
-      alone = record { gave = none_gave door refl (still_tells (g.G.Door.handed c.args.door.now)); tables = refl; faults = refl; cut = cut };
+      alone = record { gave = none_passed given_of back_of door refl (still_tells (g.G.Door.handed c.args.door.now)); tables = refl; faults = refl; cut = cut };
       status = ap (λ (o : Outcome). o.status) told;
       ticks = ap (λ (o : Outcome). o.ticks) told;
       failures_are = ap (λ (o : Outcome). o.store_failures) told;

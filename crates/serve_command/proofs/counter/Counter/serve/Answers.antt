@@ -1,8 +1,8 @@
 use Rattle.std.proofs.Common.{◌≡◌, true, false, refl}
-use Rattle.serve_command.proofs.Doors.{still_as}
+use Rattle.desk_doors.proofs.Passing.{still_as}
 use Rattle.serve_command.proofs.Each.{serves_none}
 use Rattle.serve_command.specs.Acting.{worlds_of}
-use Rattle.serve_command.specs.Doors.{door_sides}
+use Rattle.desk_doors.specs.Passing.{door_sides}
 use Rattle.serve_command.proofs.counter.Counter.serve.Goals as goal
 
 pub returns-in-Err-clause-serves : goal.returns-in-Err-clause-serves

@@ -1,8 +1,9 @@
 use Rattle.std.proofs.Common.{◌≡◌, ◌∙◌, ◌+◌, true, false, arith, refl, sym}
-use Rattle.serve_command.proofs.Doors.{still_tells}
+use Rattle.desk_doors.specs.Passing.{door_sides}
+use Rattle.desk_doors.proofs.Passing.{still_tells}
 use Rattle.serve_command.proofs.Each.{room_for, serves_more, serves_none, serves_same, stopped_as}
 use Rattle.serve_command.specs.Acting.{worlds_of}
-use Rattle.serve_command.specs.Doors.{door_sides, is_stop}
+use Rattle.serve_command.specs.Doors.{is_stop}
 use Rattle.site_run.proofs.Disks.{keeps_more, keeps_same}
 use Rattle.serve_command.proofs.counter.Counter.serve_all.Goals as goal
 

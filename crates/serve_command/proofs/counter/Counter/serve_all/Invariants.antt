@@ -1,6 +1,6 @@
 use Rattle.std.proofs.Common.{◌≡◌, ◌≤◌, ◌-◌, false, []}
 use Rattle.serve_command.specs.Acting.{IsAt, ServesSome, worlds_of}
-use Rattle.serve_command.specs.Doors.{door_sides}
+use Rattle.desk_doors.specs.Passing.{door_sides}
 use Rattle.site_run.specs.Disks.{KeepsOn}
 use Rattle.site_types.specs.declared.retained.Retained.{Retained}
 use Rattle.site_types.specs.declared.site.Site.{Site}

@@ -1,6 +1,6 @@
 use Rattle.std.proofs.Common.{◌≡◌, ◌∙◌, refl, subst, sym}
 use Rattle.desk_doors.specs.Doors.{Gives, conn_told}
-use Rattle.serve_command.proofs.Doors.{handed_then}
+use Rattle.desk_doors.proofs.Passing.{handed_then}
 use Rattle.serve_command.proofs.counter.Counter.serve_next.Goals as goal
 
 pub returns-clause-serves : goal.returns-clause-serves

@@ -1,7 +1,7 @@
 //! The last line of serving.
 
 ghost use Rattle.std.specs.Prelude.{◌≡◌, ◌≤◌, length};
-ghost use Rattle.serve_command.specs.Serving.{served_line as served_text};
+ghost use Rattle.serving_ends.specs.Ends.{served_line as served_text};
 
 use arrayvec::ArrayString;
 use itoa::Buffer;
