@@ -31,7 +31,7 @@ use Rattle.site_types.specs.declared.site.Site.{Site}
 
 -- ---- blocks
 
-block_more : (site : Site) (lines : List Line) (line : Line) → block_of site (lines ++ line ∷ []) ≡ with_line (block_of site lines) line
+pub block_more : (site : Site) (lines : List Line) (line : Line) → block_of site (lines ++ line ∷ []) ≡ with_line (block_of site lines) line
 block_more site lines line = fold_push with_line (new_block site) lines line
 
 -- a line brings one event at most
@@ -89,7 +89,7 @@ nothing_told site rest old reader stands reads kept ticks may =
       stands = subst (λ ls. Stands site kept (record { run = ticks; block = Some (block_of site ls) }) old) (sym none.1) may.stands;
     }
 
-refused_none : {X : Type 0} (refusal : BlockRefusal) (answer : Option BlockRefusal) → answer ≡ Some refusal → answer ≡ None → X
+pub refused_none : {X : Type 0} (refusal : BlockRefusal) (answer : Option BlockRefusal) → answer ≡ Some refusal → answer ≡ None → X
 refused_none refusal answer e f = absurd (go (sym e ∙ f))
   where
     go : Some refusal ≡ None → ⊥

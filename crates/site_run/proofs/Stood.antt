@@ -44,10 +44,10 @@ events_tick : (events : List Event) (before : List Moment) → tick_of (and_even
 events_tick [] before = refl
 events_tick (event ∷ events) before = events_tick events (Happened event ∷ before)
 
-block_tick : (block : Block) (ticks : List TickBlock) → tick_of (and_events block.events (Began ∷ moments ticks)) ≡ length ticks + 1
+pub block_tick : (block : Block) (ticks : List TickBlock) → tick_of (and_events block.events (Began ∷ moments ticks)) ≡ length ticks + 1
 block_tick block ticks = let e = tick_moments ticks in let told = events_tick block.events (Began ∷ moments ticks) in omega (arith, e, told)
 
-events_more : (events : List Event) (event : Event) (before : List Moment) → and_events (events ++ event ∷ []) before ≡ Happened event
+pub events_more : (events : List Event) (event : Event) (before : List Moment) → and_events (events ++ event ∷ []) before ≡ Happened event
     ∷ and_events events before
 events_more [] event before = refl
 events_more (x ∷ events) event before = events_more events event (Happened x ∷ before)
@@ -317,7 +317,7 @@ run_few (Some block) ticks = omega arith
 pub ticks_few : (site : Site) (kept : Retained) (p : Progress) (run : Run) → Stands site kept p run → run.ticks ≤ last_tick
 ticks_few site kept p run h = let few = h.few in let count = h.count in let le = run_few p.block p.run in omega (arith, few, count, le)
 
-failures_few : (ticks : List TickBlock) → failures ticks ≤ length ticks
+pub failures_few : (ticks : List TickBlock) → failures ticks ≤ length ticks
 failures_few [] = omega arith
 failures_few (tick ∷ ticks) = go tick.failed (failures_few ticks)
   where

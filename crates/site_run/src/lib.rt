@@ -15,4 +15,6 @@ mod run;
 mod sized;
 mod writing;
 
-pub use run::Run;
+pub use run::{Run, with_failure};
+pub use sized::note_sized;
+pub use writing::{PAGE_BYTES, TickPage};

@@ -271,8 +271,8 @@ impl Run {
     }
 }
 
-// The number of failed ticks with one more, where Keep's turn failed.
-fn with_failure(failures: u64, store: Store) -> u64
+/// The number of failed ticks with one more, where Keep's turn failed.
+pub fn with_failure(failures: u64, store: Store) -> u64
     requires { failures < 2 ^ 64 - 1 }
     ensures { result ≡ failures_with (has_failed store) failures }
 {
