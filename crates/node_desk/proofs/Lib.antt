@@ -1,0 +1,10 @@
+pub mod Befalling
+pub mod Blocks
+pub mod Came
+pub mod Codes
+pub mod Kept
+pub mod LinesTold
+pub mod Replying
+pub mod Served
+pub mod Turning
+pub mod Written

@@ -1,0 +1,32 @@
+use Rattle.std.proofs.Common.{◌≡◌, ◌∙◌, refl, subst, sym}
+use Rattle.desk_doors.specs.Doors.{conn_told}
+use Rattle.desk_requests.specs.Rooms.{read_into}
+use Rattle.node_inputs.specs.Reading.{ReadsInput}
+use Rattle.site_run.specs.Outside.{disks_of}
+use Rattle.node_desk.specs.Replies.{reply_bytes}
+use Rattle.node_desk.specs.Serving.{WroteBy}
+use Rattle.node_desk.proofs.Served.{served_not, served_so}
+use Rattle.node_desk.proofs.desk.NodeDesk.serve_one.Goals as goal
+
+pub returns-in-Ok-clause-serves : goal.returns-in-Ok-clause-serves
+returns-in-Ok-clause-serves g c site panel kept history ticks h room =
+    let disks = disks_of g.D.Disk.honest g.D.Disk.images g.D.Disk.moment g.D.Disk.left_since c.args.disk.now c.reply_to-reply.new.disk in
+    let given = conn_told (g.C.Stream.left c.args.conn.now) (g.C.Stream.written c.args.conn.now) in
+    let back = conn_told (g.C.Stream.left c.send.new.out) (g.C.Stream.written c.send.new.out) in
+    let old = c.args.self.now.run in
+    let mid = c.reply_to-reply.new.self in
+    let reply = c.reply_to-reply.result in
+    let replied = c.reply_to-reply.ensures.replies site panel kept history ticks h room in
+    let read = subst (λ left. ReadsInput given.unread left (read_into c.read_whole.new.room)) (sym c.send.ensures.left) c.in-Ok.ensures.read in
+    let wrote =
+    subst (λ w. WroteBy c.send.result w back.answer (reply_bytes site panel kept mid.node.digest history replied.after reply)) c.in-Ok.ensures.written
+    (c.send.ensures.sends site panel kept history replied.after replied.next replied.runs replied.at_hand) in
+    served_so site panel kept history ticks given back disks old c.read_so_far.result.now (read_into c.read_whole.new.room) mid c.send.new.self reply c.send.result c.send.new.self.page read
+    c.read_so_far.ensures replied c.reply_to-reply.ensures.digest wrote c.send.ensures.rest
+
+pub returns-in-Err-clause-serves : goal.returns-in-Err-clause-serves
+returns-in-Err-clause-serves g c site panel kept history ticks h room =
+    let disks = disks_of g.D.Disk.honest g.D.Disk.images g.D.Disk.moment g.D.Disk.left_since c.args.disk.now c.args.disk.now in
+    let given = conn_told (g.C.Stream.left c.args.conn.now) (g.C.Stream.written c.args.conn.now) in
+    let back = conn_told (g.C.Stream.left c.read_whole.new.conn) (g.C.Stream.written c.read_whole.new.conn) in
+    served_not site panel kept history ticks given back disks c.args.self.now.run refl h c.read_whole.ensures.written

@@ -1,0 +1,5 @@
+pub mod Runs
+pub mod Lines
+pub mod Running
+pub mod Replies
+pub mod Serving
