@@ -8,14 +8,15 @@ use Rattle.journal_move.specs.Disks.{Disks, disks_of}
 use Rattle.journal_move.specs.Moves.{AnswersMove}
 use Rattle.audit_command.specs.Audits.{AnswersAudit}
 use Rattle.import_command.specs.Imports.{AnswersImport, KeptTables}
+use Rattle.node_command.specs.Serving.{AnswersNode}
 use Rattle.panel_drill.specs.Drills.{drill_line}
 use Rattle.panel_program.specs.declared.command.Command.{Command}
 use Rattle.panel_program.specs.declared.command.Command.TheVariants.{Usage, Check, Run, Matrix, Drill, Move}
-use Rattle.panel_program.specs.declared.command.Command.TheVariants.{Audit, Import, Serve}
+use Rattle.panel_program.specs.declared.command.Command.TheVariants.{Audit, Import, Serve, Node}
 use Rattle.program_status.specs.declared.outcome.Outcome.{Outcome}
 use Rattle.program_status.specs.declared.status.Status.TheVariants as exit
 use Rattle.site_commands.specs.declared.stop.Stop.{Stop}
-use Rattle.panel_program.specs.Usage.{usage_line}
+use Rattle.program_usage.specs.Usage.{usage_line}
 use Rattle.site_commands.specs.Refusals.{stop_status, stop_text}
 use Rattle.site_run.specs.PowerCuts.{JournalDisk, disk_of}
 use Rattle.panel_program.specs.Runs.{RanOver, Streams}
@@ -107,8 +108,8 @@ module _ {D : Type 0} where
 
 -- what a command answers: on its words alone, or by the files where the shelf tells them, an audit by all three that
 -- it names; a run by the bytes of the record, where the input tells them, and by what the journal's disk holds; a move
--- by what its two disks hold; an import and serving, which see a register, as `AnswersIfImport` and
--- `AnswersIfServing` say
+-- by what its two disks hold; an import and serving, which see a register or a door, as `AnswersIfImport`,
+-- `AnswersIfServing` and `AnswersIfNode` say
 abbrev pub AnswersCommand : Command → CallNames → Files → CallDisks → Streams → Outcome → Type 0
 AnswersCommand Usage names files disks streams outcome = Tells exit.Usage usage_line streams.old streams.new outcome
 AnswersCommand Check names files disks streams outcome =
@@ -124,6 +125,7 @@ AnswersCommand Audit names files disks streams outcome =
     AnswersAudit files names.site names.lines names.text streams.old streams.new outcome
 AnswersCommand Import names files disks streams outcome = ⊤
 AnswersCommand (Serve port count) names files disks streams outcome = ⊤
+AnswersCommand (Node panel port count) names files disks streams outcome = ⊤
 
 -- what a call with these words answers
 abbrev pub Answers : List (String Global) → Files → CallDisks → Streams → Outcome → Type 0
@@ -148,9 +150,16 @@ AnswersIfImport words files register old new outcome = IsImport words
     → AnswersImport files (site_word (map string_bytes words)) (file_word (map string_bytes words)) register old new
     outcome
 
+-- one that serves no site, and one that serves no panel by itself
+abbrev pub ServesNoSite : List (String Global) → Type 0
+ServesNoSite words = (port count : ℕ) → command_of (map string_bytes words) ≢ Serve port count
+
+abbrev pub ServesNoPanel : List (String Global) → Type 0
+ServesNoPanel words = (panel port count : ℕ) → command_of (map string_bytes words) ≢ Node panel port count
+
 -- one that serves nothing leaves the door alone
 abbrev pub ServesNothing : List (String Global) → Type 0
-ServesNothing words = (port count : ℕ) → command_of (map string_bytes words) ≢ Serve port count
+ServesNothing words = ServesNoSite words × ServesNoPanel words
 
 -- what serving with these words answers, by what the journal's disk holds, the connections that the door gives and the
 -- tables of the register, where they are told
@@ -166,9 +175,29 @@ BlamesDoorIfServing words outcome before after =
     (port count : ℕ) → command_of (map string_bytes words) ≡ Serve port count
     → outcome.status ≡ number_of exit.DoorFault → Rose before after
 
--- a command that neither imports nor serves leaves the keeper alone
+-- what serving a panel by itself with these words answers, by what the journal's disk holds and the connections that
+-- the door gives, where they are told
+abbrev pub AnswersIfNode : List (String Global) → Files → JournalDisk → DoorSides → Option (List ℕ) → Option (List ℕ)
+    → Outcome → Type 0
+AnswersIfNode words files disk door old new outcome =
+    (panel port count : ℕ) → command_of (map string_bytes words) ≡ Node panel port count
+    → AnswersNode (site_word (map string_bytes words)) panel files disk door count old new outcome
+
+-- and it ends with a door fault only where the door's count of faults rose
+abbrev pub BlamesDoorIfNode : List (String Global) → Outcome → ℕ → ℕ → Type 0
+BlamesDoorIfNode words outcome before after =
+    (panel port count : ℕ) → command_of (map string_bytes words) ≡ Node panel port count
+    → outcome.status ≡ number_of exit.DoorFault → Rose before after
+
+-- where memory ran out this holds of serving a panel by itself
+abbrev pub WithoutMemoryIfNode : List (String Global) → Outcome → Type 0 → Type 0
+WithoutMemoryIfNode words outcome Holds =
+    (panel port count : ℕ) → command_of (map string_bytes words) ≡ Node panel port count
+    → outcome.status ≡ number_of exit.NoMemory → Holds
+
+-- a command that neither imports nor serves a site leaves the keeper alone
 abbrev pub AsksNothing : List (String Global) → Type 0
-AsksNothing words = (command_of (map string_bytes words) ≢ Import) × ServesNothing words
+AsksNothing words = (command_of (map string_bytes words) ≢ Import) × ServesNoSite words
 
 -- one that neither runs nor serves writes to the first disk only where it was empty
 abbrev pub WorksNothing : List (String Global) → Type 0

@@ -1,5 +1,4 @@
 pub mod Words
-pub mod Usage
 pub mod Endings
 pub mod Ahead
 pub mod Taking

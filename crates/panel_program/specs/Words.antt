@@ -1,11 +1,12 @@
 -- What the words of a call ask for.
 use Rattle.std.specs.Prelude.{◌&&◌, ◌≤◌, ℕ, Bool, nat_le, List, [], ◌∷◌, Option, Some, codes, if◌then◌else◌}
 use Rattle.std.specs.Str.{bytes_eq}
+use Rattle.site_types.specs.Limits.{most_panels}
 use Rattle.site_types.specs.Numbers.{number_of}
 use Rattle.panel_drill.specs.Running.{most_ticks}
 use Rattle.panel_program.specs.declared.command.Command.{Command}
 use Rattle.panel_program.specs.declared.command.Command.TheVariants.{Usage, Check, Run, Matrix, Drill, Move}
-use Rattle.panel_program.specs.declared.command.Command.TheVariants.{Audit, Import, Serve}
+use Rattle.panel_program.specs.declared.command.Command.TheVariants.{Audit, Import, Serve, Node}
 
 -- the greatest port, and the most connections that may be served
 abbrev pub most_port : ℕ
@@ -14,10 +15,11 @@ most_port = 65535
 abbrev pub most_connections : ℕ
 most_connections = 1000000
 
--- a drill has no more ticks than it may have, and serving as many connections
+-- a drill has no more ticks than it may have, and serving as many connections; panels are counted from 1
 abbrev pub IsBounded : Command → Type 0
 IsBounded (Drill seed ticks) = ticks ≤ most_ticks
 IsBounded (Serve port count) = (1 ≤ count) × (count ≤ most_connections)
+IsBounded (Node panel port count) = (1 ≤ panel) × (1 ≤ count) × (count ≤ most_connections)
 IsBounded _ = Unit {0}
 
 -- a drill from a seed, of 1 to 100,000 ticks
@@ -35,9 +37,16 @@ abbrev pub serving_by : Option ℕ → Option ℕ → Command
 serving_by (Some port) (Some count) = if is_serving port count then Serve port count else Usage
 serving_by _ _ = Usage
 
+-- serving panel 1 to 8 by itself so
+abbrev pub node_by : Option ℕ → Option ℕ → Option ℕ → Command
+node_by (Some panel) (Some port) (Some count) =
+    if nat_le 1 panel && (nat_le panel most_panels && is_serving port count) then Node panel port count else Usage
+node_by _ _ _ = Usage
+
 -- `check SITE`, `matrix SITE`, `run SITE JOURNAL`, `drill SEED TICKS`, whose two numbers are decimal without sign or
--- leading zero, `import SITE FILE REGISTER`, `audit SITE RECORD TEXT`, `move OLD NEW JOURNAL TARGET` and
--- `serve SITE JOURNAL PORT COUNT`, whose last two are such numbers too; all other words are a question for usage
+-- leading zero, `import SITE FILE REGISTER`, `audit SITE RECORD TEXT`, `move OLD NEW JOURNAL TARGET`,
+-- `serve SITE JOURNAL PORT COUNT`, whose last two are such numbers too, and `node SITE JOURNAL PANEL PORT COUNT`, whose
+-- last three are; all other words are a question for usage
 abbrev pub command_of : List (List ℕ) → Command
 command_of (word ∷ site ∷ []) =
     if bytes_eq word (codes "check") then Check else
@@ -51,4 +60,6 @@ command_of (word ∷ site ∷ third ∷ fourth ∷ []) =
 command_of (word ∷ second ∷ third ∷ fourth ∷ fifth ∷ []) =
     if bytes_eq word (codes "move") then Move else
     (if bytes_eq word (codes "serve") then serving_by (number_of fourth) (number_of fifth) else Usage)
+command_of (word ∷ second ∷ third ∷ fourth ∷ fifth ∷ sixth ∷ []) =
+    if bytes_eq word (codes "node") then node_by (number_of fourth) (number_of fifth) (number_of sixth) else Usage
 command_of _ = Usage

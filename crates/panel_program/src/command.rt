@@ -1,5 +1,6 @@
-ghost use Rattle.std.specs.Prelude.{◌≡◌, map, string_bytes};
-ghost use Rattle.panel_program.specs.Words.{IsBounded, command_of as command_by, drill_by, serving_by};
+ghost use Rattle.std.specs.Prelude.{◌≡◌, ◌≤◌, true, map, string_bytes};
+ghost use Rattle.panel_program.specs.Words.{IsBounded, command_of as command_by, drill_by, node_by, serving_by};
+ghost use Rattle.panel_program.specs.Words.{is_serving, most_connections, most_port};
 ghost use Rattle.site_types.specs.Numbers.{number_of};
 
 use panel_drill::MOST_TICKS;
@@ -10,6 +11,9 @@ const MOST_PORT: u64 = 65_535;
 
 /// The most connections that may be served.
 const MOST_CONNECTIONS: u64 = 1_000_000;
+
+/// The most panels of a site.
+const MOST_PANELS: u64 = 8;
 
 /// What the words of a call ask for. The second word names the site, but for a drill.
 #[derive(Clone, Copy, Debug, PartialEq, Eq)]
@@ -29,6 +33,8 @@ pub enum Command {
     Import,
     /// Serving behind a door at a port, so many connections.
     Serve { port: u16, count: u32 },
+    /// Serving one panel by itself so.
+    Node { panel: u8, port: u16, count: u32 },
 }
 
 /// The command that has these words.
@@ -73,6 +79,13 @@ pub fn command_of(words: &[String]) -> Command
                 Command::Usage
             }
         }
+        [word, _site, _journal, panel, port, count] => {
+            if word.as_str() == "node" {
+                node_of(panel.as_str(), port.as_str(), count.as_str())
+            } else {
+                Command::Usage
+            }
+        }
         _ => Command::Usage,
     }
 }
@@ -101,8 +114,44 @@ fn serving_of(port: &str, count: &str) -> Command
 {
     match (read_number(port.as_bytes()), read_number(count.as_bytes())) {
         (Some(port), Some(count)) => {
-            if port >= 1 && port <= MOST_PORT && count >= 1 && count <= MOST_CONNECTIONS {
+            if may_serve(port, count) {
                 Command::Serve {
+                    port: port as u16,
+                    count: count as u32,
+                }
+            } else {
+                Command::Usage
+            }
+        }
+        _ => Command::Usage,
+    }
+}
+
+// Whether so many connections may be served at a port.
+fn may_serve(port: u64, count: u64) -> bool
+    ensures may { result ≡ is_serving port count }
+    ensures port { result ≡ true → port ≤ most_port }
+    ensures count { result ≡ true → (1 ≤ count) × (count ≤ most_connections) }
+{
+    port >= 1 && port <= MOST_PORT && count >= 1 && count <= MOST_CONNECTIONS
+}
+
+// Serving a panel by itself, where all three are numbers, the panel's is that of one that a site may have, and there
+// are neither none nor too many connections.
+fn node_of(panel: &str, port: &str, count: &str) -> Command
+    ensures command { result ≡ node_by (number_of panel.now) (number_of port.now) (number_of
+        count.now) }
+    ensures bounded { IsBounded result }
+{
+    match (
+        read_number(panel.as_bytes()),
+        read_number(port.as_bytes()),
+        read_number(count.as_bytes()),
+    ) {
+        (Some(panel), Some(port), Some(count)) => {
+            if panel >= 1 && panel <= MOST_PANELS && may_serve(port, count) {
+                Command::Node {
+                    panel: panel as u8,
                     port: port as u16,
                     count: count as u32,
                 }

@@ -24,7 +24,6 @@ mod program;
 mod reading;
 mod run_end;
 mod taken;
-mod usage;
 
 pub use laws::well_made_runs_succeed;
 pub use program::panel;

@@ -3,7 +3,8 @@ ghost use Rattle.import_command.specs.Imports.{kept_tables};
 ghost use Rattle.journal_move.specs.Disks.{Spares};
 ghost use Rattle.panel_edges.specs.Faults.{Rose};
 ghost use Rattle.panel_program.specs.Commands.{Answers, AnswersIfImport, AnswersIfServing, AnswersRun};
-ghost use Rattle.panel_program.specs.Commands.{AsksNothing, BlamesDoorIfServing, ServesNothing, WorksNothing};
+ghost use Rattle.panel_program.specs.Commands.{AnswersIfNode, AsksNothing, BlamesDoorIfNode, BlamesDoorIfServing};
+ghost use Rattle.panel_program.specs.Commands.{ServesNothing, WithoutMemoryIfNode, WorksNothing};
 ghost use Rattle.panel_program.specs.Commands.{IsImport, KeepsNothing, MovesNothing, RunsNothing, call_disks};
 ghost use Rattle.site_run.specs.PowerCuts.{disk_of};
 ghost use Rattle.panel_program.specs.Runs.{streams_of};
@@ -17,13 +18,14 @@ ghost use Rattle.site_commands.specs.Files.{files_of};
 use crate::command::{Command, command_of};
 use crate::drilling::run_drill;
 use crate::reading::run_site;
-use crate::usage::USAGE;
 use audit_command::audit_files;
 use desk_doors::Door;
 use import_command::import_file;
 use journal_move::move_journal;
+use node_command::serve_node;
 use panel_edges::{Disk, Shelf, Sink, Source};
-use program_status::{Outcome, Status, say};
+use program_status::{Outcome, Status};
+use program_usage::tell_usage;
 use serve_command::serve_site;
 use service_keepers::Keeper;
 use site_commands::{load, stop_with, tell_counts, tell_matrix};
@@ -31,8 +33,8 @@ use std::alloc::Global;
 
 /// Does what the words ask for. All that is said goes to `out`, refusals too. A run keeps its journal on `disk`; a move
 /// opens that of the old site there and makes that of the new one on `target`. An audit judges one file by another. An
-/// import puts its rows into the register of `keeper`. Serving answers the connections that `door` gives over that
-/// register.
+/// import puts its rows into the register of `keeper`. Serving answers the connections that `door` gives, a whole site
+/// over that register, one panel by itself over what comes in frames.
 ///
 /// The status of the outcome is the number of a [`Status`]. Where memory ran out nothing was written.
 pub fn panel<F: Shelf, S: Source, K: Sink, D: Disk, G: Door, R: Keeper>(
@@ -57,6 +59,9 @@ pub fn panel<F: Shelf, S: Source, K: Sink, D: Disk, G: Door, R: Keeper>(
         (disk_of D.seen D.honest D.images D.moment D.left_since disk.old disk.new) (door_sides
         G.waiting G.handed door.old door.new) (sides_of R.tables R.faults keeper.old keeper.new)
         (K.written out.old) (K.written out.new) result }
+    ensures nodes { AnswersIfNode words.now (files_of F.files F.faults shelf.old shelf.new)
+        (disk_of D.seen D.honest D.images D.moment D.left_since disk.old disk.new) (door_sides
+        G.waiting G.handed door.old door.new) (K.written out.old) (K.written out.new) result }
     ensures input_alone { RunsNothing words.now → input.new ≡ input.old }
     ensures disk_alone { KeepsNothing words.now → disk.new ≡ disk.old }
     ensures target_alone { MovesNothing words.now → target.new ≡ target.old }
@@ -79,11 +84,14 @@ pub fn panel<F: Shelf, S: Source, K: Sink, D: Disk, G: Door, R: Keeper>(
         ⊎ Rose (D.faults target.old) (D.faults target.new) }
     ensures stores { BlamesStores result (D.faults disk.old) (D.faults disk.new) }
     ensures door { BlamesDoorIfServing words.now result (G.faults door.old) (G.faults door.new) }
+    ensures node_door { BlamesDoorIfNode words.now result (G.faults door.old)
+        (G.faults door.new) }
+    ensures before_door { WithoutMemoryIfNode words.now result (door.new ≡ door.old) }
     ensures keeper { IsImport words.now
         → BlamesKeeper result (R.faults keeper.old) (R.faults keeper.new) }
 {
     match command_of(words) {
-        Command::Usage => say(USAGE, Status::Usage, 0, out),
+        Command::Usage => tell_usage(out),
         Command::Check => tell_counts(alloc, words[1].as_str(), shelf, out),
         Command::Run => run(alloc, words[1].as_str(), shelf, input, out, disk),
         Command::Matrix => tell_matrix(alloc, words[1].as_str(), shelf, out),
@@ -115,6 +123,10 @@ pub fn panel<F: Shelf, S: Source, K: Sink, D: Disk, G: Door, R: Keeper>(
         Command::Serve { port, count } => {
             let name = words[1].as_str();
             serve_site(alloc, name, port, count, shelf, out, disk, door, keeper)
+        }
+        Command::Node { panel, port, count } => {
+            let name = words[1].as_str();
+            serve_node(alloc, name, panel, port, count, shelf, out, disk, door)
         }
     }
 }

@@ -1,9 +1,8 @@
 use Rattle.std.proofs.Common.{◌≡◌, ◌∙◌, ap, sym, subst, List, ℕ}
 use Rattle.std.specs.Prelude.{map, string_bytes}
-use Rattle.panel_program.specs.declared.command.Command.TheVariants.{Usage, Check, Run, Matrix, Drill, Move, Audit, Import, Serve}
+use Rattle.panel_program.specs.declared.command.Command.TheVariants.{Usage, Check, Run, Matrix, Drill, Move, Audit, Import, Serve, Node}
 use Rattle.journal_move.specs.Disks.{disks_of}
 use Rattle.panel_program.specs.Commands.{AnswersCommand, CallNames, call_disks, file_word, names_of, new_site_word, site_word, text_word}
-use Rattle.panel_program.specs.Usage.{usage_line}
 use Rattle.panel_program.specs.Runs.{streams_of}
 use Rattle.site_commands.specs.Files.{files_of}
 use Rattle.panel_program.specs.Words.{IsBounded, command_of}
@@ -13,6 +12,7 @@ use Rattle.serve_command.specs.Serving.{AnswersServe}
 use Rattle.site_run.specs.PowerCuts.{disk_of}
 use Rattle.audit_command.specs.Audits.{AnswersAudit}
 use Rattle.import_command.specs.Imports.{AnswersImport, kept_tables}
+use Rattle.node_command.specs.Serving.{AnswersNode}
 use Rattle.journal_move.specs.Moves.{AnswersMove}
 use Rattle.journal_move.proofs.Sparing.{spares_alone}
 use Rattle.panel_program.proofs.Naming.{file_word_is, lines_word_is, new_site_word_is, site_word_is, text_word_is}
@@ -42,23 +42,34 @@ serve_is port count e = cc
 count_is : (port count other_port other : ℕ) → Serve port count ≡ Serve other_port other → count ≡ other
 count_is port count other_port other e = cc
 
+node_is : (panel port count : ℕ) → Node panel port count ≡ Usage → ⊥
+node_is panel port count e = cc
+
+node_same : (panel port count other_panel other_port other : ℕ) → Node panel port count ≡ Node other_panel other_port other → (panel ≡ other_panel) × (count ≡ other)
+node_same panel port count other_panel other_port other e = (first e, last e)
+  where
+    first : Node panel port count ≡ Node other_panel other_port other → panel ≡ other_panel
+    first h = cc
+
+    last : Node panel port count ≡ Node other_panel other_port other → count ≡ other
+    last h = cc
+
 -- the names of a call whose site has this one
 abbrev named : List ℕ → List (List ℕ) → CallNames
 named site words = record { site = site; new_site = new_site_word words; lines = file_word words; text = text_word words }
 
 pub returns-in-Usage-clause-answers : goal.returns-in-Usage-clause-answers
-unfolding usage_line
 returns-in-Usage-clause-answers g c =
     let words = map string_bytes c.args.words.now in
     let is : command_of words ≡ Usage = sym c.command_of.ensures.command ∙ c.in-Usage.is in
     let same = c.args.shelf.now in
     let streams =
-    streams_of g.S.Stream.left g.S.Stream.read_faults g.K.Stream.written c.args.input.now c.args.input.now c.args.out.now c.say.new.out in
+    streams_of g.S.Stream.left g.S.Stream.read_faults g.K.Stream.written c.args.input.now c.args.input.now c.args.out.now c.tell_usage.new.out in
     let files = files_of g.F.Shelf.files g.F.Shelf.faults same same in
     let disks =
     call_disks g.D.Disk.seen g.D.Disk.honest g.D.Disk.images g.D.Disk.moment g.D.Disk.left_since c.args.disk.now c.args.disk.now c.args.target.now c.args.target.now in
-    subst (λ command. AnswersCommand command (names_of words) files disks streams c.say.result) (sym is)
-    (record { says = c.say.ensures.says; ticks = c.say.ensures.ticks.0; failures = c.say.ensures.ticks.1 })
+    subst (λ command. AnswersCommand command (names_of words) files disks streams c.tell_usage.result) (sym is)
+    (record { says = c.tell_usage.ensures.says; ticks = c.tell_usage.ensures.ticks.0; failures = c.tell_usage.ensures.ticks.1 })
 
 pub returns-in-Check-clause-answers : goal.returns-in-Check-clause-answers
 returns-in-Check-clause-answers g c =
@@ -297,8 +308,54 @@ returns-in-Serve-clause-serves g c port count asked =
     (subst (λ text. AnswersServe text files disk door sides c.in-Serve.count old new c.serve_site.result) name c.serve_site.ensures.answers)
 
 pub returns-in-Serve-clause-disk_spared : goal.returns-in-Serve-clause-disk_spared
-returns-in-Serve-clause-disk_spared g c nothing = absurd (nothing.1 c.in-Serve.port c.in-Serve.count (sym c.command_of.ensures.command ∙ c.in-Serve.is))
+returns-in-Serve-clause-disk_spared g c nothing =
+    absurd (nothing.1.0 c.in-Serve.port c.in-Serve.count (sym c.command_of.ensures.command ∙ c.in-Serve.is))
 
 pub returns-in-Serve-clause-target_spared : goal.returns-in-Serve-clause-target_spared
 returns-in-Serve-clause-target_spared g c =
+    spares_alone g.D.Disk.seen g.D.Disk.honest g.D.Disk.images g.D.Disk.moment g.D.Disk.left_since c.args.target.now (g.met.D.Disk.only_now c.args.target.now)
+
+-- ---- serving a panel by itself
+
+pub serve_node-requires-clause-panel : goal.serve_node-requires-clause-panel
+serve_node-requires-clause-panel g c = (subst IsBounded c.in-Node.is c.command_of.ensures.bounded).0
+
+pub serve_node-requires-clause-count : goal.serve_node-requires-clause-count
+serve_node-requires-clause-count g c = let bounded = subst IsBounded c.in-Node.is c.command_of.ensures.bounded in (bounded.1, bounded.2)
+
+pub returns-in-Node-clause-answers : goal.returns-in-Node-clause-answers
+returns-in-Node-clause-answers g c =
+    let words = map string_bytes c.args.words.now in
+    let files = files_of g.F.Shelf.files g.F.Shelf.faults c.args.shelf.now c.serve_node.new.shelf in
+    let streams =
+    streams_of g.S.Stream.left g.S.Stream.read_faults g.K.Stream.written c.args.input.now c.args.input.now c.args.out.now c.serve_node.new.out in
+    let disks =
+    call_disks g.D.Disk.seen g.D.Disk.honest g.D.Disk.images g.D.Disk.moment g.D.Disk.left_since c.args.disk.now c.serve_node.new.disk c.args.target.now c.args.target.now in
+    let is : command_of words ≡ Node c.in-Node.panel c.in-Node.port c.in-Node.count = sym c.command_of.ensures.command ∙ c.in-Node.is in
+    subst (λ command. AnswersCommand command (names_of words) files disks streams c.serve_node.result) (sym is) tt
+
+pub returns-in-Node-clause-nodes : goal.returns-in-Node-clause-nodes
+returns-in-Node-clause-nodes g c panel port count asked =
+    let words = map string_bytes c.args.words.now in
+    let files = files_of g.F.Shelf.files g.F.Shelf.faults c.args.shelf.now c.serve_node.new.shelf in
+    let disk = disk_of g.D.Disk.seen g.D.Disk.honest g.D.Disk.images g.D.Disk.moment g.D.Disk.left_since c.args.disk.now c.serve_node.new.disk in
+    let door = door_sides g.G.Door.waiting g.G.Door.handed c.args.door.now c.serve_node.new.door in
+    let old = g.K.Stream.written c.args.out.now in
+    let new = g.K.Stream.written c.serve_node.new.out in
+    let is : command_of words ≡ Node c.in-Node.panel c.in-Node.port c.in-Node.count = sym c.command_of.ensures.command ∙ c.in-Node.is in
+    let same = node_same c.in-Node.panel c.in-Node.port c.in-Node.count panel port count (sym is ∙ asked) in
+    let name : c.as_str-name-in-Node.result.now ≡ site_word words =
+    c.as_str-name-in-Node.ensures.value ∙ ap string_bytes c.index-words-1-in-Node.is ∙ sym
+    (site_word_is c.args.words.now c.index-words-1-in-Node.result (λ e. node_is c.in-Node.panel c.in-Node.port c.in-Node.count (sym is ∙ e)))
+    in
+    subst (λ n. AnswersNode (site_word words) n files disk door count old new c.serve_node.result) same.0
+    (subst (λ n. AnswersNode (site_word words) c.in-Node.panel files disk door n old new c.serve_node.result) same.1
+    (subst (λ text. AnswersNode text c.in-Node.panel files disk door c.in-Node.count old new c.serve_node.result) name c.serve_node.ensures.answers))
+
+pub returns-in-Node-clause-disk_spared : goal.returns-in-Node-clause-disk_spared
+returns-in-Node-clause-disk_spared g c nothing =
+    absurd (nothing.1.1 c.in-Node.panel c.in-Node.port c.in-Node.count (sym c.command_of.ensures.command ∙ c.in-Node.is))
+
+pub returns-in-Node-clause-target_spared : goal.returns-in-Node-clause-target_spared
+returns-in-Node-clause-target_spared g c =
     spares_alone g.D.Disk.seen g.D.Disk.honest g.D.Disk.images g.D.Disk.moment g.D.Disk.left_since c.args.target.now (g.met.D.Disk.only_now c.args.target.now)

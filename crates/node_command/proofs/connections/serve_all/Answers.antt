@@ -1,0 +1,49 @@
+use Rattle.std.proofs.Common.{◌≡◌, ◌∙◌, ◌+◌, true, false, arith, refl}
+use Rattle.desk_doors.specs.Passing.{door_sides}
+use Rattle.desk_doors.proofs.Passing.{still_tells}
+use Rattle.node_desk.proofs.Kept.{keeps_more, keeps_same}
+use Rattle.node_command.proofs.Each.{room_for, serves_more, serves_none, serves_same}
+use Rattle.site_run.specs.Outside.{disk_kind, disks_of}
+use Rattle.node_command.proofs.connections.serve_all.Goals as goal
+
+pub loop-served-init : goal.loop-served-init
+loop-served-init g c =
+    let kind = disk_kind g.D.Disk.honest g.D.Disk.images g.D.Disk.moment g.D.Disk.left_since in
+    let door = door_sides g.G.Door.waiting g.G.Door.handed c.args.door.now c.args.door.now in
+    let run = c.args.desk.now.run in
+    record {
+      within = omega arith;
+      out = c.requires.out;
+      faults = omega arith;
+      digest = refl;
+      disk = keeps_same g.D.Disk.honest g.D.Disk.images g.D.Disk.faults c.args.disk.now run run refl refl c.requires.stands;
+      some = λ site panel kept runs.
+          serves_none site panel kept kind c.args.disk.now door run refl (still_tells (g.G.Door.handed c.args.door.now)) runs;
+    }
+
+pub loop-served-preserved : goal.loop-served-preserved
+loop-served-preserved g c =
+    let kind = disk_kind g.D.Disk.honest g.D.Disk.images g.D.Disk.moment g.D.Disk.left_since in
+    let inv = c.loop-served.invariant in
+    let next = c.serve_next in
+    let now = c.loop-served in
+    let first = c.args.desk.now.run in
+    let disks = disks_of g.D.Disk.honest g.D.Disk.images g.D.Disk.moment g.D.Disk.left_since c.args.disk.now now.disk in
+    let door = door_sides g.G.Door.waiting g.G.Door.handed c.args.door.now now.door in
+    let mid = door_sides g.G.Door.waiting g.G.Door.handed now.door next.new.door in
+    record {
+      within = (let less = c.loop-served-test.true in omega (arith, less));
+      out = next.ensures.out;
+      faults = (let one = inv.faults in let other = next.ensures.cause.later in omega (arith, one, other));
+      digest = next.ensures.digest ∙ inv.digest;
+      disk = keeps_more g.D.Disk.honest g.D.Disk.images g.D.Disk.faults c.args.disk.now now.disk next.new.disk first now.desk.run next.new.desk.run inv.disk
+          next.ensures.disk;
+      some = λ site panel kept runs.
+          let so_far = inv.some site panel kept runs in
+          let within = inv.within in
+          let most = c.requires.count.1 in
+          let room = room_for site panel kept kind disks door first now.desk.run now.served so_far (omega (arith, within, most)) in
+          let one = c.in-Ok.ensures.serves site panel kept so_far.history so_far.ticks so_far.runs room in
+          serves_more site panel kept kind c.args.disk.now now.disk next.new.disk door mid first now.desk.run next.new.desk.run now.served c.in-Ok.field-0
+          refl refl inv.digest so_far one;
+    }
