@@ -2,7 +2,8 @@
 
 ghost use Rattle.std.specs.Prelude.{◌≡◌, ◌≤◌, length};
 ghost use Rattle.node_answers.specs.Lines.{frame_refusal_number as number_of_frame};
-ghost use Rattle.node_answers.specs.Lines.{other_tick_line as other_tick_text, refused_block_line as refused_block_text};
+ghost use Rattle.node_answers.specs.Lines.{other_tick_line as other_tick_text};
+ghost use Rattle.node_answers.specs.Lines.{refused_block_line as refused_block_text};
 ghost use Rattle.node_answers.specs.Lines.{refused_frame_line as refused_frame_text};
 
 use arrayvec::ArrayString;

@@ -63,7 +63,8 @@ returns-in-OtherTick-clause-ok g c =
     on_ok c.write_all-in-OtherTick.result
     (λ wrote.
     tells_as Wrote c.args.self.now c.args.reply (OtherTick c.in-OtherTick.expected c.in-OtherTick.found) c.in-OtherTick.is
-    (tells_line Wrote c.args.self.now (OtherTick c.in-OtherTick.expected c.in-OtherTick.found) c.as_bytes-in-OtherTick.result.now _ (c.as_bytes-in-OtherTick.ensures.value ∙ c.as_str-in-OtherTick.ensures.value ∙ c.other_tick_line.ensures)
+    (tells_line Wrote c.args.self.now (OtherTick c.in-OtherTick.expected c.in-OtherTick.found) c.as_bytes-in-OtherTick.result.now
+    _ (c.as_bytes-in-OtherTick.ensures.value ∙ c.as_str-in-OtherTick.ensures.value ∙ c.other_tick_line.ensures)
     (λ site panel kept digest before after. refl) wrote))
     c.write_all-in-OtherTick.ensures.ok
 
@@ -73,7 +74,8 @@ returns-in-OtherTick-clause-err g c =
     on_err c.write_all-in-OtherTick.result
     (λ wrote.
     tells_as Wrote c.args.self.now c.args.reply (OtherTick c.in-OtherTick.expected c.in-OtherTick.found) c.in-OtherTick.is
-    (tells_line Wrote c.args.self.now (OtherTick c.in-OtherTick.expected c.in-OtherTick.found) c.as_bytes-in-OtherTick.result.now _ (c.as_bytes-in-OtherTick.ensures.value ∙ c.as_str-in-OtherTick.ensures.value ∙ c.other_tick_line.ensures)
+    (tells_line Wrote c.args.self.now (OtherTick c.in-OtherTick.expected c.in-OtherTick.found) c.as_bytes-in-OtherTick.result.now
+    _ (c.as_bytes-in-OtherTick.ensures.value ∙ c.as_str-in-OtherTick.ensures.value ∙ c.other_tick_line.ensures)
     (λ site panel kept digest before after. refl) wrote))
     c.write_all-in-OtherTick.ensures.err
 
@@ -83,7 +85,8 @@ returns-in-BadBlock-clause-ok g c =
     on_ok c.write_all-in-BadBlock.result
     (λ wrote.
     tells_as Wrote c.args.self.now c.args.reply (BadBlock c.in-BadBlock.refusal) c.in-BadBlock.is
-    (tells_line Wrote c.args.self.now (BadBlock c.in-BadBlock.refusal) c.as_bytes-in-BadBlock.result.now _ (c.as_bytes-in-BadBlock.ensures.value ∙ c.as_str-in-BadBlock.ensures.value ∙ c.refused_block_line.ensures)
+    (tells_line Wrote c.args.self.now (BadBlock c.in-BadBlock.refusal) c.as_bytes-in-BadBlock.result.now
+    _ (c.as_bytes-in-BadBlock.ensures.value ∙ c.as_str-in-BadBlock.ensures.value ∙ c.refused_block_line.ensures)
     (λ site panel kept digest before after. refl) wrote))
     c.write_all-in-BadBlock.ensures.ok
 
@@ -93,7 +96,8 @@ returns-in-BadBlock-clause-err g c =
     on_err c.write_all-in-BadBlock.result
     (λ wrote.
     tells_as Wrote c.args.self.now c.args.reply (BadBlock c.in-BadBlock.refusal) c.in-BadBlock.is
-    (tells_line Wrote c.args.self.now (BadBlock c.in-BadBlock.refusal) c.as_bytes-in-BadBlock.result.now _ (c.as_bytes-in-BadBlock.ensures.value ∙ c.as_str-in-BadBlock.ensures.value ∙ c.refused_block_line.ensures)
+    (tells_line Wrote c.args.self.now (BadBlock c.in-BadBlock.refusal) c.as_bytes-in-BadBlock.result.now
+    _ (c.as_bytes-in-BadBlock.ensures.value ∙ c.as_str-in-BadBlock.ensures.value ∙ c.refused_block_line.ensures)
     (λ site panel kept digest before after. refl) wrote))
     c.write_all-in-BadBlock.ensures.err
 
