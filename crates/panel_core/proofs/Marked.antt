@@ -128,26 +128,24 @@ module _ (old turned new : System) (panel : ℕ) (task : Task) (differs : Bool) 
           subst (λ q. face_of site kept q (Turned panel task ∷ before) ≡ face_of site kept q before) e
           (own site kept before h run (raises.same (subst (λ q. is_marked new.changed q ≡ false) (sym e) unmarked)))
 
-pub hold_marks : {old turned new : System} {panel : ℕ} {differs : Bool} (shown shown' : HoldShown) → turned.changed ≡ old.changed
-    → RaisesMark turned panel differs new → MakesTaskTurn old panel Hold turned → ShowsByHold old panel shown → ShowsByHold turned panel shown'
-    → (differs ≡ false → shown' ≡ shown) → MarksTurn old panel Hold new.changed
-hold_marks {old} {turned} {new} {panel} {differs} shown shown' same raises made was is tells =
+pub hold_marks : {old turned new : System} {panel : ℕ} {differs : Bool} (shown : HoldShown) → turned.changed ≡ old.changed
+    → RaisesMark turned panel differs new → MakesTaskTurn old panel Hold turned → ShowsByHold old panel shown
+    → (differs ≡ false → ShowsByHold turned panel shown) → MarksTurn old panel Hold new.changed
+hold_marks {old} {turned} {new} {panel} {differs} shown same raises made was is =
     turn_marks old turned new panel Hold differs same raises
     (λ site kept before p e.
     face_stays site kept p (Turned panel Hold) before refl (hold_elsewhere site kept p (applied site kept before) before panel e) refl)
     (λ site kept before h run alike. (
     let moment = Turned panel Hold in
     let then = was site kept before h run.0 in
-    let now = is site kept (moment ∷ before) (made site kept before h run) run in
+    let now = is alike site kept (moment ∷ before) (made site kept before h run) run in
     let e = applied_stays site kept moment before refl in
     face_stays site kept panel moment before refl
     (hold_alike site kept panel (applied site kept before) before
-    (ap (λ done. (latest_word site kept done (tells_fault site kept done) panel (moment ∷ before)).alarm) e ∙ sym now.alarms
-    ∙ ap (λ (s : HoldShown). s.alarms) (tells alike) ∙ then.alarms)
-    (ap (λ done. (latest_word site kept done (tells_fault site kept done) panel (moment ∷ before)).first) e ∙ sym now.firsts
-    ∙ ap (λ (s : HoldShown). s.firsts) (tells alike) ∙ then.firsts)
-    (ap (λ done. faults_of site kept done panel (moment ∷ before)) e ∙ sym now.faults ∙ ap (λ (s : HoldShown). s.faults) (tells alike) ∙ then.faults)
-    (ap (λ done. buzzer_of site kept done panel (moment ∷ before)) e ∙ sym now.buzzer ∙ ap (λ (s : HoldShown). s.buzzer) (tells alike) ∙ then.buzzer))
+    (ap (λ done. (latest_word site kept done (tells_fault site kept done) panel (moment ∷ before)).alarm) e ∙ sym now.alarms ∙ then.alarms)
+    (ap (λ done. (latest_word site kept done (tells_fault site kept done) panel (moment ∷ before)).first) e ∙ sym now.firsts ∙ then.firsts)
+    (ap (λ done. faults_of site kept done panel (moment ∷ before)) e ∙ sym now.faults ∙ then.faults)
+    (ap (λ done. buzzer_of site kept done panel (moment ∷ before)) e ∙ sym now.buzzer ∙ then.buzzer))
     refl))
 
 pub link_marks : {old turned new : System} {panel : ℕ} {differs : Bool} (shown shown' : ShownZones) → turned.changed ≡ old.changed
