@@ -29,10 +29,23 @@ impl System {
         ensures turn { MakesTaskTurn self.old panel Link self.new }
         ensures marks { MarksTurn self.old panel Link self.new.changed }
     {
+        if self.site.panels == 1 {
+            self.link_turn(panel);
+        } else {
+            self.marked_ring_turn(panel);
+        }
+    }
+
+    // Where there are others, their words may be other ones now.
+    fn marked_ring_turn(&mut self, panel: u8)
+        requires { MayTurnTask panel Link self.old }
+        ensures turn { MakesTaskTurn self.old panel Link self.new }
+        ensures marks { MarksTurn self.old panel Link self.new.changed }
+    {
         let before = self.zones_shown(panel);
         self.link_turn(panel);
-        let after = self.zones_shown(panel);
-        self.mark(panel, !after.is_same(&before));
+        let same = self.shows_zones(panel, &before);
+        self.mark(panel, !same);
     }
 
     pub(crate) fn marked_drive_turn(&mut self, panel: u8)
