@@ -1,5 +1,7 @@
 -- What the parts of a panel show of it, with the operations that are in force.
 use Rattle.std.specs.Prelude.{◌≡◌, ℕ, List}
+use Rattle.site_types.specs.declared.buzzer.Buzzer.{Buzzer}
+use Rattle.site_types.specs.declared.fault_set.FaultSet.{FaultSet}
 use Rattle.site_types.specs.declared.retained.Retained.{Retained}
 use Rattle.site_types.specs.declared.site.Site.{Site}
 use Rattle.site_types.specs.declared.word.Word.{Word}
@@ -36,6 +38,11 @@ module _ (site : Site) (kept : Retained) (panel : ℕ) (before : List Moment) wh
     pub confirmed : shown.confirmed
         ≡ outputs_where site panel (λ output. is_confirmed_out site (facts_of site kept (applied site kept before))
         kept (applied site kept before) output before)
+
+-- by a word, faults and a buzzer
+abbrev pub shown_with : Word → FaultSet → Buzzer → HoldShown
+shown_with word faults buzzer =
+    record { alarms = word.alarm; firsts = word.first; faults = faults; buzzer = buzzer }
 
 abbrev pub ShowsByHold : System → ℕ → HoldShown → Type 0
 ShowsByHold system panel shown =

@@ -1,9 +1,9 @@
 ghost use Rattle.std.specs.Prelude.{◌≡◌, true};
 
-use site_types::{Buzzer, FaultSet};
+use site_types::{Buzzer, FaultSet, Word};
 
 /// What Hold shows of a panel.
-#[derive(Clone, Copy, Debug, PartialEq, Eq)]
+#[derive(Clone, Copy, Debug)]
 pub struct HoldShown {
     /// Its zones in alarm, bit `number - 1`.
     pub(crate) alarms: u32,
@@ -14,9 +14,15 @@ pub struct HoldShown {
 }
 
 impl HoldShown {
-    pub fn is_same(&self, other: &HoldShown) -> bool
-        ensures { result ≡ true → self.now ≡ other.now }
+    ghost use Rattle.panel_core.specs.PartsShown.{shown_with};
+
+    // Whether a panel with this word, these faults and this buzzer shows the same.
+    pub(crate) fn is_of(&self, word: &Word, faults: &FaultSet, buzzer: Buzzer) -> bool
+        ensures { result ≡ true → self.now ≡ shown_with word.now faults.now buzzer }
     {
-        self == other
+        self.alarms == word.alarm
+            && self.firsts == word.first
+            && self.buzzer == buzzer
+            && self.faults == *faults
     }
 }

@@ -1,6 +1,6 @@
 //! The turns that may change what a panel shows, each of which marks it where it does.
 
-ghost use Rattle.std.specs.Prelude.{◌≡◌};
+ghost use Rattle.std.specs.Prelude.{◌≡◌, true};
 
 use crate::hold_shown::HoldShown;
 use crate::outputs_shown::OutputsShown;
@@ -20,8 +20,8 @@ impl System {
     {
         let before = self.shown_by_hold(panel);
         self.hold_turn(panel);
-        let after = self.shown_by_hold(panel);
-        self.mark(panel, !after.is_same(&before));
+        let same = self.still_shows(panel, &before);
+        self.mark(panel, !same);
     }
 
     pub(crate) fn marked_link_turn(&mut self, panel: u8)
@@ -29,10 +29,23 @@ impl System {
         ensures turn { MakesTaskTurn self.old panel Link self.new }
         ensures marks { MarksTurn self.old panel Link self.new.changed }
     {
+        if self.site.panels == 1 {
+            self.link_turn(panel);
+        } else {
+            self.marked_ring_turn(panel);
+        }
+    }
+
+    // Where there are others, their words may be other ones now.
+    fn marked_ring_turn(&mut self, panel: u8)
+        requires { MayTurnTask panel Link self.old }
+        ensures turn { MakesTaskTurn self.old panel Link self.new }
+        ensures marks { MarksTurn self.old panel Link self.new.changed }
+    {
         let before = self.zones_shown(panel);
         self.link_turn(panel);
-        let after = self.zones_shown(panel);
-        self.mark(panel, !after.is_same(&before));
+        let same = self.shows_zones(panel, &before);
+        self.mark(panel, !same);
     }
 
     pub(crate) fn marked_drive_turn(&mut self, panel: u8)
@@ -59,6 +72,15 @@ impl System {
             faults: hold.faults(),
             buzzer: hold.buzzer(),
         }
+    }
+
+    // Whether Hold shows the same of a panel.
+    fn still_shows(&self, panel: u8, shown: &HoldShown) -> bool
+        requires { HasPanel panel self.now }
+        ensures { result ≡ true → ShowsByHold self.now panel shown.now }
+    {
+        let hold = &self.panels[panel as usize - 1].hold;
+        shown.is_of(&hold.word(), &hold.faults(), hold.buzzer())
     }
 
     // What Drive shows of a panel.

@@ -1,7 +1,9 @@
-ghost use Rattle.std.specs.Prelude.{◌≡◌, true};
+ghost use Rattle.std.specs.Prelude.{◌≡◌, ◌<◌, true};
+
+use site_types::Word;
 
 /// The zones of each panel that a panel shows, bit `number - 1`. Panel 1 stands first.
-#[derive(Clone, Copy, Debug, PartialEq, Eq)]
+#[derive(Clone, Copy, Debug)]
 pub struct ShownZones {
     /// Those in alarm.
     pub(crate) alarms: [u32; 8],
@@ -10,9 +12,13 @@ pub struct ShownZones {
 }
 
 impl ShownZones {
-    pub fn is_same(&self, other: &ShownZones) -> bool
-        ensures { result ≡ true → self.now ≡ other.now }
+    ghost use Rattle.panel_core.specs.ShownFaces.{HasWordAt};
+
+    // Whether they have the zones of this word at a place.
+    pub(crate) fn has(&self, place: usize, word: &Word) -> bool
+        requires { place < 8 }
+        ensures { result ≡ true → HasWordAt self.now place word.now }
     {
-        self == other
+        self.alarms[place] == word.alarm && self.firsts[place] == word.first
     }
 }

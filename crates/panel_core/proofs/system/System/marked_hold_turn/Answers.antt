@@ -7,8 +7,8 @@ use Rattle.panel_core.proofs.system.System.marked_hold_turn.Goals as goal
 pub shown_by_hold-before-requires : goal.shown_by_hold-before-requires
 shown_by_hold-before-requires c = may_look c.requires
 
-pub shown_by_hold-after-requires : goal.shown_by_hold-after-requires
-shown_by_hold-after-requires c = may_look_again c.requires c.hold_turn.ensures.turn
+pub still_shows-same-requires : goal.still_shows-same-requires
+still_shows-same-requires c = may_look_again c.requires c.hold_turn.ensures.turn
 
 pub mark-requires : goal.mark-requires
 mark-requires c = let few = c.requires.stands.valid.forms.panels.1 in let last = c.requires.member.1 in (c.requires.member.0, omega (arith, few, last))
@@ -19,5 +19,5 @@ returns-clause-turn c site kept before h run =
 
 pub returns-clause-marks : goal.returns-clause-marks
 returns-clause-marks c =
-    hold_marks c.shown_by_hold-before.result c.shown_by_hold-after.result c.hold_turn.ensures.same c.mark.ensures c.hold_turn.ensures.turn c.shown_by_hold-before.ensures
-    c.shown_by_hold-after.ensures (λ alike. c.is_same.ensures (not_false _ alike))
+    hold_marks c.shown_by_hold-before.result c.hold_turn.ensures.same c.mark.ensures c.hold_turn.ensures.turn c.shown_by_hold-before.ensures
+    (λ alike. c.still_shows-same.ensures (not_false _ alike))
