@@ -9,6 +9,7 @@ ghost use Rattle.caused_zones.specs.Judging.{is_mark_near, is_near_to, mark_at, 
 ghost use Rattle.caused_zones.specs.Marks.{AreEachAfter};
 
 use crate::cause::Cause;
+use crate::marked::Marked;
 use crate::point_mark::PointMark;
 use site_types::{Rule, Site};
 use tick_units::Tick;
@@ -18,9 +19,14 @@ pub fn judge_alarms(alarms: &mut [Cause], marks: &[PointMark], site: &Site, now:
     ensures { AreEachAfter (λ zone cause. cause_with
         (is_confirmed_now site.now marks.now now.0 zone) cause) alarms.old alarms.new }
 {
+    let marked = Marked {
+        site,
+        marks,
+        tick: now,
+    };
     for place in 0..marks.len() {
         if marks[place].last == now.0 {
-            judge_point(alarms, marks, site, now, place);
+            judge_point(alarms, &marked, place);
         }
     }
 }
@@ -54,16 +60,17 @@ fn judge_call(by_hand: &mut [Cause], site: &Site, place: usize)
 }
 
 // Takes the zones that a point confirms.
-fn judge_point(alarms: &mut [Cause], marks: &[PointMark], site: &Site, now: Tick, place: usize)
-    ensures { AreEachAfter (λ zone cause. cause_with (touches site.now marks.now now.0 place zone
-        && confirms_by site.now marks.now now.0 zone place) cause) alarms.old alarms.new }
+fn judge_point(alarms: &mut [Cause], marked: &Marked, place: usize)
+    ensures { AreEachAfter (λ zone cause. cause_with (touches marked.now.site.now
+        marked.now.marks.now marked.now.tick.0 place zone && confirms_by marked.now.site.now
+        marked.now.marks.now marked.now.tick.0 zone place) cause) alarms.old alarms.new }
 {
-    match site.points.get(place) {
+    match marked.site.points.get(place) {
         None => {}
         Some(point) => {
             let zone = point.zone as usize;
-            judge_zone(alarms, marks, site, now, zone, place);
-            judge_partner(alarms, marks, site, now, zone, place);
+            judge_zone(alarms, marked, zone, place);
+            judge_partner(alarms, marked, zone, place);
         }
     }
 }
@@ -71,100 +78,81 @@ fn judge_point(alarms: &mut [Cause], marks: &[PointMark], site: &Site, now: Tick
 ghost use Rattle.coincidence_rules.specs.Places.{on_partner};
 
 // The same for the partner of a zone.
-fn judge_partner(
-    alarms: &mut [Cause],
-    marks: &[PointMark],
-    site: &Site,
-    now: Tick,
-    zone: usize,
-    place: usize,
-)
-    ensures { AreEachAfter (λ other cause. cause_with
-        (on_partner site.now zone (λ partner. other == partner)
-        && confirms_by site.now marks.now now.0 other place) cause) alarms.old alarms.new }
+fn judge_partner(alarms: &mut [Cause], marked: &Marked, zone: usize, place: usize)
+    ensures { AreEachAfter (λ other cause. cause_with (on_partner marked.now.site.now zone
+        (λ partner. other == partner) && confirms_by marked.now.site.now marked.now.marks.now
+        marked.now.tick.0 other place) cause) alarms.old alarms.new }
 {
-    match site.zones.get(zone) {
+    match marked.site.zones.get(zone) {
         None => {}
         Some(plan) => match plan.partner {
             None => {}
-            Some(partner) => judge_zone(alarms, marks, site, now, partner as usize, place),
+            Some(partner) => judge_zone(alarms, marked, partner as usize, place),
         },
     }
 }
 
 // The same for one zone.
-fn judge_zone(
-    alarms: &mut [Cause],
-    marks: &[PointMark],
-    site: &Site,
-    now: Tick,
-    zone: usize,
-    place: usize,
-)
+fn judge_zone(alarms: &mut [Cause], marked: &Marked, zone: usize, place: usize)
     ensures { AreEachAfter (λ other cause. cause_with ((other == zone)
-        && confirms_by site.now marks.now now.0 other place) cause) alarms.old alarms.new }
+        && confirms_by marked.now.site.now marked.now.marks.now marked.now.tick.0 other place)
+        cause) alarms.old alarms.new }
 {
-    if zone < alarms.len() && !alarms[zone].stands && confirms(marks, site, now, zone, place) {
+    if zone < alarms.len() && !alarms[zone].stands && confirms(marked, zone, place) {
         alarms[zone] = alarms[zone].given();
     }
 }
 
 // Whether a point that counts now confirms a zone.
-fn confirms(marks: &[PointMark], site: &Site, now: Tick, zone: usize, place: usize) -> bool
-    ensures { result ≡ confirms_by site.now marks.now now.0 zone place }
+fn confirms(marked: &Marked, zone: usize, place: usize) -> bool
+    ensures { result
+        ≡ confirms_by marked.now.site.now marked.now.marks.now marked.now.tick.0 zone place }
 {
-    match site.points.get(place) {
+    match marked.site.points.get(place) {
         None => false,
         Some(point) => {
             if point.manual {
                 point.zone as usize == zone
             } else {
-                coincides(marks, site, now, zone, place)
+                coincides(marked, zone, place)
             }
         }
     }
 }
 
 // Whether what a zone's type asks for is there.
-fn coincides(marks: &[PointMark], site: &Site, now: Tick, zone: usize, place: usize) -> bool
-    ensures { result ≡ coincides_by site.now marks.now now.0 zone
-        (rule_of (slice_get site.now.zones zone)) place }
+fn coincides(marked: &Marked, zone: usize, place: usize) -> bool
+    ensures { result ≡ coincides_by marked.now.site.now marked.now.marks.now marked.now.tick.0
+        zone (rule_of (slice_get marked.now.site.now.zones zone)) place }
 {
-    match site.zones.get(zone) {
+    match marked.site.zones.get(zone) {
         None => false,
         Some(plan) => match plan.rule {
-            Rule::Plain => is_of(site, zone, place),
+            Rule::Plain => is_of(marked.site, zone, place),
             Rule::A { verify, within } => {
-                is_of(site, zone, place)
-                    && (is_verified(marks, now, verify, place)
-                        || some_near(marks, site, now, within, place, zone))
+                is_of(marked.site, zone, place)
+                    && (is_verified(marked.marks, marked.tick, verify, place)
+                        || some_near(marked, within, place, zone))
             }
-            Rule::B { within } => has_pair(marks, site, now, within, place, zone),
-            Rule::C => is_of(site, zone, place),
+            Rule::B { within } => has_pair(marked, within, place, zone),
+            Rule::C => is_of(marked.site, zone, place),
         },
     }
 }
 
 // Whether a point makes a pair for a zone.
-fn has_pair(
-    marks: &[PointMark],
-    site: &Site,
-    now: Tick,
-    within: u16,
-    place: usize,
-    zone: usize,
-) -> bool
-    ensures { result
-        ≡ pairs_up site.now zone place (some_near_to site.now marks.now now.0 within place) }
+fn has_pair(marked: &Marked, within: u16, place: usize, zone: usize) -> bool
+    ensures { result ≡ pairs_up marked.now.site.now zone place
+        (some_near_to marked.now.site.now marked.now.marks.now marked.now.tick.0 within place) }
 {
-    let own = is_of(site, zone, place);
-    match partner_of(site, zone) {
-        None => own && some_near(marks, site, now, within, place, zone),
+    let own = is_of(marked.site, zone, place);
+    match partner_of(marked.site, zone) {
+        None => own && some_near(marked, within, place, zone),
         Some(partner) => {
             let other = partner as usize;
-            (own && (some_near(marks, site, now, within, place, zone)
-                || some_near(marks, site, now, within, place, other)))
-                || (is_of(site, other, place) && some_near(marks, site, now, within, place, zone))
+            (own && (some_near(marked, within, place, zone)
+                || some_near(marked, within, place, other)))
+                || (is_of(marked.site, other, place) && some_near(marked, within, place, zone))
         }
     }
 }
@@ -193,39 +181,26 @@ fn is_verified(marks: &[PointMark], now: Tick, verify: u16, place: usize) -> boo
 }
 
 // Whether another detector of a zone counted, at most so many ticks ago.
-fn some_near(
-    marks: &[PointMark],
-    site: &Site,
-    now: Tick,
-    within: u16,
-    place: usize,
-    zone: usize,
-) -> bool
-    ensures { result ≡ some_near_to site.now marks.now now.0 within place zone }
+fn some_near(marked: &Marked, within: u16, place: usize, zone: usize) -> bool
+    ensures { result ≡ some_near_to marked.now.site.now marked.now.marks.now
+        marked.now.tick.0 within place zone }
 {
-    for other in 0..marks.len() {
-        if is_near(marks, site, now, within, place, zone, other) {
+    for other in 0..marked.marks.len() {
+        if is_near(marked, within, place, zone, other) {
             return true;
         }
     }
     false
 }
 
-fn is_near(
-    marks: &[PointMark],
-    site: &Site,
-    now: Tick,
-    within: u16,
-    place: usize,
-    zone: usize,
-    other: usize,
-) -> bool
-    ensures { result ≡ is_near_to site.now marks.now now.0 within place zone other }
+fn is_near(marked: &Marked, within: u16, place: usize, zone: usize, other: usize) -> bool
+    ensures { result ≡ is_near_to marked.now.site.now marked.now.marks.now
+        marked.now.tick.0 within place zone other }
 {
-    counted_lately(marks, now, within, other)
+    counted_lately(marked.marks, marked.tick, within, other)
         && other != place
-        && is_of(site, zone, other)
-        && is_detector(site, other)
+        && is_of(marked.site, zone, other)
+        && is_detector(marked.site, other)
 }
 
 fn counted_lately(marks: &[PointMark], now: Tick, within: u16, place: usize) -> bool

@@ -14,6 +14,7 @@ mod cause;
 mod caused_parts;
 mod caused_zones;
 mod judging;
+mod marked;
 mod marking;
 mod point_mark;
 mod undoing;

@@ -15,9 +15,10 @@ pub fn facts_kept(words: &KeptWords, panels: u8) -> Facts
     let mut faulty = [false; 8];
     for source in 1..panels + 1 {
         let word = words.word(source);
-        zones[source as usize - 1] = word.released;
-        manual[source as usize - 1] = word.manual;
-        faulty[source as usize - 1] = word.fault;
+        let place = source as usize - 1;
+        zones[place] = word.released;
+        manual[place] = word.manual;
+        faulty[place] = word.fault;
     }
     Facts {
         zones,

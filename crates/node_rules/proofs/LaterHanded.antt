@@ -26,11 +26,9 @@ use Rattle.later_operations.proofs.DoneFrom.{are_from}
 use Rattle.later_operations.proofs.Earlier.{then_earlier, up_to_tick}
 use Rattle.later_operations.proofs.GoesOn.{goes_later}
 use Rattle.later_operations.proofs.Signs.{missing_later, signs_later}
+use Rattle.later_operations.proofs.Told.{IsUpTo}
 use Rattle.node_rules.specs.Handed.{facts_by_words, facts_of_words, faults_at_word, outside_by_words, own_tells, own_tells_to, words_held}
 use Rattle.node_rules.specs.HandedStays.{WhatIsHandedStays}
-
-abbrev IsUpTo : ℕ → List Moment → Type 0
-IsUpTo x m = tick_of m ≤ x
 
 made_by : (x panel : ℕ) (m : List Moment) → tick_of m ≤ x → tick_of (made_at panel m) ≤ x
 made_by x panel m by =

@@ -71,16 +71,15 @@ own_zones site panel test = (zones_below site panel test, λ bit small has. ther
         any_there (is_panel_zone panel (bit + 1)) site.zones place zone.zone zone.is
         (rw (eq-eqb zone.zone.panel panel zone.panel_is, eq-eqb zone.zone.number (bit + 1) zone.number_is) refl)
 
--- a run of moments before the first tick has none
-none_before_ticks : (panels : ℕ) (before : List Moment) → IsRun panels before → tick_of before ≡ 0 → before ≡ []
-none_before_ticks panels [] run e = refl
-none_before_ticks panels (Began ∷ before) run e = absurd (omega (arith, e))
-none_before_ticks panels (Happened event ∷ before) run e =
-    absurd (let fresh = run.1 in let none = none_before_ticks panels before run.0 e in let no_way = rw none at fresh in cc)
-none_before_ticks panels (Turned panel task ∷ before) run e =
-    absurd (let owed = run.1 in let none = none_before_ticks panels before run.0 e in let no_way = rw none at owed in cc)
-none_before_ticks panels (Kept failed ∷ before) run e =
-    absurd (let owed = run.1 in let none = none_before_ticks panels before run.0 e in let no_way = rw none at owed in cc)
+-- a run in which something befell has begun a tick
+begun : (panels : ℕ) (moment : Moment) (before : List Moment) → IsRun panels (moment ∷ before) → 1 ≤ tick_of (moment ∷ before)
+begun panels Began before run = omega arith
+begun panels (Happened event) [] run = absurd (let fresh = run.1 in cc)
+begun panels (Happened event) (moment ∷ before) run = begun panels moment before run.0
+begun panels (Turned panel task) [] run = absurd (let owed = run.1 in cc)
+begun panels (Turned panel task) (moment ∷ before) run = begun panels moment before run.0
+begun panels (Kept failed) [] run = absurd (let owed = run.1 in cc)
+begun panels (Kept failed) (moment ∷ before) run = begun panels moment before run.0
 
 module _ (site : Site) (kept : Retained) (done : List Done) (told : ℕ → List Moment → Bool) (panel : ℕ) (member : IsPanel site.panels panel) where
   -- a word that the panel made
@@ -88,7 +87,7 @@ module _ (site : Site) (kept : Retained) (done : List Done) (told : ℕ → List
   made_ok [] run few = no_word site panel
   made_ok (turn ∷ before) run few = record {
     absent = λ beyond. absurd (omega (arith, beyond, member.1));
-    unstamped = λ none. absurd (let gone = none_before_ticks site.panels (turn ∷ before) run none in cc);
+    unstamped = λ none. absurd (let one = begun site.panels turn before run in omega (arith, one, none));
     stamp = few;
     alarm = own_zones site panel _;
     manual = own_zones site panel _;

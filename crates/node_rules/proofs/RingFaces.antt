@@ -172,11 +172,7 @@ module _ (site : Site) (kept : Retained) (done : List Done) (panel : ℕ) (momen
 
   news_alike : (word word' earlier earlier' : Word) (faults faults' past past' : FaultSet) → word ≡ word' → faults ≡ faults' → earlier ≡ earlier'
       → past ≡ past' → is_news word faults earlier past ≡ is_news word' faults' earlier' past'
-  news_alike word word' earlier earlier' faults faults' past past' a b c d =
-      ap (λ w. is_news w faults earlier past) a
-      ∙ ap (λ f. is_news word' f earlier past) b
-      ∙ ap (λ w. is_news word' faults' w past) c
-      ∙ ap (λ f. is_news word' faults' earlier' f) d
+  news_alike word word' earlier earlier' faults faults' past past' a b c d = cc
 
   told_news : (before : List Moment) → IsPast (Turned panel Hold ∷ before) moments
       → tells_news site kept done panel handed links before ≡ shows_news site kept done panel before

@@ -71,16 +71,12 @@ module _ (site : Site) (kept : Retained) (done : List Done) (told : ℕ → List
   newest_made : (source : ℕ) (a b : List Moment) → newest (word_made site kept done told source a) (word_made site kept done told source b)
       ≡ word_made site kept done told source (newer a b)
   newest_made source a b =
-      ap (λ s. if nat_lt s (word_made site kept done told source b).stamp.0 then word_made site kept done told source b else word_made site kept done
-      told source a) (stamp_is site kept done told source a)
-      ∙ ap (λ s. if nat_lt (tick_of a) s then word_made site kept done told source b else word_made site kept done told source a)
-      (stamp_is site kept done told source b)
-      ∙ either (nat_lt (tick_of a) (tick_of b))
-    where
-      either : (t : Bool) → (if t then word_made site kept done told source b else word_made site kept done told source a)
-          ≡ word_made site kept done told source (if t then b else a)
-      either true = refl
-      either false = refl
+      rw (stamp_is site kept done told source a, stamp_is site kept done told source b)
+      (elim (nat_lt (tick_of a) (tick_of b)) as (λ t. (if t then word_made site kept done told source b else word_made site kept done told source a)
+      ≡ word_made site kept done told source (if t then b else a)) [
+        | true ↦ refl
+        | false ↦ refl
+      ])
 
   -- the words kept after a frame that comes are those that are taken over a link
   after_ring_frame : (up : Bool) (neighbour source : ℕ) (before word : List Moment) (history : List NodeMoment) → 1 < site.panels

@@ -19,5 +19,6 @@ mod Bases
 pub mod DoneOrder
 mod Orders
 mod Scanned
+mod Finding
 mod TickByTick
 mod Verdicts

@@ -16,6 +16,9 @@ use Rattle.audit_rules.specs.CanCause.{CanBeOn, CanBeShown}
 use Rattle.audit_rules.specs.Shown.{text_tells_output, text_tells_zone}
 use Rattle.panel_audit.specs.Broken.{IsBaseless, IsDark, IsHidden, IsUncaused}
 
+some_is : {X : Type 0} (one other : X) → Some one ≡ Some other → one ≡ other
+some_is one other e = cc
+
 module _ (site : Site) (ticks : List TickBlock) (timeline : Timeline) (tick : ℕ) (before : List Moment) (until : up_to tick (moments ticks) ≡ before)
     (now : tick_of before ≡ tick) where
   abbrev kept : Retained
@@ -31,16 +34,10 @@ module _ (site : Site) (ticks : List TickBlock) (timeline : Timeline) (tick : �
   then_is breach at = now ∙ sym at
 
   same_zone : (place : ℕ) (one other : Zone) → slice_get site.zones place ≡ Some one → slice_get site.zones place ≡ Some other → one ≡ other
-  same_zone place one other is are = some_is (sym is ∙ are)
-    where
-      some_is : Some one ≡ Some other → one ≡ other
-      some_is e = cc
+  same_zone place one other is are = some_is one other (sym is ∙ are)
 
   same_output : (place : ℕ) (one other : Output) → slice_get site.outputs place ≡ Some one → slice_get site.outputs place ≡ Some other → one ≡ other
-  same_output place one other is are = some_is (sym is ∙ are)
-    where
-      some_is : Some one ≡ Some other → one ≡ other
-      some_is e = cc
+  same_output place one other is are = some_is one other (sym is ∙ are)
 
   -- ---- indication
 
@@ -58,17 +55,14 @@ module _ (site : Site) (ticks : List TickBlock) (timeline : Timeline) (tick : �
 
   pub broken_hides : (breach : Breach) → breach.tick ≡ tick → BreaksIndication site ticks timeline breach
       → (place : ℕ) × (plan : Zone) × NamesZone site ticks timeline breach place plan × IsHidden site kept done timeline before breach.panel place
-  broken_hides breach at broken = (
-    broken.place,
-    broken.plan,
-    broken.names,
-    record {
-      plan = broken.plan;
-      plan_is = broken.names.plan_is;
-      due = subst (λ m. IsDue site kept done m broken.place breach.panel) (befallen breach at) broken.due;
-      hidden = ap (λ n. text_tells_zone timeline breach.panel broken.plan n) (then_is breach at) ∙ broken.hidden;
-    },
-  )
+  broken_hides breach at broken =
+      let hidden : IsHidden site kept done timeline before breach.panel broken.place = record {
+        plan = broken.plan;
+        plan_is = broken.names.plan_is;
+        due = subst (λ m. IsDue site kept done m broken.place breach.panel) (befallen breach at) broken.due;
+        hidden = ap (λ n. text_tells_zone timeline breach.panel broken.plan n) (then_is breach at) ∙ broken.hidden;
+      } in
+      (broken.place, broken.plan, broken.names, hidden)
 
   -- ---- zones
 
@@ -86,17 +80,14 @@ module _ (site : Site) (ticks : List TickBlock) (timeline : Timeline) (tick : �
 
   pub broken_uncaused : (breach : Breach) → breach.tick ≡ tick → BreaksZone site ticks timeline breach
       → (place : ℕ) × (plan : Zone) × NamesZone site ticks timeline breach place plan × IsUncaused site kept done timeline before breach.panel place
-  broken_uncaused breach at broken = (
-    broken.place,
-    broken.plan,
-    broken.names,
-    record {
-      plan = broken.plan;
-      plan_is = broken.names.plan_is;
-      shown = ap (λ n. text_tells_zone timeline breach.panel broken.plan n) (then_is breach at) ∙ broken.shown;
-      uncaused = λ can. broken.uncaused (subst (λ m. CanBeShown site timeline kept done m breach.panel broken.place) (sym (befallen breach at)) can);
-    },
-  )
+  broken_uncaused breach at broken =
+      let bad : IsUncaused site kept done timeline before breach.panel broken.place = record {
+        plan = broken.plan;
+        plan_is = broken.names.plan_is;
+        shown = ap (λ n. text_tells_zone timeline breach.panel broken.plan n) (then_is breach at) ∙ broken.shown;
+        uncaused = λ can. broken.uncaused (subst (λ m. CanBeShown site timeline kept done m breach.panel broken.place) (sym (befallen breach at)) can);
+      } in
+      (broken.place, broken.plan, broken.names, bad)
 
   -- ---- outputs
 
@@ -117,20 +108,17 @@ module _ (site : Site) (ticks : List TickBlock) (timeline : Timeline) (tick : �
 
   pub broken_dark : (breach : Breach) → breach.tick ≡ tick → BreaksOutput site ticks timeline breach
       → (place : ℕ) × (plan : Output) × NamesOutput site ticks timeline breach place plan × IsDark site kept done timeline before place
-  broken_dark breach at broken = (
-    broken.place,
-    broken.plan,
-    broken.names,
-    record {
-      plan = broken.plan;
-      plan_is = broken.names.plan_is;
-      due = record {
-        due = subst (λ m. IsDueOn site kept done m broken.place) (befallen breach at) broken.due;
-        unexcused = ap (λ n. is_sounder site broken.place && was_silenced broken.plan.panel n done) (then_is breach at) ∙ broken.unexcused;
-      };
-      off = ap (λ n. text_tells_output timeline broken.plan n) (then_is breach at) ∙ broken.off;
-    },
-  )
+  broken_dark breach at broken =
+      let dark : IsDark site kept done timeline before broken.place = record {
+        plan = broken.plan;
+        plan_is = broken.names.plan_is;
+        due = record {
+          due = subst (λ m. IsDueOn site kept done m broken.place) (befallen breach at) broken.due;
+          unexcused = ap (λ n. is_sounder site broken.place && was_silenced broken.plan.panel n done) (then_is breach at) ∙ broken.unexcused;
+        };
+        off = ap (λ n. text_tells_output timeline broken.plan n) (then_is breach at) ∙ broken.off;
+      } in
+      (broken.place, broken.plan, broken.names, dark)
 
   -- ---- causes
 
@@ -148,14 +136,11 @@ module _ (site : Site) (ticks : List TickBlock) (timeline : Timeline) (tick : �
 
   pub broken_baseless : (breach : Breach) → breach.tick ≡ tick → BreaksCause site ticks timeline breach
       → (place : ℕ) × (plan : Output) × NamesOutput site ticks timeline breach place plan × IsBaseless site kept done timeline before place
-  broken_baseless breach at broken = (
-    broken.place,
-    broken.plan,
-    broken.names,
-    record {
-      plan = broken.plan;
-      plan_is = broken.names.plan_is;
-      on = ap (λ n. text_tells_output timeline broken.plan n) (then_is breach at) ∙ broken.on;
-      uncaused = λ can. broken.uncaused (subst (λ m. CanBeOn site timeline kept done m broken.place) (sym (befallen breach at)) can);
-    },
-  )
+  broken_baseless breach at broken =
+      let bad : IsBaseless site kept done timeline before broken.place = record {
+        plan = broken.plan;
+        plan_is = broken.names.plan_is;
+        on = ap (λ n. text_tells_output timeline broken.plan n) (then_is breach at) ∙ broken.on;
+        uncaused = λ can. broken.uncaused (subst (λ m. CanBeOn site timeline kept done m broken.place) (sym (befallen breach at)) can);
+      } in
+      (broken.place, broken.plan, broken.names, bad)

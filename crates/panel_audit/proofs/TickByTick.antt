@@ -20,10 +20,13 @@ use Rattle.shown_causes.specs.Faults.{DoStepsRise}
 use Rattle.tick_events.specs.declared.tick_events.TickEvents.{TickEvents}
 use Rattle.tick_events.specs.Told.{TellsEventsOfTick, ticks_until}
 use Rattle.told_operations.specs.Founding.{IsFirstUnfounded}
+use Rattle.panel_audit.specs.declared.broken.Broken.{Broken}
 use Rattle.panel_audit.specs.declared.judge.Judge.{Judge}
 use Rattle.panel_audit.specs.declared.scan.Scan.{Scan}
+use Rattle.panel_audit.specs.Breaking.{breach_in}
+use Rattle.panel_audit.specs.Firsts.{FirstInTick}
 use Rattle.panel_audit.specs.Judging.{JudgeStands, TakesTick}
-use Rattle.panel_audit.specs.Scanning.{IsScannedAfter, ScanStands}
+use Rattle.panel_audit.specs.Scanning.{FindsFirst, IsScannedAfter, ScanStands}
 use Rattle.panel_audit.specs.Ticks.{IsCase, is_at}
 use Rattle.panel_audit.proofs.Orders.{until_ordered}
 use Rattle.panel_audit.proofs.TicksUntil.{until_counted}
@@ -110,7 +113,7 @@ module _ (site : Site) (timeline : Timeline) (operations : List DoneOperation) (
       )
 
   -- what is known then
-  pub known_after : (judge : Judge) (due : List DueZones) (at : Bool) → at ≡ is_at unfounded (place + 1)
+  known_after : (judge : Judge) (due : List DueZones) (at : Bool) → at ≡ is_at unfounded (place + 1)
       → JudgeStands site (kept_by_text site ticks timeline) timeline operations (ticks_until (place + 1) ticks) judge
       → AreDueAtEach site (kept_by_text site ticks timeline) (done_newest_first operations) (moments (ticks_until (place + 1) ticks)) due
       → FirstByTick site ticks timeline place None → IsScannedAfter site timeline operations ticks (place + 1) judge due at
@@ -123,3 +126,13 @@ module _ (site : Site) (timeline : Timeline) (operations : List DoneOperation) (
         are_due = are_due;
         answers = (λ h. answers.0 (sym at_is ∙ h), λ has. at_is ∙ answers.1 has);
       }
+
+  -- with the tick the auditor stands, and its first breach is found
+  pub tick_judged : (now : ℕ) (events : List Event) (due : List DueZones) (old new : Judge) (at : Bool) (scan : Scan) (found : Option Broken)
+      → now ≡ place + 1 → TellsEventsOfTick ticks (place + 1) events → TakesTick site timeline operations now events due old new
+      → at ≡ is_at unfounded (place + 1) → FindsFirst site timeline operations new due at scan found → IsJudgedTo site timeline operations ticks place old scan
+      → JudgeStands site (kept_by_text site ticks timeline) timeline operations (ticks_until (place + 1) ticks) new
+      × FirstInTick site ticks timeline (place + 1) (option_map (breach_in (place + 1)) found)
+  tick_judged now events due old new at scan found is tells takes at_is finds before =
+      let taken = tick_taken now events due old new is tells takes before.stands in
+      (taken.0, finds ticks (place + 1) known.acyclic before.scanned (known_after new due at at_is taken.0 taken.1 before.none))

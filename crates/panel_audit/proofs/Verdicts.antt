@@ -1,12 +1,11 @@
 -- The verdict, from how record and text are read.
-use Rattle.std.proofs.Common.{◌≡◌, ◌∙◌, ℕ, List, refl, sym, ap, subst, map, length, Option, Some, None, Result, Ok, Err}
+use Rattle.std.proofs.Common.{◌≡◌, ℕ, List, refl, sym, subst, Option, Some, None, Result, Ok, Err}
 use Rattle.std.specs.Prelude.{IfOk}
 use Rattle.site_types.specs.declared.site.Site.{Site}
 use Rattle.record_lines.specs.declared.line.Line.{Line}
 use Rattle.record_lines.specs.declared.over.Over.{Over}
 use Rattle.record_lines.specs.declared.over.Over.TheVariants.{Ended, Refused}
 use Rattle.record_lines.specs.declared.refusal.Refusal.{Refusal}
-use Rattle.record_lines.specs.Judged.{line_view}
 use Rattle.record_lines.specs.Lines.{reading_of}
 use Rattle.face_text.specs.declared.timeline.Timeline.{Timeline}
 use Rattle.face_text.specs.Reading.{IsRead}

@@ -6,6 +6,7 @@ ghost use Rattle.plain_panel.specs.SiteStates.{StandsAfter};
 ghost use Rattle.plain_history.specs.Histories.{history, moment_of};
 ghost use Rattle.plain_panel.specs.Keepings.{StandsForKeeping};
 
+use crate::coming::Coming;
 use crate::site_state::SiteState;
 use plain_history::{Moment, Settings};
 use plain_operations::{Desk, make_change, make_changes};
@@ -35,64 +36,51 @@ impl Keeping {
         })
     }
 
-    /// One moment more, in the tick that began last before it. The moments before it are given, and all with it.
-    pub fn step(
-        &mut self,
-        alloc: Global,
-        site: &Site,
-        kept: &Retained,
-        tick: Tick,
-        before: &[Moment],
-        moment: &Moment,
-        with_it: &[Moment],
-    ) -> Result<(), NoMemory>
-        requires valid { IsValid site.now }
-        requires stands { StandsForKeeping site.now kept.now (history before.now) self.old }
-        requires ticks { tick_of (history before.now) ≡ tick.0 }
-        requires all { with_it.now ≡ before.now ++ moment.now ∷ [] }
-        ensures { OnOk result
-            (StandsForKeeping site.now kept.now (moment_of moment.now ∷ history before.now)
-            self.new) }
+    /// One moment more, in the tick that began last before it.
+    pub fn step(&mut self, alloc: Global, tick: Tick, coming: &Coming) -> Result<(), NoMemory>
+        requires valid { IsValid coming.now.site.now }
+        requires stands { StandsForKeeping coming.now.site.now coming.now.kept.now
+            (history coming.now.before.now) self.old }
+        requires ticks { tick_of (history coming.now.before.now) ≡ tick.0 }
+        requires all { coming.now.with_it.now
+            ≡ coming.now.before.now ++ coming.now.moment.now ∷ [] }
+        ensures { OnOk result (StandsForKeeping coming.now.site.now coming.now.kept.now
+            (moment_of coming.now.moment.now ∷ history coming.now.before.now) self.new) }
     {
-        self.store_at(site, moment);
-        self.go_on(alloc, site, kept, tick, before, moment, with_it)
+        self.store_at(coming.site, coming.moment);
+        self.go_on(alloc, tick, coming)
     }
 
     // The desk and what stands take one moment more, once what is kept has been stored.
-    fn go_on(
-        &mut self,
-        alloc: Global,
-        site: &Site,
-        kept: &Retained,
-        tick: Tick,
-        before: &[Moment],
-        moment: &Moment,
-        with_it: &[Moment],
-    ) -> Result<(), NoMemory>
-        requires valid { IsValid site.now }
-        requires desk { StandsForDesk site.now kept.now (history before.now) self.old.desk }
-        requires state { StandsAfter site.now kept.now (history before.now) self.old.state }
-        requires ticks { tick_of (history before.now) ≡ tick.0 }
-        requires all { with_it.now ≡ before.now ++ moment.now ∷ [] }
-        ensures desk { OnOk result
-            (StandsForDesk site.now kept.now (moment_of moment.now ∷ history before.now)
-            self.new.desk) }
-        ensures state { OnOk result
-            (StandsAfter site.now kept.now (moment_of moment.now ∷ history before.now)
-            self.new.state) }
+    fn go_on(&mut self, alloc: Global, tick: Tick, coming: &Coming) -> Result<(), NoMemory>
+        requires valid { IsValid coming.now.site.now }
+        requires desk { StandsForDesk coming.now.site.now coming.now.kept.now
+            (history coming.now.before.now) self.old.desk }
+        requires state { StandsAfter coming.now.site.now coming.now.kept.now
+            (history coming.now.before.now) self.old.state }
+        requires ticks { tick_of (history coming.now.before.now) ≡ tick.0 }
+        requires all { coming.now.with_it.now
+            ≡ coming.now.before.now ++ coming.now.moment.now ∷ [] }
+        ensures desk { OnOk result (StandsForDesk coming.now.site.now coming.now.kept.now
+            (moment_of coming.now.moment.now ∷ history coming.now.before.now) self.new.desk) }
+        ensures state { OnOk result (StandsAfter coming.now.site.now coming.now.kept.now
+            (moment_of coming.now.moment.now ∷ history coming.now.before.now) self.new.state) }
         ensures stored { self.new.stored ≡ self.old.stored }
     {
-        let changed = self.desk.step(site, kept, tick, moment)?;
+        let changed = self
+            .desk
+            .step(coming.site, coming.kept, tick, coming.moment)?;
         let settings = Settings {
-            site,
-            kept,
+            site: coming.site,
+            kept: coming.kept,
             done: self.desk.outcomes().done.as_slice(),
         };
         if changed {
-            self.state = SiteState::over(alloc, &settings, with_it)?;
+            self.state = SiteState::over(alloc, &settings, coming.with_it)?;
             Ok(())
         } else {
-            self.state.step(alloc, &settings, tick, before, moment)
+            self.state
+                .step(alloc, &settings, tick, coming.before, coming.moment)
         }
     }
 

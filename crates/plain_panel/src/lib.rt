@@ -6,6 +6,7 @@
 //! turn of Effect goes by.
 #![tactic(auto)]
 
+mod coming;
 mod face_shown;
 mod faces_now;
 mod facts;

@@ -263,19 +263,19 @@ impl Network {
             → IsValid site → StandsFor site kept done before self.now
             → AreFacts site (facts_of site kept done panel before) result }
     {
-        let mut zones = [0; 8];
-        let mut manual = [0; 8];
+        let mut facts = Facts {
+            zones: [0; 8],
+            manual: [0; 8],
+            faults: 0,
+        };
         let mut faulty = [false; 8];
         for source in 1..self.panels + 1 {
             let word = self.ring.word(panel, source);
-            zones[source as usize - 1] = word.released;
-            manual[source as usize - 1] = word.manual;
+            facts.zones[source as usize - 1] = word.released;
+            facts.manual[source as usize - 1] = word.manual;
             faulty[source as usize - 1] = word.fault;
         }
-        Facts {
-            zones,
-            manual,
-            faults: mask_from_8(&faulty),
-        }
+        facts.faults = mask_from_8(&faulty);
+        facts
     }
 }

@@ -4,6 +4,7 @@ ghost use Rattle.panel_rules.specs.Moments.{tick_of};
 ghost use Rattle.panel_rules.specs.Timeline.{faces_of, timeline_of};
 ghost use Rattle.plain_history.specs.Histories.{history, moment_of};
 
+use crate::coming::Coming;
 use crate::faces_now::{are_same, faces_now};
 use crate::keeping::Keeping;
 use face_text::{Face, Step, Timeline};
@@ -28,14 +29,14 @@ pub fn timeline(
     let opened = telling.opened(alloc, site, kept)?;
     for place in 0..moments.len() {
         let moment = moments[place];
-        telling.step(
-            alloc,
+        let coming = Coming {
             site,
             kept,
-            &moments[..place],
-            &moment,
-            &moments[..place + 1],
-        )?;
+            before: &moments[..place],
+            moment: &moment,
+            with_it: &moments[..place + 1],
+        };
+        telling.step(alloc, &coming)?;
     }
     telling.close(alloc, site, kept, moments)?;
     let Telling { tick, steps, .. } = telling;
@@ -85,64 +86,50 @@ impl Telling {
         faces_now(alloc, &self.keeping, site, kept, self.tick, &[])
     }
 
-    // One moment more, with those before it and all with it.
-    fn step(
-        &mut self,
-        alloc: Global,
-        site: &Site,
-        kept: &Retained,
-        before: &[Moment],
-        moment: &Moment,
-        with_it: &[Moment],
-    ) -> Result<(), NoMemory>
-        requires valid { IsValid site.now }
-        requires stands { StandsForTelling site.now kept.now (history before.now) self.old }
-        requires all { with_it.now ≡ before.now ++ moment.now ∷ [] }
-        ensures { OnOk result
-            (StandsForTelling site.now kept.now (moment_of moment.now ∷ history before.now)
-            self.new) }
+    // One moment more.
+    fn step(&mut self, alloc: Global, coming: &Coming) -> Result<(), NoMemory>
+        requires valid { IsValid coming.now.site.now }
+        requires stands { StandsForTelling coming.now.site.now coming.now.kept.now
+            (history coming.now.before.now) self.old }
+        requires all { coming.now.with_it.now
+            ≡ coming.now.before.now ++ coming.now.moment.now ∷ [] }
+        ensures { OnOk result (StandsForTelling coming.now.site.now coming.now.kept.now
+            (moment_of coming.now.moment.now ∷ history coming.now.before.now) self.new) }
     {
-        match *moment {
+        match *coming.moment {
             Moment::Began => {
-                self.close(alloc, site, kept, before)?;
+                self.close(alloc, coming.site, coming.kept, coming.before)?;
                 self.failed = false;
-                self.advance(alloc, site, kept, before, moment, with_it)
+                self.advance(alloc, coming)
             }
             Moment::Kept { failed } => {
                 self.failed = either(failed, self.failed);
-                self.advance(alloc, site, kept, before, moment, with_it)
+                self.advance(alloc, coming)
             }
-            Moment::Happened(_) => self.advance(alloc, site, kept, before, moment, with_it),
-            Moment::Turned { .. } => self.advance(alloc, site, kept, before, moment, with_it),
+            Moment::Happened(_) => self.advance(alloc, coming),
+            Moment::Turned { .. } => self.advance(alloc, coming),
         }
     }
 
     // What is kept takes the moment, and the tick is counted.
-    fn advance(
-        &mut self,
-        alloc: Global,
-        site: &Site,
-        kept: &Retained,
-        before: &[Moment],
-        moment: &Moment,
-        with_it: &[Moment],
-    ) -> Result<(), NoMemory>
-        requires valid { IsValid site.now }
-        requires stands { StandsForKeeping site.now kept.now (history before.now) self.old.keeping }
-        requires ticks { tick_of (history before.now) ≡ self.old.tick.0 }
-        requires all { with_it.now ≡ before.now ++ moment.now ∷ [] }
-        ensures stands { OnOk result
-            (StandsForKeeping site.now kept.now (moment_of moment.now ∷ history before.now)
-            self.new.keeping) }
-        ensures ticks { OnOk result (tick_of (moment_of moment.now ∷ history before.now)
+    fn advance(&mut self, alloc: Global, coming: &Coming) -> Result<(), NoMemory>
+        requires valid { IsValid coming.now.site.now }
+        requires stands { StandsForKeeping coming.now.site.now coming.now.kept.now
+            (history coming.now.before.now) self.old.keeping }
+        requires ticks { tick_of (history coming.now.before.now) ≡ self.old.tick.0 }
+        requires all { coming.now.with_it.now
+            ≡ coming.now.before.now ++ coming.now.moment.now ∷ [] }
+        ensures stands { OnOk result (StandsForKeeping coming.now.site.now coming.now.kept.now
+            (moment_of coming.now.moment.now ∷ history coming.now.before.now) self.new.keeping) }
+        ensures ticks { OnOk result
+            (tick_of (moment_of coming.now.moment.now ∷ history coming.now.before.now)
             ≡ self.new.tick.0) }
         ensures failed { self.new.failed ≡ self.old.failed }
         ensures faces { self.new.faces ≡ self.old.faces }
         ensures steps { self.new.steps ≡ self.old.steps }
     {
-        self.keeping
-            .step(alloc, site, kept, self.tick, before, moment, with_it)?;
-        self.tick = tick_after(self.tick, moment)?;
+        self.keeping.step(alloc, self.tick, coming)?;
+        self.tick = tick_after(self.tick, coming.moment)?;
         Ok(())
     }
 

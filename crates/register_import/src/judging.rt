@@ -62,22 +62,22 @@ fn judge_rows<R: Keeper>(
     alloc: Global,
     site: &Site,
     keeper: &mut R,
-    records: &[ByteRecord],
+    rows: &[ByteRecord],
 ) -> Result<JudgedRows, ImportRefusal>
     requires { IsValid site.now }
     ensures ok { IfOk result (λ judged. IfSome (R.tables keeper.old)
-        (λ kept. rows_judged site.now kept [] 1 (map fields_of records.now)
+        (λ kept. rows_judged site.now kept [] 1 (map fields_of rows.now)
         ≡ Ok (map row_view judged.rows.items))) }
     ensures filled { IfOk result (λ judged. tables_of judged.filled.tables
         ≡ tables_of_rows (map row_view judged.rows.items)) }
     ensures err { IfErr result (λ refusal. IfSome (R.tables keeper.old)
-        (λ kept. RefusesFile (rows_judged site.now kept [] 1 (map fields_of records.now))
+        (λ kept. RefusesFile (rows_judged site.now kept [] 1 (map fields_of rows.now))
         refusal)) }
     ensures same { R.tables keeper.new ≡ R.tables keeper.old }
     ensures cause { HasImportCause (R.faults keeper.old) (R.faults keeper.new) result }
 {
     let mut judged = JudgedRows::new(alloc)?;
-    for (place, line) in records.iter().enumerate() {
+    for (place, line) in rows.iter().enumerate() {
         let row = judge_row(site, keeper, &mut judged.filled, line, place as u64 + 1)?;
         judged.push(&row)?;
     }

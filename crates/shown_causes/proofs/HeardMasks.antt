@@ -28,6 +28,13 @@ zones_more site Holds count on old new sets is below zone l within =
           (λ b. was.0 (sym same ∙ b), λ c. same ∙ was.1 c))
     ]
 
+-- what is told once more of a zone that there is
+pub zone_told : (site : Site) (Holds : ℕ → Type 0) (place : ℕ) (plan : Zone) (on : Bool) (old set new : List ℕ) → new ≡ set → slice_get site.zones place ≡ Some plan
+    → (slice_get site.zones place ≡ Some plan → SetsZone site place on old set) → (slice_get site.zones place ≡ Some plan → IsTrue on ↔ Holds place)
+    → TellZonesBelow site Holds old place → TellZonesBelow site Holds new (place + 1)
+zone_told site Holds place plan on old set new is at sets tells below =
+    subst (λ masks. TellZonesBelow site Holds masks (place + 1)) (sym is) (zones_more site Holds place on old set (sets at) (tells at) below)
+
 pub no_item : {X : Type 0} (xs : List X) (place : ℕ) → place < length xs → slice_get xs place ≡ None → ⊥
 no_item [] place l e = omega (arith, l)
 no_item (x ∷ xs) zero l e = absurd cc

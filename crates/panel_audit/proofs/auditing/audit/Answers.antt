@@ -1,4 +1,4 @@
-use Rattle.std.proofs.Common.{◌≡◌, sym, subst}
+use Rattle.std.proofs.Common.{subst}
 use Rattle.face_text.specs.Reading.{IsRefusal}
 use Rattle.audit_rules.specs.Verdicts.{is_no_text}
 use Rattle.whole_records.specs.Whole.{IsWhyRefused}

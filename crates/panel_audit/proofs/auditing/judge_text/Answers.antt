@@ -1,4 +1,4 @@
-use Rattle.std.proofs.Common.{◌≡◌, ◌∙◌, ◌<◌, ℕ, List, [], ◌∷◌, sym, ap, subst, map, length, Option, option_map}
+use Rattle.std.proofs.Common.{◌≡◌, ◌∙◌, [], sym, ap, subst, map, option_map}
 use Rattle.tick_units.specs.declared.tick.Tick.{Tick}
 use Rattle.record_lines.specs.Judged.{line_view}
 use Rattle.cause_effect.proofs.Orders.{order_is_free}

@@ -6,7 +6,7 @@ use Rattle.panel_audit.specs.Breaking.{breach_in}
 use Rattle.panel_audit.specs.Firsts.{FirstInTick}
 use Rattle.panel_audit.specs.Judging.{JudgeStands}
 use Rattle.panel_audit.proofs.FirstBreaches.{first_of_all, none_by_start, none_by_tick, none_of_all}
-use Rattle.panel_audit.proofs.TickByTick.{known_after, tick_taken}
+use Rattle.panel_audit.proofs.TickByTick.{tick_judged}
 use Rattle.panel_audit.proofs.TicksUntil.{until_none}
 use Rattle.panel_audit.proofs.judging.judge_ticks.Goals as goal
 use Rattle.panel_audit.proofs.RuleBreaches.{FirstByTick}
@@ -28,28 +28,19 @@ pub loop-place-preserved : goal.loop-place-preserved
 loop-place-preserved c = (
   c.take_tick-due.ensures.rows,
   λ ticks known begun scan.
-      let site = c.args.case.now.site.now in
-      let timeline = c.args.case.now.timeline.now in
-      let operations = c.args.case.now.done.now in
-      let told = c.args.told.now in
-      let unfounded = c.args.unfounded in
       let place = c.loop-place.place in
-      let before = c.loop-place.invariant.1 ticks known begun scan in
-      let low = c.loop-place-test.true in
-      let count = c.count-count.ensures ticks known.events in
-      let within : place + 1 ≤ length ticks = omega (arith, low, count) in
-      let tells = c.of_tick.ensures ticks known.events (omega arith) within in
-      let taken = tick_taken site timeline operations told unfounded ticks known place within (place + 1) c.of_tick.result.now c.take_tick-due.result
-      c.loop-place.judge c.take_tick-due.new.self refl tells c.take_tick-due.ensures.takes before.stands in
-      let after = known_after site timeline operations told unfounded ticks known place within c.take_tick-due.new.self c.take_tick-due.result c.is_now.result
-      c.is_now.ensures taken.0 taken.1 before.none in
-      let found = c.first_broken.ensures.finds ticks (place + 1) known.acyclic before.scanned after in
+      let within : place + 1 ≤ length ticks = omega (arith, c.loop-place-test.true, c.count-count.ensures ticks known.events) in
+      let judged =
+      tick_judged c.args.case.now.site.now c.args.case.now.timeline.now c.args.case.now.done.now c.args.told.now c.args.unfounded ticks known c.loop-place.place within
+      (c.loop-place.place + 1) c.of_tick.result.now c.take_tick-due.result c.loop-place.judge c.take_tick-due.new.self c.is_now.result c.loop-place.scan c.first_broken.result
+      refl (c.of_tick.ensures ticks known.events (omega arith) within) c.take_tick-due.ensures.takes c.is_now.ensures c.first_broken.ensures.finds
+      (c.loop-place.invariant.1 ticks known begun scan) in
       record {
-        stands = taken.0;
-        scanned = c.first_broken.ensures.stands before.scanned;
+        stands = judged.0;
+        scanned = c.first_broken.ensures.stands (c.loop-place.invariant.1 ticks known begun scan).scanned;
         none =
-            none_by_tick site ticks timeline place before.none
-            (subst (λ r. FirstInTick site ticks timeline (place + 1) (option_map (breach_in (place + 1)) r)) c.in_default.is found);
+            none_by_tick c.args.case.now.site.now ticks c.args.case.now.timeline.now place (c.loop-place.invariant.1 ticks known begun scan).none
+            (subst (λ r. FirstInTick c.args.case.now.site.now ticks c.args.case.now.timeline.now (place + 1) (option_map (breach_in (place + 1)) r)) c.in_default.is judged.1);
       },
 )
 
@@ -57,23 +48,16 @@ pub returns-in-Some : goal.returns-in-Some
 returns-in-Some c ticks known begun scan =
     let site = c.args.case.now.site.now in
     let timeline = c.args.case.now.timeline.now in
-    let operations = c.args.case.now.done.now in
-    let told = c.args.told.now in
-    let unfounded = c.args.unfounded in
-    let place = c.loop-place.place in
-    let before = c.loop-place.invariant.1 ticks known begun scan in
-    let low = c.loop-place-test.true in
-    let count = c.count-count.ensures ticks known.events in
-    let within : place + 1 ≤ length ticks = omega (arith, low, count) in
-    let tells = c.of_tick.ensures ticks known.events (omega arith) within in
-    let taken = tick_taken site timeline operations told unfounded ticks known place within (place + 1) c.of_tick.result.now c.take_tick-due.result
-    c.loop-place.judge c.take_tick-due.new.self refl tells c.take_tick-due.ensures.takes before.stands in
-    let after = known_after site timeline operations told unfounded ticks known place within c.take_tick-due.new.self c.take_tick-due.result c.is_now.result
-    c.is_now.ensures taken.0 taken.1 before.none in
-    let found = c.first_broken.ensures.finds ticks (place + 1) known.acyclic before.scanned after in
-    is_failed known.last (breach_in (place + 1) c.in-Some.broken)
-    (first_of_all site ticks timeline place (breach_in (place + 1) c.in-Some.broken) within before.none
-    (subst (λ r. FirstInTick site ticks timeline (place + 1) (option_map (breach_in (place + 1)) r)) c.in-Some.is found))
+    let tick = c.loop-place.place + 1 in
+    let within : tick ≤ length ticks = omega (arith, c.loop-place-test.true, c.count-count.ensures ticks known.events) in
+    let judged =
+    tick_judged c.args.case.now.site.now c.args.case.now.timeline.now c.args.case.now.done.now c.args.told.now c.args.unfounded ticks known c.loop-place.place within
+    (c.loop-place.place + 1) c.of_tick.result.now c.take_tick-due.result c.loop-place.judge c.take_tick-due.new.self c.is_now.result c.loop-place.scan c.first_broken.result
+    refl (c.of_tick.ensures ticks known.events (omega arith) within) c.take_tick-due.ensures.takes c.is_now.ensures c.first_broken.ensures.finds
+    (c.loop-place.invariant.1 ticks known begun scan) in
+    is_failed known.last (breach_in tick c.in-Some.broken)
+    (first_of_all site ticks timeline c.loop-place.place (breach_in tick c.in-Some.broken) within (c.loop-place.invariant.1 ticks known begun scan).none
+    (subst (λ r. FirstInTick site ticks timeline tick (option_map (breach_in tick) r)) c.in-Some.is judged.1))
 
 pub returns : goal.returns
 returns c ticks known begun scan =

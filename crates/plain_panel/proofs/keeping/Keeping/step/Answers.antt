@@ -6,7 +6,7 @@ use Rattle.plain_panel.proofs.keeping.Keeping.step.Goals as goal
 
 pub returns : goal.returns
 returns c =
-    kept_ok c.args.site.now c.args.kept.now (history c.args.before.now) c.go_on.result (moment_of c.args.moment.now) c.args.self.now
+    kept_ok c.args.coming.now.site.now c.args.coming.now.kept.now (history c.args.coming.now.before.now) c.go_on.result (moment_of c.args.coming.now.moment.now) c.args.self.now
     c.store_at.new.self c.go_on.new.self c.requires.stands
     c.store_at.ensures.stored c.go_on.ensures.stored c.go_on.ensures.desk c.go_on.ensures.state
 
@@ -15,6 +15,6 @@ store_at-requires-clause-placed c =
     let above : 1 ≤ 1 = omega arith in
     let below : 1 + length c.args.self.now.state.panels.items ≤ 9 =
     omega (arith, c.requires.stands.state.panels.count, c.requires.valid.forms.panels.1) in
-    all_placed c.args.site.now c.args.kept.now (operations c.args.site.now c.args.kept.now (history c.args.before.now)).done
-    (history c.args.before.now) 1 c.args.self.now.state.panels.items
+    all_placed c.args.coming.now.site.now c.args.coming.now.kept.now (operations c.args.coming.now.site.now c.args.coming.now.kept.now (history c.args.coming.now.before.now)).done
+    (history c.args.coming.now.before.now) 1 c.args.self.now.state.panels.items
     c.requires.stands.state.panels.all above below

@@ -27,8 +27,8 @@ returns c site kept done before valid stands =
     let mask =
     c.mask_from_8.ensures ∙ ap (λ (n : ℕ). mask_of n (λ k. slice_index_or c.loop-source.faulty k false)) c.loop-source.invariant.faulty_wide in
     subst (λ (m : ℕ). AreFacts site (facts_of site kept done panel before) (let masks : Masks =
-    record { zones = c.loop-source.zones; manual = c.loop-source.manual; faults = m } in masks)) (sym mask)
-    (facts_are site kept done valid panel before words words_are c.loop-source.zones c.loop-source.manual c.loop-source.faulty low
+    record { zones = c.loop-source.facts.zones; manual = c.loop-source.facts.manual; faults = m } in masks)) (sym mask)
+    (facts_are site kept done valid panel before words words_are c.loop-source.facts.zones c.loop-source.facts.manual c.loop-source.faulty low
     (λ q iq. c.loop-source.invariant.zones q iq.0 (omega (arith, size, iq.1, c.loop-source-test.false)))
     (λ q iq. c.loop-source.invariant.manual q iq.0 (omega (arith, size, iq.1, c.loop-source-test.false)))
     (λ q iq. c.loop-source.invariant.faulty q iq.0 (omega (arith, size, iq.1, c.loop-source-test.false))))

@@ -1,25 +1,21 @@
-use Rattle.std.proofs.Common.{◌+◌, ◌∙◌, ap, arith, subst, sym}
+use Rattle.std.proofs.Common.{◌∙◌, ap, arith, sym}
 use Rattle.std.specs.Option.{option_copied}
 use Rattle.panel_rules.specs.Moments.{moments}
 use Rattle.audit_rules.specs.CanCause.{CanBeHeard}
 use Rattle.blocked_points.specs.Operations.{done_newest_first}
-use Rattle.shown_causes.proofs.HeardMasks.{TellZonesBelow, no_item, zones_more}
+use Rattle.shown_causes.proofs.HeardMasks.{no_item, zone_told}
 use Rattle.shown_causes.proofs.shown_causes.ShownCauses.zones_heard.Goals as goal
 use Rattle.shown_causes.proofs.shown_causes.ShownCauses.zones_heard.Goals.{in-None, in-Some}
 
 pub loop-place-preserved : goal.loop-place-preserved
 loop-place-preserved c kept operations timeline ticks stands joined =
-    let site = c.args.site.now in
-    let place = c.loop-place.place in
     elim c.match-get.branch [
-      | in-None w ↦ absurd (no_item site.zones place (omega arith) (sym c.get.ensures ∙ ap option_copied w.in-None.is))
+      | in-None w ↦ absurd (no_item c.args.site.now.zones c.loop-place.place (omega arith) (sym c.get.ensures ∙ ap option_copied w.in-None.is))
       | in-Some w ↦
-          (let at = sym c.get.ensures ∙ ap option_copied w.in-Some.is in
-          subst (λ masks. TellZonesBelow site (CanBeHeard site timeline kept (done_newest_first operations) (moments ticks) c.args.panel) masks (place + 1))
-          (sym w.masks-is)
-          (zones_more site (CanBeHeard site timeline kept (done_newest_first operations) (moments ticks) c.args.panel) place w.is_alarm_heard-heard.result _ _
-          (w.set_zone.ensures site place c.requires.site at) (w.is_alarm_heard-heard.ensures site kept operations timeline ticks stands joined at)
-          (c.loop-place.invariant kept operations timeline ticks stands joined)))
+          zone_told c.args.site.now (CanBeHeard c.args.site.now timeline kept (done_newest_first operations) (moments ticks) c.args.panel) c.loop-place.place _
+          w.is_alarm_heard-heard.result _ _ _ w.masks-is (sym c.get.ensures ∙ ap option_copied w.in-Some.is)
+          (w.set_zone.ensures c.args.site.now c.loop-place.place c.requires.site) (w.is_alarm_heard-heard.ensures c.args.site.now kept operations timeline ticks stands joined)
+          (c.loop-place.invariant kept operations timeline ticks stands joined)
     ]
 
 pub returns : goal.returns
