@@ -73,11 +73,13 @@ class Server:
     def __init__(self, room, count, site=SITE, journal=None, port=None):
         self.port = port or free_port()
         self.journal = journal or pathlib.Path(tempfile.mkdtemp(dir=room)) / "journal"
-        words = [program, "serve", site, self.journal, str(self.port), str(count)]
-        self.child = subprocess.Popen(words, stdin=subprocess.DEVNULL, stdout=subprocess.PIPE, stderr=subprocess.STDOUT)
+        self.child = subprocess.Popen([program, *self.words(site, str(count))], stdin=subprocess.DEVNULL, stdout=subprocess.PIPE, stderr=subprocess.STDOUT)
         until = time.monotonic() + 10
         while not is_open(self.port) and self.child.poll() is None and time.monotonic() < until:
             time.sleep(0.005)
+
+    def words(self, site, count):
+        return ["serve", site, self.journal, str(self.port), count]
 
     def __enter__(self):
         return self
