@@ -2,6 +2,7 @@
 
 use anyhow::{Result, bail};
 use std::alloc::Global;
+use trial_cases::replaced;
 
 /// A text after changes, with `, ` between them. `OLD -> NEW` puts NEW in the place of OLD, which stands once, and
 /// `without OLD` nothing; a bar is a line end.
@@ -24,14 +25,5 @@ fn with_change(alloc: Global, text: &str, change: &str) -> Result<String> {
     match change.split_once(" -> ") {
         Some((old, new)) => replaced(alloc, text, old, new),
         None => bail!("no change: {change}"),
-    }
-}
-
-fn replaced(alloc: Global, text: &str, old: &str, new: &str) -> Result<String> {
-    match text.split_once(old) {
-        Some((before, after)) if !after.contains(old) => {
-            Ok(format!(in alloc; "{before}{new}{after}")?)
-        }
-        _ => bail!("{old} doesn't stand there once"),
     }
 }

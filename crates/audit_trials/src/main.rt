@@ -12,19 +12,14 @@ mod kind;
 mod verdict_words;
 
 use anyhow::Result;
-use kind::{KINDS, Kind};
+use kind::KINDS;
 use std::process::ExitCode;
-use trial_cases::{Case, Words, answer_cases};
+use trial_cases::answer_cases;
 
 fn main(rt: HostRuntime) -> Result<ExitCode> {
-    answer_cases(&rt, &KINDS, |kind, case| answer(&rt, kind, case))
-}
-
-// What is made of the record and the text that a case names.
-fn answer(rt: &HostRuntime, kind: Kind, case: &Case) -> Result<String> {
-    let words = Words::of(case.subject);
-    match kind {
-        Kind::Audit => judging::judge_file(rt, words, case.rest),
-        Kind::Judge => judging::judge_bars(rt, words, case.rest),
-    }
+    answer_cases(
+        &rt,
+        &KINDS,
+        |kind, case| judging::judge_case(&rt, kind, case),
+    )
 }

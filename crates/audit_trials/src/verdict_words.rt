@@ -12,12 +12,7 @@ pub(crate) fn say_verdict(lines: &mut Lines, verdict: Verdict) {
             rule,
             panel,
             number,
-        } => {
-            say_number(lines, "failed in tick ", tick);
-            lines.say(rule_words(rule));
-            say_number(lines, " at panel ", panel as u64);
-            say_number(lines, " number ", number as u64);
-        }
+        } => say_failed(lines, tick, rule, panel, number),
         Verdict::Record(refusal) => say_number(
             lines,
             "the record is refused at line ",
@@ -25,6 +20,13 @@ pub(crate) fn say_verdict(lines: &mut Lines, verdict: Verdict) {
         ),
         Verdict::Text { line } => say_number(lines, "no text at line ", line),
     }
+}
+
+fn say_failed(lines: &mut Lines, tick: u64, rule: AuditRule, panel: u8, number: u8) {
+    say_number(lines, "failed in tick ", tick);
+    lines.say(rule_words(rule));
+    say_number(lines, " at panel ", panel as u64);
+    say_number(lines, " number ", number as u64);
 }
 
 fn say_number(lines: &mut Lines, words: &str, number: u64) {

@@ -2,7 +2,7 @@
 
 use anyhow::{Result, bail};
 use std::alloc::{AllocError, Global};
-use trial_cases::Lines;
+use trial_cases::{Lines, replaced};
 
 /// A text after changes, with bars between them. `OLD -> NEW` puts NEW in the place of OLD, which stands
 /// once; `then NEW` puts a line behind the text; `fill N` puts a comment behind it, so that it has N
@@ -33,15 +33,6 @@ fn with_change(alloc: Global, text: &str, change: &str) -> Result<String> {
             replaced(alloc, text, old.trim(), &new)
         }
         None => bail!("no change: {change}"),
-    }
-}
-
-fn replaced(alloc: Global, text: &str, old: &str, new: &str) -> Result<String> {
-    match text.split_once(old) {
-        Some((before, after)) if !after.contains(old) => {
-            Ok(format!(in alloc; "{before}{new}{after}")?)
-        }
-        _ => bail!("{old} doesn't stand there once"),
     }
 }
 

@@ -1,5 +1,5 @@
 //! What the programs of trials share: the list of cases, sites from their files, histories on a line, what
-//! befalls a site, names for masks, words that are read, and lines that are told.
+//! befalls a site, names for masks, words that are read, texts that are changed, and lines that are told.
 //!
 //! Only the programs of trials stand on this crate. It promises what they need to call the parts of a panel:
 //! [`site_at`] gives a valid site, and [`event_of`] an event of which the site has all that it names.
@@ -25,6 +25,7 @@ mod names;
 mod sample;
 mod site_files;
 mod step;
+mod texts;
 mod words;
 
 pub use answering::{answer_cases, is_heading};
@@ -37,4 +38,5 @@ pub use names::{outputs_of, say_output, say_outputs, say_point, say_zones, with_
 pub use sample::{Sample, otherwise};
 pub use site_files::site_at;
 pub use step::Step;
+pub use texts::replaced;
 pub use words::{Words, look_up};
