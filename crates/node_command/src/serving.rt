@@ -3,7 +3,7 @@
 ghost use Rattle.std.specs.Prelude.{◌≡◌, ◌≢◌, ◌≤◌, false};
 ghost use Rattle.desk_doors.specs.Passing.{door_sides};
 ghost use Rattle.node_command.specs.Serving.{AnswersNode, ServesPanelFrom, ServesPanelIf, ServesPanelOver};
-ghost use Rattle.panel_core.specs.Stands.{HasPlan};
+ghost use Rattle.panel_parts.specs.Stands.{HasPlan};
 ghost use Rattle.panel_edges.specs.Faults.{Rose};
 ghost use Rattle.panel_rules.specs.Moments.{IsPanel};
 ghost use Rattle.program_status.specs.Statuses.{BlamesDisk, BlamesReads, BlamesWrites};

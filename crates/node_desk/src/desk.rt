@@ -3,7 +3,7 @@ ghost use Rattle.desk_doors.specs.Doors.{conn_told};
 ghost use Rattle.node_desk.specs.Running.{KeepsOn};
 ghost use Rattle.node_desk.specs.Runs.{HasTicks, RunsFor};
 ghost use Rattle.node_desk.specs.Serving.{BlamesConn, MayServe, ServesOne};
-ghost use Rattle.panel_core.specs.Stands.{HasPlan};
+ghost use Rattle.panel_parts.specs.Stands.{HasPlan};
 ghost use Rattle.panel_rules.specs.Moments.{IsPanel};
 ghost use Rattle.retained_journal.specs.Images.{Stands as StandsOn};
 ghost use Rattle.site_run.specs.Journals.{IsOpenFor};

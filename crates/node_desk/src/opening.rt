@@ -2,7 +2,7 @@
 
 ghost use Rattle.std.specs.Prelude.{◌≡◌, [], IfOk};
 ghost use Rattle.node_desk.specs.Runs.{HasTicks, RunsFor};
-ghost use Rattle.panel_core.specs.Stands.{HasPlan};
+ghost use Rattle.panel_parts.specs.Stands.{HasPlan};
 ghost use Rattle.panel_rules.specs.Moments.{IsPanel};
 ghost use Rattle.site_run.specs.Journals.{IsOpenFor};
 ghost use Rattle.site_types.specs.Valid.{IsValid};

@@ -59,7 +59,7 @@ module _ (site : Site) (kept : Retained) (panel : ℕ) (operation : Operation) (
           };
         }
 
-    desk_viewed : (desk : Desk) → DesksFor site kept (with_code code) desk → DesksFor site kept (with_code viewed) desk
+    pub desk_viewed : (desk : Desk) → DesksFor site kept (with_code code) desk → DesksFor site kept (with_code viewed) desk
     desk_viewed desk h =
         let same = requests_same in
         record {
