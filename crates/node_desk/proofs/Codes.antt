@@ -1,5 +1,6 @@
 -- Of the code of an operation its bytes alone count.
-use Rattle.std.proofs.Common.{◌≡◌, ◌==◌, ℕ, Bool, true, false, List, [], ◌∷◌, length, Option, not, nat_le, if◌then◌else◌, refl, ap, fun_ext, subst}
+use Rattle.std.proofs.Common.{◌≡◌, ◌==◌, ℕ, Bool, true, false, List, [], ◌∷◌, length, Option, not, nat_le, if◌then◌else◌, refl, ap, subst}
+use Rattle.std.proofs.Math.Path.{fun_ext}
 use Rattle.std.specs.Prelude.{option_map}
 use Rattle.arrayvec.specs.ArrayString.{ArrayString}
 use Rattle.site_types.specs.declared.event.Event.{Event}

@@ -30,10 +30,10 @@ use Rattle.site_run.proofs.Stood.{block_tick, failures_few}
 use Rattle.node_rules.specs.Histories.{NodeMoment, befallen}
 use Rattle.node_rules.specs.Nodes.{node_face}
 use Rattle.node_answers.specs.Exchanges.{at_tick_end}
-use Rattle.panel_node.specs.Keeping.{LeavesAfterTurns, LeavesInTurns, MakesAllTurns, MayTurnAll, NodeHasTurned, turned}
+use Rattle.panel_node.specs.Keeping.{LeavesAfterTurns, LeavesInTurns, MakesAllTurns, MayTurnAll, NodeHasTurned, and_all_turns}
 use Rattle.panel_node.specs.Seats.{and_seats}
 use Rattle.panel_node.specs.Shown.{ShowsFace}
-use Rattle.panel_node.specs.Stands.{NodeStandsFor, StandsForSome}
+use Rattle.panel_node.specs.Stands.{NodeStandsFor, StandsForHistory}
 use Rattle.panel_node.specs.declared.node.Node.{Node}
 use Rattle.node_desk.specs.Running.{HasBegun, MadeTick, MayMakeTurns, node_stored_new, node_stored_old, own_tick}
 use Rattle.node_desk.specs.Runs.{RunsFor}
@@ -64,7 +64,7 @@ module _ (site : Site) (panel : ℕ) (kept : Retained) (history : List NodeMomen
   runs : (failed : Bool) → IsRun site.panels (moments (own_tick site failed events ∷ ticks)) × HaveAllTurned site.panels (moments (own_tick site failed events ∷ ticks))
   runs failed = records_are_runs site.panels (own_tick site failed events ∷ ticks) (ordered failed)
 
-  run : IsRun site.panels (turned site begun)
+  run : IsRun site.panels (and_all_turns site begun)
   run = subst (λ ms. IsRun site.panels (and_turns false (canonical_seats site.panels) ms)) (sym same) (runs false).0
 
   in_time : tick_of (befallen begun) ≤ last_tick
@@ -115,7 +115,7 @@ module _ (site : Site) (panel : ℕ) (kept : Retained) (history : List NodeMomen
     pub turned_for : NodeStandsFor site panel kept after node
     turned_for = made.stands
 
-    pub some_turned : StandsForSome node
+    pub some_turned : StandsForHistory node
     some_turned = record { site = site; panel = panel; kept = kept; history = after; stands = made.stands }
 
     ended : befallen after ≡ moments (tick ∷ ticks)

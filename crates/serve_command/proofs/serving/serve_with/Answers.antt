@@ -53,7 +53,7 @@ returns-clause-serves g c digest seen is =
     let door = door_sides g.G.Door.waiting g.G.Door.handed c.args.door.now serve.new.door in
     inr (inr (served_all (disk_kind g.D.Disk.honest g.D.Disk.images g.D.Disk.moment g.D.Disk.left_since)
     c.args.site c.args.journal.kept digest seen (g.D.Disk.seen serve.new.disk) c.args.journal door worlds.old worlds.new c.args.count
-    c.in-Ok.counter serve.new.self (g.K.Stream.written c.args.out.now) (g.K.Stream.written c.write_opening.new.out) (g.K.Stream.written c.finish.new.out)
-    c.finish.result serve.result c.requires.journal c.requires.stands is c.in-Ok.ensures.same
+    c.in-Ok.counter serve.new.self (g.K.Stream.written c.args.out.now) (g.K.Stream.written c.write_opening.new.out) (g.K.Stream.written c.tell_end.new.out)
+    c.tell_end.result serve.result c.requires.journal c.requires.stands is c.in-Ok.ensures.same
     (c.in-Ok-write_opening.ensures.ok c.args.site c.args.journal.kept at.stands c.in-Ok.ensures.empty)
-    (serve.ensures.serves c.args.site c.args.journal.kept at) c.finish.ensures.says c.finish.ensures.ticks.0 c.finish.ensures.ticks.1))
+    (serve.ensures.serves c.args.site c.args.journal.kept at) c.tell_end.ensures.says c.tell_end.ensures.ticks.0 c.tell_end.ensures.ticks.1))

@@ -1,9 +1,11 @@
-use Rattle.std.proofs.Common.{◌≡◌, ◌∙◌, refl, subst, sym}
+use Rattle.std.proofs.Common.{◌≡◌, ◌∙◌, ◌≤◌, arith, refl, subst, sym}
 use Rattle.desk_doors.specs.Doors.{conn_told}
 use Rattle.desk_requests.specs.Rooms.{read_into}
 use Rattle.node_inputs.specs.Reading.{ReadsInput}
+use Rattle.panel_edges.specs.Faults.{Rose}
 use Rattle.site_run.specs.Outside.{disks_of}
 use Rattle.node_desk.specs.Replies.{reply_bytes}
+use Rattle.node_desk.specs.Running.{KeepsOn}
 use Rattle.node_desk.specs.Serving.{WroteBy}
 use Rattle.node_desk.proofs.Served.{served_not, served_so}
 use Rattle.node_desk.proofs.desk.NodeDesk.serve_one.Goals as goal
@@ -30,3 +32,36 @@ returns-in-Err-clause-serves g c site panel kept history ticks h room =
     let given = conn_told (g.C.Stream.left c.args.conn.now) (g.C.Stream.written c.args.conn.now) in
     let back = conn_told (g.C.Stream.left c.read_whole.new.conn) (g.C.Stream.written c.read_whole.new.conn) in
     served_not site panel kept history ticks given back disks c.args.self.now.run refl h c.read_whole.ensures.written
+
+pub returns-in-Ok-clause-disk : goal.returns-in-Ok-clause-disk
+returns-in-Ok-clause-disk g c =
+    let keeps = c.reply_to-reply.ensures.disk in
+    subst (KeepsOn g.D.Disk.honest g.D.Disk.images g.D.Disk.faults c.args.disk.now c.reply_to-reply.new.disk c.args.self.now.run)
+    {x = record c.reply_to-reply.new.self { page = c.send.new.self.page }} (sym c.send.ensures.rest)
+    (record { stands = keeps.stands; digest = keeps.digest; early = keeps.early; later = keeps.later; blames = keeps.blames })
+
+pub returns-in-Ok-clause-conn : goal.returns-in-Ok-clause-conn
+returns-in-Ok-clause-conn g c =
+    let sent = c.send.ensures.faults in
+    let later = sent.later in
+    let writes = c.in-Ok.ensures.writes in
+    let read = c.in-Ok.ensures.cause.later in
+    let reads = c.send.ensures.reads in
+    record {
+      reads_later = omega (arith, read, reads);
+      writes_later = omega (arith, later, writes);
+      read = λ is. absurd (sent.not_read is);
+      write = λ is. subst (λ n. Rose n (g.C.Stream.write_faults c.send.new.out)) writes (sent.failed is);
+    }
+
+pub returns-in-Err-clause-conn : goal.returns-in-Err-clause-conn
+returns-in-Err-clause-conn g c =
+    let writes = c.in-Err.ensures.writes in
+    let cause = c.in-Err.ensures.cause in
+    let later = cause.later in
+    record {
+      reads_later = later;
+      writes_later = omega (arith, writes);
+      read = λ is. cause.failed;
+      write = λ is. absurd cc;
+    }

@@ -25,3 +25,17 @@ returns-else-is_next-clause-replies g c site panel kept history ticks h room acc
     let expected = ap tick_expected (sym count) ∙ sym c.expected.ensures in
     subst (λ n. HasReplied site panel kept old.node.digest history ticks block (Block c.args.found) disks old (OtherTick n c.args.found) old) expected
     (replied_other site panel kept old.node.digest history ticks block disks old h c.args.found refl other)
+
+pub run_block-requires-clause-may : goal.run_block-requires-clause-may
+run_block-requires-clause-may g c =
+    let asks = c.requires.may in
+    let may = asks.may in
+    let next = ap (is_next c.args.found) (sym (c.ticks-ticks.ensures may.site may.panel may.kept may.history may.ticks may.runs)) ∙ sym c.is_next.ensures ∙ c.if-is_next.true in
+    record {
+      site = may.site;
+      panel = may.panel;
+      kept = may.kept;
+      history = may.history;
+      ticks = may.ticks;
+      with = record { runs = may.runs; room = may.room; accepted = asks.accepted; short = asks.short; next = next };
+    }
