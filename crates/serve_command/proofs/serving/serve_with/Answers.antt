@@ -56,4 +56,5 @@ returns-clause-serves g c digest seen is =
     c.in-Ok.counter serve.new.self (g.K.Stream.written c.args.out.now) (g.K.Stream.written c.write_opening.new.out) (g.K.Stream.written c.tell_end.new.out)
     c.tell_end.result serve.result c.requires.journal c.requires.stands is c.in-Ok.ensures.same
     (c.in-Ok-write_opening.ensures.ok c.args.site c.args.journal.kept at.stands c.in-Ok.ensures.empty)
-    (serve.ensures.serves c.args.site c.args.journal.kept at) c.tell_end.ensures.says c.tell_end.ensures.ticks.0 c.tell_end.ensures.ticks.1))
+    (serve.ensures.serves c.args.site c.args.journal.kept at) c.tell_end.ensures.says
+    (c.tell_end.ensures.ticks.0 ∙ c.ticks.ensures) (c.tell_end.ensures.ticks.1 ∙ c.store_failures.ensures)))
