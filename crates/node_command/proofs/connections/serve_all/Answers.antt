@@ -47,3 +47,53 @@ loop-served-preserved g c =
           serves_more site panel kept kind c.args.disk.now now.disk next.new.disk door mid first now.desk.run next.new.desk.run now.served c.in-Ok.field-0
           refl refl inv.digest so_far one;
     }
+
+pub serve_next-requires-clause-may : goal.serve_next-requires-clause-may
+serve_next-requires-clause-may g c =
+    let kind = disk_kind g.D.Disk.honest g.D.Disk.images g.D.Disk.moment g.D.Disk.left_since in
+    let inv = c.loop-served.invariant in
+    let now = c.loop-served in
+    let first = c.args.desk.now.run in
+    let opened = c.requires.opened in
+    let disks = disks_of g.D.Disk.honest g.D.Disk.images g.D.Disk.moment g.D.Disk.left_since c.args.disk.now now.disk in
+    let door = door_sides g.G.Door.waiting g.G.Door.handed c.args.door.now now.door in
+    let so_far = inv.some opened.site opened.panel opened.kept opened.runs in
+    let within = inv.within in
+    let most = c.requires.count.1 in
+    record {
+      site = opened.site;
+      panel = opened.panel;
+      kept = opened.kept;
+      history = so_far.history;
+      ticks = so_far.ticks;
+      runs = so_far.runs;
+      room = room_for opened.site opened.panel opened.kept kind disks door first now.desk.run now.served so_far (omega (arith, within, most));
+    }
+
+pub returns-in-Err-clause-serves : goal.returns-in-Err-clause-serves
+returns-in-Err-clause-serves g c site panel kept runs =
+    let kind = disk_kind g.D.Disk.honest g.D.Disk.images g.D.Disk.moment g.D.Disk.left_since in
+    let next = c.serve_next in
+    let now = c.loop-served in
+    let first = c.args.desk.now.run in
+    let door = door_sides g.G.Door.waiting g.G.Door.handed c.args.door.now now.door in
+    let mid = door_sides g.G.Door.waiting g.G.Door.handed now.door next.new.door in (
+      serves_same site panel kept kind c.args.disk.now now.disk next.new.disk door mid first now.desk.run next.new.desk.run now.served refl refl
+          (now.invariant.some site panel kept runs) c.in-Err.ensures.serves,
+      record { whole = λ e. absurd (true_false e); part = λ e. c.loop-served-test.true },
+    )
+  where
+    true_false : true ≡ false → ⊥
+    true_false e = cc
+
+pub returns-clause-serves : goal.returns-clause-serves
+returns-clause-serves g c site panel kept runs = (
+  c.loop-served.invariant.some site panel kept runs,
+  record {
+    whole = λ e. (let within = c.loop-served.invariant.within in let past = c.loop-served-test.false in omega (arith, within, past));
+    part = λ e. absurd (false_true e);
+  },
+)
+  where
+    false_true : false ≡ true → ⊥
+    false_true e = cc
