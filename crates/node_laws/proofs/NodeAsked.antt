@@ -141,7 +141,7 @@ kept_on site kept history output plan after is free each =
       begins = (let late = enough in omega (arith, late));
       each = λ before turn near.
           output_grows site after.valid (without_faults (facts_now site plan.panel before kept)) (facts_now site plan.panel before kept)
-          (record { released = λ zone l t. t; by_hand = λ zone l t. t; faulty = λ source t. absurd cc }) output
+          (record { released = λ zone l t. t; by_hand = λ zone l t. t; faulty = λ source within t. absurd cc }) output
           (each before (part_tail (Befell (Turned plan.panel Effect)) before history turn) (omega (arith, near)));
     }))
   where

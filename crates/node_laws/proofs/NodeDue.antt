@@ -92,14 +92,14 @@ module _ (site : Site) (kept : Retained) (done : List Done) (output : ℕ) (hand
     due_grows given due = record {
       released = λ zone l t. released_held zone l (due.released zone t);
       by_hand = λ zone l t. by_hand_held zone l (due.by_hand zone t);
-      faulty = λ source t. absurd (let e = due.faults source in let x = sym e ∙ t in cc);
+      faulty = λ source within t. absurd (let e = due.faults source in let x = sym e ∙ t in cc);
     }
 
     hand_grows : (given : Facts) → AreDueByHand site kept done m panel given → Grow site given (hand_facts (facts panel effect))
     hand_grows given due = record {
       released = λ zone l t. by_hand_held zone l (due.released zone t);
       by_hand = λ zone l t. by_hand_held zone l (due.by_hand zone t);
-      faulty = λ source t. absurd (let e = due.faults source in let x = sym e ∙ t in cc);
+      faulty = λ source within t. absurd (let e = due.faults source in let x = sym e ∙ t in cc);
     }
 
     due_asked : IsDueAsked site kept done m output → IsAsked site kept done facts output valid p m
