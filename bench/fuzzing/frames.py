@@ -165,14 +165,14 @@ def answer_to(ring, body):
     """What is to be answered to these bytes, None where it is the frame or a tick's text; what the panel takes of it is noted."""
     if not body:
         return None
-    if len(body) > MOST:
-        return b"refused long\n"
     if body.startswith(b"F"):
         number = ring.refusal(body)
         if number:
             return b"refused frame %d\n" % number
         ring.take(body)
         return None
+    if len(body) > MOST:
+        return b"refused long\n"
     refused, found = ring.block_refusal(body)
     if refused:
         return b"refused line %d %d\n" % refused
